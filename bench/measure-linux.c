@@ -1,6 +1,7 @@
 /*
- * Asks the running kernel the questions of docs/LINUX.md that no script can, and prints a line for each. kernel/conform asks
- * the others, by scripts. It needs io_uring and liburing 2.3; it proves nothing, and no other test relies on it.
+ * Asks the running kernel the questions of docs/LINUX.md that no script can, and prints a line for
+ * each. kernel/conform asks the others, by scripts. It needs io_uring and liburing 2.3; it proves
+ * nothing, and no other test relies on it.
  */
 #define _GNU_SOURCE
 #include <errno.h>

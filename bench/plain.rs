@@ -1,6 +1,6 @@
-//! A plain program for the same scripts, which bench/bench times beside fixfiles: written as one would write it without proofs, with
-//! maps, `Rc` and `String`. It knows the lines that the bench uses, refuses a script with any other, and checks no limit but those of a
-//! table.
+//! A plain program for the same scripts, which bench/bench times beside fixfiles: written as one
+//! would write it without proofs, with maps, `Rc` and `String`. It knows the lines that the bench
+//! uses, refuses a script with any other, and checks no limit but those of a table.
 use std::collections::HashMap;
 use std::fmt::Write as _;
 use std::io::{self, Read, Write};

@@ -182,9 +182,9 @@ static FILE *ring_information(int ring)
 }
 
 /*
- * Notes which files are in the table, by the kernel's list in /proc/self/fdinfo. Returns whether there is such a list: it is
- * between the lines `UserFiles:` and `UserBufs:`, which are missing while the kernel works on the ring. Each of its lines
- * has a slot and a path.
+ * Notes which files are in the table, by the kernel's list in /proc/self/fdinfo. Returns whether
+ * there is such a list: it is between the lines `UserFiles:` and `UserBufs:`, which are missing
+ * while the kernel works on the ring. Each of its lines has a slot and a path.
  */
 static int read_table(int ring)
 {
@@ -278,7 +278,8 @@ unsigned tags_to_come(void)
 	return tags;
 }
 
-/* Writes the tags in the order of installations. That is the order of marks, since only registrations give tags. */
+/* Writes the tags in the order of installations. That is the order of marks, since only
+ * registrations give tags. */
 static void write_tags(void)
 {
 	for (size_t at = first; at < count; at++)

@@ -1,8 +1,9 @@
 /*
- * The catalogue as real files in a new folder, and the installations that a script makes or tries to make.
+ * The catalogue as real files in a new folder, and the installations that a script makes or tries
+ * to make.
  *
- * Each installation has a hard link of its own to its catalogue file, in a folder that inotify(7) watches. So the events
- * IN_OPEN and IN_CLOSE have the name of a single installation.
+ * Each installation has a hard link of its own to its catalogue file, in a folder that inotify(7)
+ * watches. So the events IN_OPEN and IN_CLOSE have the name of a single installation.
  */
 #ifndef FILES_H
 #define FILES_H
@@ -16,7 +17,8 @@ struct mark {
 	unsigned numbers[4];	/* call and place, or submission, chain, member and place */
 };
 
-/* Makes the folder and a file for each entry of the catalogue. Returns 0 if this system has no inotify. */
+/* Makes the folder and a file for each entry of the catalogue. Returns 0 if this system has no
+ * inotify. */
 int open_files(const struct script *script);
 
 /* Return the descriptor of the links' folder, and the name of an installation's link in it. */
@@ -24,18 +26,20 @@ int links_folder(void);
 void name_of_link(size_t installation, char name[NAME_BYTES]);
 
 /*
- * Adds an installation of an entry with its tag, or 0 for none, and returns its number. The entry is -1 for a name that is
- * not in the catalogue; then there is no link.
+ * Adds an installation of an entry with its tag, or 0 for none, and returns its number. The entry
+ * is -1 for a name that is not in the catalogue; then there is no link.
  */
 size_t add_installation(struct mark mark, int entry, unsigned long long tag);
 
 /* Opens an installation's file as a descriptor of this process, for a list. */
 int open_descriptor(size_t installation);
 
-/* Closes this process's descriptor, which the kernel has. `is_installed` says whether the kernel took the file. */
+/* Closes this process's descriptor, which the kernel has. `is_installed` says whether the kernel
+ * took the file. */
 void close_descriptor(size_t installation, int is_installed);
 
-/* Waits until each opened file is in the table of the ring or is closed. `ring` is -1 after the ring is closed. */
+/* Waits until each opened file is in the table of the ring or is closed. `ring` is -1 after the
+ * ring is closed. */
 void settle(int ring);
 
 /* Checks whether a file is open, after `settle`. */
@@ -45,8 +49,8 @@ int is_any_open(void);
 unsigned tags_to_come(void);
 
 /*
- * Writes a line for each installed file that was closed since the last time, in the order of marks, and then one for each
- * of their tags that the kernel has posted (`tags.h`).
+ * Writes a line for each installed file that was closed since the last time, in the order of marks,
+ * and then one for each of their tags that the kernel has posted (`tags.h`).
  */
 void write_closes(const struct script *script);
 

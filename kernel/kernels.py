@@ -16,7 +16,8 @@ from rules import Linux
 
 PLAYER = os.path.join(BUILD, "play-on-kernel")
 FIXCHECK = os.path.join(ROOT, "bin/fixcheck")
-# the player's exit status if a line has no system call, and that of kernel/play-on-kernel if there is no io_uring
+# the player's exit status if a line has no system call, and that of kernel/play-on-kernel if there
+# is no io_uring
 CANT_SAY, NO_KERNEL = 78, 77
 # the limit of states for most texts, and for those that need more
 STATES, MOST_STATES = 1_000, 1_000_000

@@ -1,37 +1,45 @@
 /*
- * Plays a script of docs/SCRIPT.md on the io_uring of the running kernel, and writes the text that fixfiles writes.
+ * Plays a script of docs/SCRIPT.md on the io_uring of the running kernel, and writes the text that
+ * fixfiles writes.
  *
- * Each line is the real call or request with its real flags: `sparse`, `register`, `unregister`, `range` and `regupdate`
- * are calls of io_uring_register(2), and all requests of a `submit` go to the kernel by one io_uring_enter(2). The ring is
- * set up with IORING_SETUP_SUBMIT_ALL, so that a request that can't be submitted doesn't end the submission. Nothing is
- * counted or refused here: the text has the kernel's answers. Submissions and registrations are numbered as the kernel
+ * Each line is the real call or request with its real flags: `sparse`, `register`, `unregister`,
+ * `range` and `regupdate` are calls of io_uring_register(2), and all requests of a `submit` go to
+ * the kernel by one io_uring_enter(2). The ring is set up with IORING_SETUP_SUBMIT_ALL, so that a
+ * request that can't be submitted doesn't end the submission. Nothing is counted or refused here:
+ * the text has the kernel's answers. Submissions and registrations are numbered as the kernel
  * accepts them.
  *
- * How closes are observed: a catalogue entry is a file in a new folder. For each installation that a script asks for (an
- * open, or a file in a list) a hard link is made, and the kernel gets that link. inotify(7) watches the links' folder, so
- * an event IN_CLOSE says that the kernel has released the last use of the open file of that installation. The program
- * keeps no account of the slots. The kernel's list in /proc/self/fdinfo says which files are in the table. After each
- * command the program waits until every opened file is in that list or closed, and then writes the closed lines.
+ * How closes are observed: a catalogue entry is a file in a new folder. For each installation that
+ * a script asks for (an open, or a file in a list) a hard link is made, and the kernel gets that
+ * link. inotify(7) watches the links' folder, so an event IN_CLOSE says that the kernel has
+ * released the last use of the open file of that installation. The program keeps no account of the
+ * slots. The kernel's list in /proc/self/fdinfo says which files are in the table. After each
+ * command the program waits until every opened file is in that list or closed, and then writes the
+ * closed lines.
  *
- * A file of a list is first a descriptor of this process, as io_uring_register(2) requires. It is closed here when the
- * command or the submission has ended. It has a closed line only if the kernel's result says that the kernel took it.
+ * A file of a list is first a descriptor of this process, as io_uring_register(2) requires. It is
+ * closed here when the command or the submission has ended. It has a closed line only if the
+ * kernel's result says that the kernel took it.
  *
- * How tags are observed: a list with tags goes to the kernel by the calls that take tags, and the kernel posts a completion
- * for a tag. After each command, once the closes are there, the program waits at most a second for a completion for each
- * closed file with a tag. It writes the tags in the order of the closed files' marks, and then any other tags, which no
- * text of the model has. So a tag and the close that inotify saw are two witnesses. At the end the table is unregistered
- * before the ring is closed, since a closed ring can't post a tag. The user data of requests is chosen so that no tag of
- * the script is among it.
+ * How tags are observed: a list with tags goes to the kernel by the calls that take tags, and the
+ * kernel posts a completion for a tag. After each command, once the closes are there, the program
+ * waits at most a second for a completion for each closed file with a tag. It writes the tags in
+ * the order of the closed files' marks, and then any other tags, which no text of the model has. So
+ * a tag and the close that inotify saw are two witnesses. At the end the table is unregistered
+ * before the ring is closed, since a closed ring can't post a tag. The user data of requests is
+ * chosen so that no tag of the script is among it.
  *
- * With the argument --async a thread of the kernel starts each request (IOSQE_ASYNC), so that the chains of a submission
- * run concurrently. Without it a kernel runs the first requests of all chains in their order.
+ * With the argument --async a thread of the kernel starts each request (IOSQE_ASYNC), so that the
+ * chains of a submission run concurrently. Without it a kernel runs the first requests of all
+ * chains in their order.
  *
- * With the argument --mistake the first tag is taken for the next number. The text must differ then, or the tags are not
- * read from the completions.
+ * With the argument --mistake the first tag is taken for the next number. The text must differ
+ * then, or the tags are not read from the completions.
  *
- * What can't be observed: when within a command a file was closed, in which order, and by whom; who holds it meanwhile; and
- * whether an open was started that failed before it opened its file. A file that is opened and closed without having been
- * in the table has a closed line like any other, since the kernel did close it.
+ * What can't be observed: when within a command a file was closed, in which order, and by whom; who
+ * holds it meanwhile; and whether an open was started that failed before it opened its file. A file
+ * that is opened and closed without having been in the table has a closed line like any other,
+ * since the kernel did close it.
  */
 #include <errno.h>
 #include <signal.h>
@@ -65,7 +73,8 @@ static unsigned largest_submission(const struct script *script)
 	return largest;
 }
 
-/* Raises the limit of open files as far as it goes, since the kernel compares the size of a table with it. */
+/* Raises the limit of open files as far as it goes, since the kernel compares the size of a table
+ * with it. */
 static void raise_limit(void)
 {
 	struct rlimit limit;
@@ -108,7 +117,8 @@ static int play_call(struct play *play, const struct command *command, const int
 	return io_uring_register_files_update(&play->ring, command->numbers[0], list, command->length);
 }
 
-/* Ends a play whose list and tags have different lengths: the kernel's call has one length for both. */
+/* Ends a play whose list and tags have different lengths: the kernel's call has one length for
+ * both. */
 static void end_unsaid(void)
 {
 	fprintf(stderr, "play-on-kernel: the tags and the list have different lengths, and the kernel's call has one\n");

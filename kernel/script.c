@@ -1,4 +1,5 @@
-/* Reads a script by the rules of docs/SCRIPT.md. It says which line is invalid; scripts/faults.py explains why. */
+/* Reads a script by the rules of docs/SCRIPT.md. It says which line is invalid; scripts/faults.py
+ * explains why. */
 #define _GNU_SOURCE
 #include "script.h"
 
@@ -128,8 +129,8 @@ static int take_file(struct script *script, char **words, int count)
 }
 
 /*
- * The forms of lines, with a letter for each word: n is a number, l a list, t tags, f a name, a the word `at`, y the word
- * `any`. A request may also end in `link` or `hardlink`.
+ * The forms of lines, with a letter for each word: n is a number, l a list, t tags, f a name, a the
+ * word `at`, y the word `any`. A request may also end in `link` or `hardlink`.
  */
 static const struct form {
 	const char *word, *kinds;

@@ -40,7 +40,8 @@ struct script {
 	unsigned long long first_data;	/* none of the MOST_REQUESTS numbers from here on is a tag of the script */
 };
 
-/* Reads standard input. Returns 0 if it is not a script; then `bad_line` is the first invalid line. */
+/* Reads standard input. Returns 0 if it is not a script; then `bad_line` is the first invalid
+ * line. */
 int read_script(struct script *script);
 
 /* Returns the entry with that name, or -1. */
@@ -49,7 +50,8 @@ int entry_of(const struct script *script, const char *name);
 /* Returns memory of zeros, or ends the program if there is none. */
 void *memory_of(size_t size);
 
-/* Returns the items with room for one more than `count`: themselves, or moved. Ends the program if there is no memory. */
+/* Returns the items with room for one more than `count`: themselves, or moved. Ends the program if
+ * there is no memory. */
 void *with_room(void *items, size_t count, size_t *room, size_t size_of_one);
 
 /* Print what happened and end the program with status 4. `die` adds the reason from errno. */

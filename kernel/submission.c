@@ -20,8 +20,9 @@ struct member {
 };
 
 /*
- * -1 and -2 mean the same to the kernel as in a script, and entries below them are invalid in both. A file of the catalogue
- * is opened. A number past the catalogue is replaced by one that is not a descriptor of this process.
+ * -1 and -2 mean the same to the kernel as in a script, and entries below them are invalid in both.
+ * A file of the catalogue is opened. A number past the catalogue is replaced by one that is not a
+ * descriptor of this process.
  */
 struct descriptors open_list(const struct script *script, const struct command *command, struct mark mark)
 {

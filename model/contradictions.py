@@ -17,7 +17,8 @@ SAYS, OF_SLOT = "no order of the requests gives ", re.compile(r"which concerns? 
 CLOSES_NO_OTHER, FEWER = "and closes no other file", re.compile("fewer of them may contradict|there may be none without it")
 NO_MEMORY = -12
 CANCELS = "and cancels the same requests"
-# reasons that rest on the files that have no line, and those that a line's place alone shows to be wrong
+# reasons that rest on the files that have no line, and those that a line's place alone shows to be
+# wrong
 NO_LINE = re.compile(r"(?:has no|neither has a) `closed` line|" + CLOSES_NO_OTHER)
 PLACE_ALONE = re.compile(r"a file is closed once|closed files (stand|are) in order")
 # with more requests than these not all orders are looked at
@@ -99,7 +100,8 @@ class OfLines(Submission):
         super().__init__(script, lines, command)
         self.steps = [[it for it in self.steps_of(nth) if slot is None or it.slot() in (slot, None)] for nth in range(len(self.chains))]
         if slot is not None:
-            # an open that finds the range full finds a file at this slot, if it is there; nothing is known of the others
+            # an open that finds the range full finds a file at this slot, if it is there; nothing
+            # is known of the others
             self.player.range = (slot, 1) if slot in range(self.player.range[0], sum(self.player.range)) else (0, 0)
             marks = {step.mark() for chain in self.steps for step in chain}
             marks |= {text_of_mark(file[0]) for nth, file in enumerate(self.player.slots) if file and nth == slot}

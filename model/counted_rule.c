@@ -1,8 +1,10 @@
-/* The lock-free table's families, and its rule: what every state must be between two steps of counted_table.c.
+/* The lock-free table's families, and its rule: what every state must be between two steps of
+ * counted_table.c.
  *
- * A family is all programs of some passes of a few calls each. A release and a retirement count as calls, and the last call
- * may be followed by the one that it asks for. Each pass has drawn a chain before the play begins. The rule is that of the right table
- * alone: a wrong one must be found by its history. */
+ * A family is all programs of some passes of a few calls each. A release and a retirement count as
+ * calls, and the last call may be followed by the one that it asks for. Each pass has drawn a chain
+ * before the play begins. The rule is that of the right table alone: a wrong one must be found by
+ * its history. */
 #include <string.h>
 
 #include "counted_table.h"

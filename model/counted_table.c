@@ -1,10 +1,12 @@
 /* The step table of the lock-free table, by docs/INTERNALS.md: the atomic steps of each call.
  *
- * It was written from the page and from no code. Beside the words it keeps the history to which the steps add events, by the table
- * of steps in docs/MODEL.md: each event must be allowed where it comes. So a file is closed once and without a holder, and an
- * allocation answers "full" only at a step where each slot of the range is full, and another answer only for a reason.
- * A number is its place in the lists of nodes: the files that were there have the numbers of their slots; after them each chain has as
- * many as a pass may install. Look-ups that are spent make no step and aren't here, nor are the splits and joins of passes. */
+ * It was written from the page and from no code. Beside the words it keeps the history to which the
+ * steps add events, by the table of steps in docs/MODEL.md: each event must be allowed where it
+ * comes. So a file is closed once and without a holder, and an allocation answers "full" only at a
+ * step where each slot of the range is full, and another answer only for a reason. A number is its
+ * place in the lists of nodes: the files that were there have the numbers of their slots; after
+ * them each chain has as many as a pass may install. Look-ups that are spent make no step and
+ * aren't here, nor are the splits and joins of passes. */
 #include "counted_table.h"
 
 const struct family *family;
@@ -225,7 +227,8 @@ static void exchange(struct state *s, struct pass *it, int who) {
     go_to(it, END);
 }
 
-/* Where the range isn't said to be full, another round comes. That is never said wrongly, nor denied for nothing. */
+/* Where the range isn't said to be full, another round comes. That is never said wrongly, nor
+ * denied for nothing. */
 static void answer(struct state *s, struct pass *it, int who) {
     bool is_full = (int8_t)s->full == family->end - family->first && (s->changes == 1 || wrong == full_with_others_in_a_change)
         && wrong != control_word_without_bias;

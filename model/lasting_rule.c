@@ -1,7 +1,9 @@
-/* The lasting table's families and wrong tables, and its rule: what every state must be between two steps of lasting_table.c.
+/* The lasting table's families and wrong tables, and its rule: what every state must be between two
+ * steps of lasting_table.c.
  *
- * Passes make calls without end, and each call is chosen in every way. No word counts calls, so there are finitely many states. A block
- * has as many nodes as slots and passes together, the fewest that suffice. */
+ * Passes make calls without end, and each call is chosen in every way. No word counts calls, so
+ * there are finitely many states. A block has as many nodes as slots and passes together, the
+ * fewest that suffice. */
 #include <stddef.h>
 #include <string.h>
 
@@ -46,7 +48,8 @@ static int marks_owed(const struct state *s, int node) {
     return owed;
 }
 
-/* The pass that is between a node's swap and its retirement, or the one that has the node's place, or NULL. */
+/* The pass that is between a node's swap and its retirement, or the one that has the node's place,
+ * or NULL. */
 static const struct pass *worker_of(const struct state *s, int node, bool retires) {
     for (int who = 0; who < family->passes; who++) {
         const struct pass *it = &s->pass[who];

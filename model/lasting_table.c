@@ -1,8 +1,9 @@
 /* The step table of the lasting table, by docs/INTERNALS.md: the atomic steps of each call.
  *
- * It was written from the page and from no code. A step is one atomic step on a word, with what its pass does at once afterwards. Beside
- * the words it keeps the model of the table: which file is at a slot, which is removed, who holds what. Each event must be legal in
- * the model at its step. A clear has the steps of a take. */
+ * It was written from the page and from no code. A step is one atomic step on a word, with what its
+ * pass does at once afterwards. Beside the words it keeps the model of the table: which file is at
+ * a slot, which is removed, who holds what. Each event must be legal in the model at its step. A
+ * clear has the steps of a take. */
 #include "lasting_table.h"
 
 const struct family *family;
@@ -98,7 +99,8 @@ static void glance(struct state *s, struct pass *it) {
     }
 }
 
-/* Adds the bit of the pass to the list. Its first look-up takes what the slot names, hot or cold. */
+/* Adds the bit of the pass to the list. Its first look-up takes what the slot names, hot or
+ * cold. */
 static void list(struct state *s, struct pass *it, int who) {
     uint8_t *word = &s->list[who / PER_WORD], bit = 1 << who % PER_WORD;
     *word = wrong == listed_by_a_store ? bit : *word + bit;
@@ -177,7 +179,8 @@ static void heat(struct state *s, struct pass *it) {
 
 /* A removal, and the retirement of what it removed */
 
-/* Goes on with a round: to the next listed pass of the word that was loaded, to the next word, or to its end. */
+/* Goes on with a round: to the next listed pass of the word that was loaded, to the next word, or
+ * to its end. */
 static void go_on(struct pass *it, int who) {
     int end = wrong == last_pass_not_visited ? family->passes - 1 : family->passes;
     for (; it->next < end; it->next++) {
@@ -314,7 +317,8 @@ static void birth(struct state *s, struct pass *it) {
     it->step = it->call == PUT_ANY ? PEEK : is_early ? RAISE_EARLY : SWAP;
 }
 
-/* An allocation: it asks whether the range is full, goes over the range from any slot on, gives its node back, and asks again. */
+/* An allocation: it asks whether the range is full, goes over the range from any slot on, gives its
+ * node back, and asks again. */
 
 static void ask(struct state *s, struct pass *it) {
     bool is_full = s->full == (family->in_range ? family->slots : 0);

@@ -1,7 +1,9 @@
-/* The lasting table's words and passes as lasting_table.c changes them and lasting_rule.c checks them. */
+/* The lasting table's words and passes as lasting_table.c changes them and lasting_rule.c checks
+ * them. */
 #include "step_table.h"
 
-/* A word of the list has the bits of PER_WORD passes, and not of 64, so that a round loads two words. */
+/* A word of the list has the bits of PER_WORD passes, and not of 64, so that a round loads two
+ * words. */
 enum { MOST_SLOTS = 2, MOST_NODES = 12, PER_WORD = 2, MOST_WORDS = (MOST_PASSES + PER_WORD - 1) / PER_WORD };
 
 /* The words of a node, where 64 is 2^32 + 1, and the mark of a hold word. */
@@ -47,7 +49,8 @@ struct pass {
     uint8_t words, last;
     /* The pass is listed. */
     uint8_t is_listed;
-    /* The place of a search in the pass's block, and the nodes that it found taken; the slot at which a scan began. */
+    /* The place of a search in the pass's block, and the nodes that it found taken; the slot at
+     * which a scan began. */
     uint8_t nth, tried, from;
     /* The heat that a look at an empty slot found; after a swap 1 if the slot was hot. */
     uint8_t heat;
@@ -58,7 +61,8 @@ struct pass {
 };
 
 struct state {
-    /* Slot words: the node plus 1, or 0; the takes; and the number of passes that heated the slot. */
+    /* Slot words: the node plus 1, or 0; the takes; and the number of passes that heated the
+     * slot. */
     uint8_t named[MOST_SLOTS], takes[MOST_SLOTS], heat[MOST_SLOTS];
     uint8_t hold[MOST_PASSES];
     /* The bits of the passes that ever looked a file up. */

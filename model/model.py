@@ -69,7 +69,8 @@ def constant(_):
     return None
 
 
-# what each command's words are, and one that it may have more; a request may have the word `link` or `hardlink` more
+# what each command's words are, and one that it may have more; a request may have the word `link`
+# or `hardlink` more
 COMMANDS = {
     b"sparse": [number],
     b"register": [entries],
@@ -247,7 +248,8 @@ class Player:
         self.wanted = None
 
     def copy(self):
-        # copy.copy takes five times as long, and the searches of model/orders.py copy a player for each step
+        # copy.copy takes five times as long, and the searches of model/orders.py copy a player for
+        # each step
         other = object.__new__(type(self))
         other.__dict__.update(self.__dict__)
         other.slots, other.closed = self.slots[:], self.closed[:]

@@ -29,9 +29,10 @@ class Shape(NamedTuple):
     entries: int = 16
 
 
-# of every command and request; the same with much that is odd, and with requests that no submission may have; so small that all orders
-# can be played; chains that contend for two slots, with no open at any slot and nothing odd, so that no difference of Linux bears on
-# them, and more of them; and the largest submissions, of which few requests fail
+# of every command and request; the same with much that is odd, and with requests that no submission
+# may have; so small that all orders can be played; chains that contend for two slots, with no open
+# at any slot and nothing odd, so that no difference of Linux bears on them, and more of them; and
+# the largest submissions, of which few requests fail
 SHAPES = {
     "random": Shape((1, 1, 2, 2, 3, 4, 6, 16), (1, 2, 2, 3, 4), (1, 1, 2, 2, 3, 4, 6), (1, 1, 2, 2, 3, 4, 6)),
     "odd": Shape((0, 1, 2, 3, 4, 16, 256, 257), (1, 2, 2, 3, 4), (0, 1, 2, 3, 5, 12), (1, 1, 2, 2, 3, 4, 6), (*KINDS * 8, "long"), odd=0.1),

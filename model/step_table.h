@@ -5,7 +5,8 @@
 
 enum { MOST_PASSES = 3, MOST_STATE = 128 };
 
-/* A model of a table, right or wrong by one change, with the programs that passes play on it. A state is a struct of bytes. */
+/* A model of a table, right or wrong by one change, with the programs that passes play on it. A
+ * state is a struct of bytes. */
 struct step_table {
     const char *name;
     size_t state_size;
@@ -14,7 +15,8 @@ struct step_table {
     const char *const *wrong_names;
     /* Chooses a family and a table, and makes its first state. Returns the family's name. */
     const char *(*begin)(int family, int wrong, void *state);
-    /* Makes one step of a pass. An idle pass begins the `nth` call that it may make. Returns false if there are no `nth + 1` ways. */
+    /* Makes one step of a pass. An idle pass begins the `nth` call that it may make. Returns false
+     * if there are no `nth + 1` ways. */
     bool (*take_step)(void *state, int who, int nth);
     /* Checks a state between two steps. */
     void (*check)(const void *state);

@@ -94,7 +94,8 @@ class Reader:
     def __init__(self, lines, script):
         self.lines, self.table, self.closed = lines, Table(), []
         self.asked = [it for it in script.decode().split("\n") if it and not it.startswith(("#", "file "))]
-        # what each request or call has done that hasn't answered: each event but a release and a close, with its slot
+        # what each request or call has done that hasn't answered: each event but a release and a
+        # close, with its slot
         self.made = {}
 
     def line(self):

@@ -63,7 +63,8 @@ def submitted(table, workers, verb="submit"):
     if verb == "submit_open":
         others["no memory to submit"] = [f"{verb}: NoMemory", "open ring: 2 slots", *whole, OPENED]
     call = Call(f"{verb} {table} {workers}", whole, True, ["gate: 0 calls"] * (verb == "submit"), [OPENED], others)
-    # threads take memory beside each other, so on several workers that of the read may be another one each time
+    # threads take memory beside each other, so on several workers that of the read may be another
+    # one each time
     call.wanted -= {"a read answers -12"} if workers > 1 else set()
     return call
 

@@ -8,7 +8,8 @@ LEGAL, NOT_LEGAL, UNDECIDED = 0, 1, 6
 LEGAL_SIZES = 497
 # how many rows of parts there are
 PARTS = 6
-# this many states are too few for the part of two slots: an order of its ten accesses goes through eleven
+# this many states are too few for the part of two slots: an order of its ten accesses goes through
+# eleven
 FEW_STATES = 10
 # and this many for five slots, if the opens at the first one can be done in any order
 FIVE_STATES, OPENS = 60, 7
@@ -48,7 +49,8 @@ def parts():
 
     yield "the part alone", *case([], [], [], [*rest, *both], []), UNDECIDED, "undecided: submission 1"
     yield "a slot by itself", *case(["read 5 0 1"], ["1.6.1 1 61"], [], [*rest, *both], []), NOT_LEGAL, "which can't be at slot 5 then"
-    # each of two chains puts a file, and then reads in the other one's slot what was there before that one put its file
+    # each of two chains puts a file, and then reads in the other one's slot what was there before
+    # that one put its file
     crossed = ["open a at 5 link", "read 6 0 1", "open b at 6 link", "read 5 0 1"]
     told = ["1.6.1 0", "1.6.2 1 63", "1.7.1 0", "1.7.2 1 63"]
     opened = ["closed 1.6.1.0 a", "closed 1.7.1.0 b"]

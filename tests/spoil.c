@@ -1,5 +1,6 @@
-/* Replaces a program by a wrong one: it runs the program that the variable SPOILED names, with its own arguments and standard
- * input, and passes its output on, with the change that the variable SPOIL names:
+/* Replaces a program by a wrong one: it runs the program that the variable SPOILED names, with its
+ * own arguments and standard input, and passes its output on, with the change that the variable
+ * SPOIL names:
  *
  *   nothing   no change
  *   byte      the last byte before the last line end of the text is changed
@@ -10,8 +11,9 @@
  *   memory    it needs twice as much memory: it gets half of what is there, if that is limited
  *   words     it gets none of its arguments
  *
- * If there is no text, byte and line change the message, and if there is neither, an empty line is written.
- * tests/check-checks uses it. It is linked statically, so that what is preloaded into the program isn't preloaded into this. */
+ * If there is no text, byte and line change the message, and if there is neither, an empty line is
+ * written. tests/check-checks uses it. It is linked statically, so that what is preloaded into the
+ * program isn't preloaded into this. */
 #define _GNU_SOURCE
 #include <stdio.h>
 #include <stdlib.h>

@@ -1,11 +1,13 @@
-/* Runs the threads of the program into which it is preloaded in turns of a few instructions, from the start of its first thread to
- * the end of one, however many processors there are: the trap flag of x86-64 raises SIGTRAP after every instruction, and the
- * handler counts, and passes the turn to a thread drawn at random. So threads meet of which the first would otherwise end
- * before the next one starts. The variable SEED is the seed of the draws, and TURN the most instructions of a turn.
+/* Runs the threads of the program into which it is preloaded in turns of a few instructions, from
+ * the start of its first thread to the end of one, however many processors there are: the trap flag
+ * of x86-64 raises SIGTRAP after every instruction, and the handler counts, and passes the turn to
+ * a thread drawn at random. So threads meet of which the first would otherwise end before the next
+ * one starts. The variable SEED is the seed of the draws, and TURN the most instructions of a turn.
  * tests/check-meetings plays with it.
  *
- * A thread passes its turn on before a system call in which it may wait for another thread, and waits for a turn after it. The
- * C library's own creation and joining of threads isn't stepped, since it blocks signals. */
+ * A thread passes its turn on before a system call in which it may wait for another thread, and
+ * waits for a turn after it. The C library's own creation and joining of threads isn't stepped,
+ * since it blocks signals. */
 #define _GNU_SOURCE
 #include <dlfcn.h>
 #include <errno.h>
@@ -33,8 +35,8 @@ struct start {
     int number;
 };
 
-/* A bit for each number that a thread has, one for each thread that waits for a turn or has it, and whose turn it is. They
- * are changed under the lock. */
+/* A bit for each number that a thread has, one for each thread that waits for a turn or has it, and
+ * whose turn it is. They are changed under the lock. */
 static _Atomic uint64_t numbers, members;
 static _Atomic uint32_t turn = NOBODY, lock;
 /* How often each was given the turn, by which it is woken. */

@@ -1,10 +1,11 @@
-/* Makes the steps of a table of model/ in every order, and checks every state that they reach. Then it makes the steps of wrong
- * tables, each of which must be found.
+/* Makes the steps of a table of model/ in every order, and checks every state that they reach. Then
+ * it makes the steps of wrong tables, each of which must be found.
  *
- * What may come next depends on a state alone, so of two orders that reach the same state only one is continued, and a family is done
- * when no new state comes. A line is printed for each family, with the number of its states and steps, and for each wrong table, with
- * what is found. With an argument only the table's families are explored, up to the first fault. The exit status is 1 if a family
- * isn't right, or a wrong table isn't found. */
+ * What may come next depends on a state alone, so of two orders that reach the same state only one
+ * is continued, and a family is done when no new state comes. A line is printed for each family,
+ * with the number of its states and steps, and for each wrong table, with what is found. With an
+ * argument only the table's families are explored, up to the first fault. The exit status is 1 if a
+ * family isn't right, or a wrong table isn't found. */
 #include <stdio.h>
 #include <stdlib.h>
 #include <string.h>
@@ -19,7 +20,8 @@ void want(bool holds, const char *otherwise) {
     }
 }
 
-/* The states that were reached: their fingerprints in a hash table, and those to go on from in a list. */
+/* The states that were reached: their fingerprints in a hash table, and those to go on from in a
+ * list. */
 
 struct state {
     unsigned char bytes[MOST_STATE];
@@ -111,7 +113,8 @@ static long go_on(const struct step_table *table, const struct state *s) {
     return steps;
 }
 
-/* Explores a family of a right or wrong table. Returns whether nothing is wrong with it, and prints the family if it is the right table's. */
+/* Explores a family of a right or wrong table. Returns whether nothing is wrong with it, and prints
+ * the family if it is the right table's. */
 static bool explore(const struct step_table *table, int family, int wrong) {
     struct state first = {{0}};
     long steps = 0;

@@ -11,7 +11,8 @@ REQUESTS = CHAINS * MEMBERS
 EACH_SIZE = range(1, SLOTS + 1)
 # how many files the requests of a submission may close at most
 WEIGHT = REQUESTS * ENTRIES
-# those of which each number of workers is tried: how many there are decides how a table is shared, and each has lists of its own
+# those of which each number of workers is tried: how many there are decides how a table is shared,
+# and each has lists of its own
 BY_WORKERS = ("openings", "chains", "heavy_chains", "requests")
 
 

@@ -1,17 +1,20 @@
-/* Preloaded into a program, counts what it requests, and makes its allocations, reads and writes fail or transfer less than requested, as
- * these variables say, if they are set:
+/* Preloaded into a program, counts what it requests, and makes its allocations, reads and writes
+ * fail or transfer less than requested, as these variables say, if they are set:
  *
- *   COUNTS               the file that keeps the counts, as numbers of 8 bytes: the threads that the program starts, the bytes of memory
- *                        that it requests, its allocations, its writes to standard output, and the size of each of the first 64
+ *   COUNTS               the file that keeps the counts, as numbers of 8 bytes: the threads that
+ *                        the program starts, the bytes of memory that it requests, its allocations,
+ *                        its writes to standard output, and the size of each of the first 64
  *   FAILING_ALLOCATION   the number of the allocation that fails, from 1 on
  *   READ_BYTES           the most bytes that a read from standard input returns
  *   FAILING_READ         the number of the read that fails, from 1 on, once
  *   READ_ERROR           the errno with which it fails
  *   WRITE_BYTES          the most bytes that a write to standard output takes
- *   ROOM                 the bytes that all writes take; one without room fails with ENOSPC, as on a full disk
+ *   ROOM                 the bytes that all writes take; one without room fails with ENOSPC, as on
+ *                        a full disk
  *
- * Allocations are the calls of malloc, calloc, realloc, posix_memalign and aligned_alloc from the start of main to its end. The counts
- * are there however the program ends: tests/counts.py reads them, and tests/check-examples has the streams fail. */
+ * Allocations are the calls of malloc, calloc, realloc, posix_memalign and aligned_alloc from the
+ * start of main to its end. The counts are there however the program ends: tests/counts.py reads
+ * them, and tests/check-examples has the streams fail. */
 #define _GNU_SOURCE
 #include <dlfcn.h>
 #include <errno.h>

@@ -21,7 +21,8 @@ from told_history import complaint_of
 # examples whose histories have each event and each call, and tags
 TOLD = ("open_read_close", "tagged_files_leave_in_each_way", "replaced_between_two_members", "unregister_closes_every_file",
         "allocation_fills_its_range", "ring_update_clears_skips_and_replaces", "tag_at_the_teardown")
-# an example whose second submission has updates of two and three entries, its orders, and lines that are wrong in place of the last one
+# an example whose second submission has updates of two and three entries, its orders, and lines
+# that are wrong in place of the last one
 UPDATES, FIRST_ORDER, LAST_ORDER = "updates_clear_skip_and_replace", "order 1: 1.1.1", "order 2: 2.1.1.0 2.1.2.0 2.1.2.1 2.1.2.2"
 NO_ORDERS = (
     "", "order 2", "order 2:", "order 2 2.1.1.0 2.1.2.0 2.1.2.1 2.1.2.2", "orders 2: 2.1.1.0 2.1.2.0 2.1.2.1 2.1.2.2", "order 1: 1.1.1",

@@ -1,4 +1,5 @@
-# The functions of tests/check-bindings that test the Python module: over all examples, by rows, without its library, and with wrong changes.
+# The functions of tests/check-bindings that test the Python module: over all examples, by rows,
+# without its library, and with wrong changes.
 
 module=bindings/python
 

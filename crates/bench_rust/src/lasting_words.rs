@@ -1,6 +1,7 @@
-//! The words of the lasting table, in plain, unproved Rust: the proved table is measured against it. A cold file is looked
-//! up by an addition to its slot's word, a hot one by its node in the pass's own hold word. The first look-up of a pass puts it into
-//! the list of passes that ever looked a file up.
+//! The words of the lasting table, in plain, unproved Rust: the proved table is measured against
+//! it. A cold file is looked up by an addition to its slot's word, a hot one by its node in the
+//! pass's own hold word. The first look-up of a pass puts it into the list of passes that ever
+//! looked a file up.
 use crate::table::{read_entry, File, Shape, Table};
 use std::cell::UnsafeCell;
 use std::hint::black_box;
@@ -11,7 +12,8 @@ const FREE: u64 = 0;
 const CLOSED: u64 = 1;
 const BORN: u64 = (1 << 32) + 1;
 
-// A slot's word: the node + 1 from bit 40 on, the entry from bit 32 on, the number of passes that heated the slot, and the takes.
+// A slot's word: the node + 1 from bit 40 on, the entry from bit 32 on, the number of passes that
+// heated the slot, and the takes.
 const HEAT: u64 = 1 << 21;
 const TAKES: u64 = HEAT - 1;
 const COLD_TAKES: u64 = 16;
@@ -48,11 +50,12 @@ pub struct LastingWords {
     in_range: bool,
 }
 
-// A place is written by the pass that its node is born to, and emptied by the one that brings its word to `CLOSED`.
+// A place is written by the pass that its node is born to, and emptied by the one that brings its
+// word to `CLOSED`.
 unsafe impl Sync for LastingWords {}
 
-/// A pass: its number, the node of its block at which its next search begins, whether it is in the list, and the slots that it
-/// emptied last.
+/// A pass: its number, the node of its block at which its next search begins, whether it is in the
+/// list, and the slots that it emptied last.
 pub struct Pass {
     number: usize,
     next: usize,
@@ -189,7 +192,8 @@ impl LastingWords {
                 .is_ok()
     }
 
-    // Marks the hold words of the other listed passes that name the node, and returns how many it marked.
+    // Marks the hold words of the other listed passes that name the node, and returns how many it
+    // marked.
     fn mark_holds(&self, pass: &Pass, node: usize) -> u64 {
         let mut marks = 0;
         for first in (0..self.holds.len()).step_by(64) {
@@ -230,8 +234,8 @@ impl LastingWords {
         word
     }
 
-    // Writes a slot's word. A slot of the range is taken off the count before it is emptied, and one that was empty is added to
-    // it afterwards.
+    // Writes a slot's word. A slot of the range is taken off the count before it is emptied, and
+    // one that was empty is added to it afterwards.
     fn change(&self, slot: usize, word: u64) -> u64 {
         if self.in_range && word == 0 {
             self.control.0.fetch_sub(1, SeqCst);

@@ -1,6 +1,7 @@
-//! Times the two proved lock-free tables, one of them also by the Rust crate in bindings/, next to plain, unproved Rust
-//! tables of the same words, and all next to arc-swap, crossbeam-epoch, sharded-slab and a lock of std, in turn in one
-//! process. Each line has the times of one round, for `bench/ratios.py`.
+//! Times the two proved lock-free tables, one of them also by the Rust crate in bindings/, next to
+//! plain, unproved Rust tables of the same words, and all next to arc-swap, crossbeam-epoch,
+//! sharded-slab and a lock of std, in turn in one process. Each line has the times of one round,
+//! for `bench/ratios.py`.
 mod bindings;
 mod lasting_words;
 mod locked;

@@ -5,9 +5,9 @@ use crossbeam_epoch::{self as epoch, Atomic, Owned};
 use std::sync::atomic::Ordering::SeqCst;
 use std::sync::Arc;
 
-/// A table on arc-swap. With `FULL` its look-up is `load_full`: an `Arc` of its own, which lives as long as its user needs
-/// it, as a hold does. Otherwise it is `load`: a guard. A thread has eight of them at once; a further one costs as much as
-/// `load_full`.
+/// A table on arc-swap. With `FULL` its look-up is `load_full`: an `Arc` of its own, which lives as
+/// long as its user needs it, as a hold does. Otherwise it is `load`: a guard. A thread has eight
+/// of them at once; a further one costs as much as `load_full`.
 pub struct Swaps<const FULL: bool>(Vec<Line<ArcSwapOption<File>>>);
 
 impl<const FULL: bool> Swaps<FULL> {

@@ -1,4 +1,5 @@
-//! The same table on sharded-slab: a slot has the key of its file in the slab, and the last guard of a removed file drops it.
+//! The same table on sharded-slab: a slot has the key of its file in the slab, and the last guard
+//! of a removed file drops it.
 use crate::table::{read_entry, File, Line, Shape, Table, FILE};
 use sharded_slab::{Entry, Slab};
 use std::sync::atomic::{AtomicUsize, Ordering::SeqCst};
@@ -14,7 +15,8 @@ impl Slabs {
         self.files.insert(file).expect("room in the slab") + 1
     }
 
-    // A key that was removed after it was read has no file any more: then the slot is looked up again.
+    // A key that was removed after it was read has no file any more: then the slot is looked up
+    // again.
     fn file_at(&self, slot: usize) -> Option<Entry<'_, File>> {
         loop {
             let key = self.slots[slot].0.load(SeqCst).checked_sub(1)?;

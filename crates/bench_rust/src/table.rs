@@ -44,7 +44,8 @@ pub trait Table: Sync + Sized {
     /// Looks a slot up, reads the entry of its file and releases it.
     fn look(&self, pass: &mut Self::Pass, slot: usize) -> u64;
 
-    /// Looks a slot up, reads from its file and releases it. Each entry of the catalogue is the bytes of a file.
+    /// Looks a slot up, reads from its file and releases it. Each entry of the catalogue is the
+    /// bytes of a file.
     fn read(&self, pass: &mut Self::Pass, slot: usize, catalogue: &[Vec<u8>], into: &mut Vec<u8>);
 
     /// Installs a file at a slot, and retires the file that was there.

@@ -13,8 +13,8 @@ extern "C" {
     fn clock_gettime(clock: i32, time: *mut Timespec) -> i32;
 }
 
-/// Returns the seconds of wall-clock time, or, for a thread that works alone, of CPU time: other work on the machine
-/// disturbs that less.
+/// Returns the seconds of wall-clock time, or, for a thread that works alone, of CPU time: other
+/// work on the machine disturbs that less.
 fn now(threads: usize) -> f64 {
     const CLOCK_MONOTONIC: i32 = 1;
     const CLOCK_THREAD_CPUTIME_ID: i32 = 3;

@@ -1,13 +1,14 @@
-//! The words of the counted table, in plain, unproved Rust: the proved table is measured against it. A slot's word
-//! has the number of its file and its takes, and a file's word its releases; the thread that brings it to 0 gets the
-//! file.
+//! The words of the counted table, in plain, unproved Rust: the proved table is measured against
+//! it. A slot's word has the number of its file and its takes, and a file's word its releases; the
+//! thread that brings it to 0 gets the file.
 use crate::table::{read_entry, File, Line, Shape, Table};
 use std::cell::UnsafeCell;
 use std::sync::atomic::{AtomicU64, Ordering::SeqCst};
 
 const BORN: u64 = 1 << 32;
 
-// One more pass in a change of the range, in the control word, and the bias that is added there to the full slots.
+// One more pass in a change of the range, in the control word, and the bias that is added there to
+// the full slots.
 const ONE_CHANGE: u64 = 1 << 32;
 const BIAS: u64 = 65_536;
 
@@ -15,7 +16,8 @@ const BIAS: u64 = 65_536;
 const CHAINS: usize = 1_023;
 const CHAIN_NUMBERS: usize = 64;
 
-/// The word of a slot and that of the file with the slot's number, side by side; each pair has a cache line of its own.
+/// The word of a slot and that of the file with the slot's number, side by side; each pair has a
+/// cache line of its own.
 #[repr(align(64))]
 struct Pair {
     slot: AtomicU64,
@@ -33,7 +35,8 @@ pub struct Words {
     in_range: bool,
 }
 
-// A place is written by the thread that installs its number, and emptied by the one that brings its word to 0.
+// A place is written by the thread that installs its number, and emptied by the one that brings its
+// word to 0.
 unsafe impl Sync for Words {}
 
 impl Words {

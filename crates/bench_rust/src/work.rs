@@ -1,4 +1,5 @@
-//! The work of a thread on a table while it is measured: the same as the proved program does, slot by slot.
+//! The work of a thread on a table while it is measured: the same as the proved program does, slot
+//! by slot.
 use crate::table::{File, Table, READ_LEN};
 use std::hint::black_box;
 
@@ -7,17 +8,20 @@ use std::hint::black_box;
 pub enum Work {
     /// Looks up a random slot and releases its file.
     Look,
-    /// Does the same nine times out of ten; the tenth time replaces the file there and retires the old one.
+    /// Does the same nine times out of ten; the tenth time replaces the file there and retires the
+    /// old one.
     Mixed,
-    /// Installs a file at a slot that only this thread uses, looks it up, reads and releases it, and takes and retires
-    /// it.
+    /// Installs a file at a slot that only this thread uses, looks it up, reads and releases it,
+    /// and takes and retires it.
     Chain { in_range: bool },
-    /// Installs a file at an empty slot of a range with 240 of 256 slots full, and takes and retires it.
+    /// Installs a file at an empty slot of a range with 240 of 256 slots full, and takes and
+    /// retires it.
     Allocate,
 }
 
 impl Work {
-    /// Returns the work of a word of `bench/rows.txt`, unless only the proved tables are timed at it.
+    /// Returns the work of a word of `bench/rows.txt`, unless only the proved tables are timed at
+    /// it.
     pub fn named(word: &str) -> Option<Work> {
         match word {
             "look" => Some(Work::Look),

@@ -23,7 +23,8 @@ struct Guarded {
 }
 
 impl Guarded {
-    // Creates a table with the file numbers of `chains` chains from a settled table, or returns that table.
+    // Creates a table with the file numbers of `chains` chains from a settled table, or returns
+    // that table.
     fn new(mut plain: PlainTable, chains: u32) -> Result<Guarded, PlainTable>
         requires settled { IsSettled (state_of plain) }
         requires chains { chains ≤ MAX_CHAINS }

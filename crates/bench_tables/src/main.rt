@@ -1,5 +1,6 @@
-//! The program `bench_tables`: prints the nanoseconds that a table takes for the work which the variable TABLE_BENCH_ROW
-//! of the environment names (`work.rt`). Without that variable it tests the measured calls, and prints what they return.
+//! The program `bench_tables`: prints the nanoseconds that a table takes for the work which the
+//! variable TABLE_BENCH_ROW of the environment names (`work.rt`). Without that variable it tests
+//! the measured calls, and prints what they return.
 #![tactic(auto)]
 
 ghost use Rattle.std.specs.Prelude.{◌<◌, ◌≤◌, length, vec_capacity};
@@ -34,9 +35,9 @@ fn one_entry(alloc: Global) -> Option<Catalogue> {
     Some(catalogue)
 }
 
-// Times a table at the row of these words, as "counted look 256 4": the table, the work, the number of slots, and the
-// number of threads, at most `MAX_PASSES`. Prints the nanoseconds. Returns `None` if there is no such row, or an
-// allocation, a clock or a write fails.
+// Times a table at the row of these words, as "counted look 256 4": the table, the work, the number
+// of slots, and the number of threads, at most `MAX_PASSES`. Prints the nanoseconds. Returns `None`
+// if there is no such row, or an allocation, a clock or a write fails.
 fn report<R: Threads + Wait + Clock + CpuClock + Print + Sync>(
     rt: &R,
     alloc: Global,
@@ -62,9 +63,10 @@ fn report<R: Threads + Wait + Clock + CpuClock + Print + Sync>(
     println!(rt; "{nanoseconds}").ok()
 }
 
-// Uses a table of four slots whose first two are full, which has three files afterwards. Prints the bytes that were
-// read at slot 2 while it was empty and while it had a file, and the slots at which a file was installed at any empty
-// slot: first, after that file's removal, and when no slot was empty.
+// Uses a table of four slots whose first two are full, which has three files afterwards. Prints the
+// bytes that were read at slot 2 while it was empty and while it had a file, and the slots at which
+// a file was installed at any empty slot: first, after that file's removal, and when no slot was
+// empty.
 fn use_table<S: Subject, R: Wait + Print>(
     rt: &R,
     subject: &S,
@@ -122,8 +124,9 @@ fn try_table<S: Subject, R: Wait + Print>(
     println!(rt; "{files} files").ok()
 }
 
-// Tests what no clause says of the measured calls of each table, that they do what their names say, and prints their
-// results, one line for each table. Returns `None` if an allocation or a write fails.
+// Tests what no clause says of the measured calls of each table, that they do what their names say,
+// and prints their results, one line for each table. Returns `None` if an allocation or a write
+// fails.
 fn try_tables<R: Wait + Print>(rt: &R, alloc: Global, catalogue: &Catalogue) -> Option<()>
     requires { 0 < length catalogue.now }
 {

@@ -17,18 +17,19 @@ use std::thread::Threads;
 use std::time::{CpuClock, Instant};
 use std::{io, thread};
 
-// The number of times that a thread checks whether the others have started: if one can't be started, the others begin
-// without it.
+// The number of times that a thread checks whether the others have started: if one can't be
+// started, the others begin without it.
 const MOST_LOOKS: u32 = 1_000_000;
 
-// Returns the CPU time of this thread, in nanoseconds: other work on the machine disturbs it less than the wall-clock
-// time.
+// Returns the CPU time of this thread, in nanoseconds: other work on the machine disturbs it less
+// than the wall-clock time.
 fn used<R: CpuClock>(rt: &R) -> Option<u64> {
     u64::try_from(rt.thread_cpu_time().ok()?.as_nanos()).ok()
 }
 
-/// The times at which the first of several threads began and the last one ended, in nanoseconds since a common start. A
-/// single thread is measured by CPU time, several threads by wall-clock time.
+/// The times at which the first of several threads began and the last one ended, in nanoseconds
+/// since a common start. A single thread is measured by CPU time, several threads by wall-clock
+/// time.
 #[derive(Drop)]
 pub(crate) struct Watch {
     base: Instant,
@@ -85,7 +86,8 @@ impl Watch {
     }
 }
 
-/// Creates a table of this shape, or returns `None` if an allocation fails or there is no such table.
+/// Creates a table of this shape, or returns `None` if an allocation fails or there is no such
+/// table.
 pub(crate) fn shaped(alloc: Global, catalogue: &Catalogue, shape: Shape) -> Option<PlainTable>
     requires { 0 < length catalogue.now }
     ensures { IfSome result (λ plain. IsSettled (state_of plain)) }
@@ -119,8 +121,8 @@ fn fill(plain: &mut PlainTable, catalogue: &Catalogue, full: u32)
     }
 }
 
-/// Returns the nanoseconds that `threads` threads need for the work of a row, on a new table of its shape, or `None` if
-/// an allocation or a clock fails.
+/// Returns the nanoseconds that `threads` threads need for the work of a row, on a new table of its
+/// shape, or `None` if an allocation or a clock fails.
 pub(crate) fn time<S: Subject, R: Threads + Wait + Clock + CpuClock + Sync>(
     rt: &R,
     alloc: Global,
@@ -152,7 +154,8 @@ pub(crate) fn time<S: Subject, R: Threads + Wait + Clock + CpuClock + Sync>(
     }
 }
 
-// Returns the CPU time, in nanoseconds, of opening and closing a table `times` times, or `None` if the clock fails.
+// Returns the CPU time, in nanoseconds, of opening and closing a table `times` times, or `None` if
+// the clock fails.
 fn time_of_openings<S: Subject, R: CpuClock>(
     rt: &R,
     alloc: Global,

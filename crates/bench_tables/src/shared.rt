@@ -1,5 +1,5 @@
-//! The subject of a measurement: a table, with calls as its users make them: a removal together with its retirement. Each
-//! shared table is one.
+//! The subject of a measurement: a table, with calls as its users make them: a removal together
+//! with its retirement. Each shared table is one.
 ghost use Rattle.std.specs.Prelude.{◌≡◌, ℕ, ◌<◌, ◌≤◌, All, IfOk, IfErr, IfSome, IfNone, IsTrue, length};
 ghost use Rattle.fx_plain.specs.State.{IsSettled};
 ghost use Rattle.fx_plain.specs.Contents.{state_of};
@@ -15,8 +15,9 @@ use fx_table::{FileTable, Hold, LookUp, SharedTable};
 use std::alloc::Global;
 use std::sync::Wait;
 
-/// A table that is measured. A call does nothing at a slot that the table doesn't have, and neither does an
-/// installation if the pass has no file numbers left; measurements are chosen so that neither happens.
+/// A table that is measured. A call does nothing at a slot that the table doesn't have, and neither
+/// does an installation if the pass has no file numbers left; measurements are chosen so that
+/// neither happens.
 pub(crate) trait Subject: Sync {
     /// The type of a thread's access to the table.
     type Pass: Send;
@@ -33,7 +34,8 @@ pub(crate) trait Subject: Sync {
     // The table requires this number of passes at its close.
     ghost gave: { Self → ℕ → Type 0 };
 
-    /// Creates a table for `passes` passes and `chains` chains from a settled table, or returns that table.
+    /// Creates a table for `passes` passes and `chains` chains from a settled table, or returns
+    /// that table.
     fn open(
         alloc: Global,
         plain: PlainTable,
@@ -53,7 +55,8 @@ pub(crate) trait Subject: Sync {
         requires ready { All (ready self) passes.items }
         ensures { IsSettled (state_of result) };
 
-    /// Looks a slot up, and returns the file there, to be released, with its entry of the catalogue.
+    /// Looks a slot up, and returns the file there, to be released, with its entry of the
+    /// catalogue.
     fn look_up<R: Wait>(&self, rt: &R, pass: &mut Self::Pass, slot: u32) -> Option<(Self::Hold, u8)>
         requires { ready self.now pass.old }
         ensures found { IfSome result (λ (hold, _). holds self.now pass.new hold) }
@@ -82,7 +85,8 @@ pub(crate) trait Subject: Sync {
 
 /// A shared table with an opening of its own.
 pub(crate) trait Opened: SharedTable {
-    /// Opens the table for `passes` passes, all of which install files, and `chains` chains if it has chains.
+    /// Opens the table for `passes` passes, all of which install files, and `chains` chains if it
+    /// has chains.
     fn opened(
         alloc: Global,
         plain: PlainTable,
@@ -97,8 +101,8 @@ pub(crate) trait Opened: SharedTable {
         ensures count { IfOk result (λ (t, list). length list.items ≡ (Self.opening t).passes) }
         ensures refused { IfErr result (λ back. IsSettled (state_of back)) };
 
-    /// Checks whether the pass can install a file, after a draw if the table has chains and the last one has no number
-    /// left.
+    /// Checks whether the pass can install a file, after a draw if the table has chains and the
+    /// last one has no number left.
     fn can_install(&self, pass: &mut Self::Pass) -> bool
         requires { Self.fits self.now pass.old × IsIdle (Self.view pass.old) }
         ensures ready { Self.fits self.now pass.new × IsIdle (Self.view pass.new) }

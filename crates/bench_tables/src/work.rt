@@ -16,19 +16,21 @@ use std::time::CpuClock;
 pub(crate) enum Work {
     /// Looks up a random slot and releases its file.
     Look,
-    /// Does the same nine times out of ten; the tenth time replaces the file there and retires the old one.
+    /// Does the same nine times out of ten; the tenth time replaces the file there and retires the
+    /// old one.
     Mixed,
-    /// Installs a file at a slot that only this thread uses, looks it up, reads and releases it, and takes and retires
-    /// it.
+    /// Installs a file at a slot that only this thread uses, looks it up, reads and releases it,
+    /// and takes and retires it.
     Chain,
     /// Installs a file at an empty slot, and takes and retires it.
     Allocate,
-    /// Opens and closes the table for the most chains. One thread does it, with as many passes as there are threads.
+    /// Opens and closes the table for the most chains. One thread does it, with as many passes as
+    /// there are threads.
     Open,
 }
 
-/// A table at the beginning of a measurement: its number of slots, the number of first slots that have files, and the
-/// number of first slots that are its allocation range.
+/// A table at the beginning of a measurement: its number of slots, the number of first slots that
+/// have files, and the number of first slots that are its allocation range.
 #[derive(Clone, Copy)]
 pub(crate) struct Shape {
     pub(crate) slots: u32,
@@ -36,7 +38,8 @@ pub(crate) struct Shape {
     pub(crate) range: u32,
 }
 
-/// The work of a thread, its number of repetitions, and the shape of the table. The number of slots is a power of 2.
+/// The work of a thread, its number of repetitions, and the shape of the table. The number of slots
+/// is a power of 2.
 #[derive(Clone, Copy)]
 pub(crate) struct Row {
     pub(crate) work: Work,

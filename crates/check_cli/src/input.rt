@@ -1,4 +1,5 @@
-//! The script and the text that the program reads, and the reasons for which it ends without a verdict.
+//! The script and the text that the program reads, and the reasons for which it ends without a
+//! verdict.
 use check_explain::{line_after, line_at};
 use fx_arguments::Refusal;
 use fx_arguments::fixcheck::{Asked, Settings};
@@ -30,7 +31,8 @@ pub enum NoVerdict {
     /// The same of a script whose faulty line has a carriage return.
     #[error("{0}: {1}; the line has a carriage return")]
     HasReturn(String, PlayFault),
-    /// The first file isn't a script, but the second one is: the first path, its fault, and the second path.
+    /// The first file isn't a script, but the second one is: the first path, its fault, and the
+    /// second path.
     #[error("{0}: {1}; {2} is a script, and SCRIPT comes before TEXT")]
     Swapped(String, PlayFault, String),
     /// The verdict could not be written, or an allocation failed.
@@ -51,8 +53,8 @@ impl From<NoMemory> for NoVerdict {
 }
 
 impl NoVerdict {
-    /// Returns the exit status: 2 for wrong arguments, 3 for an invalid script, 4 for a failed read or write, 5 for a failed allocation.
-    /// A request for help or for the version returns 0.
+    /// Returns the exit status: 2 for wrong arguments, 3 for an invalid script, 4 for a failed read
+    /// or write, 5 for a failed allocation. A request for help or for the version returns 0.
     pub fn status(&self) -> u8 {
         match self {
             NoVerdict::Refused(refusal) => refusal.status(),
@@ -105,7 +107,8 @@ pub fn read_path(rt: &HostRuntime, path: &str) -> Result<Vec<u8>, NoVerdict> {
     }
 }
 
-// Checks whether bytes are a script that has a file or a submission. A text of calls alone may be one without.
+// Checks whether bytes are a script that has a file or a submission. A text of calls alone may be
+// one without.
 fn is_script(alloc: Global, source: &[u8]) -> Result<bool, NoVerdict> {
     match Script::read(alloc, source) {
         Ok(script) => {
@@ -124,7 +127,8 @@ fn leads_to_script(rt: &HostRuntime, path: &str) -> bool {
     matches!(seen, Ok(true))
 }
 
-/// Prints a note on standard error if a text is a script, which only a mistake in the arguments makes it.
+/// Prints a note on standard error if a text is a script, which only a mistake in the arguments
+/// makes it.
 ///
 /// # Errors
 /// `Fault` if an allocation fails.
@@ -140,7 +144,8 @@ pub fn note_script(rt: &HostRuntime, path: &str, text: &[u8]) -> Result<(), NoVe
 /// Reads the script of a command line from its bytes.
 ///
 /// # Errors
-/// `Fault` if an allocation fails. If they aren't a script: `Swapped` if the text is one, or else `HasReturn` or `NoScript`.
+/// `Fault` if an allocation fails. If they aren't a script: `Swapped` if the text is one, or else
+/// `HasReturn` or `NoScript`.
 pub fn script_of(
     rt: &HostRuntime,
     settings: Settings<'_>,

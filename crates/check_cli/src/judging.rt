@@ -1,4 +1,5 @@
-//! A script and a text, judged: with progress on a terminal, and after a break from the ring that the text shows there.
+//! A script and a text, judged: with progress on a terminal, and after a break from the ring that
+//! the text shows there.
 ghost use Rattle.std.specs.Prelude.{IfOk};
 ghost use Rattle.check_judge.specs.Judged.{IsJudged};
 
@@ -75,7 +76,8 @@ impl Question<'_> {
     }
 }
 
-// Prints that a submission has more states than were met, unless the search began a moment ago. What can't be printed is left out.
+// Prints that a submission has more states than were met, unless the search began a moment ago.
+// What can't be printed is left out.
 fn tell(rt: &HostRuntime, begin: &Instant, judgement: &Judgement, states: usize, limits: Limits) {
     let (Judgement::Undecided(submission, _), Ok(passed)) = (judgement, begin.elapsed(rt)) else {
         return;
@@ -88,8 +90,9 @@ fn tell(rt: &HostRuntime, begin: &Instant, judgement: &Judgement, states: usize,
     }
 }
 
-/// Decides whether a script may print a text, as `check_judge::judge` does with the given limits. If standard error is a terminal, it
-/// searches with few states first, and after two seconds prints how many states were too few.
+/// Decides whether a script may print a text, as `check_judge::judge` does with the given limits.
+/// If standard error is a terminal, it searches with few states first, and after two seconds prints
+/// how many states were too few.
 ///
 /// # Errors
 /// `NoMemory` if an allocation fails.
@@ -124,8 +127,8 @@ pub fn judged(
     judge(alloc, script, text, limits)
 }
 
-/// The ring that a text shows after the command at which it breaks, the number of commands that were played by then, and the rest of the
-/// text.
+/// The ring that a text shows after the command at which it breaks, the number of commands that
+/// were played by then, and the rest of the text.
 #[derive(Drop)]
 struct Shown<'a> {
     ring: RingSlots,
@@ -133,8 +136,9 @@ struct Shown<'a> {
     rest: &'a [u8],
 }
 
-// Returns the ring after a call, or after a refused submission, whose first line is this one, and the number of commands after which the
-// ring is so. It is the expected ring if the line is the expected one, and the ring before the call if the line says that it was refused.
+// Returns the ring after a call, or after a refused submission, whose first line is this one, and
+// the number of commands after which the ring is so. It is the expected ring if the line is the
+// expected one, and the ring before the call if the line says that it was refused.
 fn after_line(
     question: &Question<'_>,
     broken: &Break,
@@ -146,7 +150,8 @@ fn after_line(
         _ => "submit",
     };
     if matches!(broken.fault, Fault::Text(_)) && next_line(expected.as_bytes()).0 == line {
-        // nothing prints an empty line, so this text breaks after the call's lines, and the break has the ring
+        // nothing prints an empty line, so this text breaks after the call's lines, and the break
+        // has the ring
         let text = format!(in question.alloc; "{expected}\n")?;
         let limits = Limits {
             states: 1,
@@ -168,12 +173,12 @@ fn after_line(
     Ok(is_that.then_some((ring, 1)))
 }
 
-// Returns what a text shows after the command at which it breaks, or `None` if it shows no ring. It is advice, and no contract speaks of
-// it: `judge_from` checks that it is a ring.
+// Returns what a text shows after the command at which it breaks, or `None` if it shows no ring. It
+// is advice, and no contract speaks of it: `judge_from` checks that it is a ring.
 //
-// Of a submission, each request has its completion. A file that was at a slot, or that a completion installs there, is there
-// unless it has a `closed` line, and no two files are at one slot. Of a call, or a refused submission, the first line is the
-// expected one, or says that it was refused.
+// Of a submission, each request has its completion. A file that was at a slot, or that a completion
+// installs there, is there unless it has a `closed` line, and no two files are at one slot. Of a
+// call, or a refused submission, the first line is the expected one, or says that it was refused.
 fn shown_after<'a>(
     question: &'a Question<'_>,
     broken: &'a Break,
@@ -201,9 +206,10 @@ fn shown_after<'a>(
     }))
 }
 
-/// Judges a text after a break, from the ring that the text shows there: the verdict is that of `check_judge::judge_from` on that
-/// ring, and nothing is proved of whether a play leads to it. A further break is counted from the beginning of
-/// the script and of the text. Returns `None` if the text shows no ring there.
+/// Judges a text after a break, from the ring that the text shows there: the verdict is that of
+/// `check_judge::judge_from` on that ring, and nothing is proved of whether a play leads to it. A
+/// further break is counted from the beginning of the script and of the text. Returns `None` if the
+/// text shows no ring there.
 ///
 /// # Errors
 /// `NoMemory` if an allocation fails.

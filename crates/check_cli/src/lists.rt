@@ -1,4 +1,5 @@
-//! The printed lists: of the answers of a request, and of the texts of a script, each with the orders that lead to it.
+//! The printed lists: of the answers of a request, and of the texts of a script, each with the
+//! orders that lead to it.
 ghost use Rattle.std.specs.Prelude.{◌≡◌};
 ghost use Rattle.check_cli.specs.Status.{all_status, may_status};
 
@@ -20,7 +21,8 @@ pub(crate) fn status_of_answers(may: &RequestAnswers) -> u8
     if may.are_all { 0 } else { 6 }
 }
 
-/// Returns the exit status of the program: 0 if all ways of the script were found, 6 if there may be more.
+/// Returns the exit status of the program: 0 if all ways of the script were found, 6 if there may
+/// be more.
 pub(crate) fn status_of_texts(all: &AllTexts) -> u8
     ensures { result ≡ all_status all.now }
 {
@@ -33,7 +35,8 @@ fn number(word: &str) -> Option<u32> {
     u32::try_from(number).ok()
 }
 
-/// Parses a place as a text has it, such as `1.1.2`: a submission, a chain and a member. Returns `None` for any other word.
+/// Parses a place as a text has it, such as `1.1.2`: a submission, a chain and a member. Returns
+/// `None` for any other word.
 pub(crate) fn place_of(word: &str) -> Option<Place> {
     let (submission, rest) = word.split_once('.')?;
     let (chain, member) = rest.split_once('.')?;
@@ -117,7 +120,8 @@ impl<'a> ListedOrders<'a> {
         Ok(push_order(report, past.submission, &places)?)
     }
 
-    // Appends the line of an order, by its number in the list, after those of the orders that lead to it, each after two spaces.
+    // Appends the line of an order, by its number in the list, after those of the orders that lead
+    // to it, each after two spaces.
     fn push_way(&self, report: &mut String, last: usize) -> Result<(), NoMemory> {
         let (mut way, mut next) = (Vec::new(self.alloc), Some(last));
         for _ in 0..self.orders.len() {
@@ -144,7 +148,8 @@ fn push_limits(report: &mut String, settings: Settings<'_>) -> Result<(), AllocE
     )
 }
 
-/// Returns the lines of the answers, each with the orders that lead to it, and a last line that says whether these are all.
+/// Returns the lines of the answers, each with the orders that lead to it, and a last line that
+/// says whether these are all.
 pub(crate) fn listing_of_answers(
     alloc: Global,
     script: &Script,
@@ -169,8 +174,9 @@ pub(crate) fn listing_of_answers(
     Ok(report)
 }
 
-// Appends the line of how many texts there are: what that rests on, and how many are listed, if not all are. The number is that of a
-// list of all texts, or else that of the ways. Larger limits don't help where u64 doesn't hold the number.
+// Appends the line of how many texts there are: what that rests on, and how many are listed, if not
+// all are. The number is that of a list of all texts, or else that of the ways. Larger limits don't
+// help where u64 doesn't hold the number.
 fn push_count(
     report: &mut String,
     settings: Settings<'_>,
@@ -192,7 +198,8 @@ fn push_count(
     report.push('\n')
 }
 
-/// Returns the lines of the list: the number of texts, and of each text that was made the number, the lines and the orders.
+/// Returns the lines of the list: the number of texts, and of each text that was made the number,
+/// the lines and the orders.
 pub(crate) fn listing_of_texts(
     alloc: Global,
     script: &Script,

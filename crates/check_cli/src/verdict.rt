@@ -27,7 +27,8 @@ pub fn status_of(judgement: &Judgement) -> u8
     }
 }
 
-// Appends the number of a line, the lines that are expected there, the line, and the reason why it is wrong, if that is known.
+// Appends the number of a line, the lines that are expected there, the line, and the reason why it
+// is wrong, if that is known.
 fn push_found(
     report: &mut String,
     question: &Question<'_>,
@@ -44,7 +45,8 @@ fn push_found(
     )
 }
 
-// Appends the numbers of the lines at some places of the text, the reason why they conflict, and the lines.
+// Appends the numbers of the lines at some places of the text, the reason why they conflict, and
+// the lines.
 fn push_conflict(
     report: &mut String,
     question: &Question<'_>,
@@ -81,7 +83,8 @@ fn push_reason(report: &mut String, submission: u32, reason: Reason) -> Result<(
     }
 }
 
-// Returns a complaint about the lines of the submission at which a text breaks, if it is one and a complaint is found.
+// Returns a complaint about the lines of the submission at which a text breaks, if it is one and a
+// complaint is found.
 fn complaint_in(question: &Question<'_>, broken: &Break) -> Result<Option<Complaint>, NoMemory> {
     let slot = match &broken.fault {
         Fault::Text(_) => return Ok(None),
@@ -101,7 +104,8 @@ fn last_accepted<'a>(question: &Question<'a>, broken: &Break) -> Option<&'a [Req
     accepted_in(question.script.commands().get(command)?, earlier)
 }
 
-// Returns the reason why the line at a place of the text is wrong, where the lines `expected` should be. It may be empty.
+// Returns the reason why the line at a place of the text is wrong, where the lines `expected`
+// should be. It may be empty.
 fn why_of(
     question: &Question<'_>,
     broken: &Break,
@@ -258,8 +262,8 @@ fn push_last(
     }
 }
 
-/// Returns the lines of all breaks of a text, each found from the ring that the text shows after the one before it, and of the
-/// verdict on what follows the last one.
+/// Returns the lines of all breaks of a text, each found from the ring that the text shows after
+/// the one before it, and of the verdict on what follows the last one.
 pub(crate) fn breaks_text(
     question: &Question<'_>,
     limits: Limits,

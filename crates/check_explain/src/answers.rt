@@ -1,4 +1,5 @@
-//! The answers that a request may give, whatever the other requests answer (docs/MODEL.md, "What a request answers").
+//! The answers that a request may give, whatever the other requests answer (docs/MODEL.md, "What a
+//! request answers").
 use crate::case::Case;
 use crate::kinds::{Act, Effect, acts_of, fixed_result};
 use crate::words::{GotWords, PlaceWords, name_of, sign_before};
@@ -14,14 +15,15 @@ const SHOWN: usize = 16;
 // A content that requests leave at a slot, and their chain, or `None` if it may be any.
 type Left = (Option<u8>, Option<u32>);
 
-/// The contents that slots may have before a request: files of catalogue entries, or none. It is the first request of a submission, and
-/// [`Contents::pass`] goes on to the next one.
+/// The contents that slots may have before a request: files of catalogue entries, or none. It is
+/// the first request of a submission, and [`Contents::pass`] goes on to the next one.
 #[derive(Drop)]
 pub(crate) struct Contents<'a> {
     case: &'a Case<'a>,
     // For each slot the contents that requests leave there, each once.
     left: Vec<Vec<Left>>,
-    // The number of the request's chain, from 1, and the slots that its earlier members left known contents at.
+    // The number of the request's chain, from 1, and the slots that its earlier members left known
+    // contents at.
     chain: u32,
     own: Vec<(u32, Option<u8>)>,
 }
@@ -41,7 +43,8 @@ fn changes_of(case: &Case<'_>, request: &Request) -> Result<Vec<(Act, Option<u8>
     Ok(changes)
 }
 
-// Adds a content to those that requests leave at a slot. `by`: the chain of the request, or `None` if it may be any.
+// Adds a content to those that requests leave at a slot. `by`: the chain of the request, or `None`
+// if it may be any.
 fn add_content(
     there: &mut Vec<Left>,
     content: Option<u8>,
@@ -103,8 +106,9 @@ impl<'a> Contents<'a> {
         Ok(())
     }
 
-    /// Returns the contents that a slot may have before the request, each once: that of the last earlier member of its chain, or else
-    /// that before the submission, and those that other chains leave. A later member of its chain comes too late.
+    /// Returns the contents that a slot may have before the request, each once: that of the last
+    /// earlier member of its chain, or else that before the submission, and those that other chains
+    /// leave. A later member of its chain comes too late.
     pub(crate) fn at(&self, slot: u32) -> Result<Vec<Option<u8>>, NoMemory> {
         let file = self.case.slots.at.get(slot as usize).copied().flatten();
         let own = self.own.iter().rev().find(|it| it.0 == slot);
@@ -119,7 +123,8 @@ impl<'a> Contents<'a> {
     }
 }
 
-/// An answer that a request may give: one of the results from `first` to `last`, with these bytes, of a file of this name.
+/// An answer that a request may give: one of the results from `first` to `last`, with these bytes,
+/// of a file of this name.
 #[derive(Drop)]
 pub(crate) struct ValidAnswer<'a> {
     first: i32,

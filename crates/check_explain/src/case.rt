@@ -1,4 +1,5 @@
-//! The submission at which a text breaks: its files, and the accesses of its requests, by the lines of its report.
+//! The submission at which a text breaks: its files, and the accesses of its requests, by the lines
+//! of its report.
 use crate::kinds::{Act, Effect, acts_of};
 use crate::words::{AskedLine, next_line};
 use check_lines::read_report;
@@ -44,7 +45,8 @@ impl<'a> Case<'a> {
         self.slots.at.len()
     }
 
-    /// Returns the error of a request that is refused whatever is at the slots, or `None` if the slots decide.
+    /// Returns the error of a request that is refused whatever is at the slots, or `None` if the
+    /// slots decide.
     pub(crate) fn refusal_of(&self, request: &Request) -> Option<Errno> {
         let size = u32::try_from(self.size()).unwrap_or(u32::MAX);
         refusal_of(self.catalogue, size, request)
@@ -72,8 +74,8 @@ impl<'a> Case<'a> {
         Ok(files)
     }
 
-    /// Reads the completions that its first lines report, up to the first line that isn't the completion of its request. Returns
-    /// them, and the text from that line on.
+    /// Reads the completions that its first lines report, up to the first line that isn't the
+    /// completion of its request. Returns them, and the text from that line on.
     pub(crate) fn read(&self) -> Result<(Vec<Completion>, &'a [u8]), NoMemory> {
         let (mut completions, mut rest) = (Vec::new(self.alloc), self.text);
         for place in &self.places()? {
@@ -137,7 +139,8 @@ pub(crate) struct KnownReport {
 }
 
 impl KnownReport {
-    // Appends an access by the request of a line, and the file that it installed at one of the `size` slots.
+    // Appends an access by the request of a line, and the file that it installed at one of the
+    // `size` slots.
     fn push(&mut self, mut act: Act, line: usize, size: usize) -> Result<(), AllocError> {
         let Some(Completion { place, res, .. }) = self.completions.get(line) else {
             return Ok(());
@@ -167,8 +170,9 @@ impl KnownReport {
         Ok(self.acts.push(act)?)
     }
 
-    /// Returns the files and accesses of the completions of a case. A request that is refused whatever is at the slots makes no
-    /// access, whatever its completion claims. No file has a `closed` line yet.
+    /// Returns the files and accesses of the completions of a case. A request that is refused
+    /// whatever is at the slots makes no access, whatever its completion claims. No file has a
+    /// `closed` line yet.
     pub fn new(case: &Case<'_>, completions: Vec<Completion>) -> Result<KnownReport, NoMemory> {
         let mut report = KnownReport {
             completions,
@@ -186,7 +190,8 @@ impl KnownReport {
         Ok(report)
     }
 
-    /// Returns the number, from 0, of the file with a mark. The files from that of the last `closed` line on are tried first.
+    /// Returns the number, from 0, of the file with a mark. The files from that of the last
+    /// `closed` line on are tried first.
     pub fn file_marked(&self, mark: Mark) -> Option<usize> {
         let from = self.closes.last().copied().unwrap_or(0);
         match self

@@ -12,7 +12,8 @@ pub(crate) enum Stays {
     AsTold,
     /// Those of these numbers among the report's.
     Only(Vec<usize>),
-    /// None, and each slot is emptied once more, at any time, by nobody in particular. Each other choice has no more orders.
+    /// None, and each slot is emptied once more, at any time, by nobody in particular. Each other
+    /// choice has no more orders.
     Swept,
 }
 
@@ -39,13 +40,15 @@ impl ClaimsView<'_> {
         matches!(self.out.get(line), Some(true))
     }
 
-    /// Checks whether an access is at a slot that is looked at. One that has no slot is at each slot of the allocation range.
+    /// Checks whether an access is at a slot that is looked at. One that has no slot is at each
+    /// slot of the allocation range.
     pub(crate) fn has(&self, act: &Act) -> bool {
         let (first, count) = act.slot.map_or(self.case.slots.range, |slot| (slot, 1));
         (first..first.saturating_add(count)).any(|slot| self.has_slot(slot))
     }
 
-    // Appends the lines whose accesses depend on the slots, and, unless `depends`, those whose accesses change them.
+    // Appends the lines whose accesses depend on the slots, and, unless `depends`, those whose
+    // accesses change them.
     fn push_lines(&self, lines: &mut Vec<usize>, depends: bool) -> Result<(), AllocError> {
         for act in self.report.acts.iter().filter(|act| self.has(act)) {
             let is_meant = act.found.is_some() || !depends && act.is_done;
@@ -68,7 +71,8 @@ impl ClaimsView<'_> {
         Ok(())
     }
 
-    /// Returns the lines that depend on the slots, with the slots' `closed` lines if `closes`, or else the lines that change the slots.
+    /// Returns the lines that depend on the slots, with the slots' `closed` lines if `closes`, or
+    /// else the lines that change the slots.
     pub(crate) fn named(&self, closes: bool) -> Result<Vec<usize>, AllocError> {
         let mut lines = Vec::new(self.case.alloc);
         self.push_lines(&mut lines, true)?;
@@ -95,7 +99,8 @@ impl ClaimsView<'_> {
         })
     }
 
-    // Returns for each entry whether the read of a line may have found a file of it: the read got the file's bytes.
+    // Returns for each entry whether the read of a line may have found a file of it: the read got
+    // the file's bytes.
     fn fits_of(&self, line: usize) -> Result<[bool; 256], NoMemory> {
         let (case, report) = (self.case, self.report);
         match (case.requests.get(line), report.completions.get(line)) {
@@ -104,7 +109,8 @@ impl ClaimsView<'_> {
         }
     }
 
-    // Returns the claim of an access, if it makes one. That of a close that is left out empties the slot, if anything.
+    // Returns the claim of an access, if it makes one. That of a close that is left out empties the
+    // slot, if anything.
     fn claim_of(&self, act: &Act) -> Result<Option<Claim>, NoMemory> {
         let Some(slot) = act.slot else {
             return Ok(act.found.map(|_| Claim::Full));
@@ -173,7 +179,8 @@ impl ClaimsView<'_> {
         Ok(cells)
     }
 
-    /// Returns the slots that are looked at, as they are before the submission, and the claims of each chain about them.
+    /// Returns the slots that are looked at, as they are before the submission, and the claims of
+    /// each chain about them.
     pub(crate) fn question(&self) -> Result<(Vec<Cell>, Vec<Strand>), NoMemory> {
         let (cells, mut strands) = (self.cells()?, self.strands()?);
         if matches!(self.stays, Stays::Swept) {

@@ -1,4 +1,5 @@
-//! Complaints about the lines of a submission, for a person. They are advice, on which no verdict rests.
+//! Complaints about the lines of a submission, for a person. They are advice, on which no verdict
+//! rests.
 use crate::case::{Case, KnownReport};
 use crate::contradiction::no_order;
 use crate::wrong_answer::wrong_answer;
@@ -8,16 +9,19 @@ use fx_base::NoMemory;
 /// Invalid lines of a submission's report, by their numbers, which count from 0 at its first line.
 #[derive(Drop)]
 pub enum Complaint {
-    /// One line is wrong: its number, the lines that would be valid there, and the reason, which may be empty.
+    /// One line is wrong: its number, the lines that would be valid there, and the reason, which
+    /// may be empty.
     Line(usize, String, String),
     /// Some lines contradict each other: their numbers in order, and the reason.
     Lines(Vec<usize>, String),
 }
 
-/// The first complaint that a check of the lines finds, or `None`, or an error if an allocation fails.
+/// The first complaint that a check of the lines finds, or `None`, or an error if an allocation
+/// fails.
 pub(crate) type Checked = Result<Option<Complaint>, NoMemory>;
 
-/// Looks for the first invalid lines of a submission. `slot`: the slot that the judge blames, if it blames one.
+/// Looks for the first invalid lines of a submission. `slot`: the slot that the judge blames, if it
+/// blames one.
 ///
 /// # Errors
 /// `NoMemory` if an allocation fails.

@@ -1,4 +1,5 @@
-//! Lines of a submission that have no order together. Lines are left out, and the search is repeated.
+//! Lines of a submission that have no order together. Lines are left out, and the search is
+//! repeated.
 use crate::case::{Case, KnownReport};
 use crate::claims::{ClaimsView, Stays};
 use crate::complaint::{Checked, Complaint};
@@ -6,7 +7,8 @@ use crate::kinds::{Effect, may_sever};
 use check_search::{Claim, Found, Limits, Steps, components, explore};
 use fx_base::NoMemory;
 
-/// The largest number of states of all searches, in which a search counts at least as many as there are lines, and of one search.
+/// The largest number of states of all searches, in which a search counts at least as many as there
+/// are lines, and of one search.
 const STATES: usize = 200_000;
 
 const MOST_STATES: usize = 20_000;
@@ -33,8 +35,8 @@ struct Contradiction<'a> {
 }
 
 impl Contradiction<'_> {
-    // Searches for an order of the lines that aren't left out. Returns true if no order exists, or `None` if the
-    // search reaches a limit.
+    // Searches for an order of the lines that aren't left out. Returns true if no order exists, or
+    // `None` if the search reaches a limit.
     fn search(&mut self, stays: Stays) -> Result<Option<bool>, NoMemory> {
         self.view.stays = stays;
         let (alloc, bytes) = (self.view.case.alloc, BYTES);
@@ -65,7 +67,8 @@ impl Contradiction<'_> {
         Ok(slots)
     }
 
-    // Checks whether the lines that aren't left out have no order, whichever file of each slot stays. Returns `None` if that isn't seen.
+    // Checks whether the lines that aren't left out have no order, whichever file of each slot
+    // stays. Returns `None` if that isn't seen.
     fn has_no_order_at_all(&mut self) -> Result<Option<bool>, NoMemory> {
         if self.search(Stays::Swept)? == Some(true) {
             return Ok(Some(true));
@@ -96,7 +99,8 @@ impl Contradiction<'_> {
         Ok(Some(true))
     }
 
-    // Checks whether the lines that aren't left out have no order. Returns `None` if that isn't seen.
+    // Checks whether the lines that aren't left out have no order. Returns `None` if that isn't
+    // seen.
     fn has_no_order(&mut self) -> Result<Option<bool>, NoMemory> {
         let as_told = self.search(Stays::AsTold)?;
         if as_told == Some(false) || self.rests_on_closes {
@@ -105,7 +109,8 @@ impl Contradiction<'_> {
         self.has_no_order_at_all()
     }
 
-    // Looks at some slots. Returns whether the lines are seen to have no order there, whichever files are closed, or else by the text.
+    // Looks at some slots. Returns whether the lines are seen to have no order there, whichever
+    // files are closed, or else by the text.
     fn look_at(&mut self, slots: &[usize]) -> Result<bool, NoMemory> {
         for (slot, has) in self.view.slots.iter_mut().enumerate() {
             *has = slots.contains(&slot);
@@ -118,7 +123,8 @@ impl Contradiction<'_> {
         Ok(true)
     }
 
-    // Looks at the first slots that chains join and at which the lines have no order. Returns whether there are such slots.
+    // Looks at the first slots that chains join and at which the lines have no order. Returns
+    // whether there are such slots.
     fn look_at_parts(&mut self) -> Result<bool, NoMemory> {
         let case = self.view.case;
         let (_, strands) = self.view.question()?;
@@ -153,7 +159,8 @@ impl Contradiction<'_> {
         Ok(())
     }
 
-    // Checks whether a request may sever its chain before one that may change the slots, unless a later line of the chain is named.
+    // Checks whether a request may sever its chain before one that may change the slots, unless a
+    // later line of the chain is named.
     fn rests_on_others(&self, named: &[usize]) -> bool {
         let ClaimsView { case, report, .. } = &self.view;
         case.requests.iter().enumerate().any(|(line, it)| {
@@ -200,7 +207,8 @@ impl Contradiction<'_> {
     }
 }
 
-/// Returns a complaint about at most 16 lines that have no order together, at the blamed slot or at slots that a search finds.
+/// Returns a complaint about at most 16 lines that have no order together, at the blamed slot or at
+/// slots that a search finds.
 pub(crate) fn no_order(case: &Case<'_>, report: &KnownReport, slot: Option<u32>) -> Checked {
     let mut those = Contradiction {
         view: ClaimsView {

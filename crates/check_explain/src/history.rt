@@ -1,4 +1,5 @@
-//! Prints one whole history of a script and a legal text: an event or an answer on each line, with the state of the table after it.
+//! Prints one whole history of a script and a legal text: an event or an answer on each line, with
+//! the state of the table after it.
 use crate::words::{
     AskedLine, ByteWords, FileWords, MarkWords, PlaceWords, after_closes, cut_word, next_line,
 };
@@ -25,7 +26,8 @@ impl Display for FoundWords {
     }
 }
 
-// The first event of an access (docs/MODEL.md, "Steps"): the slot, the file installed, and the file found.
+// The first event of an access (docs/MODEL.md, "Steps"): the slot, the file installed, and the file
+// found.
 #[derive(Drop)]
 struct EventWords<'a>(&'a Catalogue, Access);
 
@@ -51,9 +53,10 @@ const COLUMN: usize = 44;
 // The line of a request without its end, and its completion.
 type Answer<'a> = (&'a [u8], Completion);
 
-/// A history that is printed command by command, in the order of the script: the rest of the script's lines, of the text and of the orders. At
-/// most one file is held or removed at a time, since a history is written in which what was looked up is released at once, and what
-/// was removed is closed at once.
+/// A history that is printed command by command, in the order of the script: the rest of the
+/// script's lines, of the text and of the orders. At most one file is held or removed at a time,
+/// since a history is written in which what was looked up is released at once, and what was removed
+/// is closed at once.
 #[derive(Drop)]
 pub struct History<'a> {
     alloc: Global,
@@ -73,8 +76,8 @@ pub struct History<'a> {
 }
 
 impl<'a> History<'a> {
-    /// Returns the history of a legal text before the first command of a script, with the orders of its submissions. `asked`: the
-    /// lines of the script's commands and requests.
+    /// Returns the history of a legal text before the first command of a script, with the orders of
+    /// its submissions. `asked`: the lines of the script's commands and requests.
     pub fn new(
         alloc: Global,
         catalogue: &'a Catalogue,
@@ -117,14 +120,16 @@ impl<'a> History<'a> {
         }
     }
 
-    // Returns the next line of the text without its first word. The lines of closed files and of tags that follow it are skipped.
+    // Returns the next line of the text without its first word. The lines of closed files and of
+    // tags that follow it are skipped.
     fn next_answer(&mut self) -> &'a [u8] {
         let (line, rest) = next_line(self.text);
         self.text = after_closes(rest);
         cut_word(line).1
     }
 
-    // Appends the state: each slot that has a file, with the file's mark, and the file that was removed.
+    // Appends the state: each slot that has a file, with the file's mark, and the file that was
+    // removed.
     fn push_state(&mut self) -> Result<(), AllocError> {
         let (lines, mut sign) = (&mut self.lines, "");
         for (slot, file) in self.at.iter().enumerate() {
@@ -199,7 +204,8 @@ impl<'a> History<'a> {
         self.end_line()
     }
 
-    // Appends the effect of each number of a list on its slot, from one on. A -1 of a registration leaves its slot empty.
+    // Appends the effect of each number of a list on its slot, from one on. A -1 of a registration
+    // leaves its slot empty.
     fn push_list(
         &mut self,
         who: &[u8],
@@ -265,7 +271,8 @@ impl<'a> History<'a> {
         Ok(self.end_line()?)
     }
 
-    // Appends answers from one on up to a member of a chain, and, if `canceled`, those of the canceled ones after it. Returns the next one.
+    // Appends answers from one on up to a member of a chain, and, if `canceled`, those of the
+    // canceled ones after it. Returns the next one.
     fn push_answers(
         &mut self,
         answers: &[Answer<'a>],
@@ -285,8 +292,8 @@ impl<'a> History<'a> {
         Ok(answers.len())
     }
 
-    // Appends the lines of a submission, by the answers of its requests and their order. A request answers after its last access; one
-    // that makes none answers when its chain has come to it.
+    // Appends the lines of a submission, by the answers of its requests and their order. A request
+    // answers after its last access; one that makes none answers when its chain has come to it.
     fn push_submission(&mut self, answers: &[Answer<'a>], order: &Order) -> Result<(), NoMemory> {
         // the number of each chain, and its first request that hasn't answered yet
         let mut chains = Vec::new(self.alloc);
@@ -320,8 +327,9 @@ impl<'a> History<'a> {
         Ok(())
     }
 
-    /// Appends the lines of the next command. A submission without requests prints no line, so that the next line is that of a later
-    /// command; it is refused only if no submission is accepted any more.
+    /// Appends the lines of the next command. A submission without requests prints no line, so that
+    /// the next line is that of a later command; it is refused only if no submission is accepted
+    /// any more.
     ///
     /// # Errors
     /// `NoMemory` if an allocation fails.

@@ -1,4 +1,5 @@
-//! What a request intends, for diagnostics: its accesses, its fixed result, the reason of its refusal.
+//! What a request intends, for diagnostics: its accesses, its fixed result, the reason of its
+//! refusal.
 use crate::case::{Case, places_of};
 use bitflags::Flags;
 use fx_base::{Catalogue, Errno, NoMemory};
@@ -19,7 +20,8 @@ pub(crate) enum Effect {
     Installs(u8),
 }
 
-/// An access that a request makes unless it is refused or canceled, and the facts that the request's line shows of it.
+/// An access that a request makes unless it is refused or canceled, and the facts that the
+/// request's line shows of it.
 #[derive(Clone, Copy)]
 pub(crate) struct Act {
     /// The slot; `None` for an open at any slot, unless the line shows the slot.
@@ -29,7 +31,8 @@ pub(crate) struct Act {
     pub entry: Option<usize>,
     /// The line, from 0.
     pub line: usize,
-    /// True if the access found a file, or `None` if the line doesn't show it. An open that found every slot full found files.
+    /// True if the access found a file, or `None` if the line doesn't show it. An open that found
+    /// every slot full found files.
     pub found: Option<bool>,
     /// True if the request succeeded.
     pub is_done: bool,
@@ -125,8 +128,8 @@ pub(crate) fn why_refused(
     }
 }
 
-/// Returns for each chain of a submission the places of the accesses that its requests make at a table of `size` slots, in order, if no
-/// request is canceled and no allocation fails.
+/// Returns for each chain of a submission the places of the accesses that its requests make at a
+/// table of `size` slots, in order, if no request is canceled and no allocation fails.
 ///
 /// # Errors
 /// `NoMemory` if an allocation fails.

@@ -1,5 +1,6 @@
-//! Explains a text to a person: a wrong line with the lines that would be valid there and the reason, lines that contradict each other,
-//! and a legal history. No verdict rests on this advice. It is proved only that these functions are memory-safe and terminate.
+//! Explains a text to a person: a wrong line with the lines that would be valid there and the
+//! reason, lines that contradict each other, and a legal history. No verdict rests on this advice.
+//! It is proved only that these functions are memory-safe and terminate.
 #![tactic(auto)]
 
 mod answers;

@@ -5,7 +5,8 @@ use check_lines::read_report;
 use fx_base::NoMemory;
 use fx_order::Slots;
 
-// Records the files of the `closed` lines that a text begins with. A line that names no file of the report closes none.
+// Records the files of the `closed` lines that a text begins with. A line that names no file of the
+// report closes none.
 fn record_closes(case: &Case<'_>, report: &mut KnownReport, text: &[u8]) -> Result<(), NoMemory> {
     let mut rest = text;
     for at in 0..text.len() {
@@ -28,7 +29,8 @@ fn record_closes(case: &Case<'_>, report: &mut KnownReport, text: &[u8]) -> Resu
     Ok(())
 }
 
-// Returns the slots at which the files of a report without a `closed` line are, or `None` if two of them are at one slot.
+// Returns the slots at which the files of a report without a `closed` line are, or `None` if two of
+// them are at one slot.
 fn slots_left(case: &Case<'_>, report: &KnownReport) -> Result<Option<Slots>, NoMemory> {
     let mut at = vec![in case.alloc; None; case.size()]?;
     for it in report.files.iter().filter(|it| it.closed.is_none()) {
@@ -41,9 +43,10 @@ fn slots_left(case: &Case<'_>, report: &KnownReport) -> Result<Option<Slots>, No
     Ok(Some(Slots { range, at }))
 }
 
-/// Returns the slots that a text shows after a submission, and the rest of the text. A file that was at a slot, or that a completion
-/// installs there, is there unless it has a `closed` line. A completion that claims what its request can't do installs nothing. Returns
-/// `None` if a request has no completion, or if two files are at one slot.
+/// Returns the slots that a text shows after a submission, and the rest of the text. A file that
+/// was at a slot, or that a completion installs there, is there unless it has a `closed` line. A
+/// completion that claims what its request can't do installs nothing. Returns `None` if a request
+/// has no completion, or if two files are at one slot.
 ///
 /// # Errors
 /// `NoMemory` if an allocation fails.

@@ -1,4 +1,5 @@
-//! Lines of scripts and texts, by their bytes or their numbers, and the words for places, marks and files.
+//! Lines of scripts and texts, by their bytes or their numbers, and the words for places, marks and
+//! files.
 ghost use Rattle.std.specs.Prelude.{◌≤◌, length};
 
 use fx_base::{Catalogue, Closed, Mark};
@@ -66,7 +67,8 @@ pub fn asked_lines(alloc: Global, script: &[u8]) -> Result<Vec<AskedLine<'_>>, A
     Ok(asked)
 }
 
-/// Returns the rest of a text after the lines of closed files and of tags that it begins with, whatever they say.
+/// Returns the rest of a text after the lines of closed files and of tags that it begins with,
+/// whatever they say.
 pub fn after_closes(text: &[u8]) -> &[u8] {
     let mut rest = text;
     for _ in 0..text.len() {
@@ -93,7 +95,8 @@ pub fn line_after(text: &[u8], from: usize, lines: usize) -> usize {
     at
 }
 
-/// Returns the places of the first line in which two texts differ: in the first text, read from a place on, and in the second.
+/// Returns the places of the first line in which two texts differ: in the first text, read from a
+/// place on, and in the second.
 pub fn first_difference(text: &[u8], from: usize, wanted: &[u8]) -> (usize, usize) {
     let (mut at, mut there) = (from, 0usize);
     for line in wanted.split_inclusive(|byte| *byte == b'\n') {
@@ -106,7 +109,8 @@ pub fn first_difference(text: &[u8], from: usize, wanted: &[u8]) -> (usize, usiz
     (at, there)
 }
 
-/// The first 100 bytes of a line, as a person is shown them: as `\xNN` each that isn't printable, and a space at the end of the line.
+/// The first 100 bytes of a line, as a person is shown them: as `\xNN` each that isn't printable,
+/// and a space at the end of the line.
 #[derive(Drop)]
 struct ShownBytes<'a>(&'a [u8]);
 
@@ -123,8 +127,9 @@ impl Display for ShownBytes<'_> {
     }
 }
 
-/// Returns the line that begins at a place, as a person is shown it: at most 100 bytes, and as `\xNN` each that isn't printable, and a
-/// space at the end of the line. For an empty or missing line it returns `none`.
+/// Returns the line that begins at a place, as a person is shown it: at most 100 bytes, and as
+/// `\xNN` each that isn't printable, and a space at the end of the line. For an empty or missing
+/// line it returns `none`.
 ///
 /// # Errors
 /// `AllocError` if an allocation fails.
@@ -205,7 +210,8 @@ impl Display for GotWords<'_> {
     }
 }
 
-/// Returns the sign before a word of a list: before the second and each later one, and before the last one if that isn't the first.
+/// Returns the sign before a word of a list: before the second and each later one, and before the
+/// last one if that isn't the first.
 pub fn sign_before(i: usize, count: usize, last: &'static str) -> &'static str {
     match i {
         0 => "",

@@ -1,4 +1,5 @@
-//! Lines that aren't the completions of their requests, and completions that no request there may have, or that contradict their chain.
+//! Lines that aren't the completions of their requests, and completions that no request there may
+//! have, or that contradict their chain.
 use crate::answers::{Contents, ValidAnswer, answers_of, answers_words};
 use crate::case::Case;
 use crate::complaint::{Checked, Complaint};
@@ -8,7 +9,8 @@ use fx_base::{Errno, NoMemory};
 use fx_chain::{Completion, Place, Request};
 use std::alloc::AllocError;
 
-// Returns the reason why a read can't have its bytes: the file that has them can't be at the slot, or no file has them.
+// Returns the reason why a read can't have its bytes: the file that has them can't be at the slot,
+// or no file has them.
 fn why_not_read(
     case: &Case<'_>,
     request: &Request,
@@ -57,7 +59,8 @@ fn why_not(case: &Case<'_>, request: &Request, it: &Completion) -> Result<String
     })
 }
 
-// Returns the complaint that a member is canceled, though no earlier one severs its chain: the lines of those that could.
+// Returns the complaint that a member is canceled, though no earlier one severs its chain: the
+// lines of those that could.
 fn not_severed(case: &Case<'_>, at: usize, member: u32) -> Checked {
     let first = at.saturating_add(1).saturating_sub(member as usize);
     let mut lines = Vec::new(case.alloc);
@@ -72,7 +75,8 @@ fn not_severed(case: &Case<'_>, at: usize, member: u32) -> Checked {
     Ok(Some(Complaint::Lines(lines, why.to_owned(case.alloc)?)))
 }
 
-// Returns the complaint that a member isn't canceled, though an earlier one severed its chain, if it isn't.
+// Returns the complaint that a member isn't canceled, though an earlier one severed its chain, if
+// it isn't.
 fn not_canceled(case: &Case<'_>, by: (usize, Place), at: (usize, &Completion)) -> Checked {
     if at.1.is_refusal(at.1.place, Errno::ECANCELED) {
         return Ok(None);
@@ -84,7 +88,8 @@ fn not_canceled(case: &Case<'_>, by: (usize, Place), at: (usize, &Completion)) -
     Ok(Some(Complaint::Lines(vec![in case.alloc; by.0, at.0]?, why)))
 }
 
-// Returns the answers that a request may give. `severed`: whether an earlier member severed its chain.
+// Returns the answers that a request may give. `severed`: whether an earlier member severed its
+// chain.
 fn valid_answers<'a>(
     case: &Case<'a>,
     contents: &Contents<'_>,
@@ -98,7 +103,8 @@ fn valid_answers<'a>(
     answers_of(case, contents, request)
 }
 
-// Returns the reason why the line of a request doesn't begin with the request's place and a space: another line does, or no line does.
+// Returns the reason why the line of a request doesn't begin with the request's place and a space:
+// another line does, or no line does.
 fn why_misplaced(case: &Case<'_>, at: usize, front: &str) -> Result<String, AllocError> {
     let mut lines = case.text.split_inclusive(|byte| *byte == b'\n');
     if let Some(other) = lines.position(|line| line.starts_with(front.as_bytes())) {
@@ -139,8 +145,8 @@ fn unread(
     Ok(Some(Complaint::Line(at, expected, why)))
 }
 
-// Returns the complaint about the completion of a request, if there is one. `severed`: the line and the place of the member that
-// severed its chain.
+// Returns the complaint about the completion of a request, if there is one. `severed`: the line and
+// the place of the member that severed its chain.
 fn complaint_of(
     case: &Case<'_>,
     answers: &[ValidAnswer<'_>],
@@ -163,8 +169,9 @@ fn complaint_of(
     Ok(Some(Complaint::Line(at, expected, why)))
 }
 
-/// Returns a complaint about the first line that isn't the completion of its request, or has one that the request can't have or that
-/// contradicts an earlier one of its chain. `rest`: the text after the lines of the completions.
+/// Returns a complaint about the first line that isn't the completion of its request, or has one
+/// that the request can't have or that contradicts an earlier one of its chain. `rest`: the text
+/// after the lines of the completions.
 pub(crate) fn wrong_answer(case: &Case<'_>, completions: &[Completion], rest: &[u8]) -> Checked {
     let mut contents = Contents::new(case)?;
     let mut severed = None;

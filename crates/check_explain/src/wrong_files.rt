@@ -1,5 +1,5 @@
-//! Invalid lines of closed files and of tags after a submission's completions, and lines that contradict each other by the files at
-//! one slot.
+//! Invalid lines of closed files and of tags after a submission's completions, and lines that
+//! contradict each other by the files at one slot.
 use crate::case::{Case, Installed, KnownReport};
 use crate::complaint::{Checked, Complaint};
 use crate::kinds::{Act, Effect};
@@ -18,7 +18,8 @@ fn conflict(case: &Case<'_>, one: usize, other: usize, why: &str) -> Checked {
     Ok(Some(Complaint::Lines(lines, why.to_owned(case.alloc)?)))
 }
 
-// Returns the complaint about a line of a closed file, if there is one. Else the file is recorded as closed.
+// Returns the complaint about a line of a closed file, if there is one. Else the file is recorded
+// as closed.
 fn complaint_of(
     case: &Case<'_>,
     report: &mut KnownReport,
@@ -75,7 +76,8 @@ fn wrong_tag(case: &Case<'_>, at: usize, it: &Installed, line: &[u8]) -> Checked
     Ok(Some(Complaint::Line(at, expected, why)))
 }
 
-// Returns the complaint about the lines after the last closed file, if there is one: a completion too many, or a wrong tag.
+// Returns the complaint about the lines after the last closed file, if there is one: a completion
+// too many, or a wrong tag.
 fn complaint_after(case: &Case<'_>, report: &KnownReport, rest: &[u8]) -> Checked {
     let mut rest = rest;
     let mut at = case.requests.len().saturating_add(report.closes.len());
@@ -100,8 +102,8 @@ fn complaint_after(case: &Case<'_>, report: &KnownReport, rest: &[u8]) -> Checke
     Ok(None)
 }
 
-/// Returns a complaint about the first wrong line after a submission's completions, which `text` begins with. It records the closed
-/// files in the report.
+/// Returns a complaint about the first wrong line after a submission's completions, which `text`
+/// begins with. It records the closed files in the report.
 pub(crate) fn wrong_close(case: &Case<'_>, report: &mut KnownReport, text: &[u8]) -> Checked {
     let (mut at, mut rest) = (case.requests.len(), text);
     for _ in 0..text.len() {
@@ -135,7 +137,8 @@ fn two_left(case: &Case<'_>, one: &Installed, other: &Installed) -> Checked {
     Ok(Some(Complaint::Lines(lines, why)))
 }
 
-// Returns the complaint that a file has no `closed` line, if it was at a slot before an access that removed it or found the slot empty.
+// Returns the complaint that a file has no `closed` line, if it was at a slot before an access that
+// removed it or found the slot empty.
 fn removed(case: &Case<'_>, report: &KnownReport, act: &Act, it: &Installed) -> Checked {
     let does = match act.found {
         Some(false) => "finds the slot empty",
@@ -162,7 +165,8 @@ fn removed(case: &Case<'_>, report: &KnownReport, act: &Act, it: &Installed) -> 
     Ok(Some(Complaint::Lines(lines, why)))
 }
 
-// Returns a complaint about the first slot at which two files are left. Sets the file that is left at each slot.
+// Returns a complaint about the first slot at which two files are left. Sets the file that is left
+// at each slot.
 fn two_at_a_slot(case: &Case<'_>, report: &KnownReport, left: &mut [Option<Installed>]) -> Checked {
     for it in report.files.iter().filter(|it| it.closed.is_none()) {
         match left.get_mut(it.slot as usize) {
@@ -174,8 +178,8 @@ fn two_at_a_slot(case: &Case<'_>, report: &KnownReport, left: &mut [Option<Insta
     Ok(None)
 }
 
-/// Returns a complaint about the first slot at which two files are left, or about the first access that shows that a file without a
-/// `closed` line was removed.
+/// Returns a complaint about the first slot at which two files are left, or about the first access
+/// that shows that a file without a `closed` line was removed.
 pub(crate) fn wrong_count(case: &Case<'_>, report: &KnownReport) -> Checked {
     let mut left: Vec<Option<Installed>> = vec![in case.alloc; None; case.size()]?;
     let complaint = two_at_a_slot(case, report, &mut left)?;

@@ -171,7 +171,8 @@ module _ {X : Type 0} (chain_of : X → ℕ) (chain : ℕ) (xs : List X) (x : X)
   none_more : chain_of x ≢ chain → kept (xs ++ x ∷ []) ≡ kept xs
   none_more other = rw (filter-append (λ (y : X). chain_of y == chain) xs (x ∷ []), ne_eqb (chain_of x) chain other, append-nil)
 
--- the next access of an order, the number of accesses of its chain that were read, and its chain's list of places
+-- the next access of an order, the number of accesses of its chain that were read, and its chain's
+-- list of places
 pub record IsNext (lists : List (Vec AccessPlace)) (order : List ChainAccess) (i : ℕ) (x : ChainAccess) (next : List ℕ) (n : ℕ)
     (list : Vec AccessPlace) : Type 0 where
   pub taken : take (i + 1) order ≡ take i order ++ x ∷ []

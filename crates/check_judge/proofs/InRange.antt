@@ -104,7 +104,8 @@ module _ (catalogue : List FileEntry) (are : AreFiles catalogue) (size : ℕ) (s
       (record { submission = low; chain = omega arith; member = omega arith }) (omega arith) (possible_of_chain size range first order inside) x.3)
       (chains_so (first + 1) runs order x.1 low (omega arith) (All-tail (λ (r : List Asked). length r ≤ 16) run runs short) inside x.4))
 
--- The lines of an accepted submission's report have numbers that their types have, and names without a line end.
+-- The lines of an accepted submission's report have numbers that their types have, and names
+-- without a line end.
 
 abbrev no_entry : FileEntry
 no_entry = record { name = []; bytes = [] }

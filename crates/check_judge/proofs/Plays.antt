@@ -25,7 +25,8 @@ order_rings {old} {left} {requests} {report} ring none few accepted one =
     (subst (λ (r : RingState). IsOneOrder r requests report left) (sym is) one) in
     subst IsRing h.1 (submitted_rings (ring_with_files old) h.0 requests report (subst IsRing (sym is) ring) h.2)
 
--- A command that prints one line alone, of those that a text begins with: the text leads where that line leads.
+-- A command that prints one line alone, of those that a text begins with: the text leads where that
+-- line leads.
 
 pub rest_behind : {text line others : List ℕ} {count : ℕ} → BeginsWith text count line → text ≡ line ++ others → others ≡ drop count text
 rest_behind {text} {line} {others} {count} found split =
@@ -43,7 +44,8 @@ begins_with {text} {line} rest split =
     record { inside = omega arith; is_line = ap (λ (n : ℕ). take n text) size ∙ ap (take (length line)) split ∙ take-append_seam line rest }
 
 module _ (before : RingState) (command : Instruction) (text : List ℕ) where
-  -- rings of this state may print the line, which leads to that ring, and no other line with which the text continues
+  -- rings of this state may print the line, which leads to that ring, and no other line with which
+  -- the text continues
   pub record PrintsOne (left : RingState) (line : List ℕ) : Type 0 where
     pub may : (ring next : RingContents) (printed : List ℕ) → ring_of ring ≡ before → ring_of next ≡ left → printed ≡ line
         → Prints ring command next printed
@@ -62,8 +64,8 @@ module _ (catalogue : List FileEntry) (old new : RingSlots) (command : Instructi
       )
   goes (Apart wanted) found = λ next others g. found others (g.split ∙ ap (λ (l : List ℕ). l ++ others) (one.only next others g).1)
 
--- The calls between submissions, and submissions that are refused: where a text leads that goes on with what one prints, and what is kept
--- of the ring.
+-- The calls between submissions, and submissions that are refused: where a text leads that goes on
+-- with what one prints, and what is kept of the ring.
 
 module _ (catalogue : List FileEntry) (old : RingSlots) (command : Instruction) (text : List ℕ) (kept : IsRingKept catalogue old)
     (counts : IsCall old.submissions command) where
@@ -130,7 +132,8 @@ pub next_instruction : (commands : List Command) {all : List Instruction} {done 
     → done < length commands → command ≡ slice_index_or commands done command → drop done all ≡ instruction_of command ∷ drop (done + 1) all
 next_instruction commands {done} {command} same inside is = rw (sym same, add-one done) (mapped_at instruction_of commands done command inside is)
 
--- what commands are to print: the whole text, with the end of the script, or a beginning of it, and leave this
+-- what commands are to print: the whole text, with the end of the script, or a beginning of it, and
+-- leave this
 pub data Aim : Type 0 where
   Whole : Aim
   Leaves : List ℕ → Aim
@@ -145,13 +148,15 @@ pub record CanPrint (aim : Aim) (state : RingState) (commands : List Instruction
   pub same : ring_of ring ≡ state
   pub prints : PrintsTo aim ring commands text
 
--- each ring of this state may print the whole text by these orders, or the text of the first commands
+-- each ring of this state may print the whole text by these orders, or the text of the first
+-- commands
 abbrev pub MayPrintTo : Aim → RingState → List Instruction → List ℕ → List Order → Type 0
 MayPrintTo Whole state commands text orders = MayPrintAllBy state commands text orders
 MayPrintTo (Leaves left) state commands text orders = MayPrintFront state commands text
 
--- where the commands that are done have printed the text up to here, each play from a ring of the first state that prints the text is at this
--- state, and what may be printed of this state goes on with what was printed
+-- where the commands that are done have printed the text up to here, each play from a ring of the
+-- first state that prints the text is at this state, and what may be printed of this state goes on
+-- with what was printed
 pub record GoesWith (start : RingState) (all : List Instruction) (text : List ℕ) (done at : ℕ) (orders : List Order) (now : RingState) : Type 0 where
   pub along : (aim : Aim) (more : ℕ) → CanPrint aim start (take (done + more) all) text → CanPrint aim now (take more (drop done all)) (drop at text)
   pub back : (aim : Aim) (commands : List Instruction) (others : List ℕ) (later : List Order) → MayPrintTo aim now commands others later

@@ -150,7 +150,8 @@ module _ (cells : List Cell) (chains : List (Vec Claim)) (i : ℕ) (strands : Li
   one_more next grown = rw grown (by_equality (length own.items) 0 (λ b. SoFar cells chains (i + 1) (strands ++ (if b then [] else added ∷ [])))
       (λ none. rw append-nil (without none)) (λ _. with_own))
 
--- An order whose accesses fit the claims is, at some slots alone, an order of the claims of these slots.
+-- An order whose accesses fit the claims is, at some slots alone, an order of the claims of these
+-- slots.
 
 -- the first one of the claims that are left
 first_left : {closes : List Closed} (claims : List Claim) (n : ℕ) {a : Access} (rest : List Access) → AllZip (Fits closes) (drop n claims) (a ∷ rest)
@@ -291,7 +292,8 @@ unseen cells (b ∷ accesses) {a} has none = elim (cases_Bool (has_slot cells (t
   ]
 ]
 
--- if no order of some slots' claims leads to an end, no order fits the claims of the chains that have these strands
+-- if no order of some slots' claims leads to an end, no order fits the claims of the chains that
+-- have these strands
 pub no_order : (slots : Slots) (closes : List Closed) (chains : List (Vec Claim)) (cells : List Cell) (strands same : List Strand)
     → All (IsCell (table_of_slots slots) closes) cells
     → ((closes : List Closed) (order : List ChainAccess) → AreClaims closes chains order → AreStrands closes cells (length chains) order strands)

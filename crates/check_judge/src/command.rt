@@ -24,7 +24,8 @@ use std::alloc::Global;
 /// The judge's answer for the next command of a script and the rest of a text.
 #[derive(Debug, Drop)]
 pub(crate) enum CommandVerdict {
-    /// The text continues with this many bytes that the command may print; of an accepted submission, an order that prints them.
+    /// The text continues with this many bytes that the command may print; of an accepted
+    /// submission, an order that prints them.
     Printed(usize, Option<Order>),
     /// The text doesn't continue with anything that the command may print.
     Broken(Fault),
@@ -66,7 +67,8 @@ pub(crate) fn meet(text: &[u8], line: String) -> Met
     Met::Apart(line)
 }
 
-// Looks for the line of a call whose allocation failed. If it is missing, `likelier` is the likeliest line.
+// Looks for the line of a call whose allocation failed. If it is missing, `likelier` is the
+// likeliest line.
 fn or_no_memory(alloc: Global, text: &[u8], word: &str, likelier: String) -> Result<Met, NoMemory>
     ensures { IfOk result (IsMet text.now (result_line word.now (negated ENOMEM))) }
 {
@@ -77,8 +79,8 @@ fn or_no_memory(alloc: Global, text: &[u8], word: &str, likelier: String) -> Res
     }
 }
 
-/// Plays a call between submissions, or a submission that is refused: looks for its line if no allocation fails, and
-/// then for its ENOMEM line.
+/// Plays a call between submissions, or a submission that is refused: looks for its line if no
+/// allocation fails, and then for its ENOMEM line.
 ///
 /// # Errors
 /// `NoMemory` if an allocation fails.

@@ -28,7 +28,8 @@ struct Case<'a> {
     pub ghost accepted: { IsAccepted (all_asked requests.now) },
 }
 
-// Makes an order if it leads to the report, and returns whether it does. The ring becomes the one after the submission.
+// Makes an order if it leads to the report, and returns whether it does. The ring becomes the one
+// after the submission.
 fn confirm(case: &Case<'_>, ring: &mut RingSlots, order: &[ChainAccess]) -> Result<bool, NoMemory>
     requires ring { IsRing (ring_with_slots case.now.catalogue.now ring.old) }
     requires few_slots { length ring.old.slots.at.items ≤ MOST_SLOTS }
@@ -58,7 +59,8 @@ fn confirm(case: &Case<'_>, ring: &mut RingSlots, order: &[ChainAccess]) -> Resu
     Ok(true)
 }
 
-// Searches for an order of the accesses that the completions imply. An order that it returns is still to be confirmed.
+// Searches for an order of the accesses that the completions imply. An order that it returns is
+// still to be confirmed.
 fn judge_told(case: &Case<'_>, ring: &RingSlots, limits: Limits) -> Result<PartVerdict, NoMemory>
     requires ring { IsRing (ring_with_slots case.now.catalogue.now ring.now) }
     requires few_slots { length ring.now.slots.at.items ≤ MOST_SLOTS }
@@ -93,11 +95,12 @@ fn judge_told(case: &Case<'_>, ring: &RingSlots, limits: Limits) -> Result<PartV
     judge_table(case.alloc, &table, limits)
 }
 
-/// Judges whether `told` is the result of some order of the requests, done one at a time, at `ring` with `catalogue`. If the
-/// verdict is `Legal`, `ring` becomes the ring after the submission; else it stays as it was. `limits` apply to each part of the
-/// submission that has slots of its own. The verdict is `Undecided` if it wasn't shown within them: by `TooManyStates` or
-/// `TooMuchMemory` if a search reached a limit, by `NotShown` if the result of a search was not confirmed. The caller has checked
-/// that no request has a fault ([`fx_chain::check`]).
+/// Judges whether `told` is the result of some order of the requests, done one at a time, at `ring`
+/// with `catalogue`. If the verdict is `Legal`, `ring` becomes the ring after the submission; else
+/// it stays as it was. `limits` apply to each part of the submission that has slots of its own. The
+/// verdict is `Undecided` if it wasn't shown within them: by `TooManyStates` or `TooMuchMemory` if
+/// a search reached a limit, by `NotShown` if the result of a search was not confirmed. The caller
+/// has checked that no request has a fault ([`fx_chain::check`]).
 ///
 /// # Errors
 /// `NoMemory` if an allocation fails. The ring stays as it was.

@@ -1,5 +1,6 @@
-//! Decides whether a script may print a text, whoever wrote the text, and whether some order of a submission's requests leads
-//! to a report, for instance a kernel's. The verdicts `Legal` and `NotLegal` are proved.
+//! Decides whether a script may print a text, whoever wrote the text, and whether some order of a
+//! submission's requests leads to a report, for instance a kernel's. The verdicts `Legal` and
+//! `NotLegal` are proved.
 #![tactic(auto)]
 
 mod chain_claims;

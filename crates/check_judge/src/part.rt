@@ -81,7 +81,8 @@ fn judge_part(
     }
 }
 
-// Looks for the first slot whose own claims have no order. A slot that is a part by itself is left out.
+// Looks for the first slot whose own claims have no order. A slot that is a part by itself is left
+// out.
 fn judge_slots(
     alloc: Global,
     table: &TableTold<'_>,
@@ -130,7 +131,8 @@ pub(crate) fn cells_of(
     Ok(cells)
 }
 
-// Returns the reason for a part that has no order: its slot if it has one slot, otherwise its chains.
+// Returns the reason for a part that has no order: its slot if it has one slot, otherwise its
+// chains.
 fn reason_of(slots: &[usize]) -> Reason {
     match slots {
         [slot] => Reason::Slot(u32::try_from(*slot).unwrap_or(u32::MAX)),
@@ -181,7 +183,8 @@ fn first_limits(table: &TableTold<'_>, limits: Limits) -> Limits {
     }
 }
 
-// Judges a table by searches: of the parts through few states, then of the slots by themselves, and then of the parts.
+// Judges a table by searches: of the parts through few states, then of the slots by themselves, and
+// then of the parts.
 fn judge_searched(
     alloc: Global,
     table: &TableTold<'_>,

@@ -152,7 +152,8 @@ fn in_order(
     Ok(places)
 }
 
-/// Returns the place of the request that makes each access of an order. The order must lead to the completions.
+/// Returns the place of the request that makes each access of an order. The order must lead to the
+/// completions.
 ///
 /// # Errors
 /// `NoMemory` if an allocation fails.

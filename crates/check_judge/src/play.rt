@@ -136,12 +136,14 @@ fn judge_rest(
     }
 }
 
-/// Decides whether a script may print a text. It plays the commands against the text, one after another, on the slots and counts
-/// of a ring. For each submission, the limits hold for the states of each part that has slots of its own.
+/// Decides whether a script may print a text. It plays the commands against the text, one after
+/// another, on the slots and counts of a ring. For each submission, the limits hold for the states
+/// of each part that has slots of its own.
 ///
-/// If the text is legal, the script may print it by one play in which each accepted submission is done in its order. If it isn't,
-/// the commands before the break may print the text before the break, and no other beginning of the text; with the next command
-/// they print none. A beginning isn't followed by a line of a closed file or a tag.
+/// If the text is legal, the script may print it by one play in which each accepted submission is
+/// done in its order. If it isn't, the commands before the break may print the text before the
+/// break, and no other beginning of the text; with the next command they print none. A beginning
+/// isn't followed by a line of a closed file or a tag.
 ///
 /// # Errors
 /// `NoMemory` if an allocation fails.
@@ -157,10 +159,11 @@ pub fn judge(
     judge_rest(alloc, catalogue, commands, new_ring(alloc), text, limits)
 }
 
-/// Decides whether the commands of a script after the first `done` may print a text from a ring with these slots and counts, as
-/// `judge` does from a ring without a table. In a break, the commands are counted after the first `done`, and the bytes from the
-/// beginning of the text. Returns `None` if there are fewer commands, or if no ring has these slots and counts: a file isn't in
-/// the catalogue, its mark isn't counted or is at two slots, or a limit is exceeded.
+/// Decides whether the commands of a script after the first `done` may print a text from a ring
+/// with these slots and counts, as `judge` does from a ring without a table. In a break, the
+/// commands are counted after the first `done`, and the bytes from the beginning of the text.
+/// Returns `None` if there are fewer commands, or if no ring has these slots and counts: a file
+/// isn't in the catalogue, its mark isn't counted or is at two slots, or a limit is exceeded.
 ///
 /// Nothing is said of whether a play leads to such a ring.
 ///

@@ -1,5 +1,5 @@
-//! Refutes a table's claims without a search: a closed file was never in the table, the counts of a slot's files differ, or a request
-//! waits for a file that is never installed.
+//! Refutes a table's claims without a search: a closed file was never in the table, the counts of a
+//! slot's files differ, or a request waits for a file that is never installed.
 ghost use Rattle.std.specs.Prelude.{◌≡◌, ◌↔◌, Any, Contains, IsTrue, Some, ◌<◌, ◌+◌, ◌^◌, All, IfOk, length, ℕ};
 ghost use Rattle.fx_order.specs.Slots.{table_of_slots};
 ghost use Rattle.check_judge.specs.Known.{Brings, IsBrought, IsKnown};
@@ -74,8 +74,8 @@ fn is_known(table: &TableTold<'_>, file: Closed) -> bool
     is_at_slot(&table.slots.at, file) || is_brought(table.chains, file)
 }
 
-// Checks whether the chain that the file's mark names leaves it at a slot. Only that chain installs a file of this
-// submission, so it is searched first.
+// Checks whether the chain that the file's mark names leaves it at a slot. Only that chain installs
+// a file of this submission, so it is searched first.
 fn is_own(table: &TableTold<'_>, file: Closed) -> bool {
     match file.mark {
         Mark::Submitted { chain, .. } => match table

@@ -20,7 +20,8 @@ use fx_base::{Catalogue, Closed, Errno, MOST_ENTRIES, NoMemory};
 use fx_chain::{Completion, LONGEST_READ, LONGEST_UPDATE, Op, Place, Request, Target, refusal_of};
 use std::alloc::Global;
 
-// Returns the claim of an entry at a position in its list and at a slot, or `None` if the entry is a skip.
+// Returns the claim of an entry at a position in its list and at a slot, or `None` if the entry is
+// a skip.
 fn claim_of_entry(
     setting: &ClaimSetting<'_>,
     place: Place,

@@ -19,7 +19,8 @@ fn has_range(cells: &[Cell]) -> bool
     cells.iter().any(|cell| cell.in_range)
 }
 
-// Checks whether a claim is of one of these slots, or of the allocation range if one of them is of it.
+// Checks whether a claim is of one of these slots, or of the allocation range if one of them is of
+// it.
 fn keeps(cells: &[Cell], claim: &Claim) -> bool
     ensures { result ≡ keeps cells.now claim.now }
 {
@@ -87,7 +88,8 @@ fn access_of(claim: &Claim, found: Option<Closed>) -> Access {
     }
 }
 
-/// Returns the accesses of an order of claims. No contract says anything of them; they are checked like any other order.
+/// Returns the accesses of an order of claims. No contract says anything of them; they are checked
+/// like any other order.
 pub(crate) fn accesses_along(
     alloc: Global,
     strands: &[Strand],
@@ -117,14 +119,14 @@ pub(crate) fn accesses_along(
     Ok(accesses)
 }
 
-/// Checks whether a table has no slot of its allocation range. If so, an open at any slot always finds the range full, and no part
-/// of the table has a slot of it.
+/// Checks whether a table has no slot of its allocation range. If so, an open at any slot always
+/// finds the range full, and no part of the table has a slot of it.
 pub(crate) fn is_range_empty(slots: &Slots) -> bool {
     slots.range.1 == 0 || slots.range.0 as usize >= slots.at.len()
 }
 
-// Appends the accesses of a chain, from a position on, that find the range full. Returns the position of the first other
-// claim.
+// Appends the accesses of a chain, from a position on, that find the range full. Returns the
+// position of the first other claim.
 fn push_full(
     whole: &mut Vec<ChainAccess>,
     chain: u32,
@@ -143,7 +145,8 @@ fn push_full(
     Ok(claims.len())
 }
 
-/// Returns an order with the accesses that find the range full, each at its place among those of its chain.
+/// Returns an order with the accesses that find the range full, each at its place among those of
+/// its chain.
 pub(crate) fn with_full(
     alloc: Global,
     chains: &[Vec<Claim>],

@@ -51,7 +51,8 @@ fn is_close(line: &[u8]) -> bool {
     line.starts_with(b"closed ") || line.starts_with(b"tag ")
 }
 
-/// Returns the first line of a text that isn't a line of the submission's report, if the report can't be read.
+/// Returns the first line of a text that isn't a line of the submission's report, if the report
+/// can't be read.
 ///
 /// # Errors
 /// `NoMemory` if an allocation fails.
@@ -87,7 +88,8 @@ pub(crate) fn wrong_line(
     wrong_close(alloc, requests.len(), rest)
 }
 
-// Returns the first invalid line of the lines of closed files and tags, which follow `before` lines.
+// Returns the first invalid line of the lines of closed files and tags, which follow `before`
+// lines.
 fn wrong_close(alloc: Global, before: usize, text: &[u8]) -> Result<Fault, NoMemory> {
     let mut rest = text;
     let mut count = before;
@@ -142,8 +144,8 @@ fn told_by(
     }))
 }
 
-// Returns the completions and closes that lines report, or the first invalid line. Each closed file must have been at a slot,
-// or a request must have installed it.
+// Returns the completions and closes that lines report, or the first invalid line. Each closed file
+// must have been at a slot, or a request must have installed it.
 fn told_of(
     alloc: Global,
     catalogue: &Catalogue,
@@ -166,7 +168,8 @@ fn told_of(
     Ok(Ok(told))
 }
 
-// Returns the order of a submission, with the places of its accesses. The ring has counted the submission.
+// Returns the order of a submission, with the places of its accesses. The ring has counted the
+// submission.
 fn order_of(
     alloc: Global,
     catalogue: &Catalogue,
@@ -208,8 +211,8 @@ fn order_of(
     })
 }
 
-/// Plays a submission that is accepted, if an order of its requests leads to the report at the beginning of the text. The limits
-/// hold for the states of each part that has slots of its own.
+/// Plays a submission that is accepted, if an order of its requests leads to the report at the
+/// beginning of the text. The limits hold for the states of each part that has slots of its own.
 ///
 /// # Errors
 /// `NoMemory` if an allocation fails.

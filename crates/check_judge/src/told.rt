@@ -53,7 +53,8 @@ fn entry_named(catalogue: &Catalogue, name: &[u8]) -> Option<u8>
     None
 }
 
-// Returns the file that a line of a closed file names: one at a slot, or one that the submission installs, without a tag.
+// Returns the file that a line of a closed file names: one at a slot, or one that the submission
+// installs, without a tag.
 fn file_told(catalogue: &Catalogue, slots: &Slots, line: &ClosedLine) -> Option<Closed>
     ensures told { IfSome result (λ file. named_close catalogue.now file ≡ named_close_of line.now) }
     ensures only { AreApart catalogue.now slots.now → (file : File)
@@ -76,7 +77,8 @@ fn file_told(catalogue: &Catalogue, slots: &Slots, line: &ClosedLine) -> Option<
     }
 }
 
-/// Returns the files that lines of closed files name, in their order, or the number of the first line, from 0, that names no file.
+/// Returns the files that lines of closed files name, in their order, or the number of the first
+/// line, from 0, that names no file.
 ///
 /// # Errors
 /// `NoMemory` if an allocation fails.
@@ -102,8 +104,8 @@ pub(crate) fn files_told(
     Ok(Ok(files))
 }
 
-/// Returns the number, from 0, of the first file whose mark doesn't follow that of the file before it, or `None` if the files are
-/// in order of mark and no two have one mark.
+/// Returns the number, from 0, of the first file whose mark doesn't follow that of the file before
+/// it, or `None` if the files are in order of mark and no two have one mark.
 pub(crate) fn wrong_order(files: &[Closed]) -> Option<usize>
     ensures { IfSome result (λ i. IsInOrderOfMark files.now → HasDistinctMarks files.now → ⊥) }
 {
@@ -127,7 +129,8 @@ pub(crate) fn tags_told(alloc: Global, files: &[Closed]) -> Result<Vec<u64>, NoM
     Ok(tagged.map(|file| file.tag).collect(alloc)?)
 }
 
-/// Returns the number, from 0, of the first tag that differs from the expected one, or `None` if the lists are equal.
+/// Returns the number, from 0, of the first tag that differs from the expected one, or `None` if
+/// the lists are equal.
 pub(crate) fn wrong_tag(wanted: &[u64], tags: &[u64]) -> Option<usize>
     ensures same { IfNone result (wanted.now ≡ tags.now) }
     ensures apart { IfSome result (λ i. wanted.now ≡ tags.now → ⊥) }
@@ -156,8 +159,8 @@ fn has_installed(request: &Request, completion: &Completion, mark: Mark) -> bool
     request.installs_at(entry)
 }
 
-// Returns the position, from `from` on, of the first completion whose place isn't before the mark's. The completions are in
-// order of place.
+// Returns the position, from `from` on, of the first completion whose place isn't before the
+// mark's. The completions are in order of place.
 fn completion_of(completions: &[Completion], from: usize, mark: Mark) -> usize {
     for i in from..completions.len() {
         if completions[i].place.mark(u32::MAX) >= mark {
@@ -180,8 +183,8 @@ fn is_installed(requests: &[Request], completions: &[Completion], mark: Mark) ->
     false
 }
 
-/// Returns the number, from 0, of a closed file that was at no slot before and that no request of the submission installed, or
-/// `None` if there is no such file. The files are in order of mark.
+/// Returns the number, from 0, of a closed file that was at no slot before and that no request of
+/// the submission installed, or `None` if there is no such file. The files are in order of mark.
 pub(crate) fn unknown_file(slots: &Slots, requests: &[Request], told: &Told) -> Option<usize>
     ensures { IfSome result (λ i. AreFrom slots.now (all_asked requests.now)
         (all_completed told.now.completions.items) told.now.closes.items → ⊥) }
@@ -198,7 +201,8 @@ pub(crate) fn unknown_file(slots: &Slots, requests: &[Request], told: &Told) -> 
         if installed || file_marked(slots, mark).is_some() {
             continue;
         }
-        // Only the request at the mark's place was checked. The file is unknown if no request installed it.
+        // Only the request at the mark's place was checked. The file is unknown if no request
+        // installed it.
         if !is_installed(requests, completions, mark) {
             return Some(i);
         }

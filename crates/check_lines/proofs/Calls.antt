@@ -20,7 +20,8 @@ unless_so : (P : RingState → Type 0) (x : Option Errno) {old left : RingState}
 unless_so P (Some errno) so goes = so
 unless_so P None so goes = goes refl
 
--- so it holds of it if it holds of the ring before the call, and of what the call leaves that isn't refused
+-- so it holds of it if it holds of the ring before the call, and of what the call leaves that isn't
+-- refused
 pub still : (P : RingState → Type 0) {ring : RingState} (command : Instruction) → P ring
     → ((call_of ring command).refusal ≡ None → P (call_of ring command).left) → P (after_call ring command)
 still P (SubmitsAll asked) so goes = so
@@ -163,7 +164,8 @@ not_refused ring word n closed line behind more few tells same =
     (sym (append_assoc (result_line word (pos n)) tail behind) ∙ ap (λ (l : List ℕ). l ++ behind) (sym is) ∙ same)).0 in
     cc
 
--- A call between submissions, or a refused submission, leaves one ring and prints one line, or finds no memory.
+-- A call between submissions, or a refused submission, leaves one ring and prints one line, or
+-- finds no memory.
 
 -- what it leaves and prints
 abbrev pub Answers : RingState → Instruction → RingState → List ℕ → Type 0

@@ -88,7 +88,8 @@ pub from_none : {A : Type 0} {print : A → List ℕ} {fits : A → Type 0} {tex
     → ReadsPrinted print fits text None → ReadsPrinted print fits text r
 from_none {print} {fits} {text} is reads = subst (ReadsPrinted print fits text) (sym is) reads
 
--- the parts of a text that is cut, where it is that of two parts and the byte isn't in the first of them
+-- the parts of a text that is cut, where it is that of two parts and the byte isn't in the first of
+-- them
 pub parts_are : (at : ℕ) {text front rest : List ℕ} → IsPrintedFrom (cut_text at) (IsCutPart at) text (front, rest)
     → (one two : List ℕ) → is_without at one ≡ true → text ≡ cut_text at (one, two) → (front ≡ one) × (rest ≡ two)
 parts_are at cuts one two none same = let parts = cuts.only (one, two) none same in (sym (ap (λ p. p.0) parts), sym (ap (λ p. p.1) parts))

@@ -1,5 +1,5 @@
-//! Calls between submissions: the ring that each leaves and the line that it prints if no allocation fails; and the line of a refused
-//! submission.
+//! Calls between submissions: the ring that each leaves and the line that it prints if no
+//! allocation fails; and the line of a refused submission.
 ghost use Rattle.std.specs.Prelude.{◌≡◌, ◌+◌, ◌^◌, ◌<◌, ◌≤◌, false, IfOk, OnOk, length, None, All, [], List, string_bytes, unwrap_or};
 ghost use Rattle.std.specs.List.{list_any};
 ghost use Rattle.std.specs.Option.{option_to_list, MatchOption};
@@ -40,8 +40,8 @@ pub(crate) fn empty_slots(alloc: Global, n: u32) -> Result<Slots, NoMemory>
     Ok(Slots { range: (0, n), at })
 }
 
-// Applies one number: -1 empties the slot, -2 leaves it as it is, and any other number opens that catalogue entry
-// there. Returns the file that was removed.
+// Applies one number: -1 empties the slot, -2 leaves it as it is, and any other number opens that
+// catalogue entry there. Returns the file that was removed.
 fn apply_number(slots: &mut Slots, mark: Mark, tag: u64, slot: u32, number: i32) -> Option<Closed>
     requires slot { slot < length slots.old.at.items }
     requires good { is_bad_entry MOST_ENTRIES number ≡ false }
@@ -63,8 +63,8 @@ fn apply_number(slots: &mut Slots, mark: Mark, tag: u64, slot: u32, number: i32)
     was
 }
 
-/// Applies the k-th list, from the slot `off` on, and returns the files that it removed, in order of slot. Without tags, the tag
-/// of each new file is 0.
+/// Applies the k-th list, from the slot `off` on, and returns the files that it removed, in order
+/// of slot. Without tags, the tag of each new file is 0.
 ///
 /// # Errors
 /// `NoMemory` if an allocation fails.
@@ -164,8 +164,8 @@ pub fn copy_of(alloc: Global, ring: &RingSlots) -> Result<RingSlots, NoMemory>
     })
 }
 
-// Makes a call that isn't refused. Returns the slots and the number of registrations that it leaves, and the files that it closes,
-// in order of slot.
+// Makes a call that isn't refused. Returns the slots and the number of registrations that it
+// leaves, and the files that it closes, in order of slot.
 fn accepted(
     alloc: Global,
     catalogue: &Catalogue,
@@ -213,7 +213,8 @@ fn accepted(
     }
 }
 
-// Returns what a call other than a submission leaves and prints. A refused call leaves the ring as it was.
+// Returns what a call other than a submission leaves and prints. A refused call leaves the ring as
+// it was.
 fn answer(
     alloc: Global,
     catalogue: &Catalogue,
@@ -260,8 +261,9 @@ fn refused_submission(alloc: Global, requests: &[Request]) -> Result<String, NoM
     }
 }
 
-/// Returns the ring that a call between submissions leaves, and what the call prints, if the call finds memory. A refused call
-/// leaves the ring as it was. A submission is taken as refused: for its first fault, or else because there are too many.
+/// Returns the ring that a call between submissions leaves, and what the call prints, if the call
+/// finds memory. A refused call leaves the ring as it was. A submission is taken as refused: for
+/// its first fault, or else because there are too many.
 ///
 /// # Errors
 /// `NoMemory` if an allocation fails.

@@ -1,4 +1,5 @@
-//! Accepted submissions, and the calls between them: the word of each, and the error with which it is refused.
+//! Accepted submissions, and the calls between them: the word of each, and the error with which it
+//! is refused.
 ghost use Rattle.std.specs.Prelude.{◌≡◌, ◌<◌, ◌≤◌, IfNone, IfSome, IsTrue, None, false, length, option_map};
 ghost use Rattle.fx_chain.specs.Accepted.{IsAccepted};
 ghost use Rattle.fx_chain.specs.Faults.{fault_of};
@@ -16,8 +17,8 @@ use fx_language::Command;
 use fx_order::RingSlots;
 use fx_ring::{MOST_SUBMISSIONS, register_refusal, sparse_refusal, update_refusal};
 
-/// Checks whether requests are accepted after `submissions` accepted submissions: none of them has a fault, and there is a number
-/// for one more.
+/// Checks whether requests are accepted after `submissions` accepted submissions: none of them has
+/// a fault, and there is a number for one more.
 pub fn is_accepted(requests: &[Request], submissions: u32) -> bool
     ensures accepted { IsTrue result → IsAccepted (all_asked requests.now) }
     ensures faultless { IsTrue result → fault_of (all_asked requests.now) ≡ None }
@@ -29,7 +30,8 @@ pub fn is_accepted(requests: &[Request], submissions: u32) -> bool
     check(requests).is_ok() && submissions < MOST_SUBMISSIONS
 }
 
-/// Returns the requests of a command if it is a submission that is accepted after `submissions` accepted ones.
+/// Returns the requests of a command if it is a submission that is accepted after `submissions`
+/// accepted ones.
 pub fn accepted_in(command: &Command, submissions: u32) -> Option<&[Request]>
     ensures requests { IfSome result (λ requests.
         instruction_of command.now ≡ SubmitsAll (all_asked requests.now)) }
@@ -53,7 +55,8 @@ pub fn accepted_in(command: &Command, submissions: u32) -> Option<&[Request]>
 pub(crate) struct CallHead {
     /// The word of the call.
     pub word: &'static str,
-    /// The error with which the call is refused, or `None` if only a failed allocation could refuse it.
+    /// The error with which the call is refused, or `None` if only a failed allocation could refuse
+    /// it.
     pub refusal: Option<Errno>,
     /// The result of the call if it isn't refused.
     pub res: usize,
@@ -110,7 +113,8 @@ pub(crate) fn given(tags: &Option<Vec<u64>>) -> Option<&[u64]>
     }
 }
 
-/// Returns the word of a call that may fail to allocate, or `None` if the call is refused, sets the range or is a submission.
+/// Returns the word of a call that may fail to allocate, or `None` if the call is refused, sets the
+/// range or is a submission.
 pub fn memory_word(
     catalogue: &Catalogue,
     ring: &RingSlots,

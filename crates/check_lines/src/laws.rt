@@ -12,24 +12,26 @@ pub fn a_report_prints_its_lines()
         → report_text catalogue report ≡ lines_text (lines_of catalogue report) }
 {}
 
-/// States that a text begins with at most one line of a word and a result: of two such lines, neither begins with the other.
+/// States that a text begins with at most one line of a word and a result: of two such lines,
+/// neither begins with the other.
 pub fn a_text_begins_with_one_result()
     ensures { BeginsWithOneResult }
 {}
 
-/// States that the text of commands never begins with a line of a closed file or of a tag. So the text after a report's lines is
-/// never read as one of them.
+/// States that the text of commands never begins with a line of a closed file or of a tag. So the
+/// text after a report's lines is never read as one of them.
 pub fn plays_begin_with_no_close()
     ensures { PlaysBeginWithNoClose }
 {}
 
-/// States that the report of a submission has a completion for each of its requests, so that its text begins with as many lines
-/// of completions.
+/// States that the report of a submission has a completion for each of its requests, so that its
+/// text begins with as many lines of completions.
 pub fn reports_have_each_request()
     ensures { ReportsHaveEachRequest }
 {}
 
-/// States that the name of a catalogue entry has no line end, so that `read_report` reads the names of each report.
+/// States that the name of a catalogue entry has no line end, so that `read_report` reads the names
+/// of each report.
 pub fn names_have_no_line_end()
     ensures { NamesHaveNoLineEnd }
 {}

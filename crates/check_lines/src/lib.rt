@@ -1,6 +1,6 @@
-//! Parses the printed lines of a submission's report: each printed report is parsed, and each parsed report was printed so. Makes
-//! calls between two submissions on slots whose files are known: what a call prints, the files that it leaves at the slots, and the
-//! files that it closes.
+//! Parses the printed lines of a submission's report: each printed report is parsed, and each
+//! parsed report was printed so. Makes calls between two submissions on slots whose files are
+//! known: what a call prints, the files that it leaves at the slots, and the files that it closes.
 #![tactic(auto)]
 
 mod call_answer;

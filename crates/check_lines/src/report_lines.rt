@@ -1,4 +1,5 @@
-//! Parses the printed lines of a submission's report: words and numbers, lines, and all lines of a report.
+//! Parses the printed lines of a submission's report: words and numbers, lines, and all lines of a
+//! report.
 ghost use Rattle.std.specs.Prelude.{◌≡◌, ◌++◌, ℕ, List, option_map, ◌<◌, ◌^◌, decimal, IfOk, length, codes, map};
 ghost use Rattle.check_lines.specs.Front.{cut_text, IsCutPart, both_parts_of, number_text, read_with_rest, answer_text, completion_text, lines_before, place_digits, AreSoMany, FitsFront, close_text, entry_text, AreAll};
 ghost use Rattle.check_lines.specs.Reads.{ReadsPrinted};
@@ -16,7 +17,8 @@ use fx_language::{LARGEST_TAG, number_up_to};
 use hex::FromHexError;
 use std::alloc::Global;
 
-// Returns the text before the first byte `at`, and the text after it, or `None` if the text doesn't have that byte.
+// Returns the text before the first byte `at`, and the text after it, or `None` if the text doesn't
+// have that byte.
 pub fn cut(text: &[u8], at: u8) -> Option<(&[u8], &[u8])>
     ensures { ReadsPrinted (cut_text at) (IsCutPart at) text.now (option_map both_parts_of result) }
 {
@@ -28,7 +30,8 @@ pub fn cut(text: &[u8], at: u8) -> Option<(&[u8], &[u8])>
     None
 }
 
-/// Returns the rest of a text after an expected beginning, or `None` if the text doesn't begin with it.
+/// Returns the rest of a text after an expected beginning, or `None` if the text doesn't begin with
+/// it.
 pub fn rest_behind<'a>(text: &'a [u8], expected: &[u8]) -> Option<&'a [u8]>
     ensures { ReadsPrinted (λ (rest : List ℕ). expected.now ++ rest) (λ _. Unit) text.now
         (option_map (λ rest. rest.now) result) }
@@ -234,7 +237,8 @@ fn closed_of(alloc: Global, text: &[u8]) -> Result<Option<ClosedLine>, NoMemory>
     Ok(Some(ClosedLine { mark, name }))
 }
 
-// Returns the closed files of the first lines of a text, up to a line of another kind, and the rest of the text.
+// Returns the closed files of the first lines of a text, up to a line of another kind, and the rest
+// of the text.
 pub fn read_closed(alloc: Global, text: &[u8]) -> Result<Option<(Vec<ClosedLine>, &[u8])>, NoMemory>
     ensures { IfOk result (λ found. ReadsPrinted (lines_before named_line)
         (FitsFront IsCloseInRange (AreAll (codes "closed ")))
@@ -255,7 +259,8 @@ pub fn read_closed(alloc: Global, text: &[u8]) -> Result<Option<(Vec<ClosedLine>
     Ok(Some((closed, rest)))
 }
 
-// Returns the tags of the first lines of a text, up to a line of another kind, and the rest of the text.
+// Returns the tags of the first lines of a text, up to a line of another kind, and the rest of the
+// text.
 pub fn read_tags(alloc: Global, text: &[u8]) -> Result<Option<(Vec<u64>, &[u8])>, NoMemory>
     ensures { IfOk result (λ found. ReadsPrinted (lines_before line_of_tag)
         (FitsFront (λ tag. tag < 2 ^ 64) (AreAll (codes "tag ")))
@@ -287,10 +292,12 @@ pub struct ReportLines {
     pub tags: Vec<u64>,
 }
 
-/// Reads the report that a text begins with, and returns it with the rest of the text: `count` lines of completions, then all
-/// lines of closed files that follow, then all lines of tags. No other report with numbers in the ranges of their types, and with
-/// names without a line end, is printed so. Returns `None` if the text doesn't begin with such lines, or if a line of a closed file
-/// follows those of the tags. The order of lines, repeated lines and the meaning of numbers aren't checked.
+/// Reads the report that a text begins with, and returns it with the rest of the text: `count`
+/// lines of completions, then all lines of closed files that follow, then all lines of tags. No
+/// other report with numbers in the ranges of their types, and with names without a line end, is
+/// printed so. Returns `None` if the text doesn't begin with such lines, or if a line of a closed
+/// file follows those of the tags. The order of lines, repeated lines and the meaning of numbers
+/// aren't checked.
 ///
 /// # Errors
 /// `NoMemory` if an allocation fails.

@@ -22,7 +22,8 @@ all_told P told chain [] each = tt
 all_told P told chain (run ∷ runs) each = both_said P (told chain) (told_from told (chain + 1) runs) (each chain (omega arith) (omega arith))
     (all_told P told (chain + 1) runs (λ q low high. each q (omega arith) (omega arith)))
 
--- each chain is at its first request that comes to the table, and `Begins` has what it was told up to there
+-- each chain is at its first request that comes to the table, and `Begins` has what it was told up
+-- to there
 module _ (catalogue : List FileEntry) (size submission : ℕ) (order : List ChainAccess) (rests : ℕ → Rest) (Begins : ℕ → List Completed → Type 0) where
   abbrev settled : ℕ → List Asked → List Completed × Rest
   settled chain run = settled_at (rules_of catalogue size) (first_member submission chain) run

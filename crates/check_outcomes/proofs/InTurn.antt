@@ -48,8 +48,8 @@ module _ (chains : ℕ) where
           (λ apart. others chain low apart (rw (not_own x order chain apart) at (comes.each chain low high))) (cases_eq chain x.chain);
     }
 
--- An order of a submission whose chains are in parts can be made in turn: part by part, and chain after chain where all that is left of
--- a part looks at slots.
+-- An order of a submission whose chains are in parts can be made in turn: part by part, and chain
+-- after chain where all that is left of a part looks at slots.
 
 abbrev is_look : Access → Bool
 is_look (Looks slot found) = true
@@ -69,7 +69,8 @@ module _ (part : ℕ → ℕ) where
   abbrev pub AreLooks : ℕ → List ChainAccess → Type 0
   AreLooks own l = All (λ x. part x.chain ≡ own → IsLook x.access) l
 
-  -- no access of an earlier part follows, and where each one left of the part looks at a slot, none of an earlier chain of the part
+  -- no access of an earlier part follows, and where each one left of the part looks at a slot, none
+  -- of an earlier chain of the part
   pub record IsNextInTurn (x : ChainAccess) (l : List ChainAccess) : Type 0 where
     pub part_first : All (λ y. part x.chain ≤ part y.chain) l
     pub chain_first : AreLooks (part x.chain) (x ∷ l) → All (λ y. part y.chain ≡ part x.chain → x.chain ≤ y.chain) l

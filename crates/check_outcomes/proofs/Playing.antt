@@ -13,7 +13,8 @@ both_said P [] ys one other = other
 both_said P (x ∷ xs) ys one other = (one.0, both_said P xs ys one.1 other)
 
 module _ (catalogue : List FileEntry) (size : ℕ) where
-  -- a chain goes on from its place, where it was told this, by these accesses, to what it tells in the end
+  -- a chain goes on from its place, where it was told this, by these accesses, to what it tells in
+  -- the end
   abbrev pub OfChain : Rest → List Completed → List Completed → List Access → Type 0
   OfChain rest told final accesses = Goes catalogue size (rules_of catalogue size) (are_right catalogue size) (told, rest) accesses final
 

@@ -1,5 +1,5 @@
--- What each request does at the table: how many accesses it makes, and its answer if no allocation fails; what each access was to be;
--- and the slots that it reaches.
+-- What each request does at the table: how many accesses it makes, and its answer if no allocation
+-- fails; what each access was to be; and the slots that it reaches.
 use Rattle.check_outcomes.proofs.Words.{◌≡◌, ℕ, zero, suc, ◌+◌, ◌<◌, ◌≤◌, ℤ, pos, negsuc, List, [], ◌∷◌, ◌++◌, length, refl, sym, ap, ◌∙◌}
 use Rattle.check_outcomes.proofs.Words.{Option, Some, None, arith, inl, inr, ⊎_elim, All, IsCatalogue, slice_get}
 use Rattle.check_outcomes.proofs.Words.{All-nil, All-cons, All-append, FileEntry, Errno, MatchOption}

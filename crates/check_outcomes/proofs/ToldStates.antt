@@ -1,4 +1,5 @@
--- An order goes through the states of a closed list with what is told, up to one where no chain has an access left.
+-- An order goes through the states of a closed list with what is told, up to one where no chain has
+-- an access left.
 use Rattle.check_outcomes.proofs.Words.{◌≡◌, ℕ, ◌≤◌, List, [], ◌∷◌, ◌++◌, refl, ap, append_assoc, FileEntry, append-nil, ◌==◌, length, Asked}
 use Rattle.check_outcomes.proofs.Words.{Completed, Table, table_after, files_removed_in, Closed, accesses_of, IsPermutation, Contains, true}
 use Rattle.check_outcomes.proofs.Words.{IsPermutation-trans, IsPermutation-sym, ChainAccess, Access, rules_of, IsOver, has_none, Parts, AreToldClosed}
@@ -63,7 +64,8 @@ module _ (catalogue : List FileEntry) (size chains : ℕ) (finals : ℕ → List
       let (on, inside, leads) = closed here there x.chain low high turn x.access next comes.goes.permitted.0 in
       rw (← leads.leads.table, table_after) (runs_on states parts closed order by.1 inside (past comes leads))
 
--- An order of a submission begins at the first of its states, and ends at one that tells of its report.
+-- An order of a submission begins at the first of its states, and ends at one that tells of its
+-- report.
 
 pub each_report_is_listed : EachReportIsListed
 each_report_is_listed old requests states all report left memory any =

@@ -139,7 +139,8 @@ among submission runs states there state k is table chains =
     inside_at (view_of_state submission runs) states (slice_get_within states k there is)
     (sym (get_or_from_slice_get states k there there is)) (same_view submission runs there state table chains)
 
--- whether a chain is idle of which some members are left, where nothing is told: by whether these are reads and are asked for
+-- whether a chain is idle of which some members are left, where nothing is told: by whether these
+-- are reads and are asked for
 pub idle_some_here : (submission : PlayedSubmission) (state : PlayState) (i : ℕ) (own left : List Request) {progress : Progress} {reads asks : Bool}
     → all_asked own ≡ slice_index_or (runs_in submission) i [] → slice_index_or state.chains.items i not_begun ≡ progress
     → all_asked left ≡ drop progress.done (all_asked own) → (length left ≡ 0 → ⊥) → submission.tells ≡ false

@@ -40,7 +40,8 @@ fn allocations(alloc: Global, slots: &Slots, file: Closed) -> Result<Vec<Access>
     Ok(choices)
 }
 
-// Returns the accesses that may be what a request intends: each one that the table permits, and perhaps others.
+// Returns the accesses that may be what a request intends: each one that the table permits, and
+// perhaps others.
 fn accesses_of(alloc: Global, slots: &Slots, intent: Intent) -> Result<Vec<Access>, NoMemory>
     requires { length slots.now.at.items < 2 ^ 32 }
     ensures { IfOk result (λ choices. HasEachOf (table_of_slots slots.now) intent choices.items) }
@@ -54,8 +55,8 @@ fn accesses_of(alloc: Global, slots: &Slots, intent: Intent) -> Result<Vec<Acces
     }
 }
 
-/// Returns the accesses that a request may make next, after `made` of its accesses: each one that the table permits, and perhaps
-/// others.
+/// Returns the accesses that a request may make next, after `made` of its accesses: each one that
+/// the table permits, and perhaps others.
 ///
 /// # Errors
 /// `NoMemory` if an allocation fails.

@@ -58,8 +58,8 @@ pub(crate) struct Claimed<'a> {
     pub(crate) answers: &'a [PossibleAnswer],
 }
 
-// Checks whether an access, if the table permits it, leads to one of the states, and what is answered at the place on the way is among
-// the answers.
+// Checks whether an access, if the table permits it, leads to one of the states, and what is
+// answered at the place on the way is among the answers.
 fn is_explored(
     claimed: &Claimed<'_>,
     state: &PlayState,
@@ -101,7 +101,8 @@ fn are_explored(
     Ok(true)
 }
 
-// Checks whether each access that a chain may make next is explored, unless it is idle or has to wait for its turn.
+// Checks whether each access that a chain may make next is explored, unless it is idle or has to
+// wait for its turn.
 fn is_explored_in_turn(
     claimed: &Claimed<'_>,
     state: &PlayState,

@@ -1,5 +1,5 @@
-//! A search for all states of a submission. Nothing is proved of what it meets: the states are looked through
-//! (`crate::closed`), and what was found is confirmed by an order (`crate::player`).
+//! A search for all states of a submission. Nothing is proved of what it meets: the states are
+//! looked through (`crate::closed`), and what was found is confirmed by an order (`crate::player`).
 
 use crate::found::{FoundStates, FoundStep, key_of};
 use crate::parts::part_numbers;
@@ -11,8 +11,8 @@ use fx_base::{Closed, NoMemory};
 use fx_chain::{Completion, Place, Request};
 use fx_order::Slots;
 
-// Returns the bytes that a state keeps of a request: its answer, the bytes of a read, and the files that it removed, each with its numbers in the
-// key.
+// Returns the bytes that a state keeps of a request: its answer, the bytes of a read, and the files
+// that it removed, each with its numbers in the key.
 fn weight_of(request: &Request) -> usize {
     request
         .weight()
@@ -42,9 +42,10 @@ const _: () = prove!(size_of::<PlayState>() == 104);
 
 const _: () = prove!(size_of::<Option<FoundStep>>() == 104);
 
-// Returns the largest number of states. A slot of a state takes 40 bytes, and its numbers in the key up to 48. A chain takes 16
-// and 16. Beside them a state takes some 334: itself, the step that led to it, its key and the key's place in the hash table, and
-// the heads of five blocks of memory. The lists of states, steps and keys may each have room for twice as many.
+// Returns the largest number of states. A slot of a state takes 40 bytes, and its numbers in the
+// key up to 48. A chain takes 16 and 16. Beside them a state takes some 334: itself, the step that
+// led to it, its key and the key's place in the hash table, and the heads of five blocks of memory.
+// The lists of states, steps and keys may each have room for twice as many.
 fn room_for(submission: &PlayedSubmission<'_>, limits: Limits) -> usize {
     let slots = (submission.size as usize).saturating_mul(88);
     let chains = submission.chains.len().saturating_mul(32);
@@ -55,7 +56,8 @@ fn room_for(submission: &PlayedSubmission<'_>, limits: Limits) -> usize {
         .min(limits.bytes.checked_div(weight).unwrap_or(0))
 }
 
-/// A search: what it found, the numbers of the states that it has still to look at, and how many states it may meet.
+/// A search: what it found, the numbers of the states that it has still to look at, and how many
+/// states it may meet.
 #[derive(Debug, Drop)]
 struct Search {
     found: FoundStates,
@@ -98,7 +100,8 @@ impl Search {
         Ok(())
     }
 
-    // Follows each access that a chain may make next in a state. Whether there was room for the states.
+    // Follows each access that a chain may make next in a state. Whether there was room for the
+    // states.
     fn follow(
         &mut self,
         submission: &PlayedSubmission<'_>,
@@ -132,7 +135,8 @@ impl Search {
         Ok(true)
     }
 
-    // Follows each chain whose turn it is in a state. Returns whether there was room for the states.
+    // Follows each chain whose turn it is in a state. Returns whether there was room for the
+    // states.
     fn follow_turn(
         &mut self,
         submission: &PlayedSubmission<'_>,
@@ -155,7 +159,8 @@ impl Search {
         Ok(true)
     }
 
-    // Looks at the states that were met last first, so that ends are met early. Whether there was room for all.
+    // Looks at the states that were met last first, so that ends are met early. Whether there was
+    // room for all.
     fn run(&mut self, submission: &PlayedSubmission<'_>) -> Result<bool, NoMemory> {
         for _ in 0..self.most {
             let Some(state) = self.open.pop() else {
@@ -169,8 +174,8 @@ impl Search {
     }
 }
 
-/// Looks for all states of a submission at these slots, and for what is answered at the place on the way, if there is one. It
-/// goes no further than the limits.
+/// Looks for all states of a submission at these slots, and for what is answered at the place on
+/// the way, if there is one. It goes no further than the limits.
 pub(crate) fn explore(
     submission: &PlayedSubmission<'_>,
     slots: &Slots,

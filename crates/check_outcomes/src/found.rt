@@ -26,8 +26,8 @@ pub struct FoundStep {
     pub access: Access,
 }
 
-/// The states that a search met, in the order in which it met them, and what was answered on the way at the place that is
-/// asked for. Each is a hint, and nothing is proved of it.
+/// The states that a search met, in the order in which it met them, and what was answered on the
+/// way at the place that is asked for. Each is a hint, and nothing is proved of it.
 #[derive(Debug, Drop)]
 pub struct FoundStates {
     /// The allocator.
@@ -76,8 +76,9 @@ fn number_of(n: usize) -> u32 {
     n.min(u32::MAX as usize) as u32
 }
 
-// Appends the answers as two numbers, and the removed files. If the two numbers of different answers are the same by chance, one
-// of two states is left out, and then it is seen that the list isn't whole.
+// Appends the answers as two numbers, and the removed files. If the two numbers of different
+// answers are the same by chance, one of two states is left out, and then it is seen that the list
+// isn't whole.
 fn push_telling(key: &mut Vec<u32>, telling: &WayReport) -> Result<(), NoMemory> {
     let mut hasher = FoldHasher::default();
     for own in &telling.answers {
@@ -126,7 +127,8 @@ impl FoundStates {
         }
     }
 
-    /// Returns the steps that led to the states in which each chain is idle. Nothing is promised of it.
+    /// Returns the steps that led to the states in which each chain is idle. Nothing is promised of
+    /// it.
     pub(crate) fn last_steps(
         &self,
         submission: &PlayedSubmission<'_>,

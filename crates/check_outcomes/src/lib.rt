@@ -1,6 +1,7 @@
-//! The outcomes of a submission if no allocation fails: the answers of a request, the rings after it, its reports. Each has an
-//! order of accesses that leads to it. If `are_all` is true, a list is proved to be complete. It rests on the accesses that a
-//! request makes, and the answer that it has then.
+//! The outcomes of a submission if no allocation fails: the answers of a request, the rings after
+//! it, its reports. Each has an order of accesses that leads to it. If `are_all` is true, a list is
+//! proved to be complete. It rests on the accesses that a request makes, and the answer that it has
+//! then.
 #![tactic(auto)]
 
 mod answering;

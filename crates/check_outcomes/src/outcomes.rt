@@ -28,7 +28,8 @@ use fx_order::{ChainAccess, Slots};
 use fx_ring::Report;
 use std::alloc::Global;
 
-/// A report that a submission can produce, an order of its accesses that yields it, and the slots that this order leaves.
+/// A report that a submission can produce, an order of its accesses that yields it, and the slots
+/// that this order leaves.
 #[derive(Debug, Drop)]
 pub struct PossibleReport {
     /// The report.
@@ -144,7 +145,8 @@ fn is_report_of(submission: &PlayedSubmission<'_>, state: &PlayState, report: &R
         && report.closes.files() == telling.removed.as_slice()
 }
 
-// Checks whether a report leaves the ring of a state, and has its answers and removed files, if the submission keeps these.
+// Checks whether a report leaves the ring of a state, and has its answers and removed files, if the
+// submission keeps these.
 fn tells_of(submission: &PlayedSubmission<'_>, state: &PlayState, possible: &PossibleReport) -> bool
     ensures { IsTrue result → IsToldOf submission.now state.now possible.now }
 {
@@ -209,10 +211,11 @@ fn reports_of(
     })
 }
 
-/// Returns reports that the submission can produce if no allocation fails, starting from `slots` after `submissions` accepted
-/// submissions. Each has an order of accesses that yields it. If `are_all` is true, the submission can leave no other slots than
-/// those of the reports. If `tells` is true as well, it can produce no other report; else reports that leave the same slots
-/// count as one. If `are_all` is false, that was not shown within the limits. No request may have a fault
+/// Returns reports that the submission can produce if no allocation fails, starting from `slots`
+/// after `submissions` accepted submissions. Each has an order of accesses that yields it. If
+/// `are_all` is true, the submission can leave no other slots than those of the reports. If `tells`
+/// is true as well, it can produce no other report; else reports that leave the same slots count as
+/// one. If `are_all` is false, that was not shown within the limits. No request may have a fault
 /// ([`fx_chain::check`]).
 ///
 /// # Errors
@@ -255,7 +258,8 @@ pub fn may_report(
     reports_of(&submission, slots, limits)
 }
 
-/// An answer of a request, an order of the submission's accesses that yields it, and the slots that this order leaves.
+/// An answer of a request, an order of the submission's accesses that yields it, and the slots that
+/// this order leaves.
 #[derive(Debug, Drop)]
 pub struct PossibleAnswer {
     /// The answer.
@@ -340,10 +344,11 @@ fn answers_of(
     Ok(PossibleAnswers { answers, are_all })
 }
 
-/// Returns answers that the request at a place of the submission can give if no allocation fails, starting from `slots` after
-/// `submissions` accepted submissions. Each has an order of accesses that yields it. If `are_all` is true, the request can give
-/// no other answer. If it is false, that was not shown within the limits. A place without a request has no answer. No request
-/// may have a fault ([`fx_chain::check`]).
+/// Returns answers that the request at a place of the submission can give if no allocation fails,
+/// starting from `slots` after `submissions` accepted submissions. Each has an order of accesses
+/// that yields it. If `are_all` is true, the request can give no other answer. If it is false, that
+/// was not shown within the limits. A place without a request has no answer. No request may have a
+/// fault ([`fx_chain::check`]).
 ///
 /// # Errors
 /// `NoMemory` if an allocation fails.

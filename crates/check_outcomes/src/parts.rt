@@ -1,5 +1,5 @@
-//! The parts of a submission: chains that may access one slot are in one part. The parts are played one after another, so that
-//! the states of one aren't met again beside each state of another.
+//! The parts of a submission: chains that may access one slot are in one part. The parts are played
+//! one after another, so that the states of one aren't met again beside each state of another.
 ghost use Rattle.std.specs.Prelude.{◌≡◌, ◌<◌, ◌≤◌, ℕ, All, IsTrue, length, slice_index_or};
 ghost use Rattle.fx_chain.specs.Operation.{asked_of};
 ghost use Rattle.fx_order.specs.Slots.{table_of_slots};
@@ -11,8 +11,8 @@ use fx_base::NoMemory;
 use fx_chain::Request;
 use fx_order::Slots;
 
-/// The number of the part that each chain is in, the first one first, and of the part that each slot belongs to. Each is a hint,
-/// which [`are_parts`] looks at.
+/// The number of the part that each chain is in, the first one first, and of the part that each
+/// slot belongs to. Each is a hint, which [`are_parts`] looks at.
 #[derive(Debug, Drop)]
 pub struct PartNumbers {
     /// The parts of the chains.

@@ -98,8 +98,8 @@ impl Player {
     }
 }
 
-/// Returns a play of a submission at these slots that begins with the steps up to this one, and goes on to the end of each chain, one
-/// chain after another.
+/// Returns a play of a submission at these slots that begins with the steps up to this one, and
+/// goes on to the end of each chain, one chain after another.
 pub(crate) fn play_to(
     submission: &PlayedSubmission<'_>,
     slots: &Slots,
@@ -146,8 +146,8 @@ fn have_memory(completions: &[Completion]) -> bool
     completions.iter().all(|c| c.res != -Errno::ENOMEM.code())
 }
 
-/// Returns the slots that a play leaves which begins at these, if its order is one of the submission with these completions and
-/// closes, and no allocation fails.
+/// Returns the slots that a play leaves which begins at these, if its order is one of the
+/// submission with these completions and closes, and no allocation fails.
 pub(crate) fn confirm(
     submission: &PlayedSubmission<'_>,
     slots: &Slots,

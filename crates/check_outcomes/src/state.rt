@@ -60,8 +60,8 @@ impl PlayState {
         self.chains.get(i).copied().unwrap_or(not_begun)
     }
 
-    /// Checks whether a chain is idle, by its number from 0: no request of it is left, or nothing but reads, and nobody asks what these
-    /// answer.
+    /// Checks whether a chain is idle, by its number from 0: no request of it is left, or nothing
+    /// but reads, and nobody asks what these answer.
     pub(crate) fn is_idle(&self, submission: &PlayedSubmission<'_>, i: usize) -> bool
         requires { i < length submission.now.chains.now }
         ensures { result ≡ is_idle_at submission.now self.now i }
@@ -128,8 +128,8 @@ pub(crate) fn start(
     })
 }
 
-// Returns the answers and removed files after an access of a chain, by the chain's number from 0, that answers this: none, if the
-// submission doesn't keep them.
+// Returns the answers and removed files after an access of a chain, by the chain's number from 0,
+// that answers this: none, if the submission doesn't keep them.
 fn telling_after(
     submission: &PlayedSubmission<'_>,
     telling: &WayReport,
@@ -151,8 +151,9 @@ fn telling_after(
     Ok(Some(after))
 }
 
-/// Returns where an access of a chain leads, by the chain's number from 0, and what is answered on the way; `None` where the state
-/// isn't one of the submission, or its table doesn't permit the access.
+/// Returns where an access of a chain leads, by the chain's number from 0, and what is answered on
+/// the way; `None` where the state isn't one of the submission, or its table doesn't permit the
+/// access.
 pub(crate) fn next_state(
     submission: &PlayedSubmission<'_>,
     state: &PlayState,
@@ -193,8 +194,8 @@ pub(crate) fn next_state(
     }))
 }
 
-/// Returns each access that a chain may make next in a state and the table permits, by the chain's number from 0, and perhaps
-/// others; `None` where the state isn't one of the submission.
+/// Returns each access that a chain may make next in a state and the table permits, by the chain's
+/// number from 0, and perhaps others; `None` where the state isn't one of the submission.
 pub(crate) fn accesses_of(
     submission: &PlayedSubmission<'_>,
     state: &PlayState,

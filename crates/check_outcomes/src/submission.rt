@@ -24,8 +24,9 @@ use fx_chain::{Chain, Completion, Finding, MOST_MEMBERS, Place, Request, answer_
 use fx_order::{Access, Slots, members};
 use std::alloc::Global;
 
-/// A submission that is played: its number, its requests, the chains into which they were cut, whether its states keep
-/// the answers and removed files on the way to them, and the place of the request whose answers are asked for, if there is one.
+/// A submission that is played: its number, its requests, the chains into which they were cut,
+/// whether its states keep the answers and removed files on the way to them, and the place of the
+/// request whose answers are asked for, if there is one.
 #[derive(Drop)]
 pub(crate) struct PlayedSubmission<'a> {
     pub(crate) alloc: Global,
@@ -59,7 +60,8 @@ impl PlayedSubmission<'_> {
         }
     }
 
-    /// Checks whether the request that is asked for is one of a chain, by the chain's number from 0, after its first `done` members.
+    /// Checks whether the request that is asked for is one of a chain, by the chain's number from
+    /// 0, after its first `done` members.
     pub(crate) fn asks_behind(&self, i: usize, done: usize) -> bool
         requires { i < length self.now.chains.now }
         ensures { result
@@ -126,8 +128,8 @@ fn cancel(
     cancel(alloc, moved(place, 1), requests, told)
 }
 
-/// Answers the requests of a chain from this place on that don't use the table, up to the first one that does. Returns the number
-/// of members that are done then.
+/// Answers the requests of a chain from this place on that don't use the table, up to the first one
+/// that does. Returns the number of members that are done then.
 #[cycle(settling)]
 pub(crate) fn settle(
     submission: &PlayedSubmission<'_>,
@@ -161,7 +163,8 @@ fn finding_in(last: Option<Access>) -> Option<Finding>
     }
 }
 
-// Answers a request by the last of its accesses, and settles those after it. Returns the number of these that are done then.
+// Answers a request by the last of its accesses, and settles those after it. Returns the number of
+// these that are done then.
 #[cycle(settling)]
 fn go_on(
     submission: &PlayedSubmission<'_>,
@@ -207,7 +210,8 @@ pub(crate) fn left(members: &[Request], done: usize) -> &[Request]
     &members[done..]
 }
 
-/// Returns where an access leads a chain that has its first member at this place, and what is answered on the way.
+/// Returns where an access leads a chain that has its first member at this place, and what is
+/// answered on the way.
 pub(crate) fn step(
     submission: &PlayedSubmission<'_>,
     place: Place,

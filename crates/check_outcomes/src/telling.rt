@@ -96,7 +96,8 @@ impl WayReport {
         }
     }
 
-    /// Returns the same after an access of a chain, by the chain's number from 0, that answers this.
+    /// Returns the same after an access of a chain, by the chain's number from 0, that answers
+    /// this.
     pub(crate) fn after(
         &self,
         alloc: Global,

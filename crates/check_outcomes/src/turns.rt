@@ -1,5 +1,5 @@
-//! Turns: the parts of a submission are played one after another. If nothing but reads is left of a part, so are its chains, since
-//! reads commute.
+//! Turns: the parts of a submission are played one after another. If nothing but reads is left of a
+//! part, so are its chains, since reads commute.
 ghost use Rattle.std.specs.Prelude.{◌≡◌, IfSome, IsTrue, Some};
 ghost use Rattle.check_outcomes.specs.Views.{HasReadsAloneIn, IsTurnAt, IsTurnOfPart, IsTurnOfReader, Waits};
 
@@ -7,7 +7,8 @@ use crate::parts::PartNumbers;
 use crate::state::PlayState;
 use crate::submission::PlayedSubmission;
 
-// Returns the part whose turn it is in a state: the first one with a chain that isn't idle; `None` if each chain is idle.
+// Returns the part whose turn it is in a state: the first one with a chain that isn't idle; `None`
+// if each chain is idle.
 fn part_at(
     submission: &PlayedSubmission<'_>,
     numbers: &PartNumbers,
@@ -43,7 +44,8 @@ fn has_reads_alone(
     true
 }
 
-// Returns the chain that has its turn if nothing but reads is left of a part: its first chain that isn't idle.
+// Returns the chain that has its turn if nothing but reads is left of a part: its first chain that
+// isn't idle.
 fn reader_at(
     submission: &PlayedSubmission<'_>,
     numbers: &PartNumbers,

@@ -39,7 +39,8 @@ index_written l c x e = inl refl
 past_none : {X : Type 0} (xs : List X) (i k : ℕ) (x : X) → i ≤ k → slice_get xs k ≡ Some x → slice_get xs i ≡ None → ⊥
 past_none xs i k x le is none = let lt = slice_get_within xs k x is in let some = slice_get-get_or xs i x (omega arith) in cc
 
--- what a claim made of a slot: it was left, or it could be removed, and what was brought doesn't help
+-- what a claim made of a slot: it was left, or it could be removed, and what was brought doesn't
+-- help
 abbrev Unfit : List Cell → ℕ → Claim → Option Resident → Type 0
 Unfit cells slot claim now = (now ≡ cell_at cells slot) ⊎ ((may_find claim now ≡ false) × (may_leave (cell_at cells slot) ≡ true))
 

@@ -18,7 +18,8 @@ mapped_at f xs i x lt is =
 pub no_any : {X : Type 0} (P : X → Type 0) (xs : List X) → All (λ x. P x → ⊥) xs → Any P xs → ⊥
 no_any P xs none (k, x, lt, is, holds) = subst (λ y. P y → ⊥) is (none k x lt) holds
 
--- A list of states that leaves none of their steps out, and has no end, shows that no order leads to one.
+-- A list of states that leaves none of their steps out, and has no end, shows that no order leads
+-- to one.
 
 -- an answer of two steps has one of the first, to which the second was applied
 pub both_steps : {A B : Type 0} (f : A → Option B) (o : Option A) (y : B) → option_and_then f o ≡ Some y → (x : A) × (o ≡ Some x) × (f x ≡ Some y)

@@ -103,7 +103,8 @@ fn write(cells: &mut [Cell], slot: u32, file: Option<Resident>)
     }
 }
 
-/// Applies the access of a claim to `cells`: the file at its slot is replaced, removed or left as it is.
+/// Applies the access of a claim to `cells`: the file at its slot is replaced, removed or left as
+/// it is.
 pub fn apply(cells: &mut [Cell], claim: &Claim)
     ensures { cells.new ≡ cells_after cells.old claim.now }
 {

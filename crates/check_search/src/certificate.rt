@@ -13,7 +13,8 @@ use crate::steps::Steps;
 use fx_base::NoMemory;
 use std::alloc::Global;
 
-/// The states that a search met, and the steps that it took. The result of a step is only a hint, and is checked.
+/// The states that a search met, and the steps that it took. The result of a step is only a hint,
+/// and is checked.
 #[derive(Drop)]
 pub struct Web<'a> {
     /// The steps.
@@ -49,7 +50,8 @@ struct Here<'a> {
     row: &'a [u16],
 }
 
-// Checks whether the files at the slot of a chain's next claim don't balance in the state after that claim.
+// Checks whether the files at the slot of a chain's next claim don't balance in the state after
+// that claim.
 fn is_uneven_behind(strands: &[Strand], node: &SearchNode, next: &SearchNode, chain: usize) -> bool
     ensures { IsTrue result → HasNoEnd strands.now (view next.now) }
 {
@@ -59,8 +61,8 @@ fn is_uneven_behind(strands: &[Strand], node: &SearchNode, next: &SearchNode, ch
     }
 }
 
-// Checks whether the next claim of a chain leads to one of the states if it may be made, or to one that can be seen to lead to no
-// end.
+// Checks whether the next claim of a chain leads to one of the states if it may be made, or to one
+// that can be seen to lead to no end.
 fn step_leads_inside(
     alloc: Global,
     strands: &[Strand],
@@ -122,7 +124,8 @@ fn test_leads_inside(
     is_at(alloc, web, web.rows.get_index_of(&row), &next)
 }
 
-// Checks whether a state was explored: by one step that only tests, if there is one, or else by all steps.
+// Checks whether a state was explored: by one step that only tests, if there is one, or else by all
+// steps.
 #[tactic(auto, unfolding(crate::specs::Machine::IsExplored))]
 fn is_explored(
     alloc: Global,

@@ -26,7 +26,8 @@ pub enum Wants {
     NothingToTake,
     /// A file.
     Something,
-    /// A file of one of these catalogue entries, by their numbers: those whose bytes the completion has.
+    /// A file of one of these catalogue entries, by their numbers: those whose bytes the completion
+    /// has.
     Bytes([bool; 256]),
 }
 
@@ -70,7 +71,8 @@ fn is_in_order_there(files: &[Closed], file: Closed) -> bool
     }
 }
 
-// Checks whether a list has a file. The place that it has in the order of marks is tried first, since closes are in that order.
+// Checks whether a list has a file. The place that it has in the order of marks is tried first,
+// since closes are in that order.
 fn has(files: &[Closed], file: Closed) -> bool
     ensures { IsTrue result ↔ Contains files.now file }
 {

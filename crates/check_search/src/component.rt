@@ -1,4 +1,5 @@
-//! The partition of the slots into parts that no chain joins. Nothing is proved of it: a part is judged by itself, whatever its slots.
+//! The partition of the slots into parts that no chain joins. Nothing is proved of it: a part is
+//! judged by itself, whatever its slots.
 
 use crate::claim::Claim;
 use fx_base::NoMemory;
@@ -26,7 +27,8 @@ fn join_range(labels: &mut [usize], range: (u32, u32)) {
     }
 }
 
-// Returns the slot by which a claim is joined with other claims of its chain, or `None` for a claim about a range without slots.
+// Returns the slot by which a claim is joined with other claims of its chain, or `None` for a claim
+// about a range without slots.
 fn slot_of(range: (u32, u32), claim: &Claim) -> Option<usize> {
     match claim {
         Claim::At(slot, _, _) => Some(*slot as usize),

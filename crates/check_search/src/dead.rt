@@ -1,5 +1,5 @@
-//! States from which no end is reached: the files that are installed at a slot and leave it don't balance, or a claim waits for a file that is
-//! never installed.
+//! States from which no end is reached: the files that are installed at a slot and leave it don't
+//! balance, or a claim waits for a file that is never installed.
 ghost use Rattle.std.specs.Prelude.{◌≡◌, ◌⊎◌, ◌≤◌, IfSome, IsTrue, cond, count_by, drop, ℕ, Some, true, slice_get};
 ghost use Rattle.check_search.specs.Counted.{LastStays, TooFewLeave, TwoStay, changes, is_change, leaving_files, staying, to_come};
 ghost use Rattle.check_search.specs.Machine.{HasNoEnd, view};
@@ -65,7 +65,8 @@ fn count_from(change: SlotChange, slot: u32, claims: &[Claim], first: usize) -> 
     count
 }
 
-// Returns the number of claims with this change that are still to be made, or `None` if it exceeds `usize`.
+// Returns the number of claims with this change that are still to be made, or `None` if it exceeds
+// `usize`.
 fn to_come(change: SlotChange, slot: u32, strands: &[Strand], places: &[usize]) -> Option<usize>
     ensures { IfSome result (λ count. count ≡ to_come change slot strands.now places.now) }
 {
@@ -150,7 +151,8 @@ pub fn is_uneven(strands: &[Strand], node: &SearchNode, slot: u32) -> bool
     shows_uneven(strands, node, slot)
 }
 
-/// Checks whether another claim changes nothing at a slot, or leaves there what the claim may not be made with.
+/// Checks whether another claim changes nothing at a slot, or leaves there what the claim may not
+/// be made with.
 pub(crate) fn is_no_help(slot: u32, claim: &Claim, other: &Claim) -> bool
     ensures { result ≡ no_help slot claim.now other.now }
 {
@@ -186,7 +188,8 @@ fn none_helps(strands: &[Strand], places: &[usize], slot: u32, claim: &Claim) ->
     true
 }
 
-// Checks whether a claim can't be made with the file found at its slot, and that file stays, or no other claim helps.
+// Checks whether a claim can't be made with the file found at its slot, and that file stays, or no
+// other claim helps.
 fn is_hopeless(strands: &[Strand], node: &SearchNode, slot: u32, claim: &Claim) -> bool
     ensures { IsTrue result → IsHopeless strands.now (view node.now) slot claim.now }
 {
@@ -194,8 +197,8 @@ fn is_hopeless(strands: &[Strand], node: &SearchNode, slot: u32, claim: &Claim) 
     !may_find(claim, found) && (!may_leave(found) || none_helps(strands, &node.places, slot, claim))
 }
 
-/// Checks whether the claim at `at`, by its chain and its place, is still to be made and waits for a file that is never
-/// installed.
+/// Checks whether the claim at `at`, by its chain and its place, is still to be made and waits for
+/// a file that is never installed.
 pub fn is_dead_by(strands: &[Strand], node: &SearchNode, at: Option<(usize, usize)>) -> bool
     ensures { IsTrue result → HasNoEnd strands.now (view node.now) }
 {

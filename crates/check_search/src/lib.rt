@@ -1,5 +1,5 @@
-//! A search for an order of claims, one claim for each reported access. Nothing is proved of the search; proved code checks what it
-//! found.
+//! A search for an order of claims, one claim for each reported access. Nothing is proved of the
+//! search; proved code checks what it found.
 #![tactic(auto)]
 
 mod cell;

@@ -9,7 +9,8 @@ use crate::claim::{Claim, Leaves, Resident, Strand};
 use fx_base::NoMemory;
 use std::alloc::Global;
 
-/// A state of a search: the number of claims of each chain that were made, and the files at the slots.
+/// A state of a search: the number of claims of each chain that were made, and the files at the
+/// slots.
 #[derive(Debug, Drop)]
 pub struct SearchNode {
     /// The number of claims of each chain that were made.
@@ -25,7 +26,8 @@ pub(crate) fn place_of(places: &[usize], chain: usize) -> usize
     places.get(chain).copied().unwrap_or(0)
 }
 
-/// Returns the claim that `chain` makes next, by the chain's place among `strands`, or `None` if all its claims are made.
+/// Returns the claim that `chain` makes next, by the chain's place among `strands`, or `None` if
+/// all its claims are made.
 pub fn claim_of<'a>(strands: &'a [Strand], places: &[usize], chain: usize) -> Option<&'a Claim>
     ensures { option_copied result ≡ claim_at strands.now places.now chain }
 {
@@ -106,8 +108,8 @@ impl SearchNode {
     }
 }
 
-/// The meaning of the numbers of packed states. A packed state is a list of numbers: the place of each chain, and for each
-/// slot the number of its file.
+/// The meaning of the numbers of packed states. A packed state is a list of numbers: the place of
+/// each chain, and for each slot the number of its file.
 #[derive(Debug, Drop)]
 pub struct Packing {
     /// The number of chains.

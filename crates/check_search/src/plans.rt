@@ -1,4 +1,5 @@
-//! Searches that leave chains and orders out, by what workers do: they find what some workers played. Nothing is proved of them.
+//! Searches that leave chains and orders out, by what workers do: they find what some workers
+//! played. Nothing is proved of them.
 
 use crate::search::{Found, SearchRoom, search};
 use crate::steps::Steps;
@@ -10,35 +11,40 @@ use std::alloc::Global;
 /// The chains that a search may continue, and their order.
 #[derive(Clone, Copy)]
 pub(crate) struct Plan {
-    /// The number of chains that may be open at once, the first unfinished ones: a worker begins chains in turn, and has one open.
+    /// The number of chains that may be open at once, the first unfinished ones: a worker begins
+    /// chains in turn, and has one open.
     pub open: usize,
     /// The seed by which the first of these is drawn, or 0 for the chain of the last step.
     pub seed: usize,
 }
 
-/// Each chain may be continued, so a search by this plan that finds no end shows that there is none.
+/// Each chain may be continued, so a search by this plan that finds no end shows that there is
+/// none.
 pub(crate) const EACH: Plan = Plan {
     open: usize::MAX,
     seed: 0,
 };
 
-// The number of open chains, and the first value of a track's `near`, of each search by tracks. Measured on 60 texts of 400 chains at
-// 64 slots by 4 workers: 3 were undecided without these searches, and none with them. The four pairs weren't measured one by one.
+// The number of open chains, and the first value of a track's `near`, of each search by tracks.
+// Measured on 60 texts of 400 chains at 64 slots by 4 workers: 3 were undecided without these
+// searches, and none with them. The four pairs weren't measured one by one.
 const NEAR: [(usize, usize); 4] = [(4, 8), (8, 8), (16, 16), (4, 32)];
 
-// The number of searches of each pair, each with wider tracks at the slots that blocked the last one, and the number of states of a
-// search beyond one for each claim. Measured together with the pairs.
+// The number of searches of each pair, each with wider tracks at the slots that blocked the last
+// one, and the number of states of a search beyond one for each claim. Measured together with the
+// pairs.
 const ROUNDS: usize = 8;
 
 const NEAR_STATES: usize = 1_000;
 
-// The numbers of open chains of the searches without tracks, the smallest first. Measured with `PLANS` on 60 texts of each kind, on an
-// idle machine, how many were undecided without these searches, and with them: of 29 submissions by 3 workers 43 and none, of 400
-// chains by 4 workers 13 and none, of 16 to 64 chains by 16 workers in turns 9 and 1.
+// The numbers of open chains of the searches without tracks, the smallest first. Measured with
+// `PLANS` on 60 texts of each kind, on an idle machine, how many were undecided without these
+// searches, and with them: of 29 submissions by 3 workers 43 and none, of 400 chains by 4 workers
+// 13 and none, of 16 to 64 chains by 16 workers in turns 9 and 1.
 const OPEN: [usize; 5] = [2, 3, 4, 8, 16];
 
-// The seed of each search, and its number of states beyond one for each claim. A way has fewer than 1,000,000 steps, so that no two
-// seeds draw the same numbers.
+// The seed of each search, and its number of states beyond one for each claim. A way has fewer than
+// 1,000,000 steps, so that no two seeds draw the same numbers.
 const PLANS: [(usize, usize); 7] = [
     (0, 20_000),
     (1_000_000, 5_000),
@@ -68,8 +74,8 @@ fn taken(
     })
 }
 
-// Looks for an end by orders in which chains reach each slot nearly in turn. If none is found, the tracks of the slots that blocked
-// the longest way are widened, and the search is repeated.
+// Looks for an end by orders in which chains reach each slot nearly in turn. If none is found, the
+// tracks of the slots that blocked the longest way are widened, and the search is repeated.
 fn near(
     alloc: Global,
     steps: &Steps<'_>,
@@ -105,7 +111,8 @@ fn near(
     Ok(None)
 }
 
-/// Looks for an end by plans that leave chains and orders out, through at most `room.states` states in all.
+/// Looks for an end by plans that leave chains and orders out, through at most `room.states` states
+/// in all.
 pub(crate) fn played(
     alloc: Global,
     steps: &Steps<'_>,

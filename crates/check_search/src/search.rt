@@ -1,4 +1,5 @@
-//! The search for an order. Nothing is proved of what it finds: its result is checked (`crate::certificate`).
+//! The search for an order. Nothing is proved of what it finds: its result is checked
+//! (`crate::certificate`).
 
 use crate::plans::{EACH, Plan, played};
 use crate::steps::Steps;
@@ -7,8 +8,8 @@ use fx_base::NoMemory;
 use indexmap::IndexSet;
 use std::alloc::Global;
 
-/// The reason for which a search leaves a submission undecided. It is advice: no contract says that the search would have
-/// decided it within larger limits.
+/// The reason for which a search leaves a submission undecided. It is advice: no contract says that
+/// the search would have decided it within larger limits.
 #[derive(Clone, Copy, Debug, PartialEq, Eq)]
 pub enum Doubt {
     /// The search stopped at its limit of states.
@@ -42,14 +43,16 @@ pub enum Found {
 /// The states that a search met, packed, in the order in which it met them.
 pub type Rows = IndexSet<Vec<u16>>;
 
-// The number of bytes that a state takes beside its numbers: its list (24) and the head of that list's block of memory (16), its place
-// in the set of states (some 14), its sum and the sum's place in a set (some 22), and a stage of the way (32). That is some 108, in
-// lists that may each have room for twice as many.
+// The number of bytes that a state takes beside its numbers: its list (24) and the head of that
+// list's block of memory (16), its place in the set of states (some 14), its sum and the sum's
+// place in a set (some 22), and a stage of the way (32). That is some 108, in lists that may each
+// have room for twice as many.
 const BESIDE: usize = 256;
 
 const _: () = prove!(size_of::<Vec<u16>>() == 24);
 
-/// The largest number of states, whether they are kept, and the doubt that is reported beyond that number.
+/// The largest number of states, whether they are kept, and the doubt that is reported beyond that
+/// number.
 #[derive(Clone, Copy)]
 pub(crate) struct SearchRoom {
     pub states: usize,
@@ -85,14 +88,16 @@ pub(crate) fn search(
     Ok((walk.rows, found))
 }
 
-// The number of states of the first search, of all orders. Measured with `plans::PLANS`, and not by itself.
+// The number of states of the first search, of all orders. Measured with `plans::PLANS`, and not by
+// itself.
 const FIRST_STATES: usize = 10_000;
 
-/// The number of states, beyond one for each claim, of a first search: the text of one worker needs one state for each claim.
+/// The number of states, beyond one for each claim, of a first search: the text of one worker needs
+/// one state for each claim.
 pub const FEW_STATES: usize = 1_000;
 
-/// Searches for an end within `limits`. If a small number of states isn't enough, it first tries plans that find what some number
-/// of workers played.
+/// Searches for an end within `limits`. If a small number of states isn't enough, it first tries
+/// plans that find what some number of workers played.
 ///
 /// # Errors
 /// `NoMemory` if an allocation fails.

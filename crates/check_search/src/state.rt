@@ -1,4 +1,5 @@
-//! The state that a search is at, and what is counted of it as steps are made and taken back. Nothing is promised of it.
+//! The state that a search is at, and what is counted of it as steps are made and taken back.
+//! Nothing is promised of it.
 
 use crate::steps::{ClaimStep, Steps, number_at};
 use crate::tally::{Tally, count};
@@ -58,7 +59,8 @@ impl<'a> SearchState<'a> {
         self.steps.allows(&self.row, step, self.empty)
     }
 
-    /// Returns the slot of a step and the moment there after the step, or `None` for a step without a slot.
+    /// Returns the slot of a step and the moment there after the step, or `None` for a step without
+    /// a slot.
     pub(crate) fn moment_behind(&self, step: &ClaimStep<'_>) -> Option<(usize, u64)> {
         let cell = step.cell?;
         let made = self.made.get(cell)?;
@@ -93,7 +95,8 @@ impl<'a> SearchState<'a> {
         self.sum ^= drawn(place, number_at(&self.row, place));
     }
 
-    // Adds the number drawn for a slot to the sum, or removes it, and counts the slot if it is empty and in the allocation range.
+    // Adds the number drawn for a slot to the sum, or removes it, and counts the slot if it is
+    // empty and in the allocation range.
     fn count_slot(&mut self, cell: Option<usize>, is_more: bool) {
         let Some(cell) = cell else {
             return;

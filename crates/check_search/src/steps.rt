@@ -1,4 +1,5 @@
-//! The claims of a part by numbers, and the state of a search that goes through them. Nothing is promised of it.
+//! The claims of a part by numbers, and the state of a search that goes through them. Nothing is
+//! promised of it.
 
 use crate::cell::{Cell, may_find, may_leave, may_stay};
 use crate::claim::{Claim, Leaves, Resident, Strand};
@@ -8,11 +9,13 @@ use crate::tally::Tally;
 use fx_base::NoMemory;
 use std::alloc::Global;
 
-/// The largest number of claims at a slot that have a bit each. 16 bits of a moment are left for the number of a file.
+/// The largest number of claims at a slot that have a bit each. 16 bits of a moment are left for
+/// the number of a file.
 pub const MOST_CLAIMS: usize = 48;
 
-/// A claim, the place of its slot among those of the part, the number of the file that it leaves there, the class that it is
-/// counted in, and its bit among the claims of the slot, or 0 if the slot has too many claims.
+/// A claim, the place of its slot among those of the part, the number of the file that it leaves
+/// there, the class that it is counted in, and its bit among the claims of the slot, or 0 if the
+/// slot has too many claims.
 #[derive(Clone, Copy)]
 pub struct ClaimStep<'a> {
     pub claim: &'a Claim,
@@ -259,7 +262,8 @@ impl<'a> Steps<'a> {
         (0..self.packing.cells.len()).all(|cell| may_stay(self.file(row, cell)))
     }
 
-    /// Returns a chain whose next claim only tests and may be made, if `empty` slots of the allocation range are empty.
+    /// Returns a chain whose next claim only tests and may be made, if `empty` slots of the
+    /// allocation range are empty.
     pub(crate) fn test_of(&self, row: &[u16], empty: usize) -> Option<usize> {
         (0..self.chains.len()).find(|chain| {
             self.next_of(row, *chain).is_some_and(|step| is_test(step.claim)
@@ -295,8 +299,9 @@ impl<'a> Steps<'a> {
         }
     }
 
-    // Checks whether a claim that is still to be made leaves a file at the slot that the claim at this place may find. The earlier
-    // claims are tried first, the last of them first, since a chain mostly waits for one of these.
+    // Checks whether a claim that is still to be made leaves a file at the slot that the claim at
+    // this place may find. The earlier claims are tried first, the last of them first, since a
+    // chain mostly waits for one of these.
     fn is_helped(
         &self,
         row: &[u16],
@@ -327,7 +332,8 @@ impl<'a> Steps<'a> {
         Ok(after)
     }
 
-    /// Returns a claim that waits for a file which is never installed, in the state `after` the next claim of a chain.
+    /// Returns a claim that waits for a file which is never installed, in the state `after` the
+    /// next claim of a chain.
     pub(crate) fn hopeless_behind(
         &self,
         row: &[u16],

@@ -1,4 +1,5 @@
-//! The claims of a slot that are still to be made, counted as a search goes. Nothing is promised of it.
+//! The claims of a slot that are still to be made, counted as a search goes. Nothing is promised of
+//! it.
 
 use crate::cell::{may_find, may_leave};
 use crate::claim::{Claim, Leaves, Resident, Wants};
@@ -13,7 +14,8 @@ struct Class<'a> {
     claim: &'a Claim,
     // The number of these that are still to be made.
     left: usize,
-    // The number of claims, still to be made, that leave a file or an empty slot with which these may be made.
+    // The number of claims, still to be made, that leave a file or an empty slot with which these
+    // may be made.
     helpers: usize,
 }
 
@@ -121,7 +123,8 @@ impl<'a> Tally<'a> {
         }
     }
 
-    // Checks whether a claim waits for a file that is never installed, if `found` is at the slot ([`crate::dead`]).
+    // Checks whether a claim waits for a file that is never installed, if `found` is at the slot
+    // ([`crate::dead`]).
     fn is_hopeless(&self, found: Option<Resident>) -> bool {
         let stays = !may_leave(found);
         self.classes.iter().any(|class| {
@@ -140,7 +143,8 @@ impl<'a> Tally<'a> {
         staying > 1 || leaving < self.takes || (self.empties == 0 && staying == 0 && leaving > 0)
     }
 
-    /// Checks whether these counts show that no order of the claims leads to an end, if `found` is at the slot.
+    /// Checks whether these counts show that no order of the claims leads to an end, if `found` is
+    /// at the slot.
     pub fn is_dead(&self, found: Option<Resident>) -> bool {
         self.is_uneven(found) || self.is_hopeless(found)
     }

@@ -1,6 +1,7 @@
-//! Orders of the claims of each slot by itself in which chains reach the slot nearly in turn, as workers begin them. A moment of a slot is
-//! the set of its claims that were made, and the file that is there. A track is the set of moments from which the other claims can
-//! be made. Nothing is promised of it.
+//! Orders of the claims of each slot by itself in which chains reach the slot nearly in turn, as
+//! workers begin them. A moment of a slot is the set of its claims that were made, and the file
+//! that is there. A track is the set of moments from which the other claims can be made. Nothing is
+//! promised of it.
 
 use crate::cell::may_find;
 use crate::steps::{ClaimStep, MOST_CLAIMS, Steps};
@@ -14,8 +15,9 @@ const MADE: u64 = (1 << MOST_CLAIMS) - 1;
 // The largest number of moments of a slot. Measured with `plans::NEAR`, and not by itself.
 const MOST_MOMENTS: usize = 4_096;
 
-// The number of times that a track is widened until its slot has an order by itself, and the factor; and the factor at a slot that
-// blocked a search. Measured with `plans::NEAR`, and not by themselves.
+// The number of times that a track is widened until its slot has an order by itself, and the
+// factor; and the factor at a slot that blocked a search. Measured with `plans::NEAR`, and not by
+// themselves.
 const WIDENINGS: usize = 16;
 
 const WIDER: usize = 4;
@@ -25,7 +27,8 @@ const MUCH_WIDER: usize = 8;
 /// The moments of a slot from which its claims can all be made.
 #[derive(Drop)]
 struct Track {
-    // The number of chains by which one may reach the slot too early: a claim may be made before those of fewer than `near` earlier chains.
+    // The number of chains by which one may reach the slot too early: a claim may be made before
+    // those of fewer than `near` earlier chains.
     near: usize,
     // The moments, or `None` if the slot has too many: then each moment is allowed.
     moments: Option<IndexSet<u64>>,
@@ -48,7 +51,8 @@ struct Slot<'a> {
     near: usize,
 }
 
-/// Returns the moment of a slot at which the claims of the bits `made` were made and a file is there, by its number.
+/// Returns the moment of a slot at which the claims of the bits `made` were made and a file is
+/// there, by its number.
 pub fn moment_of(made: u64, file: u16) -> u64 {
     made | (u64::from(file) << MOST_CLAIMS)
 }
@@ -121,7 +125,8 @@ impl Slot<'_> {
         Ok(behind.iter().any(|other| others.contains(other)))
     }
 
-    // Returns the moments from which all other claims can be made, or `None` if too many are reached.
+    // Returns the moments from which all other claims can be made, or `None` if too many are
+    // reached.
     fn moments(&self, first: u64) -> Result<Option<IndexSet<u64>>, NoMemory> {
         let Some(reached) = self.reached(first)? else {
             return Ok(None);
@@ -162,7 +167,8 @@ impl Slot<'_> {
     }
 }
 
-// Returns the track of a slot, with at least this `near`. If the slot has too many claims, each order is allowed.
+// Returns the track of a slot, with at least this `near`. If the slot has too many claims, each
+// order is allowed.
 fn track_of(
     alloc: Global,
     steps: &Steps<'_>,

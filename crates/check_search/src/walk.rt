@@ -10,8 +10,9 @@ use fx_base::NoMemory;
 use indexmap::IndexSet;
 use std::alloc::Global;
 
-// A state on the way from the start to the current state: the chain of the step that led to it, the number of the file that was at
-// the slot of that step, the last chain on the way that did more than test, and the number of steps that were tried from the state.
+// A state on the way from the start to the current state: the chain of the step that led to it, the
+// number of the file that was at the slot of that step, the last chain on the way that did more
+// than test, and the number of steps that were tried from the state.
 #[derive(Clone, Copy, Default)]
 struct Stage {
     by: usize,
@@ -35,8 +36,8 @@ pub(crate) struct Walk<'a> {
     tracks: Option<&'a Tracks>,
     /// The states that were met, if they are kept.
     pub rows: Rows,
-    // The states that were met, by their sums. If two states have the same sum, the second one is skipped, and a result that
-    // needs it isn't confirmed.
+    // The states that were met, by their sums. If two states have the same sum, the second one is
+    // skipped, and a result that needs it isn't confirmed.
     met: IndexSet<u64>,
     here: SearchState<'a>,
     way: Vec<Stage>,
@@ -89,8 +90,9 @@ impl<'a> Walk<'a> {
         Ok(Found::Stopped(self.room.doubt))
     }
 
-    // Returns the chain of the next step to be tried, and the number of tried steps after it. If a step that only tests may be made,
-    // no other step need be tried. A played order mostly continues with the chain of the last step, and begins the chains in turn.
+    // Returns the chain of the next step to be tried, and the number of tried steps after it. If a
+    // step that only tests may be made, no other step need be tried. A played order mostly
+    // continues with the chain of the last step, and begins the chains in turn.
     fn choice(&self, stage: &Stage) -> Option<(usize, usize)> {
         if stage.tried == ALL {
             return None;
@@ -116,7 +118,8 @@ impl<'a> Walk<'a> {
         None
     }
 
-    // Returns the same by a plan with a seed: the first of the chains that may be continued is drawn, and the others follow in a circle.
+    // Returns the same by a plan with a seed: the first of the chains that may be continued is
+    // drawn, and the others follow in a circle.
     fn choice_drawn(&self, stage: &Stage, low: usize, high: usize) -> Option<(usize, usize)> {
         let count = high.saturating_sub(low);
         let first = drawn(self.plan.seed.saturating_add(self.way.len()), 0) >> 33;
@@ -150,7 +153,8 @@ impl<'a> Walk<'a> {
         (low, chains)
     }
 
-    // Returns a chain whose next step only tests and may be made. With tracks, it is one that may be continued.
+    // Returns a chain whose next step only tests and may be made. With tracks, it is one that may
+    // be continued.
     fn test(&self) -> Option<usize> {
         if self.tracks.is_none() {
             return self.steps.test_of(&self.here.row, self.here.empty);
@@ -178,8 +182,9 @@ impl<'a> Walk<'a> {
         }
     }
 
-    // Records the slots that block the chains that may be continued, if no step leads on and the way is the longest yet: those that
-    // block by their tracks alone, or else those whose files block.
+    // Records the slots that block the chains that may be continued, if no step leads on and the
+    // way is the longest yet: those that block by their tracks alone, or else those whose files
+    // block.
     fn note(&mut self) -> Result<(), NoMemory> {
         if self.tracks.is_none() || self.way.len() <= self.longest {
             return Ok(());
@@ -198,7 +203,8 @@ impl<'a> Walk<'a> {
         Ok(())
     }
 
-    // Records the slot of a chain's next step, if its track blocks the step (`by_order`), or if the step waits for a file.
+    // Records the slot of a chain's next step, if its track blocks the step (`by_order`), or if the
+    // step waits for a file.
     fn note_chain(&mut self, chain: usize, by_order: bool) -> Result<(), NoMemory> {
         let Some(step) = self.here.next_of(chain) else {
             return Ok(());
@@ -218,8 +224,8 @@ impl<'a> Walk<'a> {
         Ok(())
     }
 
-    // Makes a step, unless it leads to a state that was met, or to one from which no end is reached. Returns false if there is no
-    // room for the state.
+    // Makes a step, unless it leads to a state that was met, or to one from which no end is
+    // reached. Returns false if there is no room for the state.
     fn go(&mut self, chain: usize, last: usize) -> Result<bool, NoMemory> {
         let Some(step) = self.here.next_of(chain) else {
             return Ok(true);

@@ -1,4 +1,5 @@
--- The calls between submissions, and refused submissions: where memory is found they lead to one ring, and print one line.
+-- The calls between submissions, and refused submissions: where memory is found they lead to one
+-- ring, and print one line.
 use Rattle.check_texts.proofs.Words.{Errno, ENOMEM, call_of, fault_of, Asked, CutFault, Instruction, SetsRange, SubmitsAll, MOST_SLOTS, refused_line}
 use Rattle.check_texts.proofs.Words.{too_many_line, IsRing, RingContents, RingState, ring_of, Reported, MOST_SUBMISSIONS, Prints, PrintsReport}
 use Rattle.check_texts.proofs.Words.{HasEachNextStage, IsLineOf, LeadsRing, MayLeadTo, Stage, after_call, count_after, count_behind, kept_text}

@@ -166,7 +166,8 @@ module _ (old : RingState) (asked : List Asked) (is_ring : IsRing old) (accepted
   pub texts_same : report_text ring.catalogue report ≡ report_text old.catalogue told
   texts_same = λ i. completion_lines (tells.completions i) ++ closes_text (same i).catalogue (sym closes_same i)
 
--- each stage that the submission leads to is that of a report; where it isn't kept what is printed, the rings are enough
+-- each stage that the submission leads to is that of a report; where it isn't kept what is printed,
+-- the rings are enough
 pub reports_are_all : (keeps : Bool) (old : Stage) {asked : List Asked} (reports : List PossibleReport) (stages : List Stage) → IsRing old.ring
     → IsAccepted asked → All (IsPossible old.ring asked) reports
     → ((s : Stage) → Contains (map (stage_reported keeps old) reports) s → Contains stages s)

@@ -53,7 +53,8 @@ answer_ring {catalogue} from {asked} is a =
     let (left, behind, may) = a.may start shows in
     subst IsRing behind (submitted_rings start left asked may.report (rw shows is) may.may.history)
 
--- Commands that lead on, one behind others, and how many submissions a ring has counted behind them.
+-- Commands that lead on, one behind others, and how many submissions a ring has counted behind
+-- them.
 
 -- how many submissions a ring has counted
 

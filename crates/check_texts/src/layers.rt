@@ -1,4 +1,5 @@
-//! The rings before each command of a script, each once, and the exits of each: what the command prints, and the ring after it.
+//! The rings before each command of a script, each once, and the exits of each: what the command
+//! prints, and the ring after it.
 ghost use Rattle.std.specs.Prelude.{◌≡◌, All, IfOk, List, OnOk, true};
 ghost use Rattle.fx_base.specs.Catalogue.{FileEntry};
 ghost use Rattle.fx_language.specs.Instruction.{instruction_of, instructions_of};
@@ -51,7 +52,8 @@ struct Bare {
     keys: IndexSet<Vec<u32>>,
 }
 
-// Returns the numbers of a ring, for looking it up. Nothing is proved of them: each ring that is found is compared.
+// Returns the numbers of a ring, for looking it up. Nothing is proved of them: each ring that is
+// found is compared.
 fn key_of(alloc: Global, ring: &RingSlots) -> Result<Vec<u32>, NoMemory> {
     let mut key = Vec::new(alloc);
     let (first, len) = ring.slots.range;
@@ -122,7 +124,8 @@ fn exits_of(
     Ok(all)
 }
 
-/// Returns the exits before each command, and the rings before the end, beginning at a ring without a table.
+/// Returns the exits before each command, and the rings before the end, beginning at a ring without
+/// a table.
 ///
 /// # Errors
 /// `NoMemory` if an allocation fails.

@@ -1,4 +1,5 @@
-//! The texts that a script can print, and the answers that a request of it can give, if no allocation fails.
+//! The texts that a script can print, and the answers that a request of it can give, if no
+//! allocation fails.
 #![tactic(auto)]
 
 mod layers;

@@ -83,8 +83,8 @@ fn has_ring(rings: &[Reached], one: &Reached) -> bool
     false
 }
 
-// Appends a ring unless it is already in the list. If the setting keeps texts, the check is skipped: two ways that printed the
-// same led to one ring.
+// Appends a ring unless it is already in the list. If the setting keeps texts, the check is
+// skipped: two ways that printed the same led to one ring.
 fn push_new(
     setting: &WalkSetting<'_>,
     spent: &mut Spent,
@@ -142,7 +142,8 @@ fn push_report(
     Ok(())
 }
 
-// Looks for the reports of the submission, appends the rings that they leave, and returns whether these are all.
+// Looks for the reports of the submission, appends the rings that they leave, and returns whether
+// these are all.
 fn push_reports(
     setting: &WalkSetting<'_>,
     spent: &mut Spent,
@@ -212,8 +213,9 @@ fn push_call(
     Ok(())
 }
 
-/// Appends the rings that a command may lead to from one, and returns whether these are all of them. Where the limits of the
-/// script are reached, it appends none, unless none is kept yet after the command.
+/// Appends the rings that a command may lead to from one, and returns whether these are all of
+/// them. Where the limits of the script are reached, it appends none, unless none is kept yet after
+/// the command.
 ///
 /// # Errors
 /// `NoMemory` if an allocation fails.

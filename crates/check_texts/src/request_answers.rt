@@ -40,11 +40,13 @@ pub struct RequestAnswers {
     pub answers: Vec<Said>,
     /// The orders of the submissions up to the answers.
     pub orders: Vec<Past>,
-    /// True if these were shown to be all. If so and there is none, no accepted submission has the request.
+    /// True if these were shown to be all. If so and there is none, no accepted submission has the
+    /// request.
     pub are_all: bool,
 }
 
-// Returns the submission of a place and the commands around it, if the commands have that number of accepted submissions.
+// Returns the submission of a place and the commands around it, if the commands have that number of
+// accepted submissions.
 fn asking_at(commands: &[Command], place: Place) -> Option<Inquiry<'_>>
     ensures some { IfSome result (IsAskedIn (instructions_of commands.now) place) }
     ensures none { IfNone result ((place.submission ≡ 0)
@@ -102,8 +104,8 @@ fn goes_on(setting: &WalkSetting<'_>, from: Reached, commands: &[Command]) -> Re
     Ok(true)
 }
 
-// Appends an answer that a ring can give, unless the list has it, if it was shown that the script goes on from there to its end.
-// Returns whether the list then has it.
+// Appends an answer that a ring can give, unless the list has it, if it was shown that the script
+// goes on from there to its end. Returns whether the list then has it.
 fn push_answer(
     setting: &WalkSetting<'_>,
     spent: &mut Spent,
@@ -204,10 +206,11 @@ fn answers_at(
     Ok((answers, are_all))
 }
 
-/// Returns the answers that the request at `place` has in the plays of the whole script in which no allocation fails, as the
-/// definitions have them. Where `are_all` is true there is no other; else that was not shown within `limits`, which apply to the
-/// states of each submission at one ring, and to the rings after each command. The orders are those by which the answers were
-/// found, and no contract says anything of them.
+/// Returns the answers that the request at `place` has in the plays of the whole script in which no
+/// allocation fails, as the definitions have them. Where `are_all` is true there is no other; else
+/// that was not shown within `limits`, which apply to the states of each submission at one ring,
+/// and to the rings after each command. The orders are those by which the answers were found, and
+/// no contract says anything of them.
 ///
 /// # Errors
 /// `NoMemory` if an allocation fails.

@@ -161,7 +161,8 @@ fn push_ways(
     Ok(())
 }
 
-// Adds the ways that begin with an exit, if what is kept of the exit's ring is known, and no exit before it printed the same.
+// Adds the ways that begin with an exit, if what is kept of the exit's ring is known, and no exit
+// before it printed the same.
 fn push_exit(
     setting: &WalkSetting<'_>,
     spent: &mut Spent,

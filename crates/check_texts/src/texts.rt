@@ -22,7 +22,8 @@ use std::alloc::Global;
 pub struct AllTexts {
     /// The texts that were made, each once.
     pub texts: IndexSet<String>,
-    /// For each text, the indices of the orders of its accepted submissions, the first submission's first.
+    /// For each text, the indices of the orders of its accepted submissions, the first submission's
+    /// first.
     pub by: Vec<Vec<usize>>,
     /// The orders of the submissions.
     pub orders: Vec<Past>,
@@ -85,11 +86,12 @@ fn is_exact(ways: u64) -> bool
     ways < u64::MAX
 }
 
-/// Returns the first texts that the plays of a script print in which no allocation fails, at most `most`, each once, and the
-/// number of ways by which they go. `are_all` is false if there are more texts, or if `limits` were reached. `are_counted` is false
-/// if the ways weren't all found within `limits`, or are more than 2^64 - 2. `limits` apply to the whole script: to all states
-/// that the searches meet, and to all bytes that are kept. The orders are those by which the texts were found, and no contract
-/// says anything of them.
+/// Returns the first texts that the plays of a script print in which no allocation fails, at most
+/// `most`, each once, and the number of ways by which they go. `are_all` is false if there are more
+/// texts, or if `limits` were reached. `are_counted` is false if the ways weren't all found within
+/// `limits`, or are more than 2^64 - 2. `limits` apply to the whole script: to all states that the
+/// searches meet, and to all bytes that are kept. The orders are those by which the texts were
+/// found, and no contract says anything of them.
 ///
 /// # Errors
 /// `NoMemory` if an allocation fails.

@@ -17,8 +17,8 @@ use fx_language::Command;
 use fx_order::{ChainAccess, RingSlots, Slots};
 use std::alloc::Global;
 
-/// The values that stay the same while the commands of a script are played: its files, how far the states of a submission and the rings are
-/// looked for, and what is kept of its text.
+/// The values that stay the same while the commands of a script are played: its files, how far the
+/// states of a submission and the rings are looked for, and what is kept of its text.
 #[derive(Drop)]
 pub(crate) struct WalkSetting<'a> {
     pub(crate) alloc: Global,
@@ -88,7 +88,8 @@ impl Reached {
     }
 }
 
-// The bytes of a ring that is kept, beside its slots and its text: its place in two lists and among the texts.
+// The bytes of a ring that is kept, beside its slots and its text: its place in two lists and among
+// the texts.
 const RING_BYTES: usize = 400;
 
 // The bytes of one of its slots, in both lists.
@@ -99,8 +100,8 @@ const ORDER_BYTES: usize = 128;
 
 const ACCESS_BYTES: usize = 112;
 
-// The largest number of states of the search at the first ring after each command, and of their bytes, once the limits have been
-// reached: so that some texts are completed.
+// The largest number of states of the search at the first ring after each command, and of their
+// bytes, once the limits have been reached: so that some texts are completed.
 const LAST_STATES: usize = 4_096;
 
 const LAST_BYTES: usize = 16 * 1_048_576;
@@ -117,7 +118,8 @@ fn total(numbers: &[usize]) -> usize {
         .fold(0, |sum: usize, number| sum.saturating_add(*number))
 }
 
-/// The orders that are kept, the number of states that the searches of a script have met, and that of the bytes that are kept.
+/// The orders that are kept, the number of states that the searches of a script have met, and that
+/// of the bytes that are kept.
 #[derive(Debug, Drop)]
 pub(crate) struct Spent {
     /// The orders of the submissions.
@@ -177,7 +179,8 @@ impl Spent {
         self.after = total(&[self.after, slots, reached.printed.len(), RING_BYTES]);
     }
 
-    /// Keeps an order of the next accepted submission at a ring, and counts its bytes. Returns its index.
+    /// Keeps an order of the next accepted submission at a ring, and counts its bytes. Returns its
+    /// index.
     ///
     /// # Errors
     /// `NoMemory` if an allocation fails.
@@ -214,8 +217,9 @@ impl Spent {
         total(&[self.kept, self.before, self.after])
     }
 
-    /// Checks whether one more text may be kept after a command: the first one of all rings, and others in half of the bytes, since
-    /// those before the command are made of them while both are kept.
+    /// Checks whether one more text may be kept after a command: the first one of all rings, and
+    /// others in half of the bytes, since those before the command are made of them while both are
+    /// kept.
     pub(crate) fn has_place(&self, limits: Limits) -> bool {
         let twice = self.after.saturating_mul(2);
         self.texts == 0 || self.kept.saturating_add(twice) < limits.bytes
@@ -226,8 +230,8 @@ impl Spent {
         self.rings == 0 || (self.rings < limits.states && self.bytes() < limits.bytes)
     }
 
-    /// Returns what the next search of a submission may use: if texts are kept, what is left of the limits, and at the first ring
-    /// after a command at least a little; else the limits.
+    /// Returns what the next search of a submission may use: if texts are kept, what is left of the
+    /// limits, and at the first ring after a command at least a little; else the limits.
     pub(crate) fn left_of(&self, setting: &WalkSetting<'_>) -> Limits {
         let limits = setting.limits;
         if !setting.keeps {

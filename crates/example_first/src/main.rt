@@ -1,4 +1,5 @@
-//! From nothing to a full table: makes a catalogue, fills a table, shares it, replaces a file and closes all files.
+//! From nothing to a full table: makes a catalogue, fills a table, shares it, replaces a file and
+//! closes all files.
 #![tactic(auto)]
 
 ghost use Rattle.std.specs.Prelude.{◌≡◌, ◌<◌, IfOk, length};
@@ -45,7 +46,8 @@ fn two_files(alloc: Global) -> Result<Catalogue, AddFault>
     Ok(catalogue)
 }
 
-// Makes a table with entry 0 at each slot. Only an empty slot takes a file, so `entry_at` looks first.
+// Makes a table with entry 0 at each slot. Only an empty slot takes a file, so `entry_at` looks
+// first.
 fn full_table(alloc: Global, catalogue: &Catalogue) -> Result<PlainTable, NoMemory>
     requires entry { 0 < length catalogue.now }
     ensures settled { IfOk result (λ plain. IsSettled (state_of plain)) }

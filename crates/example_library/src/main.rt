@@ -1,6 +1,6 @@
-//! Shares a table between two threads, and does three things that a server does: it learns that a file is closed, opens
-//! files until the table is full, and replaces a file under load. A smaller program is `example_first`. Begin with
-//! `tasks.rt`.
+//! Shares a table between two threads, and does three things that a server does: it learns that a
+//! file is closed, opens files until the table is full, and replaces a file under load. A smaller
+//! program is `example_first`. Begin with `tasks.rt`.
 #![tactic(auto)]
 
 ghost use Rattle.std.specs.Prelude.{◌≡◌, ◌<◌, All, IfOk, length};
@@ -37,7 +37,8 @@ fn two_files(alloc: Global) -> Result<Catalogue, AddFault>
     Ok(catalogue)
 }
 
-// Makes a table of four slots, with entry 0 of the catalogue at slot 0, that two threads share, each by a pass.
+// Makes a table of four slots, with entry 0 of the catalogue at slot 0, that two threads share,
+// each by a pass.
 fn shared_table<T: FileTable>(
     alloc: Global,
     catalogue: &Catalogue,
@@ -70,7 +71,8 @@ fn serve_by_name<T: FileTable, R: Threads + Wait + Sync>(
     requires { 1 < length catalogue.now }
 {
     let (table, mut passes) = shared_table::<T>(alloc, catalogue)?;
-    // A pass that is used by name leaves the list and returns to it, since the table is closed with all passes.
+    // A pass that is used by name leaves the list and returns to it, since the table is closed with
+    // all passes.
     let (mut reader, mut writer) = (passes.pop().unwrap(), passes.pop().unwrap());
     let gone = read_while_replaced(rt, alloc, catalogue, &table, &mut reader, &mut writer);
     let opened = open_until_full(rt, catalogue, &table, &mut writer);

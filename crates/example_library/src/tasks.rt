@@ -1,5 +1,5 @@
-//! Three things that a server does: it learns by a tag that a file is closed, opens files until the table is full, and
-//! replaces a file under load. Begin with [`replace`].
+//! Three things that a server does: it learns by a tag that a file is closed, opens files until the
+//! table is full, and replaces a file under load. Begin with [`replace`].
 ghost use Rattle.std.specs.Prelude.{◌<◌, ◌≡◌, All, length};
 ghost use Rattle.std.specs.Thread.{IsSync};
 ghost use Rattle.fx_table.specs.Opening.{size_of};
@@ -13,9 +13,10 @@ use std::sync::atomic::{AtomicU32, Ordering};
 use std::thread;
 use std::thread::{Threads, join_mut};
 
-/// Replaces the file at slot 0, as an update does: puts entry 1 of the catalogue there. Returns the old file, to be
-/// closed, if nobody holds it. Returns `None` if it is still held, or if slot 0 was empty. Returns `None` and replaces
-/// nothing if the pass has no number for a new file and can't draw one.
+/// Replaces the file at slot 0, as an update does: puts entry 1 of the catalogue there. Returns the
+/// old file, to be closed, if nobody holds it. Returns `None` if it is still held, or if slot 0 was
+/// empty. Returns `None` and replaces nothing if the pass has no number for a new file and can't
+/// draw one.
 pub fn replace<T: FileTable, R: Wait>(
     rt: &R,
     catalogue: &Catalogue,
@@ -45,16 +46,17 @@ fn read(alloc: Global, catalogue: &Catalogue, entry: u8) -> Result<Vec<u8>, NoMe
     Ok(bytes)
 }
 
-/// The bytes that the reader read, and the files that its release and the writer's update returned, to be closed.
+/// The bytes that the reader read, and the files that its release and the writer's update returned,
+/// to be closed.
 pub struct Gone {
     pub bytes: Result<Vec<u8>, NoMemory>,
     pub released: Option<OpenFile>,
     pub retired: Option<OpenFile>,
 }
 
-/// Reads the file at slot 0 in one thread, and meanwhile replaces it in another. The reader is the last user, so the
-/// reader closes the file, and learns that by the tag which its list of closes returns. Returns `None` if the slot is
-/// empty.
+/// Reads the file at slot 0 in one thread, and meanwhile replaces it in another. The reader is the
+/// last user, so the reader closes the file, and learns that by the tag which its list of closes
+/// returns. Returns `None` if the slot is empty.
 pub fn read_while_replaced<T: FileTable, R: Threads + Wait + Sync>(
     rt: &R,
     alloc: Global,
@@ -89,8 +91,9 @@ pub fn read_while_replaced<T: FileTable, R: Threads + Wait + Sync>(
     })
 }
 
-/// Opens entry 0 of the catalogue at any slot, until every slot of the range is full (`ENFILE`) or the chain has no
-/// number for a new file left. Returns the number of files that were installed: 0 if there is no chain left.
+/// Opens entry 0 of the catalogue at any slot, until every slot of the range is full (`ENFILE`) or
+/// the chain has no number for a new file left. Returns the number of files that were installed: 0
+/// if there is no chain left.
 pub fn open_until_full<T: FileTable, R: Wait>(
     rt: &R,
     catalogue: &Catalogue,
@@ -118,8 +121,8 @@ pub fn open_until_full<T: FileTable, R: Wait>(
 // The number of times that a thread replaces the file, or reads it.
 const TIMES: u32 = 1000;
 
-// Looks the file at slot 0 up, and releases it. Returns the file, to be closed, if it was replaced and this was its last
-// user.
+// Looks the file at slot 0 up, and releases it. Returns the file, to be closed, if it was replaced
+// and this was its last user.
 fn visit<T: FileTable, R: Wait>(rt: &R, table: &T, pass: &mut T::Pass) -> Option<OpenFile>
     requires ready { T.fits table.now pass.old × IsIdle (T.view pass.old) }
     requires slot { 0 < size_of (T.opening table.now) }
@@ -129,8 +132,8 @@ fn visit<T: FileTable, R: Wait>(rt: &R, table: &T, pass: &mut T::Pass) -> Option
     table.release(rt, pass, hold)
 }
 
-// Replaces the file 1,000 times in the first thread, and reads it 1,000 times in any other. Discards the files that come
-// out, which a server would close, and adds their number to `closed`.
+// Replaces the file 1,000 times in the first thread, and reads it 1,000 times in any other.
+// Discards the files that come out, which a server would close, and adds their number to `closed`.
 fn work<T: FileTable, R: Wait>(
     rt: &R,
     catalogue: &Catalogue,
@@ -157,8 +160,8 @@ fn work<T: FileTable, R: Wait>(
     }
 }
 
-/// Replaces a file 1,000 times while another thread reads it: runs each of two passes in a thread of its own, and adds
-/// the files that came out to `closed`.
+/// Replaces a file 1,000 times while another thread reads it: runs each of two passes in a thread
+/// of its own, and adds the files that came out to `closed`.
 pub fn replace_under_load<T: FileTable, R: Threads + Wait + Sync>(
     rt: &R,
     catalogue: &Catalogue,

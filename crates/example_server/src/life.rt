@@ -65,8 +65,8 @@ fn end(alloc: Global, desk: &Desk<'_>, plain: PlainTable) -> Result<(), NoMemory
 /// Serves until there are no more requests.
 ///
 /// # Errors
-/// `NoMemory` if the memory of the table or of its last closes is refused. The files are then dropped without listing
-/// them.
+/// `NoMemory` if the memory of the table or of its last closes is refused. The files are then
+/// dropped without listing them.
 pub fn serve_all<R: Threads + Wait + Sync>(
     rt: &R,
     alloc: Global,

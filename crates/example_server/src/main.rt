@@ -1,5 +1,6 @@
-//! A server over a table without a lock that never has to be closed. Requests arrive in a bounded queue, and four threads serve
-//! them, each by a pass of its own. Begin with `serve.rt`, the work of a thread, and `life.rt`, the life of the table.
+//! A server over a table without a lock that never has to be closed. Requests arrive in a bounded
+//! queue, and four threads serve them, each by a pass of its own. Begin with `serve.rt`, the work
+//! of a thread, and `life.rt`, the life of the table.
 #![tactic(auto)]
 
 ghost use Rattle.std.specs.Prelude.{◌≡◌, IfOk, length};

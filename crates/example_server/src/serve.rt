@@ -16,7 +16,8 @@ const ROOM: u32 = 64;
 // The number of bytes that one look-up reads.
 const LENGTH: u32 = 5;
 
-// Makes room for two more closed files: reports those of a full list, and goes on with an empty one.
+// Makes room for two more closed files: reports those of a full list, and goes on with an empty
+// one.
 fn make_room(alloc: Global, desk: &Desk<'_>, closes: &mut CloseList) -> Result<(), NoMemory>
     ensures room { IfOk result (λ _. 2 ≤ closes.new.room) }
 {
@@ -29,8 +30,9 @@ fn make_room(alloc: Global, desk: &Desk<'_>, closes: &mut CloseList) -> Result<(
     Ok(())
 }
 
-// Reads the first bytes of the file at a slot, and checks whether there are as many. Closes the file if this is its last user, and
-// also a file that was removed while this look-up was on its way and that nobody else uses.
+// Reads the first bytes of the file at a slot, and checks whether there are as many. Closes the
+// file if this is its last user, and also a file that was removed while this look-up was on its way
+// and that nobody else uses.
 fn read_once<T: SharedTable, R: Wait>(
     rt: &R,
     desk: &Desk<'_>,
@@ -60,7 +62,8 @@ fn read_once<T: SharedTable, R: Wait>(
     count == LENGTH
 }
 
-// Reads the first bytes of the file at a slot as often as the client asks. Counts the request if each look-up read a file.
+// Reads the first bytes of the file at a slot as often as the client asks. Counts the request if
+// each look-up read a file.
 fn read<T: SharedTable, R: Wait>(
     rt: &R,
     alloc: Global,
@@ -150,8 +153,8 @@ fn refuse_all<R: Wait>(rt: &R, desk: &Desk<'_>) {
     }
 }
 
-/// Serves requests until there are no more. A request for which an allocation fails is counted as refused. The thread
-/// closes the files that its requests return, into a list of its own.
+/// Serves requests until there are no more. A request for which an allocation fails is counted as
+/// refused. The thread closes the files that its requests return, into a list of its own.
 pub fn serve<T: SharedTable, R: Wait>(
     rt: &R,
     alloc: Global,

@@ -155,9 +155,10 @@ fn asked_in<'a>(
 /// Returns what the words of a command line ask for.
 ///
 /// # Errors
-/// Those of clap: help or the version is requested, an argument is unknown, missing or invalid, or an allocation fails. Of this
-/// program's own: `TextWithAll` or `NumberWithAll` if a text follows the script of `--all`, `NoPlaceGiven` if no place follows that
-/// of `--may`, and `TwoInputs` if both the script and the text are `-`.
+/// Those of clap: help or the version is requested, an argument is unknown, missing or invalid, or
+/// an allocation fails. Of this program's own: `TextWithAll` or `NumberWithAll` if a text follows
+/// the script of `--all`, `NoPlaceGiven` if no place follows that of `--may`, and `TwoInputs` if
+/// both the script and the text are `-`.
 pub fn settings_in<'a, S: AsStr>(alloc: Global, words: &'a [S]) -> Result<Settings<'a>, Refusal> {
     let matches = command(alloc)?.try_get_matches_from(words)?;
     let script = matches.get_str("script").unwrap_or("-");

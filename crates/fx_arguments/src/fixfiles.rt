@@ -115,7 +115,8 @@ fn workers_of(matches: &ArgMatches<'_>) -> u32
 /// Parses the words of a command line.
 ///
 /// # Errors
-/// Returns clap's error if the words ask for help or aren't the program's, or if an allocation fails.
+/// Returns clap's error if the words ask for help or aren't the program's, or if an allocation
+/// fails.
 pub fn settings_in<S: AsStr>(alloc: Global, words: &[S]) -> Result<Settings, Error>
     ensures { IfOk result (λ asked. (1 ≤ asked.workers) × (asked.workers ≤ MAX_PASSES)) }
 {

@@ -1,4 +1,5 @@
-//! The command lines of the programs `fixfiles` and `fixcheck`: their options, their help, and the words that are refused.
+//! The command lines of the programs `fixfiles` and `fixcheck`: their options, their help, and the
+//! words that are refused.
 #![tactic(auto)]
 
 pub mod fixcheck;
@@ -24,7 +25,8 @@ pub enum Refusal {
     /// A text follows the script of `--all`.
     #[error("--all takes no TEXT")]
     TextWithAll,
-    /// A text follows the script of `--all`; the number in the script's place, which may be meant as that of `--all`.
+    /// A text follows the script of `--all`; the number in the script's place, which may be meant
+    /// as that of `--all`.
     #[error("--all takes no TEXT; its number is written as --all={0}")]
     NumberWithAll(String),
     /// No place follows the script of `--may`.
@@ -51,7 +53,8 @@ impl From<AllocError> for Refusal {
 }
 
 impl Refusal {
-    /// Returns the exit status: 0 after help or the version, 2 for wrong arguments, 5 if an allocation failed.
+    /// Returns the exit status: 0 after help or the version, 2 for wrong arguments, 5 if an
+    /// allocation failed.
     pub fn status(&self) -> u8 {
         match self {
             Refusal::Arguments(error) if !error.use_stderr() => 0,
@@ -60,7 +63,8 @@ impl Refusal {
         }
     }
 
-    /// Prints the reason for a program: help and the version on standard output, and the others on standard error.
+    /// Prints the reason for a program: help and the version on standard output, and the others on
+    /// standard error.
     ///
     /// # Errors
     /// Returns the error of a write that fails.

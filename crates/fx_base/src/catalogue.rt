@@ -20,14 +20,16 @@ pub const MOST_ENTRIES: usize = 256;
 /// The greatest number of bytes in an entry.
 pub const LONGEST_ENTRY: usize = 4096;
 
-/// The reason why a file was not added. [`Catalogue::add`] checks for these faults in the order of the variants.
+/// The reason why a file was not added. [`Catalogue::add`] checks for these faults in the order of
+/// the variants.
 #[derive(Clone, Copy, Debug, PartialEq, Eq)]
 pub enum AddFault {
     /// The catalogue already has [`MOST_ENTRIES`] entries.
     TooMany,
     /// The name has no bytes.
     EmptyName,
-    /// The name has more than 32 bytes, or a byte other than an ASCII letter, a digit, `.`, `_` or `-`.
+    /// The name has more than 32 bytes, or a byte other than an ASCII letter, a digit, `.`, `_` or
+    /// `-`.
     BadName,
     /// An entry with this name exists already.
     SameName,
@@ -60,9 +62,9 @@ struct Entry {
     bytes: Vec<u8>,
 }
 
-/// The files that can be opened: at most 256 entries, each with a name of its own and at most 4,096 bytes. An entry
-/// keeps its place, counted from 0, and its bytes never change (a kernel opens files of a file
-/// system).
+/// The files that can be opened: at most 256 entries, each with a name of its own and at most 4,096
+/// bytes. An entry keeps its place, counted from 0, and its bytes never change (a kernel opens
+/// files of a file system).
 #[derive(Debug, Drop)]
 pub struct Catalogue {
     entries: Vec<Entry>,
@@ -122,8 +124,8 @@ impl Catalogue {
         self.places.get(name).copied()
     }
 
-    /// Returns the name of an entry, 1 to 32 bytes. Requires that the entry exists: [`Catalogue::find`] returned it, or
-    /// it is below [`Catalogue::len`].
+    /// Returns the name of an entry, 1 to 32 bytes. Requires that the entry exists:
+    /// [`Catalogue::find`] returned it, or it is below [`Catalogue::len`].
     pub fn name_of(&self, entry: u8) -> &str
         requires { entry < length self.now }
         ensures value { name_at self.now entry ≡ Some result.now }
@@ -143,8 +145,8 @@ impl Catalogue {
         self.entries[entry as usize].bytes.len() as u32
     }
 
-    /// Opens an entry: returns a new open file with this mark and this tag, 0 for no tag (openat(2), read only).
-    /// Requires that the entry exists.
+    /// Opens an entry: returns a new open file with this mark and this tag, 0 for no tag
+    /// (openat(2), read only). Requires that the entry exists.
     pub fn open(&self, entry: u8, mark: Mark, tag: u64) -> OpenFile
         requires { entry < length self.now }
         ensures entry { result.entry ≡ entry }
@@ -154,9 +156,10 @@ impl Catalogue {
         OpenFile::new(mark, entry, tag)
     }
 
-    /// Appends the bytes of an entry from byte `off` on, at most `len` of them, and returns their number, at most 4,096
-    /// (read(2)). Appends none if the catalogue has no such entry. Requires room for `len` more bytes in `into`
-    /// (`Vec::reserve`), so that it can't run out of memory; `into` keeps the room that isn't used.
+    /// Appends the bytes of an entry from byte `off` on, at most `len` of them, and returns their
+    /// number, at most 4,096 (read(2)). Appends none if the catalogue has no such entry. Requires
+    /// room for `len` more bytes in `into` (`Vec::reserve`), so that it can't run out of memory;
+    /// `into` keeps the room that isn't used.
     pub fn read_into(&self, entry: u8, off: u32, len: u32, into: &mut Vec<u8>) -> u32
         requires { vec_len into.old + len ≤ vec_capacity into.old }
         ensures bytes { into.new.items ≡ into.old.items ++ bytes_at self.now entry off len }
@@ -176,8 +179,8 @@ impl Catalogue {
     /// Appends an entry. The other entries keep their places.
     ///
     /// # Errors
-    /// Returns the first fault that applies, in the order of [`AddFault`]. The catalogue then stays as it was, and the
-    /// name and the bytes are dropped.
+    /// Returns the first fault that applies, in the order of [`AddFault`]. The catalogue then stays
+    /// as it was, and the name and the bytes are dropped.
     pub fn add(&mut self, name: String, bytes: Vec<u8>) -> Result<(), AddFault>
         ensures fault { IfSome (add_fault_of self.old (string_bytes name) bytes.items)
             (λ fault. result ≡ Err fault) }

@@ -9,8 +9,9 @@ use crate::tag_completion::TagCompletion;
 use std::alloc::Global;
 use std::marker::Model;
 
-/// The files that were closed, in order, and the number of further files that the list has reserved room for (this
-/// project's own; a kernel's close leaves no list). Contracts see the files as `files` and that number as `room`.
+/// The files that were closed, in order, and the number of further files that the list has reserved
+/// room for (this project's own; a kernel's close leaves no list). Contracts see the files as
+/// `files` and that number as `room`.
 #[derive(Debug, Drop)]
 pub struct CloseList {
     files: Vec<Closed>,
@@ -56,15 +57,16 @@ impl CloseList {
         self.files.len() as u32
     }
 
-    /// Returns the files in the order in which they were closed, or in the order of marks after [`CloseList::sort`].
+    /// Returns the files in the order in which they were closed, or in the order of marks after
+    /// [`CloseList::sort`].
     pub fn files(&self) -> &[Closed]
         ensures { result.now ≡ self.now.files }
     {
         self.files.as_slice()
     }
 
-    /// Closes a file (close(2)): appends it to the list and uses one place of the room. Requires that there is room, so
-    /// that [`CloseList::room`] is above 0; it can't run out of memory.
+    /// Closes a file (close(2)): appends it to the list and uses one place of the room. Requires
+    /// that there is room, so that [`CloseList::room`] is above 0; it can't run out of memory.
     pub fn close(&mut self, file: OpenFile)
         requires { 0 < self.old.room }
         ensures files { self.new.files ≡ self.old.files ++ file ∷ [] }
@@ -74,9 +76,9 @@ impl CloseList {
         self.room -= 1;
     }
 
-    /// Appends the files of another list, in their order. The room shrinks by their number, and the other list's own
-    /// room is lost. Requires that [`CloseList::room`] is at least the number of the other list's files
-    /// ([`CloseList::files`]), so that it can't fail.
+    /// Appends the files of another list, in their order. The room shrinks by their number, and the
+    /// other list's own room is lost. Requires that [`CloseList::room`] is at least the number of
+    /// the other list's files ([`CloseList::files`]), so that it can't fail.
     pub fn append(&mut self, other: CloseList)
         requires { length other.files ≤ self.old.room }
         ensures files { self.new.files ≡ self.old.files ++ other.files }
@@ -97,9 +99,9 @@ impl CloseList {
         self.files.sort_unstable_by_key(|file| file.mark);
     }
 
-    /// Returns the completions of the files' tags, in the order of the files: one for each file whose tag isn't 0
-    /// (io_uring_register(2), "IORING_REGISTER_FILES2"). The list stays the same, so a second call returns the same
-    /// completions.
+    /// Returns the completions of the files' tags, in the order of the files: one for each file
+    /// whose tag isn't 0 (io_uring_register(2), "IORING_REGISTER_FILES2"). The list stays the same,
+    /// so a second call returns the same completions.
     ///
     /// # Errors
     /// `NoMemory` if the allocation for the completions fails.

@@ -28,8 +28,8 @@ pub enum Errno {
 }
 
 impl Errno {
-    /// Returns the positive number that Linux assigns to the error. Results carry it negated (io_uring_enter(2), "CQE
-    /// ERRORS").
+    /// Returns the positive number that Linux assigns to the error. Results carry it negated
+    /// (io_uring_enter(2), "CQE ERRORS").
     pub fn code(self) -> i32
         ensures { result ≡ pos (code_of self) }
     {

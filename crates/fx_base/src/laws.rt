@@ -4,7 +4,8 @@ ghost use Rattle.std.specs.Prelude.{◌≡◌};
 ghost use Rattle.fx_base.specs.declared.catalogue.TheConstants.{MOST_ENTRIES, LONGEST_ENTRY};
 ghost use Rattle.fx_base.specs.declared.name.TheConstants.{LONGEST_NAME};
 
-/// States that a catalogue has at most 256 entries, an entry at most 4,096 bytes, and a name at most 32 bytes.
+/// States that a catalogue has at most 256 entries, an entry at most 4,096 bytes, and a name at
+/// most 32 bytes.
 pub fn limits_are_numbers()
     ensures most_entries { MOST_ENTRIES ≡ 256 }
     ensures longest_entry { LONGEST_ENTRY ≡ 4096 }

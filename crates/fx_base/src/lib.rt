@@ -1,9 +1,10 @@
-//! The vocabulary of every crate of the file table: error numbers, marks of installations, open files, the catalogue of
-//! files that can be opened, lists of closes, and completions of resource tags.
+//! The vocabulary of every crate of the file table: error numbers, marks of installations, open
+//! files, the catalogue of files that can be opened, lists of closes, and completions of resource
+//! tags.
 //!
-//! The contract that others rely on: an [`OpenFile`] can't be lost. A program must consume it, by [`CloseList::close`],
-//! which appends its identity to a list, or by [`OpenFile::discard`]. Begin reading at `open_file.rt`, then
-//! `catalogue.rt` and `close_list.rt`.
+//! The contract that others rely on: an [`OpenFile`] can't be lost. A program must consume it, by
+//! [`CloseList::close`], which appends its identity to a list, or by [`OpenFile::discard`]. Begin
+//! reading at `open_file.rt`, then `catalogue.rt` and `close_list.rt`.
 #![tactic(auto)]
 
 mod catalogue;

@@ -6,7 +6,8 @@ ghost use Rattle.fx_base.specs.Name.{name_byte, is_name};
 /// The greatest number of bytes in a name.
 pub const LONGEST_NAME: usize = 32;
 
-/// Checks whether the bytes are a name: 1 to [`LONGEST_NAME`] of them, each an ASCII letter, a digit, `.`, `_` or `-`.
+/// Checks whether the bytes are a name: 1 to [`LONGEST_NAME`] of them, each an ASCII letter, a
+/// digit, `.`, `_` or `-`.
 pub fn is_name(bytes: &[u8]) -> bool
     ensures { result ≡ is_name bytes.now }
 {

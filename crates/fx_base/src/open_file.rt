@@ -4,8 +4,8 @@ ghost use Rattle.std.specs.Prelude.{◌≡◌};
 use crate::mark::Mark;
 use std::marker::Model;
 
-/// The identity of an open or closed file: the installation that it comes from, the catalogue entry that it was opened
-/// from, and its resource tag.
+/// The identity of an open or closed file: the installation that it comes from, the catalogue entry
+/// that it was opened from, and its resource tag.
 #[derive(Clone, Copy, Debug, PartialEq, Eq)]
 pub struct Closed {
     /// The installation that the file comes from.
@@ -16,8 +16,9 @@ pub struct Closed {
     pub tag: u64,
 }
 
-/// An open file. It must be consumed: the compiler rejects a program that drops one without [`crate::CloseList::close`]
-/// or [`OpenFile::discard`]. Contracts see it as its identity (a kernel has a `struct file` here).
+/// An open file. It must be consumed: the compiler rejects a program that drops one without
+/// [`crate::CloseList::close`] or [`OpenFile::discard`]. Contracts see it as its identity (a kernel
+/// has a `struct file` here).
 pub struct OpenFile {
     mark: Mark,
     entry: u8,
@@ -74,7 +75,8 @@ impl OpenFile {
         }
     }
 
-    /// Consumes the file without listing it: for an open that was refused, or for a file of an abandoned table.
+    /// Consumes the file without listing it: for an open that was refused, or for a file of an
+    /// abandoned table.
     pub fn discard(self) {
         let OpenFile {
             mark: _,

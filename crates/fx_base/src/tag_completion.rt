@@ -2,8 +2,8 @@
 ghost use Rattle.std.specs.Prelude.{◌≡◌};
 ghost use Rattle.fx_base.specs.Tags.{tag_completion};
 
-/// The completion that reports the close of a file with a resource tag. No request asks for it (io_uring_register(2),
-/// "IORING_REGISTER_FILES2"; `struct io_uring_cqe` there).
+/// The completion that reports the close of a file with a resource tag. No request asks for it
+/// (io_uring_register(2), "IORING_REGISTER_FILES2"; `struct io_uring_cqe` there).
 #[derive(Clone, Copy, Debug, PartialEq, Eq)]
 pub struct TagCompletion {
     /// The tag, never 0.

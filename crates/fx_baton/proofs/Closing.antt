@@ -1,4 +1,5 @@
--- The history of all passes, once they have come back; and that of the only pass, without closing the table.
+-- The history of all passes, once they have come back; and that of the only pass, without closing
+-- the table.
 use Rattle.fx_baton.proofs.Words.{◌≡◌, ℕ, ◌<◌, ◌≤◌, cond, List, [], ◌∷◌, map, length, reverse, sym, refl, ap, ◌∙◌, subst, arith, eqb, ⊎_elim, some}
 use Rattle.fx_baton.proofs.Words.{get_elem?, None, Contains, sum_by, count_by, TableId, State, IsSettled, state_of, node_at, removed_at, is_retired}
 use Rattle.fx_baton.proofs.Words.{is_leaving, Node, IsSeenBy, part_of_pass, pass_of_chain, state_at, HasSameFiles, PassView, HasDrawnInTurn}

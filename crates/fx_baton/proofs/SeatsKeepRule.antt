@@ -1,4 +1,5 @@
--- The rule holds when a table is opened, and where a seat is split off or joined; the passes that are dealt out.
+-- The rule holds when a table is opened, and where a seat is split off or joined; the passes that
+-- are dealt out.
 use Rattle.fx_baton.proofs.Words.{◌≡◌, ℕ, zero, suc, ◌<◌, ◌≤◌, Bool, true, false, cond, List, [], ◌∷◌, sym, refl, ap, ◌∙◌, subst, arith, inl, inr}
 use Rattle.fx_baton.proofs.Words.{some, some-injective, some-ne-none, get_elem?, Some, None, State, Contents, state_of, IsTable, is_leaving, node_at}
 use Rattle.fx_baton.proofs.Words.{removed_at, Node, numbers_for, contains_none, Idle, Log, View, Start, IsKept, IsLog, IsView, leaving_count}

@@ -1,4 +1,5 @@
--- A pass shows what it has seen, and another pass learns it: the rule holds afterwards. Neither is an atomic step.
+-- A pass shows what it has seen, and another pass learns it: the rule holds afterwards. Neither is
+-- an atomic step.
 use Rattle.fx_baton.proofs.Words.{◌≡◌, ℕ, List, [], ◌∷◌, ◌++◌, length, sym, refl, ap, ◌∙◌, subst, arith, inl, inr, ⊎_elim, some, get_elem?, set}
 use Rattle.fx_baton.proofs.Words.{set_again, set_else, at_set, State, Contents, state_of, IsSeenBy, Event, seen_again, Contains, contains_none, contains_only}
 use Rattle.fx_baton.proofs.Words.{sum_by-append, sum_by, Log, View, Start, Shared, logs_of, holds_by, removals_by, IsLog, IsView, IsHome, IsAway, IsKept}

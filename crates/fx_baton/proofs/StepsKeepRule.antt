@@ -53,8 +53,8 @@ module _ (k : Start) (s : Shared) (r : IsKept k s) (id : ℕ) (v : View) (at : g
       let t = sum_two (λ (z : View). logs_of x.number z.logs) s.views id i v u (λ j. n (sym j)) at e in
       let o = r.numbers x.number in let l = once_is k.passes x.number in absurd (omega arith)
 
-  -- The obligations of the step: the seat's new view, the new events, that files which others hold or retire stay, and
-  -- that the others' numbers stay fresh
+  -- The obligations of the step: the seat's new view, the new events, that files which others hold
+  -- or retire stay, and that the others' numbers stay fresh
   pub record Turns : Type 0 where
     pub log : Log
     pub log_in : Contains v.logs log

@@ -1,4 +1,5 @@
--- A seat with one pass may try the word, and take the table where it is at home; with the table it may put it back.
+-- A seat with one pass may try the word, and take the table where it is at home; with the table it
+-- may put it back.
 use Rattle.fx_baton.proofs.Words.{leaving_count, ◌≡◌, ℕ, ◌≤◌, ◌==◌, List, [], ◌∷◌, length, set, get_or, sym, refl, ap, ◌∙◌, subst, arith, inl, inr}
 use Rattle.fx_baton.proofs.Words.{⊎_elim, some, none, get_elem?, None, Contains, step, takes, keeps, set_else, set_again, Contents, state_of, IsLegal}
 use Rattle.fx_baton.proofs.Words.{Event, seen_again, contains_none, contains_head, contains_only, sum_at, sum_le_at, Log, View, Start, Shared, Seated}

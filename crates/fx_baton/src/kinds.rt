@@ -5,8 +5,8 @@ use fx_plain::PlainTable;
 use fx_seen::Learning;
 use std::marker::{Brand, PhantomData};
 
-/// The rule of the shared table: the table and all passes agree with one legal history. The word is 1 while the table
-/// is at home, and 0 while one pass has it.
+/// The rule of the shared table: the table and all passes agree with one legal history. The word is
+/// 1 while the table is at home, and 0 while one pass has it.
 pub struct OneHistory;
 
 impl TableRule<PlainTable, View, Start> for OneHistory {

@@ -153,7 +153,8 @@ impl BatonTable {
         plain
     }
 
-    // Establishes for the only pass of a table, while it is idle, that its events are the whole history.
+    // Establishes for the only pass of a table, while it is idle, that its events are the whole
+    // history.
     pub(crate) fn settle(&self, pass: &mut BatonPass)
         requires alone { (opening_of_table self.now).passes ≡ 1 }
         requires fits { IsPassOfTable self.now pass.old }

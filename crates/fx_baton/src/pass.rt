@@ -6,8 +6,9 @@ use atomic_table::Seat;
 use fx_plain::PlainTable;
 use fx_table::PASS_LOOKS;
 
-/// A pass of a [`crate::BatonTable`]. It must be consumed: the compiler rejects a program that drops one. Two
-/// neighbouring passes of a list are 128 bytes apart, so that threads that use them share no cache line.
+/// A pass of a [`crate::BatonTable`]. It must be consumed: the compiler rejects a program that
+/// drops one. Two neighbouring passes of a list are 128 bytes apart, so that threads that use them
+/// share no cache line.
 pub struct BatonPass {
     pub(crate) seat: Seat<PlainTable, View>,
     // From 1 to the number of passes.

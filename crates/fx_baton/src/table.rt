@@ -18,10 +18,11 @@ use std::marker::Brand;
 use std::sync::Wait;
 use std::thread;
 
-/// A file table that threads share, guarded by one word: a pass that exchanges the word has the whole table of one
-/// thread, in place, and puts the word back after its call. A pass that waits for the table yields its thread. Pass p
-/// of n draws the chains p, p + n, p + 2n and so on, and the takes of a removed file are 0. It must be consumed: the
-/// compiler rejects a program that drops one.
+/// A file table that threads share, guarded by one word: a pass that exchanges the word has the
+/// whole table of one thread, in place, and puts the word back after its call. A pass that waits
+/// for the table yields its thread. Pass p of n draws the chains p, p + n, p + 2n and so on, and
+/// the takes of a removed file are 0. It must be consumed: the compiler rejects a program that
+/// drops one.
 pub struct BatonTable {
     pub(crate) table: Table<PlainTable, View, Start, OneHistory, Global>,
     pub(crate) chains: u32,

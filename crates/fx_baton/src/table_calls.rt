@@ -1,5 +1,5 @@
-//! The calls of `SharedTable` as calls of the table itself, with the same contracts. A program that names
-//! the table's type needs to import `FileTable` alone.
+//! The calls of `SharedTable` as calls of the table itself, with the same contracts. A program that
+//! names the table's type needs to import `FileTable` alone.
 ghost use Rattle.std.specs.Prelude.{◌≡◌, ◌≢◌, ◌<◌, ◌≤◌, ◌↔◌, true, false, None, Err, map, length, All, IsTrue};
 ghost use Rattle.fx_plain.specs.declared.table.TheConstants.{MOST_SLOTS};
 ghost use Rattle.fx_table.specs.Opening.{size_of, range_of};

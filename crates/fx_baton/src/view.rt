@@ -5,7 +5,8 @@ use fx_table::Task;
 use std::collections::LinkedList;
 use std::snapshot::Snapshot;
 
-/// The start of a shared table, for contracts alone: the table that was opened, and the numbers of chains and passes.
+/// The start of a shared table, for contracts alone: the table that was opened, and the numbers of
+/// chains and passes.
 #[derive(Drop)]
 pub struct Start {
     /// The table as it was opened.
@@ -16,7 +17,8 @@ pub struct Start {
     pub passes: u32,
 }
 
-/// The events that one pass has seen and made, as contracts see them. No code creates a value of it.
+/// The events that one pass has seen and made, as contracts see them. No code creates a value of
+/// it.
 pub struct Log {
     /// The number of the pass, from 1.
     pub number: u32,
@@ -40,7 +42,8 @@ pub struct View {
     pub known: LinkedList<Event>,
 }
 
-/// A call that a pass made while it had the table. Slots come first, then the new file's number and its identity.
+/// A call that a pass made while it had the table. Slots come first, then the new file's number and
+/// its identity.
 #[derive(Clone, Copy)]
 pub enum Call {
     /// A look-up at a slot.

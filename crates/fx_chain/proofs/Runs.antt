@@ -264,7 +264,8 @@ runs-push front r =
 
 -- A submission is cut from its first run on.
 
--- the chains that were made, and those of the requests that are left, are the chains of the submission
+-- the chains that were made, and those of the requests that are left, are the chains of the
+-- submission
 abbrev pub IsCut : List Request → List Chain → ℕ → Type 0
 IsCut requests made first = made ++ chains_from first (runs_of (all_asked (drop first requests))) ≡ chains_of (runs_of (all_asked requests))
 

@@ -63,8 +63,8 @@ fn close_answer(alloc: Global, place: Place, found: Option<Finding>) -> Completi
     }
 }
 
-/// Returns the completion of a request at a table of `size` slots if no allocation fails, by what the last one of its
-/// accesses found, `None` if it makes none.
+/// Returns the completion of a request at a table of `size` slots if no allocation fails, by what
+/// the last one of its accesses found, `None` if it makes none.
 ///
 /// # Errors
 /// `NoMemory` if the bytes of a read can't be allocated here.

@@ -10,8 +10,8 @@ use fx_base::NoMemory;
 use fx_table::MAX_CHAINS;
 use std::alloc::Global;
 
-/// A chain: requests of a submission that are linked with each other (io_uring_enter(2), "IOSQE_IO_LINK",
-/// "IOSQE_IO_HARDLINK").
+/// A chain: requests of a submission that are linked with each other (io_uring_enter(2),
+/// "IOSQE_IO_LINK", "IOSQE_IO_HARDLINK").
 #[derive(Clone, Copy, Debug, PartialEq, Eq)]
 pub struct Chain {
     /// The number of requests before its first member, at most 16,352.
@@ -32,7 +32,8 @@ impl Chain {
     }
 }
 
-// Returns the number of members of the first chain: the requests up to the first one that doesn't link, or all of them.
+// Returns the number of members of the first chain: the requests up to the first one that doesn't
+// link, or all of them.
 fn first_chain_len(requests: &[Request]) -> usize
     requires { 0 < length requests.now }
     ensures some { 0 < result }
@@ -48,7 +49,8 @@ fn first_chain_len(requests: &[Request]) -> usize
     requests.len()
 }
 
-/// Splits a submission into its chains, in order. Requires that [`crate::check`] accepts the submission.
+/// Splits a submission into its chains, in order. Requires that [`crate::check`] accepts the
+/// submission.
 ///
 /// # Errors
 /// `NoMemory` if an allocation for the list of chains fails.

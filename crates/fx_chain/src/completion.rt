@@ -7,8 +7,8 @@ ghost use Rattle.fx_chain.specs.Completed.{completed, completed_of, refusal};
 use fx_base::{Closed, Errno, Mark, NoMemory};
 use std::alloc::Global;
 
-/// The place of a request: its submission, its chain in the submission, and its number in the chain, each from 1 (this
-/// project's own; a kernel returns the user data).
+/// The place of a request: its submission, its chain in the submission, and its number in the
+/// chain, each from 1 (this project's own; a kernel returns the user data).
 #[derive(Clone, Copy, Debug, PartialEq, Eq)]
 pub struct Place {
     /// The number of the submission among those that the ring accepted, from 1.
@@ -31,8 +31,8 @@ pub struct Completion {
 }
 
 impl Place {
-    /// Returns the mark of a file that the request at this place installs. `in_list` is the position of the file's
-    /// entry in the list of an update, from 0, and 0 for an open.
+    /// Returns the mark of a file that the request at this place installs. `in_list` is the
+    /// position of the file's entry in the list of an update, from 0, and 0 for an open.
     pub fn mark(self, in_list: u32) -> Mark
         ensures { result ≡ Submitted self.submission self.chain self.member in_list }
     {
@@ -44,8 +44,8 @@ impl Place {
         }
     }
 
-    /// Returns the identity of the file that the request at this place installs from a catalogue entry: with the mark
-    /// of [`Place::mark`], and without a tag.
+    /// Returns the identity of the file that the request at this place installs from a catalogue
+    /// entry: with the mark of [`Place::mark`], and without a tag.
     pub fn installed(self, in_list: u32, entry: u8) -> Closed
         ensures { result ≡ installed self in_list entry }
     {
@@ -58,8 +58,8 @@ impl Place {
 }
 
 impl Completion {
-    /// Creates the answer to a request that fails: the negated number of the error, and no bytes (io_uring_enter(2),
-    /// "CQE ERRORS").
+    /// Creates the answer to a request that fails: the negated number of the error, and no bytes
+    /// (io_uring_enter(2), "CQE ERRORS").
     pub fn refusal(alloc: Global, place: Place, errno: Errno) -> Completion
         ensures { completed_of result ≡ refusal place errno }
     {
@@ -70,8 +70,8 @@ impl Completion {
         }
     }
 
-    /// Creates the answer to a request that succeeds with this number, below 2^31, and returns no bytes
-    /// (io_uring_enter(2), "CQE").
+    /// Creates the answer to a request that succeeds with this number, below 2^31, and returns no
+    /// bytes (io_uring_enter(2), "CQE").
     pub fn number(alloc: Global, place: Place, res: u32) -> Completion
         requires { res < 2 ^ 31 }
         ensures { completed_of result ≡ completed place (pos res) [] }
@@ -97,7 +97,8 @@ impl Completion {
         })
     }
 
-    /// Checks whether this is the answer to the request at `place`, with this result and these bytes.
+    /// Checks whether this is the answer to the request at `place`, with this result and these
+    /// bytes.
     pub fn is_answer(&self, place: Place, res: i32, got: &[u8]) -> bool
         ensures { IsTrue result ↔ (completed_of self.now ≡ completed place res got.now) }
     {

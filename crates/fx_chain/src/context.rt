@@ -7,7 +7,8 @@ use fx_base::{Catalogue, CloseList, Errno};
 use fx_table::SharedTable;
 use std::alloc::Global;
 
-/// The values that stay the same while a request is performed: the table, the catalogue, and the request's place.
+/// The values that stay the same while a request is performed: the table, the catalogue, and the
+/// request's place.
 #[derive(Drop)]
 pub(crate) struct Context<'a, T: SharedTable, R> {
     pub(crate) rt: &'a R,

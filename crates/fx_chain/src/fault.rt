@@ -13,8 +13,8 @@ use fx_table::{CHAIN_NUMBERS, MAX_CHAINS};
 /// [`fx_table::CHAIN_NUMBERS`].
 pub const MOST_MEMBERS: u32 = 16;
 
-/// The reason why a submission is refused. The faults of one request are checked in the order of the variants (this
-/// project's own).
+/// The reason why a submission is refused. The faults of one request are checked in the order of
+/// the variants (this project's own).
 #[derive(Clone, Copy, Debug, PartialEq, Eq)]
 pub enum CutKind {
     /// A read has no FIXED_FILE, or another kind of request has it.
@@ -40,7 +40,8 @@ pub struct CutFault {
     pub kind: CutKind,
 }
 
-// The number of chains that have begun, and the members and installations of the chain that the next request continues.
+// The number of chains that have begun, and the members and installations of the chain that the
+// next request continues.
 #[derive(Clone, Copy, Debug)]
 struct Count {
     chains: u32,
@@ -48,13 +49,13 @@ struct Count {
     installs: u32,
 }
 
-/// Checks a submission against the limits, and returns the number of its chains, from 0 to 1,023. A request with
-/// IO_LINK or IO_HARDLINK is in one chain with the next request (io_uring_enter(2), "IOSQE_IO_LINK",
-/// "IOSQE_IO_HARDLINK").
+/// Checks a submission against the limits, and returns the number of its chains, from 0 to 1,023. A
+/// request with IO_LINK or IO_HARDLINK is in one chain with the next request (io_uring_enter(2),
+/// "IOSQE_IO_LINK", "IOSQE_IO_HARDLINK").
 ///
 /// # Errors
-/// Returns the first request with a fault, and its first fault in the order of [`CutKind`]. The number of that request
-/// is at most 16,369, however long the submission is.
+/// Returns the first request with a fault, and its first fault in the order of [`CutKind`]. The
+/// number of that request is at most 16,369, however long the submission is.
 pub fn check(requests: &[Request]) -> Result<u32, CutFault>
     ensures fault { IfSome (fault_of (all_asked requests.now)) (λ fault. result ≡ Err fault) }
     ensures chains { IfNone (fault_of (all_asked requests.now))

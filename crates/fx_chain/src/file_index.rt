@@ -7,9 +7,9 @@ use crate::request::Target;
 /// The file index that asks for any free slot (io_uring_prep_openat(3), "IORING_FILE_INDEX_ALLOC").
 const ANY_FREE: u32 = 4_294_967_295;
 
-/// Returns the target of an open with this file index (io_uring_prep_openat(3), "file_index"): `None` for 0, which asks
-/// for a descriptor of the process and no slot, any free slot for 4,294,967,295, and for every other number the slot
-/// numbered one less.
+/// Returns the target of an open with this file index (io_uring_prep_openat(3), "file_index"):
+/// `None` for 0, which asks for a descriptor of the process and no slot, any free slot for
+/// 4,294,967,295, and for every other number the slot numbered one less.
 pub fn target(file_index: u32) -> Option<Target>
     ensures { result ≡ target_of file_index }
 {

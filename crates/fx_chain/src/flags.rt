@@ -3,10 +3,10 @@ ghost use Rattle.std.specs.Prelude.{⊤, [], ◌∷◌, codes};
 
 use bitflags::{Flag, Flags, bitflag_items};
 
-/// The flags of a request that this project knows (io_uring_enter(2), "flags"). `FIXED_FILE`: the request names its
-/// file by a slot. `IO_LINK`: the next request starts only after this one has completed, and not if this one failed.
-/// `IO_HARDLINK`, also together with `IO_LINK`: the next request starts only after this one has completed, whatever its
-/// result.
+/// The flags of a request that this project knows (io_uring_enter(2), "flags"). `FIXED_FILE`: the
+/// request names its file by a slot. `IO_LINK`: the next request starts only after this one has
+/// completed, and not if this one failed. `IO_HARDLINK`, also together with `IO_LINK`: the next
+/// request starts only after this one has completed, whatever its result.
 #[derive(Clone, Copy, PartialEq, Eq, Debug)]
 pub struct SqeFlags(u8);
 

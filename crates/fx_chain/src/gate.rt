@@ -1,8 +1,9 @@
 //! The calls that a test can stop a player at.
 use crate::completion::Place;
 
-/// The calls that a player makes before each request that it starts and after that request's completion, so that a test
-/// can stop threads at chosen points. A player makes no call for a request that is canceled.
+/// The calls that a player makes before each request that it starts and after that request's
+/// completion, so that a test can stop threads at chosen points. A player makes no call for a
+/// request that is canceled.
 pub trait Gate: Sync {
     /// Runs before the request at this place starts.
     fn before(&self, place: Place);

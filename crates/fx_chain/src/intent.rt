@@ -1,6 +1,7 @@
-//! The accesses that each kind of request intends at the table, each before it is known what it finds: how many, in what
-//! order, at which slots. [`crate::answer_of`] returns the answer by what they found. With the refusals, the player and
-//! the limits, no other code has to distinguish the kinds of requests.
+//! The accesses that each kind of request intends at the table, each before it is known what it
+//! finds: how many, in what order, at which slots. [`crate::answer_of`] returns the answer by what
+//! they found. With the refusals, the player and the limits, no other code has to distinguish the
+//! kinds of requests.
 ghost use Rattle.std.specs.Prelude.{◌≡◌, ◌+◌, ◌<◌, ◌≤◌, ◌^◌, ◌↔◌, ℕ, IfNone, IfOk, IfSome, IsTrue, List, Option, false};
 ghost use Rattle.std.specs.Prelude.{filter, int_le, is_some, length, negsuc, slice_get, true};
 ghost use Rattle.std.specs.List.{list_any};
@@ -72,8 +73,8 @@ fn positions_in(alloc: Global, list: &[i32]) -> Result<Vec<Option<usize>>, NoMem
 }
 
 impl Request {
-    /// Returns the number of accesses that the request makes if it isn't refused or canceled and no allocation fails: 1,
-    /// or for an update the number of its entries that aren't -2.
+    /// Returns the number of accesses that the request makes if it isn't refused or canceled and no
+    /// allocation fails: 1, or for an update the number of its entries that aren't -2.
     pub fn accesses(&self) -> usize
         ensures { result ≡ length (positions_of (operation_of self.now.op)) }
     {
@@ -83,8 +84,8 @@ impl Request {
         }
     }
 
-    /// Returns for each of these accesses, in order, its position in the list of an update, from 0, or `None` for
-    /// another request.
+    /// Returns for each of these accesses, in order, its position in the list of an update, from 0,
+    /// or `None` for another request.
     ///
     /// # Errors
     /// `NoMemory` if an allocation fails.
@@ -102,7 +103,8 @@ impl Request {
         }
     }
 
-    /// Checks whether the request may install a file at a position in its list, from 0; an open has position 0 alone.
+    /// Checks whether the request may install a file at a position in its list, from 0; an open has
+    /// position 0 alone.
     pub fn installs_at(&self, entry: u32) -> bool
         ensures { IsTrue result ↔ InstallsAt (operation_of self.now.op) entry }
     {
@@ -116,8 +118,8 @@ impl Request {
         }
     }
 
-    /// Returns the first slot that the request may reach, and the one after the last. `range` is the allocation range:
-    /// its first slot and its number of slots.
+    /// Returns the first slot that the request may reach, and the one after the last. `range` is
+    /// the allocation range: its first slot and its number of slots.
     pub fn slots(&self, range: (u32, u32)) -> (usize, usize)
         ensures { (slot : ℕ) → MayReach range (operation_of self.now.op) slot
             → (result.0 ≤ slot) × (slot < result.1) }
@@ -144,7 +146,8 @@ impl Request {
         }
     }
 
-    /// Returns the catalogue entry that the request opens, 0 unless it is an open, or `None` if no entry has the name.
+    /// Returns the catalogue entry that the request opens, 0 unless it is an open, or `None` if no
+    /// entry has the name.
     pub fn opened(&self, catalogue: &Catalogue) -> Option<u8>
         ensures some { IfSome result (IsOpened catalogue.now (operation_of self.now.op)) }
         ensures none { IfNone result ((size : ℕ)
@@ -168,7 +171,8 @@ impl Request {
         }
     }
 
-    /// Returns the bytes that the request reads of a file of a catalogue entry, none unless it is a read.
+    /// Returns the bytes that the request reads of a file of a catalogue entry, none unless it is a
+    /// read.
     ///
     /// # Errors
     /// `NoMemory` if an allocation fails.
@@ -189,8 +193,8 @@ impl Request {
         Ok(got)
     }
 
-    /// Returns the result of the request, unless it is refused or canceled, if it doesn't depend on what its accesses
-    /// find: 0 for an open at a slot, the length of the list for an update.
+    /// Returns the result of the request, unless it is refused or canceled, if it doesn't depend on
+    /// what its accesses find: 0 for an open at a slot, the length of the list for an update.
     pub fn fixed_result(&self) -> Option<i32>
         ensures { IfSome result (λ res. (catalogue : List FileEntry) (place : In) (found : Option What)
             → (answer_at_table catalogue place (operation_of self.now.op) found).res ≡ res) }
@@ -219,8 +223,8 @@ impl Request {
         )
     }
 
-    /// Returns the number of bytes that the request asks for, 0 unless it is a read. Only a request that asks for bytes
-    /// may fail with ENOMEM.
+    /// Returns the number of bytes that the request asks for, 0 unless it is a read. Only a request
+    /// that asks for bytes may fail with ENOMEM.
     pub fn bytes_asked(&self) -> u32
         ensures { result ≡ bytes_asked (operation_of self.now.op) }
     {
@@ -235,8 +239,8 @@ impl Request {
     }
 }
 
-/// Returns the number of accesses that a request makes at a table of `size` slots if no allocation fails: 0 if it is
-/// refused ([`refusal_of`]), otherwise [`Request::accesses`].
+/// Returns the number of accesses that a request makes at a table of `size` slots if no allocation
+/// fails: 0 if it is refused ([`refusal_of`]), otherwise [`Request::accesses`].
 pub fn count_of(catalogue: &Catalogue, size: u32, request: &Request) -> usize
     ensures { result ≡ count_of catalogue.now size (operation_of request.now.op) }
 {
@@ -256,8 +260,8 @@ fn open_intent(target: Target, file: Closed) -> Intent
     }
 }
 
-// Returns what the entries of an update intend after `made` accesses, or `None` if they intend no other. `at` is the first
-// entry's position in the whole list, and its slot.
+// Returns what the entries of an update intend after `made` accesses, or `None` if they intend no
+// other. `at` is the first entry's position in the whole list, and its slot.
 fn list_intent(
     place: Place,
     entries: u32,
@@ -288,8 +292,9 @@ fn list_intent(
     Some(Intent::Clear(slot))
 }
 
-/// Returns the access that a request intends at a table of `size` slots after `made` others, or `None` if it intends no
-/// other. An open opens this catalogue entry. A refused request ([`refusal_of`]) intends no access.
+/// Returns the access that a request intends at a table of `size` slots after `made` others, or
+/// `None` if it intends no other. An open opens this catalogue entry. A refused request
+/// ([`refusal_of`]) intends no access.
 pub fn intent_by(
     catalogue: &Catalogue,
     size: u32,

@@ -11,8 +11,8 @@ use crate::fault::MOST_MEMBERS;
 use crate::request::{LONGEST_READ, LONGEST_UPDATE};
 use fx_table::{CHAIN_NUMBERS, MAX_CHAINS};
 
-/// States the limits of a submission as numbers: the chains of a submission, the members of a chain and the files that
-/// it installs, the bytes of a read, and the entries of an update.
+/// States the limits of a submission as numbers: the chains of a submission, the members of a chain
+/// and the files that it installs, the bytes of a read, and the entries of an update.
 pub fn limits_are_numbers()
     ensures chains { MAX_CHAINS ≡ 1023 }
     ensures members { MOST_MEMBERS ≡ 16 }
@@ -26,15 +26,15 @@ pub fn runs_are_the_only_ones()
     ensures { (requests : List Asked) → AreTheOnlyRuns requests (runs_of requests) }
 {}
 
-/// States that the requests that a fault depends on, the linking ones at the end of those before the request, are the
-/// earlier members of the request's own run.
+/// States that the requests that a fault depends on, the linking ones at the end of those before
+/// the request, are the earlier members of the request's own run.
 pub fn each_request_stands_in_its_run()
     ensures { (front : List Asked) (request : Asked) (behind : List Asked)
         → StandsIn front request (runs_of (front ++ request ∷ behind)) }
 {}
 
-/// States that the fault of a submission is that of its first request with a fault, and that no request has one if the
-/// submission has none.
+/// States that the fault of a submission is that of its first request with a fault, and that no
+/// request has one if the submission has none.
 pub fn fault_is_the_first()
     ensures { (requests : List Asked)
         → MatchOption (fault_of requests) (HasNoFault requests) (IsFirstFault requests) }
@@ -50,8 +50,8 @@ pub fn chains_give_numbers_as_asked()
     ensures { GivesNumbersAsAsked }
 {}
 
-/// States that in a table that doesn't last a chain frees no file by a look-up: its actions are those that explain its
-/// completions, and the room that it needs is its weight.
+/// States that in a table that doesn't last a chain frees no file by a look-up: its actions are
+/// those that explain its completions, and the room that it needs is its weight.
 pub fn only_lasting_tables_free()
     ensures { OnlyLastingTablesFree }
 {}

@@ -67,15 +67,18 @@ fn answer<T: SharedTable, R: Wait>(
     }
 }
 
-/// Performs a request at its place, and returns its completion. The pass looks its file up, installs it or removes it,
-/// and each file that it closes is appended to the list of closes. Afterwards the pass is idle again.
+/// Performs a request at its place, and returns its completion. The pass looks its file up,
+/// installs it or removes it, and each file that it closes is appended to the list of closes.
+/// Afterwards the pass is idle again.
 ///
-/// Requires that the pass is idle (`is_idle`), has a look-up left (`looks_left`) and as many numbers as the request has
-/// [`Request::installs`] (`numbers_left`), and that the list has room for its [`Request::weight`] (`room`). In a table
-/// that lasts, a look-up may free a file that others removed: then the list needs room for its [`Request::looks`] too,
-/// and that file's close comes before the look-up.
+/// Requires that the pass is idle (`is_idle`), has a look-up left (`looks_left`) and as many
+/// numbers as the request has [`Request::installs`] (`numbers_left`), and that the list has room
+/// for its [`Request::weight`] (`room`). In a table that lasts, a look-up may free a file that
+/// others removed: then the list needs room for its [`Request::looks`] too, and that file's close
+/// comes before the look-up.
 ///
-/// It allocates only the buffer of a read. If that allocation fails, the read completes with ENOMEM.
+/// It allocates only the buffer of a read. If that allocation fails, the read completes with
+/// ENOMEM.
 pub fn perform<T: SharedTable>(
     rt: &impl Wait,
     alloc: Global,
@@ -132,7 +135,8 @@ fn next_answer<T: SharedTable, R: Wait, G: Gate>(
     completion
 }
 
-// Returns the number of members of a chain. The pass has a look-up for each, and counts its look-ups in a u32.
+// Returns the number of members of a chain. The pass has a look-up for each, and counts its
+// look-ups in a u32.
 fn members<T: SharedTable>(table: &T, pass: &T::Pass, requests: &[Request]) -> u32
     requires fits { T.fits table.now pass.now }
     requires looks { length requests.now ≤ (T.view pass.now).looks_left }
@@ -141,15 +145,16 @@ fn members<T: SharedTable>(table: &T, pass: &T::Pass, requests: &[Request]) -> u
     requests.len().min(table.looks_left(pass) as usize) as u32
 }
 
-/// Plays the members of a chain, one after another, and appends a completion for each, at its place, to `out`. After a
-/// member that severs the chain ([`Request::severs`]) the later ones never start and complete with ECANCELED
-/// (io_uring_enter(2), "IOSQE_IO_LINK", "IOSQE_IO_HARDLINK"). A chain without members makes no step. The gate's
-/// `before` is called before each member that starts, and its `after` after that member's completion.
+/// Plays the members of a chain, one after another, and appends a completion for each, at its
+/// place, to `out`. After a member that severs the chain ([`Request::severs`]) the later ones never
+/// start and complete with ECANCELED (io_uring_enter(2), "IOSQE_IO_LINK", "IOSQE_IO_HARDLINK"). A
+/// chain without members makes no step. The gate's `before` is called before each member that
+/// starts, and its `after` after that member's completion.
 ///
-/// Requires that the pass is idle (`is_idle`), has a look-up for each member (`looks_left`) and a number for each file
-/// that they install ([`Request::installs`], `numbers_left`), that the list has room for all files that they may close
-/// ([`Request::weight`], and in a table that lasts [`Request::looks`], `room`), and that `out` has reserved room for a
-/// completion of each.
+/// Requires that the pass is idle (`is_idle`), has a look-up for each member (`looks_left`) and a
+/// number for each file that they install ([`Request::installs`], `numbers_left`), that the list
+/// has room for all files that they may close ([`Request::weight`], and in a table that lasts
+/// [`Request::looks`], `room`), and that `out` has reserved room for a completion of each.
 ///
 /// It allocates only the buffers of reads.
 pub fn run_chain<T: SharedTable, G: Gate>(

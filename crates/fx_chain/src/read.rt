@@ -16,7 +16,8 @@ use fx_base::Errno;
 use fx_table::{Hold, LookUp, SharedTable};
 use std::sync::Wait;
 
-// Looks a slot up, and closes the file that the look-up freed, if any. Returns the hold of the file that it found.
+// Looks a slot up, and closes the file that the look-up freed, if any. Returns the hold of the file
+// that it found.
 fn look<T: SharedTable, R: Wait>(
     context: &Context<'_, T, R>,
     player: &mut Player<'_, T::Pass>,
@@ -37,8 +38,8 @@ fn look<T: SharedTable, R: Wait>(
     found.ok()
 }
 
-// Reads a part of the file at a slot. The buffer is allocated before the look-up, so that no file is held during the
-// allocation.
+// Reads a part of the file at a slot. The buffer is allocated before the look-up, so that no file
+// is held during the allocation.
 pub(crate) fn read<T: SharedTable, R: Wait>(
     context: &Context<'_, T, R>,
     player: &mut Player<'_, T::Pass>,

@@ -17,8 +17,8 @@ fn is_bad_entry(entries: u32, entry: i32) -> bool
     entry as u32 >= entries
 }
 
-/// Checks whether the list of an update has an entry that is below -2, or past a catalogue of `entries` entries
-/// (io_uring_register(2), "IORING_REGISTER_FILES_UPDATE").
+/// Checks whether the list of an update has an entry that is below -2, or past a catalogue of
+/// `entries` entries (io_uring_register(2), "IORING_REGISTER_FILES_UPDATE").
 pub fn has_bad_entry(entries: u32, list: &[i32]) -> bool
     ensures { result ≡ list_any (is_bad_entry entries) list.now }
 {
@@ -64,12 +64,13 @@ fn list_refusal(entries: u32, size: u32, off: u32, list: &[i32]) -> Option<Errno
     None
 }
 
-/// Returns the error of a request that a table of `size` slots refuses whatever is at its slots, or `None` if it doesn't
-/// (a read may still fail with ENOMEM). The first error that applies counts (io_uring_prep_openat(3), io_uring_enter(2),
-/// io_uring_prep_close(3), io_uring_register_files(3)): ENOENT for an open of a name that no entry has; ENFILE for an
-/// open at any slot, and ENXIO for another open, a close or an update, if there are no slots; EINVAL for a slot past the
-/// end of the table, or an update whose list is empty or passes the end; EBADF for a read past the end, or an update with
-/// a bad entry ([`has_bad_entry`]).
+/// Returns the error of a request that a table of `size` slots refuses whatever is at its slots, or
+/// `None` if it doesn't (a read may still fail with ENOMEM). The first error that applies counts
+/// (io_uring_prep_openat(3), io_uring_enter(2), io_uring_prep_close(3),
+/// io_uring_register_files(3)): ENOENT for an open of a name that no entry has; ENFILE for an open
+/// at any slot, and ENXIO for another open, a close or an update, if there are no slots; EINVAL for
+/// a slot past the end of the table, or an update whose list is empty or passes the end; EBADF for
+/// a read past the end, or an update with a bad entry ([`has_bad_entry`]).
 pub fn refusal_of(catalogue: &Catalogue, size: u32, request: &Request) -> Option<Errno>
     ensures refusal { result ≡ refusal_of catalogue.now size (operation_of request.now.op) }
     ensures entries { length catalogue.now ≤ MOST_ENTRIES }

@@ -14,8 +14,8 @@ use fx_base::OpenFile;
 use fx_table::{Hold, Retired, SharedTable};
 use std::sync::Wait;
 
-// Retires the file that the pass removed, if there was one, and closes it if it has no holds now. Otherwise its last
-// release does.
+// Retires the file that the pass removed, if there was one, and closes it if it has no holds now.
+// Otherwise its last release does.
 fn retire<T: SharedTable, R: Wait>(
     context: &Context<'_, T, R>,
     player: &mut Player<'_, T::Pass>,
@@ -36,7 +36,8 @@ fn retire<T: SharedTable, R: Wait>(
     }
 }
 
-// Releases the file that the pass holds, and closes it if it was retired and this was its last hold.
+// Releases the file that the pass holds, and closes it if it was retired and this was its last
+// hold.
 pub(crate) fn release<T: SharedTable, R: Wait>(
     context: &Context<'_, T, R>,
     player: &mut Player<'_, T::Pass>,

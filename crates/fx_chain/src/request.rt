@@ -50,8 +50,9 @@ pub enum Op {
         /// The slot, from 0.
         slot: u32,
     },
-    /// Changes the slots from `off` on, each by its number in the list (io_uring_prep_files_update(3)): -1 empties the
-    /// slot, -2 leaves it as it is, and any other number installs the catalogue entry of that number.
+    /// Changes the slots from `off` on, each by its number in the list
+    /// (io_uring_prep_files_update(3)): -1 empties the slot, -2 leaves it as it is, and any other
+    /// number installs the catalogue entry of that number.
     Update {
         /// The slot of the first entry, from 0.
         off: u32,
@@ -70,8 +71,8 @@ pub struct Request {
 }
 
 impl Request {
-    /// Returns the number of files that the request installs: 1 for an open, the number of entries that are 0 or more
-    /// for an update, otherwise 0. Each uses a file number of the table.
+    /// Returns the number of files that the request installs: 1 for an open, the number of entries
+    /// that are 0 or more for an update, otherwise 0. Each uses a file number of the table.
     pub fn installs(&self) -> usize
         ensures { result ≡ installs_of (operation_of self.now.op) }
     {
@@ -82,9 +83,10 @@ impl Request {
         }
     }
 
-    /// Returns the greatest number of files that the request may close: the length of the list for an update, otherwise
-    /// 1. Each uses one place of the room in a list of closes. In a table that lasts, each of its [`Request::looks`] may
-    /// free one more.
+    /// Returns the greatest number of files that the request may close: the length of the list for
+    /// an update, otherwise
+    /// 1. Each uses one place of the room in a list of closes. In a table that lasts, each of its
+    ///    [`Request::looks`] may free one more.
     pub fn weight(&self) -> usize
         ensures { result ≡ weight_of (operation_of self.now.op) }
     {
@@ -94,8 +96,8 @@ impl Request {
         }
     }
 
-    /// Returns the number of slots that the request looks up: 1 for a read, otherwise 0. In a table that lasts, each may
-    /// use one more place of the room in a list of closes.
+    /// Returns the number of slots that the request looks up: 1 for a read, otherwise 0. In a table
+    /// that lasts, each may use one more place of the room in a list of closes.
     #[tactic(auto, using(crate::proofs::ActsInTurn::room_at_most))]
     pub fn looks(&self) -> usize
         ensures value { result ≡ look_ups_of (operation_of self.now.op) }
@@ -112,16 +114,17 @@ impl Request {
         }
     }
 
-    /// Checks whether the next request starts only after this one has completed (io_uring_enter(2), "IOSQE_IO_LINK",
-    /// "IOSQE_IO_HARDLINK").
+    /// Checks whether the next request starts only after this one has completed (io_uring_enter(2),
+    /// "IOSQE_IO_LINK", "IOSQE_IO_HARDLINK").
     pub fn links(&self) -> bool
         ensures { result ≡ is_link self.now.flags }
     {
         self.flags.contains(SqeFlags::IO_LINK) || self.flags.contains(SqeFlags::IO_HARDLINK)
     }
 
-    /// Checks whether the completion severs the request's chain: the request failed, or is a read that returned fewer
-    /// bytes than it asked for, and it has no IO_HARDLINK (io_uring_enter(2), "IOSQE_IO_LINK", "IOSQE_IO_HARDLINK").
+    /// Checks whether the completion severs the request's chain: the request failed, or is a read
+    /// that returned fewer bytes than it asked for, and it has no IO_HARDLINK (io_uring_enter(2),
+    /// "IOSQE_IO_LINK", "IOSQE_IO_HARDLINK").
     pub fn severs(&self, completion: &Completion) -> bool
         ensures { result ≡ severs (asked_of self.now) (completed_of completion.now) }
     {

@@ -17,7 +17,8 @@ use fx_plain::MOST_SLOTS;
 use fx_table::SharedTable;
 use std::sync::Wait;
 
-// Applies one entry: -1 empties its slot, -2 leaves it as it is, and any other number installs that catalogue entry.
+// Applies one entry: -1 empties its slot, -2 leaves it as it is, and any other number installs that
+// catalogue entry.
 fn apply_entry<T: SharedTable, R: Wait>(
     context: &Context<'_, T, R>,
     player: &mut Player<'_, T::Pass>,
@@ -70,8 +71,8 @@ fn apply_list<T: SharedTable, R: Wait>(
     }
 }
 
-// Updates the slots from `off` on by a list (io_uring_register_files(3), `io_uring_register_files_update`). The result is
-// the length of the list.
+// Updates the slots from `off` on by a list (io_uring_register_files(3),
+// `io_uring_register_files_update`). The result is the length of the list.
 pub(crate) fn update<T: SharedTable, R: Wait>(
     context: &Context<'_, T, R>,
     player: &mut Player<'_, T::Pass>,

@@ -9,8 +9,8 @@ use fx_script::{PlayFault, run};
 use std::io;
 use std::process::ExitCode;
 
-// Returns the exit status of a run that ended early: 3 if the input isn't a script, 4 for a failed read or write, 5 if
-// an allocation failed.
+// Returns the exit status of a run that ended early: 3 if the input isn't a script, 4 for a failed
+// read or write, 5 if an allocation failed.
 fn status_of(fault: PlayFault) -> u8 {
     match fault {
         PlayFault::Script { .. } => 3,

@@ -155,7 +155,8 @@ no_name word is = grind arith
 -- The conditions of a removal, and the events that it adds.
 module _ (act : ℕ → Option File → Action) (t : CountedTable) {p : CountedPass} (fits : IsPassOfTable t p) {slot i : ℕ}
     (place : i ≡ slot_place slot) where
-  -- an idle pass may swap 0 into the slot's word, after the beginning of a change if the slot is in the range
+  -- an idle pass may swap 0 into the slot's word, after the beginning of a change if the slot is in
+  -- the range
   pub removal_requires : {slots : ℕ} {seat : Seat (Option Closed) View} (began : Bool) → IsRemoval act → IsIdle (view_of p)
       → slot < size_of (opening_of_table t) → seat.table_id ≡ p.seat.table_id → InRange t.table.shared.key slot began
       → Goes p.seat.me [] no_use p.seat.me.0.work (begun began) 1 seat.me

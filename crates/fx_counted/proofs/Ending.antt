@@ -1,5 +1,5 @@
--- The end, when one seat has all passes, and all are idle: the state is settled, and the events of all passes are one
--- history.
+-- The end, when one seat has all passes, and all are idle: the state is settled, and the events of
+-- all passes are one history.
 use Rattle.fx_counted.proofs.Words.{sum_zero_at, numbers_for, ◌≡◌, ℕ, ◌<◌, ◌≤◌, map, length, sym, ap, ◌∙◌, arith, ◌⊎◌, ⊎_elim, Option, Some, None}
 use Rattle.fx_counted.proofs.Words.{sum_by, some, get_elem?, Closed, State, IsSettled, numbered, File, start_of, Does, OwnerAgrees, lengths, Agrees}
 use Rattle.fx_counted.proofs.Words.{place_of, Shared, opening_of, slots_of, IsNumber, state_after_all, held_of, told_of, once, holding, Phase, placed}

@@ -31,8 +31,8 @@ pub looks_few : (h : List Event) (n : ℕ) → looks h n ≤ all_looks h
 looks_few [] n = omega arith
 looks_few (e ∷ h) n = looks_step (looks_few h) e.action n
 
--- The frame of a step of one seat: other seats, slots, numbers, the control word and the draw word stay.
--- the number that a pass alone works with, plus 1, or 0
+-- The frame of a step of one seat: other seats, slots, numbers, the control word and the draw word
+-- stay. the number that a pass alone works with, plus 1, or 0
 abbrev pub busy : Work → ℕ
 busy (Between (Retiring f takes)) = f.number + 1
 busy (Placing number) = number + 1

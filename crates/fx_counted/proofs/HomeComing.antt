@@ -1,4 +1,5 @@
--- The files at the settled end of a table whose passes are all idle: they are in the places of their numbers.
+-- The files at the settled end of a table whose passes are all idle: they are in the places of
+-- their numbers.
 use Rattle.fx_counted.proofs.Words.{◌≡◌, ℕ, ◌+◌, ◌-◌, ◌<◌, suc, sym, refl, ap, ◌∙◌, arith, inl, inr, Option, Some, None, dite, dec_le, List, subst}
 use Rattle.fx_counted.proofs.Words.{Closed, State, Contents, state_of, AreBack, slice_index, some, get_elem?, node_in, slot_place, home_place}
 use Rattle.fx_counted.proofs.Words.{homes_for, stands_at, some-injective, number_of, File, Agrees, HasNode, slots_of, chain_numbers, IsNumber}
@@ -14,7 +15,8 @@ use Rattle.fx_counted.proofs.Places.{apart, low_home, high_home}
 abbrev pub place_at : ℕ → List ℕ → ℕ → Option ℕ
 place_at size words slot = option_map (home_place size) (node_in (slice_index words (slot_place slot)))
 
--- the contents of the places at the settled end, and their way back: the end of a table whose passes are all idle
+-- the contents of the places at the settled end, and their way back: the end of a table whose
+-- passes are all idle
 module _ (t : CountedTable) {id : ℕ} {v : View} {words : List ℕ} (xs : List (Option Closed))
     (final : Final (Seen (Agrees t.table.shared.key) id v) words xs) (idle : AllAreIdle t.table.shared.key id v) where
   abbrev k : Start

@@ -65,7 +65,8 @@ pub record Turn : Type 0 where
 abbrev pub turn_of : (m : Sat) (x : Log) → m.0.logs ≡ x ∷ [] → (id : ℕ) (st : Shared) → Agrees m.0.start st → get_elem? st.views id ≡ some m.0 → Turn
 turn_of m x one id st r here = record { st = st; v = m.0; r = r; id = id; x = x; here = here; one = one }
 
--- the conclusion of a law: the word at the place becomes `f` of its old value, and the seat sees that value
+-- the conclusion of a law: the word at the place becomes `f` of its old value, and the seat sees
+-- that value
 abbrev pub Made : Turn → List (ℕ × Option Closed) → ℕ → (ℕ → ℕ) → (ℕ → Sat → Type 0) → Type 0
 Made turn carried i f told = (w : View) × (a : Act (Option Closed)) × Valid turn.st.homes carried a
     × Agrees turn.v.start (stepped turn.st i (f (word_at turn.st.words i)) turn.id carried w a)
@@ -181,8 +182,8 @@ module _ (turn : Turn) where
   tells_one {a} legal carried homes {d} c = tells carried homes (event_of (shown x v.work) a ∷ r.history) x.numbers_left x.looks_left d c
       ([] ▷ a) no_use (grows_one x.number r.history _ refl) legal (part_mine r.history refl) (omega arith) (omega arith)
 
--- A step on the word and the place of one number, at which no slot changes, and one on the word of one slot.
--- the effect of a step on the number `q` on histories
+-- A step on the word and the place of one number, at which no slot changes, and one on the word of
+-- one slot. the effect of a step on the number `q` on histories
 pub record OneNumber (v : View) (q : ℕ) (h h' : List Event) : Type 0 where
   pub at : (state_after_all v.start h').at ≡ (state_after_all v.start h).at
   pub size : (state_after_all v.start h').size ≡ (state_after_all v.start h).size
@@ -249,7 +250,8 @@ module _ (turn : Turn) where
       pub holds : (n : ℕ) → (state_after_all v.start h').holds n + held_of n v ≡ (state_after_all v.start r.history).holds n + held_of n w
 
     module _ (s : NodeStep) where
-      -- the phases that others rely on stay: those of numbers that are neither the pass's nor retired
+      -- the phases that others rely on stay: those of numbers that are neither the pass's nor
+      -- retired
       stays_if : {n : ℕ} {z : Phase} → r.phase n ≡ z → (owner z ≡ id + 1 → ph ≡ z) → (z ≡ spare x.number → ph ≡ z)
           → ((f : Closed) → z ≡ retired f → ph ≡ z) → phase' n ≡ z
       stays_if {n} {z} is owned spared gone = each_changed (λ m p. p ≡ z) r.phase

@@ -1,5 +1,5 @@
--- Places are inside, and apart; and, at the end, places as they were worked out by hand, for tables of 2 slots and of 256, with
--- as many numbers as one chain has and as all chains have.
+-- Places are inside, and apart; and, at the end, places as they were worked out by hand, for tables
+-- of 2 slots and of 256, with as many numbers as one chain has and as all chains have.
 use Rattle.fx_counted.proofs.Words.{◌≡◌, ℕ, ◌+◌, ◌-◌, ◌*◌, ◌<◌, ◌≤◌, Bool, cond, ap, arith, lt-ltb, le-ltb, node_place, mul-le-mul_right, home_place}
 use Rattle.fx_counted.proofs.Words.{HasNode, PlacesAreInside, PlacesAreApart, ◌⊎◌, refl, slot_place, words_for, homes_for, control_place, draw_place}
 

@@ -1,4 +1,5 @@
--- Seats that are split off and joined, passes as they are dealt out, and all of them in one seat again.
+-- Seats that are split off and joined, passes as they are dealt out, and all of them in one seat
+-- again.
 use Rattle.fx_counted.proofs.Words.{◌≡◌, ℕ, List, length, sym, refl, ap, ◌∙◌, subst, arith, ⊎_elim, length-append, sum_by, sum_by-append, eqb}
 use Rattle.fx_counted.proofs.Words.{WorkAgrees, LogAgrees, Agrees, in_change, added, removed_by, Shared, holding, Outside, Log, Start, View, Work}
 use Rattle.fx_counted.proofs.Words.{Idle, Change, SplitsKeep, JoinsKeep, Between, together, spent, one_if, times, ◌*◌, ◌+◌, ◌≤◌, [], ◌∷◌, Option}
@@ -84,8 +85,8 @@ joins_keep k id v begun idle out other w w_idle w_out s r at apart there = resea
     other w (together v w) spent apart there (w_idle, w_out) (idle, out) refl begun (refl, refl) refl)
     (of_replaced (IsKnown r.history) (set s.views id (together v w)) (of_replaced (IsKnown r.history) s.views r.known id (together v w) (r.known id v at)) other spent (seen_from_start r.history))
 
--- Passes as they are dealt out, and all of them in one seat again: what the one history says of each.
--- The passes that are dealt out.
+-- Passes as they are dealt out, and all of them in one seat again: what the one history says of
+-- each. The passes that are dealt out.
 pub rest_is_dealt : {k : Start} {p : ℕ} → p ≤ k.passes → without_first (dealt k p) ≡ dealt k (p + 1)
 rest_is_dealt {k} {p} l = ap (λ (z : List Log). record (dealt k p) { logs = drop 1 z }) (first_left new_log p k.passes l)
 

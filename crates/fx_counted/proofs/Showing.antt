@@ -1,4 +1,5 @@
--- A pass shows what it has seen, and another pass learns it: the rule holds afterwards. Neither is an atomic step.
+-- A pass shows what it has seen, and another pass learns it: the rule holds afterwards. Neither is
+-- an atomic step.
 use Rattle.fx_counted.proofs.Words.{◌≡◌, ℕ, ◌+◌, ◌≤◌, List, [], ◌∷◌, length, sym, refl, ap, ◌∙◌, subst, arith, ⊎_elim, sum_by, sum_by-append, eqb, one_if, times}
 use Rattle.fx_counted.proofs.Words.{WorkAgrees, LogAgrees, Agrees, Shared, Log, Start, View, Between, Idle, Seat, Closed, Sat, TableId, CountedPass, IsPassOf, PassView}
 use Rattle.fx_counted.proofs.Words.{contains_none, contains_head, contains_only, Contains, Event, first_log, pass_of, view_of, opening_of, set_again, some, get_elem?, Option}

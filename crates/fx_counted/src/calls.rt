@@ -1,4 +1,5 @@
-//! The calls of a pass that never wait, allocate or retry: each makes at most as many atomic steps as its clause says.
+//! The calls of a pass that never wait, allocate or retry: each makes at most as many atomic steps
+//! as its clause says.
 ghost use Rattle.std.specs.Prelude.{◌≡◌, ◌+◌, ◌<◌, ◌≤◌, true, Option, option_map};
 ghost use Rattle.fx_plain.specs.declared.event.File.{File};
 ghost use Rattle.fx_table.specs.Settling.{DrawsNext};
@@ -18,9 +19,9 @@ use fx_table::{Empty, FIRST_CHAIN_NUMBER, Hold, LookFault, Retired};
 use fx_words::{entry_of, node_of, retire_amount, slot_word, takes_of};
 
 impl CountedTable {
-    /// Draws the next chain for an idle pass (`is_idle`), in at most one atomic step. No two passes get the same chain,
-    /// and the chains of a pass rise. Returns `None` if all chains are drawn; from then on each draw of the pass
-    /// returns `None`, without a step.
+    /// Draws the next chain for an idle pass (`is_idle`), in at most one atomic step. No two passes
+    /// get the same chain, and the chains of a pass rise. Returns `None` if all chains are drawn;
+    /// from then on each draw of the pass returns `None`, without a step.
     pub fn draw(&self, pass: &mut CountedPass) -> Option<u32>
         requires fits { IsPassOfTable self.now pass.old }
         requires idle { IsIdle (view_of pass.old) }
@@ -47,12 +48,14 @@ impl CountedTable {
         Some(chain)
     }
 
-    /// Looks up a slot below `size`, for an idle pass (`is_idle`), in at most one atomic step. The file there has one
-    /// more hold until the pass releases it (io_uring_enter(2), "IOSQE_FIXED_FILE").
+    /// Looks up a slot below `size`, for an idle pass (`is_idle`), in at most one atomic step. The
+    /// file there has one more hold until the pass releases it (io_uring_enter(2),
+    /// "IOSQE_FIXED_FILE").
     ///
     /// # Errors
-    /// `Spent` if the pass has no look-ups left (`looks_left`); then nothing changes. `Empty` if the slot has no file.
-    /// Each look-up uses one of the pass's look-ups unless it returns `Spent`.
+    /// `Spent` if the pass has no look-ups left (`looks_left`); then nothing changes. `Empty` if
+    /// the slot has no file. Each look-up uses one of the pass's look-ups unless it returns
+    /// `Spent`.
     pub fn look(&self, pass: &mut CountedPass, slot: u32) -> Result<Hold, LookFault>
         requires fits { IsPassOfTable self.now pass.old }
         requires idle { IsIdle (view_of pass.old) }
@@ -82,8 +85,9 @@ impl CountedTable {
         }
     }
 
-    /// Releases the file that the pass looked up, by the `Hold` that it got, in at most two atomic steps. Returns the
-    /// file, to be closed, if it was retired and this was its last hold. Afterwards the pass is idle.
+    /// Releases the file that the pass looked up, by the `Hold` that it got, in at most two atomic
+    /// steps. Returns the file, to be closed, if it was retired and this was its last hold.
+    /// Afterwards the pass is idle.
     pub fn release(&self, pass: &mut CountedPass, hold: Hold) -> Option<OpenFile>
         requires fits { IsPassOfTable self.now pass.old }
         requires held { IsHoldOf (view_of pass.old) hold }
@@ -105,8 +109,9 @@ impl CountedTable {
         Some(self.take_out(&mut pass.seat, node))
     }
 
-    /// Retires the file that the pass removed, by the `Retired` that it got, in at most two atomic steps. Returns the
-    /// file, to be closed, if it has no holds now; otherwise its last release returns it. Afterwards the pass is idle.
+    /// Retires the file that the pass removed, by the `Retired` that it got, in at most two atomic
+    /// steps. Returns the file, to be closed, if it has no holds now; otherwise its last release
+    /// returns it. Afterwards the pass is idle.
     pub fn retire(&self, pass: &mut CountedPass, retired: Retired) -> Option<OpenFile>
         requires fits { IsPassOfTable self.now pass.old }
         requires removed { IsRetiredOf (view_of pass.old) retired }
@@ -133,9 +138,9 @@ impl CountedTable {
         Some(self.take_out(&mut pass.seat, node))
     }
 
-    /// Installs a file at a slot below `size`, under the next number of an idle pass (`is_idle`) that has one left
-    /// (`numbers_left`), in at most four atomic steps. Returns the file that it replaced, to be retired, or `None`
-    /// (io_uring_prep_openat(3), `io_uring_prep_openat_direct`).
+    /// Installs a file at a slot below `size`, under the next number of an idle pass (`is_idle`)
+    /// that has one left (`numbers_left`), in at most four atomic steps. Returns the file that it
+    /// replaced, to be retired, or `None` (io_uring_prep_openat(3), `io_uring_prep_openat_direct`).
     pub fn put(&self, pass: &mut CountedPass, slot: u32, file: OpenFile) -> Option<Retired>
         requires fits { IsPassOfTable self.now pass.old }
         requires idle { IsIdle (view_of pass.old) }
@@ -165,9 +170,9 @@ impl CountedTable {
         replaced
     }
 
-    /// Empties a slot below `size` for an update, for an idle pass (`is_idle`), in at most three atomic steps. Returns
-    /// the file that was there, to be retired, or `None` (io_uring_register(2), "IORING_REGISTER_FILES_UPDATE", an
-    /// entry of -1).
+    /// Empties a slot below `size` for an update, for an idle pass (`is_idle`), in at most three
+    /// atomic steps. Returns the file that was there, to be retired, or `None`
+    /// (io_uring_register(2), "IORING_REGISTER_FILES_UPDATE", an entry of -1).
     pub fn clear(&self, pass: &mut CountedPass, slot: u32) -> Option<Retired>
         requires fits { IsPassOfTable self.now pass.old }
         requires idle { IsIdle (view_of pass.old) }
@@ -192,8 +197,9 @@ impl CountedTable {
         removed
     }
 
-    /// Empties a slot below `size` for a close, for an idle pass (`is_idle`), in at most three atomic steps. Returns
-    /// the file that was there, to be retired (io_uring_prep_close(3), `io_uring_prep_close_direct`).
+    /// Empties a slot below `size` for a close, for an idle pass (`is_idle`), in at most three
+    /// atomic steps. Returns the file that was there, to be retired (io_uring_prep_close(3),
+    /// `io_uring_prep_close_direct`).
     ///
     /// # Errors
     /// `Empty` if the slot has no file.

@@ -21,8 +21,9 @@ use fx_words::node_of;
 use std::alloc::Global;
 
 impl CountedTable {
-    /// Turns the table back into a table of one thread, after all its passes have come back, idle (`is_idle`): as many
-    /// as `open` returned, in any order. It allocates nothing, so it can't run out of memory.
+    /// Turns the table back into a table of one thread, after all its passes have come back, idle
+    /// (`is_idle`): as many as `open` returned, in any order. It allocates nothing, so it can't run
+    /// out of memory.
     pub fn close(self, mut passes: Vec<CountedPass>) -> PlainTable
         requires all { length passes.items ≡ (opening_of_table self).passes }
         requires ready { All (λ p. IsPassOfTable self p × IsIdle (view_of p)) passes.items }
@@ -35,7 +36,8 @@ impl CountedTable {
         self.finish(seat)
     }
 
-    // Establishes for the only pass of a table, while it is idle, that its events are the whole history.
+    // Establishes for the only pass of a table, while it is idle, that its events are the whole
+    // history.
     pub(crate) fn settle(&self, pass: &mut CountedPass)
         requires alone { (opening_of_table self.now).passes ≡ 1 }
         requires fits { IsPassOfTable self.now pass.old }
@@ -66,7 +68,8 @@ impl CountedTable {
         seat
     }
 
-    // Takes the files out of their places and into the table of one thread, when all passes are in one seat.
+    // Takes the files out of their places and into the table of one thread, when all passes are in
+    // one seat.
     fn finish(self, seat: Seat<Option<OpenFile>, View>) -> PlainTable
         requires fits { seat.table_id ≡ self.table.shared.table_id }
         requires idle { AllAreIdle self.table.shared.key seat.id seat.me.0 }

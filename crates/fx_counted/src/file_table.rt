@@ -1,4 +1,5 @@
-//! The implementations of `SharedTable` and `FileTable` for the lock-free table. Of its calls only `put_any` may wait.
+//! The implementations of `SharedTable` and `FileTable` for the lock-free table. Of its calls only
+//! `put_any` may wait.
 ghost use Rattle.std.specs.Prelude.{◌≡◌, length, map, All};
 ghost use Rattle.fx_table.specs.Closing.{ClosesTable};
 ghost use Rattle.fx_table.specs.Pass.{IsIdle};

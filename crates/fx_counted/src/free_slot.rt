@@ -20,7 +20,8 @@ use std::sync::Wait;
 use std::thread;
 
 impl CountedTable {
-    // Tries to install the file at the slot. Returns whether the slot was empty and now has the file.
+    // Tries to install the file at the slot. Returns whether the slot was empty and now has the
+    // file.
     fn try_slot(
         &self,
         seat: &mut Seat<Option<OpenFile>, View>,
@@ -45,7 +46,8 @@ impl CountedTable {
         shared.compare_exchange::<Exchange>(seat, place, found, word) == found
     }
 
-    // Installs the file at the first slot of the range that is empty when the scan reaches it, and returns that slot.
+    // Installs the file at the first slot of the range that is empty when the scan reaches it, and
+    // returns that slot.
     fn scan(
         &self,
         seat: &mut Seat<Option<OpenFile>, View>,
@@ -69,8 +71,8 @@ impl CountedTable {
         None
     }
 
-    // Makes one round: a scan in a change. The end of the change reports the slot that was found, or checks whether all
-    // slots are full.
+    // Makes one round: a scan in a change. The end of the change reports the slot that was found,
+    // or checks whether all slots are full.
     fn round(&self, seat: &mut Seat<Option<OpenFile>, View>, number: u32, file: Closed) -> Round
         requires table { seat.old.table_id ≡ self.now.table.shared.table_id }
         requires placing { IsPlacing self.now.table.shared.key number file seat.old.me }
@@ -97,10 +99,11 @@ impl CountedTable {
         }
     }
 
-    /// Installs a file at an empty slot of the allocation range, under the next number of an idle pass (`is_idle`) that
-    /// has one left (`numbers_left`), and returns the slot (io_uring_prep_openat(3), "IORING_FILE_INDEX_ALLOC"). It
-    /// scans the range in rounds until it finds an empty slot, or every slot was full at one moment, and yields its
-    /// thread between two rounds.
+    /// Installs a file at an empty slot of the allocation range, under the next number of an idle
+    /// pass (`is_idle`) that has one left (`numbers_left`), and returns the slot
+    /// (io_uring_prep_openat(3), "IORING_FILE_INDEX_ALLOC"). It scans the range in rounds until it
+    /// finds an empty slot, or every slot was full at one moment, and yields its thread between two
+    /// rounds.
     ///
     /// # Errors
     /// Returns the file if every slot of the range has a file (ENFILE). No number is used.

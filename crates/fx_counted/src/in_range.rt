@@ -1,5 +1,5 @@
-//! Changes of slots in the allocation range, which the control word counts: the pass begins a change before it writes
-//! the slot's word, and ends it afterwards.
+//! Changes of slots in the allocation range, which the control word counts: the pass begins a
+//! change before it writes the slot's word, and ends it afterwards.
 ghost use Rattle.std.specs.Prelude.{◌≡◌, []};
 ghost use Rattle.fx_table.specs.Calls.{no_use};
 ghost use Rattle.fx_counted.specs.Changing.{IsAtWork, InRange, begun, HasToTell};

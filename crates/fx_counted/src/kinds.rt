@@ -4,7 +4,8 @@ use atomic_table::{Join, Play, Split, TableRule};
 use fx_base::OpenFile;
 use fx_seen::Learning;
 
-/// The rule of the shared table: words, places and passes agree with the state that one legal history leads to.
+/// The rule of the shared table: words, places and passes agree with the state that one legal
+/// history leads to.
 pub struct OneHistory;
 
 impl TableRule<Option<OpenFile>, View, Start> for OneHistory {
@@ -38,8 +39,8 @@ impl Join<View> for Gather {
     ghost spent = { spent };
 }
 
-/// The birth of a file's number: the pass takes the place of its next number, whose word then says that there was no
-/// release.
+/// The birth of a file's number: the pass takes the place of its next number, whose word then says
+/// that there was no release.
 pub struct Birth;
 
 impl Play<Option<OpenFile>, View> for Birth {
@@ -66,8 +67,8 @@ impl Play<Option<OpenFile>, View> for Install {
     ghost then = { Installs };
 }
 
-/// The retirement: the takes of a removed file turn its node word into the number of holds. If there are none, the pass
-/// gets the file.
+/// The retirement: the takes of a removed file turn its node word into the number of holds. If
+/// there are none, the pass gets the file.
 pub struct Retire;
 
 impl Play<Option<OpenFile>, View> for Retire {
@@ -76,7 +77,8 @@ impl Play<Option<OpenFile>, View> for Retire {
     ghost then = { Retires };
 }
 
-/// The release: one hold less in the node word. If none is left of a retired file, the pass gets the file.
+/// The release: one hold less in the node word. If none is left of a retired file, the pass gets
+/// the file.
 pub struct Release;
 
 impl Play<Option<OpenFile>, View> for Release {
@@ -94,7 +96,8 @@ impl Play<Option<OpenFile>, View> for Rest {
     ghost then = { Rests };
 }
 
-/// The end of a change that installed nothing: the pass reads whether all slots of the range are full.
+/// The end of a change that installed nothing: the pass reads whether all slots of the range are
+/// full.
 pub struct Answer;
 
 impl Play<Option<OpenFile>, View> for Answer {

@@ -1,6 +1,6 @@
-//! The places of a table's words and open files. The words that a pass changes at one call are on a cache line that no
-//! other slot's calls change: a slot's word is next to the node word of the number that the slot has at first, and
-//! nothing else is on that line.
+//! The places of a table's words and open files. The words that a pass changes at one call are on a
+//! cache line that no other slot's calls change: a slot's word is next to the node word of the
+//! number that the slot has at first, and nothing else is on that line.
 ghost use Rattle.std.specs.Prelude.{◌≡◌, ◌<◌, ◌≤◌};
 ghost use Rattle.fx_plain.specs.declared.table.TheConstants.{MOST_SLOTS};
 ghost use Rattle.fx_counted.specs.Layout.{control_place, draw_place, slot_place, node_place, words_for, home_place, homes_for, HasNode};
@@ -16,8 +16,8 @@ pub const CONTROL: usize = 0;
 /// The place of the draw word.
 pub const DRAW: usize = 8;
 
-/// Returns the number of words of a table of `size` slots, at most [`fx_plain::MOST_SLOTS`], whose chains have
-/// `numbers` numbers together, at most [`MOST_NUMBERS`].
+/// Returns the number of words of a table of `size` slots, at most [`fx_plain::MOST_SLOTS`], whose
+/// chains have `numbers` numbers together, at most [`MOST_NUMBERS`].
 pub fn words_for(size: u32, numbers: u32) -> usize
     requires size { size ≤ MOST_SLOTS }
     requires numbers { numbers ≤ MOST_NUMBERS }
@@ -43,7 +43,8 @@ pub fn slot_place(slot: u32) -> usize
     16 + 8 * slot as usize
 }
 
-/// Returns the place of a number's node word. Requires that the number is that of a slot or of a chain.
+/// Returns the place of a number's node word. Requires that the number is that of a slot or of a
+/// chain.
 pub fn node_place(size: u32, number: u32) -> usize
     requires size { size ≤ MOST_SLOTS }
     requires number { HasNode size MOST_NUMBERS number }
@@ -56,7 +57,8 @@ pub fn node_place(size: u32, number: u32) -> usize
     }
 }
 
-/// Returns the place of a number's open file. Requires that the number is that of a slot or of a chain.
+/// Returns the place of a number's open file. Requires that the number is that of a slot or of a
+/// chain.
 pub fn home_place(size: u32, number: u32) -> usize
     requires size { size ≤ MOST_SLOTS }
     requires number { HasNode size MOST_NUMBERS number }

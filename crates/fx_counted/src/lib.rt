@@ -1,9 +1,10 @@
-//! A shared file table without a lock: a look-up is one atomic addition, a release one atomic subtraction, and only an
-//! open at any slot may wait.
+//! A shared file table without a lock: a look-up is one atomic addition, a release one atomic
+//! subtraction, and only an open at any slot may wait.
 //!
-//! [`CountedTable`] implements `fx_table::FileTable`, whose contract is all that others use; the calls of `calls.rt`
-//! also bound the number of their atomic steps. Begin reading at `calls.rt`, then `specs/Agrees.antt` (the rule that
-//! every step keeps) and `layout.rt` (the places of the words).
+//! [`CountedTable`] implements `fx_table::FileTable`, whose contract is all that others use; the
+//! calls of `calls.rt` also bound the number of their atomic steps. Begin reading at `calls.rt`,
+//! then `specs/Agrees.antt` (the rule that every step keeps) and `layout.rt` (the places of the
+//! words).
 #![tactic(auto)]
 
 mod calls;

@@ -1,4 +1,5 @@
-//! Putting an open file into the place of its number, and taking it out, while the seat's pass has the place.
+//! Putting an open file into the place of its number, and taking it out, while the seat's pass has
+//! the place.
 ghost use Rattle.std.specs.Prelude.{◌≡◌, [], Some};
 ghost use Rattle.fx_base.specs.declared.open_file.Closed.{Closed};
 ghost use Rattle.fx_table.specs.Calls.{no_use};

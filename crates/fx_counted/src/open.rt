@@ -28,9 +28,10 @@ use std::alloc::Global;
 use std::snapshot::Snapshot;
 
 impl CountedTable {
-    // Shares a settled table (`PlainTable::is_settled`) between `passes` passes, 1 to `fx_table::MAX_PASSES`, which
-    // play `chains` chains, at most `fx_table::MAX_CHAINS`, each with `fx_table::CHAIN_NUMBERS` file numbers. Returns
-    // `NoMemory` if an allocation fails; the table then comes back settled, with its files, size and range.
+    // Shares a settled table (`PlainTable::is_settled`) between `passes` passes, 1 to
+    // `fx_table::MAX_PASSES`, which play `chains` chains, at most `fx_table::MAX_CHAINS`, each with
+    // `fx_table::CHAIN_NUMBERS` file numbers. Returns `NoMemory` if an allocation fails; the table
+    // then comes back settled, with its files, size and range.
     pub(crate) fn open(
         alloc: Global,
         plain: PlainTable,
@@ -51,9 +52,10 @@ impl CountedTable {
         CountedTable::open_for(alloc, plain, chains, CHAIN_NUMBERS, passes)
     }
 
-    // Does the same for chains with `numbers` file numbers each, at most `fx_table::CHAIN_NUMBERS`. The file at slot
-    // `s` gets number `s`, and chain `c`, from 1, the numbers from `256 + numbers * (c - 1)` on. The passes are
-    // numbered from 1, in the order of the list. All memory is allocated here.
+    // Does the same for chains with `numbers` file numbers each, at most `fx_table::CHAIN_NUMBERS`.
+    // The file at slot `s` gets number `s`, and chain `c`, from 1, the numbers from `256 + numbers
+    // * (c - 1)` on. The passes are numbered from 1, in the order of the list. All memory is
+    // allocated here.
     pub(crate) fn open_for(
         alloc: Global,
         plain: PlainTable,
@@ -147,7 +149,8 @@ impl CountedTable {
     }
 }
 
-// Creates the words and places of a shared table, whose files come from this table, and a seat with all passes.
+// Creates the words and places of a shared table, whose files come from this table, and a seat with
+// all passes.
 fn share(
     alloc: Global,
     mut plain: PlainTable,
@@ -207,7 +210,8 @@ fn write_slot(words: &mut Vec<u64>, slot: u32, entry: u8)
     words[place + 1] = BORN;
 }
 
-// Creates the words of a shared table with the files of this table, whose chains have `numbers` numbers together.
+// Creates the words of a shared table with the files of this table, whose chains have `numbers`
+// numbers together.
 fn first_words(alloc: Global, plain: &PlainTable, numbers: u32) -> Result<Vec<u64>, NoMemory>
     requires { numbers ≤ MOST_NUMBERS }
     ensures { IfOk result (λ words. AreFirstWords (state_of plain.now) numbers words.items) }

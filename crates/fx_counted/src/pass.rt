@@ -7,8 +7,9 @@ use atomic_table::Seat;
 use fx_base::OpenFile;
 use fx_table::PASS_LOOKS;
 
-/// A pass of a [`crate::CountedTable`]. It must be consumed: the compiler rejects a program that drops one. Two
-/// neighbouring passes of a list are 128 bytes apart, so that threads that use them share no cache line.
+/// A pass of a [`crate::CountedTable`]. It must be consumed: the compiler rejects a program that
+/// drops one. Two neighbouring passes of a list are 128 bytes apart, so that threads that use them
+/// share no cache line.
 pub struct CountedPass {
     pub(crate) seat: Seat<Option<OpenFile>, View>,
     // The chain that was drawn last, or 0, and whether there are no more.

@@ -39,8 +39,8 @@ impl CountedTable {
         pass.idle
     }
 
-    /// Returns the number of look-ups that the pass has left, `fx_table::PASS_LOOKS` at first. Each `look` uses one
-    /// unless it returns `Spent`.
+    /// Returns the number of look-ups that the pass has left, `fx_table::PASS_LOOKS` at first. Each
+    /// `look` uses one unless it returns `Spent`.
     pub fn looks_left(&self, pass: &CountedPass) -> u32
         requires { IsPassOfTable self.now pass.now }
         ensures { result ≡ (view_of pass.now).looks_left }
@@ -48,8 +48,9 @@ impl CountedTable {
         pass.looks_left
     }
 
-    /// Returns the number of files that the pass can install before its next draw: 0 before the first draw, all numbers
-    /// of a chain after each draw that returns one, and one less after each installation.
+    /// Returns the number of files that the pass can install before its next draw: 0 before the
+    /// first draw, all numbers of a chain after each draw that returns one, and one less after each
+    /// installation.
     pub fn numbers_left(&self, pass: &CountedPass) -> u32
         requires { IsPassOfTable self.now pass.now }
         ensures { result ≡ (view_of pass.now).numbers_left }

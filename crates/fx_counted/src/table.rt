@@ -15,13 +15,13 @@ use fx_base::OpenFile;
 use fx_plain::PlainTable;
 use std::alloc::Global;
 
-/// A file table that threads share without a lock. A look-up is one atomic addition to the slot's word, and a release
-/// one subtraction from the word of the file's number; of all calls only `put_any` may wait. It must be consumed: the
-/// compiler rejects a program that drops one.
+/// A file table that threads share without a lock. A look-up is one atomic addition to the slot's
+/// word, and a release one subtraction from the word of the file's number; of all calls only
+/// `put_any` may wait. It must be consumed: the compiler rejects a program that drops one.
 pub struct CountedTable {
     pub(crate) table: Table<Option<OpenFile>, View, Start, OneHistory, Global>,
-    // The table that was opened, without its files. They go back into it at the close, which therefore allocates
-    // nothing.
+    // The table that was opened, without its files. They go back into it at the close, which
+    // therefore allocates nothing.
     pub(crate) shell: PlainTable,
     pub(crate) chains: u32,
     pub(crate) passes: u32,

@@ -4,8 +4,8 @@ use fx_table::Task;
 use std::collections::LinkedList;
 use std::snapshot::Snapshot;
 
-/// The start of a lock-free table, for contracts alone: the table that was opened, the numbers of chains and passes,
-/// and the number of file numbers of each chain.
+/// The start of a lock-free table, for contracts alone: the table that was opened, the numbers of
+/// chains and passes, and the number of file numbers of each chain.
 #[derive(Drop)]
 pub struct Start {
     /// The table as it was opened.
@@ -18,7 +18,8 @@ pub struct Start {
     pub numbers: u32,
 }
 
-/// The events that one pass has seen, and its counters, as contracts see them. No code creates a value of it.
+/// The events that one pass has seen, and its counters, as contracts see them. No code creates a
+/// value of it.
 pub struct Log {
     /// The number of the pass, from 1.
     pub number: u32,
@@ -36,7 +37,8 @@ pub struct Log {
     pub steps: u64,
 }
 
-/// The activity of a seat's pass between two steps, as contracts see it. No code creates a value of it.
+/// The activity of a seat's pass between two steps, as contracts see it. No code creates a value of
+/// it.
 pub enum Work {
     /// The activity of a pass between two calls.
     Between(Task),
@@ -46,8 +48,9 @@ pub enum Work {
     Emptying(u32),
 }
 
-/// The change that a pass is in, if it is about to change a slot of the allocation range: the difference in the number
-/// of full slots that it hasn't reported yet, as contracts see it. No code creates a value of it.
+/// The change that a pass is in, if it is about to change a slot of the allocation range: the
+/// difference in the number of full slots that it hasn't reported yet, as contracts see it. No code
+/// creates a value of it.
 pub enum Change {
     /// The pass is in no change.
     Outside,

@@ -14,7 +14,8 @@ use std::alloc::Global;
 #[repr(C)]
 #[derive(Drop)]
 pub struct YachtVerdict {
-    /// Of a text that isn't legal: the number of commands that may have printed the text before the break.
+    /// Of a text that isn't legal: the number of commands that may have printed the text before the
+    /// break.
     pub commands: u64,
     /// Of a text that isn't legal: the number of bytes before the break.
     pub at: u64,
@@ -22,7 +23,8 @@ pub struct YachtVerdict {
     pub note: u64,
     /// Of an undecided text: the accepted submission that was not decided, from 1.
     pub submission: u32,
-    /// Of bytes that aren't a script: the line of the first fault, from 1, or 0 if there are too many bytes.
+    /// Of bytes that aren't a script: the line of the first fault, from 1, or 0 if there are too
+    /// many bytes.
     pub line: u32,
 }
 
@@ -56,9 +58,10 @@ fn conclude(judgement: Judgement, note: &mut [u8], verdict: &mut YachtVerdict) -
     }
 }
 
-/// Decides whether a script may print a text, by a search of at most `states` states and `memory` MiB for each part of a submission
-/// that has slots of its own. It returns `LEGAL`, `NOT_LEGAL`, `UNDECIDED`, `BAD_SCRIPT` or `NO_MEMORY`. The note is what is expected
-/// at the break of a text that isn't legal, or the name of the script's fault.
+/// Decides whether a script may print a text, by a search of at most `states` states and `memory`
+/// MiB for each part of a submission that has slots of its own. It returns `LEGAL`, `NOT_LEGAL`,
+/// `UNDECIDED`, `BAD_SCRIPT` or `NO_MEMORY`. The note is what is expected at the break of a text
+/// that isn't legal, or the name of the script's fault.
 #[unsafe(no_mangle)]
 pub extern "C" fn yacht_judge(
     alloc: Global,

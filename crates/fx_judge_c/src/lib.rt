@@ -1,5 +1,6 @@
-//! The judge for C: decides whether a script may print a text, and lists the texts that it may print. The contract of each export
-//! says what its number means. C's duties are in `include/yachtjudge.h`.
+//! The judge for C: decides whether a script may print a text, and lists the texts that it may
+//! print. The contract of each export says what its number means. C's duties are in
+//! `include/yachtjudge.h`.
 #![tactic(auto)]
 
 mod codes;

@@ -22,8 +22,8 @@ pub fn note_fault(alloc: Global, kind: ScriptFault, note: &mut [u8]) -> Result<u
     Ok(copy(words.as_bytes(), note))
 }
 
-/// Writes what is expected at a break: the likeliest text, or a line in words. Returns its length, which is 0 if no order of a
-/// submission's requests explains its lines.
+/// Writes what is expected at a break: the likeliest text, or a line in words. Returns its length,
+/// which is 0 if no order of a submission's requests explains its lines.
 pub fn note_expected(fault: &Fault, note: &mut [u8]) -> u64 {
     match fault {
         Fault::Text(wanted) => copy(wanted.as_bytes(), note),

@@ -18,11 +18,13 @@ pub struct YachtTexts {
     pub count: u64,
     /// The number of bytes of all these texts.
     pub bytes: u64,
-    /// Of bytes that aren't a script: the line of the first fault, from 1, or 0 if there are too many bytes.
+    /// Of bytes that aren't a script: the line of the first fault, from 1, or 0 if there are too
+    /// many bytes.
     pub line: u32,
 }
 
-// Writes the texts and their lengths, if there is room for all of them, and in any case their counts. Returns whether there is room.
+// Writes the texts and their lengths, if there is room for all of them, and in any case their
+// counts. Returns whether there is room.
 fn hand_out(listed: &Listed, texts: &mut [u8], lengths: &mut [u64], found: &mut YachtTexts) -> bool
     ensures bytes { found.new.bytes ≡ length listed.now.bytes.items }
     ensures count { found.new.count ≡ length listed.now.lengths.items }
@@ -41,9 +43,10 @@ fn hand_out(listed: &Listed, texts: &mut [u8], lengths: &mut [u64], found: &mut 
     true
 }
 
-/// Lists the texts that a script may print if no allocation fails, each once, by searches of at most `states` states and `memory` MiB
-/// in all. It returns `ALL`, `SOME`, `BAD_SCRIPT`, `NO_ROOM` or `NO_MEMORY`. The texts are written one after another, and the length
-/// of each. If they have no room, `found` says how much they need.
+/// Lists the texts that a script may print if no allocation fails, each once, by searches of at
+/// most `states` states and `memory` MiB in all. It returns `ALL`, `SOME`, `BAD_SCRIPT`, `NO_ROOM`
+/// or `NO_MEMORY`. The texts are written one after another, and the length of each. If they have no
+/// room, `found` says how much they need.
 #[unsafe(no_mangle)]
 pub extern "C" fn yacht_outcomes(
     alloc: Global,

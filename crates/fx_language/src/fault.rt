@@ -27,7 +27,8 @@ pub enum ScriptFault {
     /// The command has the wrong number of words.
     #[error("word-count")]
     WordCount,
-    /// The third word of an `open` is neither `at` nor `any`, or the last word of a request neither `link` nor `hardlink`.
+    /// The third word of an `open` is neither `at` nor `any`, or the last word of a request neither
+    /// `link` nor `hardlink`.
     #[error("bad-word")]
     BadWord,
     /// The bytes of a file are neither `-` nor an even number of hexadecimal digits, at least two.
@@ -51,11 +52,12 @@ pub enum ScriptFault {
     /// An entry of the list is neither a number, nor `-` and a number other than 0.
     #[error("bad-entry")]
     BadEntry,
-    /// A tag of the list isn't a number up to 18,446,744,073,709,551,615 in decimal without a leading zero.
+    /// A tag of the list isn't a number up to 18,446,744,073,709,551,615 in decimal without a
+    /// leading zero.
     #[error("bad-tag")]
     BadTag,
-    /// Requests follow the last `submit`. The fault is on the line of the first of them, and comes after all other
-    /// faults.
+    /// Requests follow the last `submit`. The fault is on the line of the first of them, and comes
+    /// after all other faults.
     #[error("unsubmitted")]
     Unsubmitted,
 }

@@ -1,7 +1,9 @@
-//! The language of scripts: which bytes are a script, what it says, and on which line its first fault is.
+//! The language of scripts: which bytes are a script, what it says, and on which line its first
+//! fault is.
 //!
-//! The contract that others rely on is that of [`Script::read`], which returns what `specs/Script.antt` (`reading_of`)
-//! says of the bytes. Begin reading at `specs/Line.antt` and `script.rt`.
+//! The contract that others rely on is that of [`Script::read`], which returns what
+//! `specs/Script.antt` (`reading_of`) says of the bytes. Begin reading at `specs/Line.antt` and
+//! `script.rt`.
 #![tactic(auto)]
 
 mod command;

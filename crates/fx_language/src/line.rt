@@ -98,8 +98,9 @@ fn submit<'a>(words: &mut Parts<'a>) -> Result<Line<'a>, ScriptFault>
     Ok(Line::Submit)
 }
 
-// Parses a line that isn't skipped, or returns its fault. Requests, lists and tags are allocated, so an allocation may
-// fail before a fault is found. `late` says whether an earlier line isn't a `file` line.
+// Parses a line that isn't skipped, or returns its fault. Requests, lists and tags are allocated,
+// so an allocation may fail before a fault is found. `late` says whether an earlier line isn't a
+// `file` line.
 pub fn parse(alloc: Global, line: &[u8], late: bool) -> Result<Line<'_>, LineError>
     requires { is_printable line.now ≡ true }
     ensures { GivesOrFails line_in result (line_of late (words line.now)) }

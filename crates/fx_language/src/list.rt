@@ -1,5 +1,5 @@
-//! Lists of entries and of tags: words with at least one of them, separated by single commas. A list is read once, part
-//! by part, so an allocation may fail before a fault is found.
+//! Lists of entries and of tags: words with at least one of them, separated by single commas. A
+//! list is read once, part by part, so an allocation may fail before a fault is found.
 ghost use Rattle.std.specs.Prelude.{option_map, ok_or};
 ghost use Rattle.fx_language.specs.declared.fault.ScriptFault.TheVariants.{BadTag};
 ghost use Rattle.fx_language.specs.Line.{list_in, tags_in};

@@ -4,8 +4,9 @@ ghost use Rattle.std.specs.Option.{option_map_or};
 ghost use Rattle.std.specs.List.{slice_split};
 ghost use Rattle.std.specs.Iterator.{item_count};
 
-/// The parts of a text between its separators, one after another: the lines of a script, the words of a line, the
-/// entries of a list. A text has one part more than it has separators, and a part may be empty.
+/// The parts of a text between its separators, one after another: the lines of a script, the words
+/// of a line, the entries of a list. A text has one part more than it has separators, and a part
+/// may be empty.
 #[derive(Drop)]
 pub struct Parts<'a> {
     rest: Option<&'a [u8]>,

@@ -82,9 +82,10 @@ impl Script {
     /// Reads bytes as a script, all of them. It allocates only what the script says.
     ///
     /// # Errors
-    /// `Fault` if the bytes aren't a script: the first line with a fault, and that line's first fault in the order of
-    /// [`ScriptFault`]. A script that is too long is refused before its lines are read, and `Unsubmitted` is returned
-    /// only if no line has a fault. `NoMemory` if an allocation fails, at any line.
+    /// `Fault` if the bytes aren't a script: the first line with a fault, and that line's first
+    /// fault in the order of [`ScriptFault`]. A script that is too long is refused before its lines
+    /// are read, and `Unsubmitted` is returned only if no line has a fault. `NoMemory` if an
+    /// allocation fails, at any line.
     pub fn read(alloc: Global, bytes: &[u8]) -> Result<Script, ScriptError>
         ensures script { IfOk result (λ script. IsScript bytes.now script) }
         ensures fault { IfErr result (IsFaultOf bytes.now) }

@@ -1,4 +1,5 @@
--- Steps at which no slot and no node changes: they change the pass alone, and perhaps its hold word or the control word.
+-- Steps at which no slot and no node changes: they change the pass alone, and perhaps its hold word
+-- or the control word.
 use Rattle.fx_lasting.proofs.Words.{◌≡◌, ◌≢◌, ℕ, ◌+◌, ◌<◌, List, set, length, refl, ap, ◌∙◌, subst, arith, Option, Bool, held_by, File, Event}
 use Rattle.fx_lasting.proofs.Words.{range_at_start, NodeAgrees, IsAllowed, Agrees, ControlCounts, slots_of, nodes_of, IsHistory, state_after_all}
 use Rattle.fx_lasting.proofs.Words.{held_in, held_of, taken_of, taking, Work, Glance, Change, ⊎_elim, ◌⊎◌, inr, control_place, word_of, hold_word_of}

@@ -157,7 +157,8 @@ module _ (turn : Turn) where
         let few = few_full v.start st r in let sum : (word + 1) % 2 ^ 64 ≡ word + 1 = omega arith in
         record { counts = omega arith }
 
-  -- a word that says so: it counts as many full slots as the range has, and never more than there are
+  -- a word that says so: it counts as many full slots as the range has, and never more than there
+  -- are
   says_so : word ≡ bias + range.1 → (slot : ℕ) → range.0 ≤ slot → slot < range.0 + range.1 → IsSome (at_now slot)
   says_so is = let u = r.control.counts in let a = full_few at_now range.0 range.1 in full_all at_now range.0 range.1 (omega arith)
 

@@ -1,4 +1,5 @@
--- The end, when one seat has all passes again, and does nothing: everything is settled, and each file is at its slot.
+-- The end, when one seat has all passes again, and does nothing: everything is settled, and each
+-- file is at its slot.
 use Rattle.fx_lasting.proofs.Words.{◌≡◌, ℕ, suc, ◌<◌, ◌≤◌, map, sym, ap, ◌∙◌, subst, arith, Option, Some, None, sum_by, dite, some, dec_le, get_elem?}
 use Rattle.fx_lasting.proofs.Words.{Closed, State, IsSettled, File, sum_zero_at, ℕ_discrete, Does, OwnerAgrees, NodeAgrees, Agrees, Shared, slots_of}
 use Rattle.fx_lasting.proofs.Words.{nodes_of, word_of, state_after_all, state_at_start, held_of, if_file, taken_of, owed, count_in, Phase, free}

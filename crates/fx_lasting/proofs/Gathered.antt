@@ -1,4 +1,5 @@
--- Passes as they are dealt out, and all of them in one seat again: what the one history says of each.
+-- Passes as they are dealt out, and all of them in one seat again: what the one history says of
+-- each.
 use Rattle.fx_lasting.proofs.Words.{pass_in, ◌≡◌, ◌≢◌, ℕ, ◌+◌, ◌≤◌, List, [], ◌∷◌, sym, refl, ap, ◌∙◌, subst, arith, Option, All, TableId, take, drop}
 use Rattle.fx_lasting.proofs.Words.{map, length, reverse, Closed, Sat, new_log, pass_of, view_of, IsPassOf, IsSeatOf, IsBetweenCalls, LastingPass}
 use Rattle.fx_lasting.proofs.Words.{Log, Start, View, IsNewPass, dealt, numbers_of_pass, block_start, slots_of, some, get_elem?, Contains, sum_by}

@@ -1,4 +1,5 @@
--- Steps of a pass on its own hold word keep the rule: it announces a node, withdraws, or steps down.
+-- Steps of a pass on its own hold word keep the rule: it announces a node, withdraws, or steps
+-- down.
 use Rattle.fx_lasting.proofs.Words.{◌≡◌, ℕ, ◌+◌, ◌<◌, List, [], ◌∷◌, sym, refl, ap, ◌∙◌, subst, arith, Option, none}
 use Rattle.fx_lasting.proofs.Words.{keeps, Closed, File, Event, Release, ◌▷◌, WorkAgrees, HoldAgrees, GuardAgrees, NamesNode, HoldsAt, state_after_all, nodes_of}
 use Rattle.fx_lasting.proofs.Words.{hold_word_of, held_in, held_of, if_file, taking, pass_event, Work, Idle, Announced, Guarded, Owing}

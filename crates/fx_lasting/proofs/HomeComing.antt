@@ -1,4 +1,5 @@
--- The files at the settled end of a table whose passes are all idle: they are in the places of their nodes.
+-- The files at the settled end of a table whose passes are all idle: they are in the places of
+-- their nodes.
 use Rattle.fx_lasting.proofs.Words.{◌≡◌, ℕ, ◌-◌, sym, refl, ap, ◌∙◌, arith, Option, Some, None, List, subst, Closed, State, state_of, slice_index}
 use Rattle.fx_lasting.proofs.Words.{some, get_elem?, node_in, slot_place, stands_at, some-injective, File, Names, name_in, Agrees, slots_of}
 use Rattle.fx_lasting.proofs.Words.{state_after_all, LastingTable, Start, View, HasNoFile, eq-eqb, ne_eqb}
@@ -16,7 +17,8 @@ use Rattle.fx_lasting.proofs.Histories.{same_shape}
 abbrev pub node_at : List ℕ → ℕ → Option ℕ
 node_at words slot = node_in (slice_index words (slot_place slot))
 
--- the contents of the places at the settled end, and their way back: the end of a table whose passes are all idle
+-- the contents of the places at the settled end, and their way back: the end of a table whose
+-- passes are all idle
 module _ (t : LastingTable) {id : ℕ} {v : View} {words : List ℕ} (xs : List (Option Closed))
     (final : Final (Seen (Agrees t.table.shared.key) id v) words xs) (idle : AllAreIdle t.table.shared.key id v) where
   abbrev k : Start

@@ -1,4 +1,5 @@
--- A pass lets a file go: it subtracts a take or a mark from the word of the file's node, or it retires the file.
+-- A pass lets a file go: it subtracts a take or a mark from the word of the file's node, or it
+-- retires the file.
 use Rattle.fx_lasting.proofs.Words.{◌≡◌, ◌≢◌, ℕ, ◌+◌, ◌-◌, ◌%◌, ◌^◌, ◌<◌, ◌≤◌, List, ◌∷◌, ◌++◌, map, set, sym, refl, ap, ◌∙◌, arith, Option, Some}
 use Rattle.fx_lasting.proofs.Words.{None, none, some, set_here, set_else, Closed, ◌▷◌, File, Event, Close, Action, pass_event, held_by, part_of_pass}
 use Rattle.fx_lasting.proofs.Words.{NodeAgrees, OwnerAgrees, MayBeUnmarked, HoldsAt, state_after_all, slots_of, word_of, hold_word_of, held_of, taken_of}
@@ -20,7 +21,8 @@ taking_few n _ = omega arith
 pub sub_wraps : {n k : ℕ} → k ≤ n → n < 18446744073709551616 → 0 < k → (n + (2 ^ 64 - k)) % 2 ^ 64 ≡ n - k
 sub_wraps le fits more = omega arith
 
--- The pass has the file of the node to drop, and does nothing else: by these actions it holds nothing any more.
+-- The pass has the file of the node to drop, and does nothing else: by these actions it holds
+-- nothing any more.
 module _ (turn : Turn) (n : ℕ) (f : File) (h₁ : List Event) (debt' : ℕ → ℕ) (xs : List Action) where
   open turn use {st, v, r, id, x, here, one}
 

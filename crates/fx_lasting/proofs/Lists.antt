@@ -5,8 +5,8 @@ use Rattle.std.proofs.lemmas.Nat.Bits.{bit_at_or, bit_at-lt, bit_at-pow_same, bi
 use Rattle.std.proofs.lemmas.Nat.{pow_below}
 use lib.Bits.{bit_and, or_disjoint, or_lt}
 
--- a word of the list, which has a pass's bit, after a step of the pass `own`, which is listed now or not: it is the same, or has one
--- bit more
+-- a word of the list, which has a pass's bit, after a step of the pass `own`, which is listed now
+-- or not: it is the same, or has one bit more
 abbrev pub ListGoesOn : ℕ → Bool → ℕ → ℕ → ℕ → Type 0
 ListGoesOn own listed pass old new = (new ≡ old) ⊎ ((list_place pass ≡ list_place own) × (new ≡ bit_or old (2 ^ bit_of own)) × (listed ≡ true))
 

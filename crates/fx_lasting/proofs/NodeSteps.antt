@@ -1,4 +1,5 @@
--- A step on one node, at which no slot changes: on its word and place, or on the hold word of a pass that names it.
+-- A step on one node, at which no slot changes: on its word and place, or on the hold word of a
+-- pass that names it.
 use Rattle.fx_lasting.proofs.Words.{◌≡◌, ◌≢◌, ℕ, ◌+◌, ◌<◌, ◌≤◌, List, [], set, length, sym, refl, ap, ◌∙◌, subst, arith, Option, Some, Bool, some}
 use Rattle.fx_lasting.proofs.Words.{get_elem?, held_by, changed_at, File, Event, range_at_start, NodeAgrees, OwnerAgrees, WorkAgrees, IsAllowed, Agrees}
 use Rattle.fx_lasting.proofs.Words.{full_in, slots_of, nodes_of, IsHistory, state_after_all, held_in, held_of, taken_of, taking, owed, Phase, free}

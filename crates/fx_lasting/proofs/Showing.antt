@@ -1,4 +1,5 @@
--- A pass shows what it has seen, and another pass learns it: the rule holds afterwards. Neither is an atomic step.
+-- A pass shows what it has seen, and another pass learns it: the rule holds afterwards. Neither is
+-- an atomic step.
 use Rattle.fx_lasting.proofs.Words.{◌≡◌, ◌≢◌, ℕ, ◌+◌, ◌<◌, ◌≤◌, List, [], ◌∷◌, ◌++◌, set, length, sym, refl, ap, ◌∙◌, subst, arith, inl, inr, eqb, some, get_elem?}
 use Rattle.fx_lasting.proofs.Words.{⊎_elim, at_set, sum_set, sum_by, sum_by-append, one_if, contains_head, contains_only, Contains, IsSeenBy, part_of_pass, Event}
 use Rattle.fx_lasting.proofs.Words.{NodeAgrees, WorkAgrees, LogAgrees, ViewAgrees, Agrees, ControlCounts, Shared, Log, Start, View, Sat, IsInside, Runs, IsHistory}

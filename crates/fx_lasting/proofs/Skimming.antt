@@ -1,4 +1,5 @@
--- A pass that removed a hot file loads a word of the list: the passes without their bits hold nothing of the node that isn't marked.
+-- A pass that removed a hot file loads a word of the list: the passes without their bits hold
+-- nothing of the node that isn't marked.
 use Rattle.fx_lasting.proofs.Words.{◌≡◌, ◌≢◌, ℕ, ◌+◌, ◌*◌, ◌<◌, ◌≤◌, List, [], sym, refl, ap, ◌∙◌, subst, arith, Option, none, keeps, Closed, File}
 use Rattle.fx_lasting.proofs.Words.{HoldAgrees, GuardAgrees, MayBeUnmarked, hold_word_of, leaving, Work, Idle, Announced, Counted, Guarded, Owing}
 use Rattle.fx_lasting.proofs.Words.{Yielding, Searching, Placing, Retiring, Emptying, step, dite, dec_le, ⊎_elim, set-get_or, Round, round_from}

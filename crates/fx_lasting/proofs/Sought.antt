@@ -5,7 +5,8 @@ use Rattle.fx_lasting.proofs.Words.{block_for, block_start, slots_of}
 use Rattle.fx_lasting.proofs.Words.{pass_in}
 use Rattle.fx_lasting.proofs.Running.{does_then, runs_goes, runs_within, still_at_work, number_is}
 
--- The search began at `start`, has read `count` nodes, and is at this one; another one isn't among those that it has read
+-- The search began at `start`, has read `count` nodes, and is at this one; another one isn't among
+-- those that it has read
 abbrev pub IsAhead : ℕ → ℕ → ℕ → ℕ → ℕ → Type 0
 IsAhead start len count node e = ((node ≡ start + count) × ((e < start) ⊎ (node ≤ e))) ⊎ ((node + len ≡ start + count) × (e < start) × (node ≤ e))
 

@@ -1,5 +1,5 @@
--- The first words of a shared table, written one slot after the other, and the files of the slots, which move to its
--- places.
+-- The first words of a shared table, written one slot after the other, and the files of the slots,
+-- which move to its places.
 use Rattle.fx_lasting.proofs.Words.{◌≡◌, ℕ, ◌+◌, ◌<◌, ◌≤◌, List, length, refl, ap, arith, Option, Some, None, slice_index, State}
 use Rattle.fx_lasting.proofs.Words.{File, full_in, control_place, list_place, slot_place, hold_place, node_place, word_for}
 use Rattle.fx_lasting.proofs.Words.{node_for, sym, ◌∙◌, dite, Closed, state_of, nodes_of, dec_le, home_for, OpensWith, Start}

@@ -1,4 +1,5 @@
--- A swap of a slot's word: a file leaves the slot, if there was one, and the slot gets another or none.
+-- A swap of a slot's word: a file leaves the slot, if there was one, and the slot gets another or
+-- none.
 use Rattle.fx_lasting.proofs.Words.{IsToVisit, new_round, inl, true}
 use Rattle.fx_lasting.proofs.Words.{◌≡◌, ◌≢◌, ℕ, suc, ◌-◌, ◌^◌, ◌<◌, ◌≤◌, List, [], set, length, sym, refl, ap, ◌∙◌, subst, arith, Option, Some, None}
 use Rattle.fx_lasting.proofs.Words.{get_elem?, Bool, true, false, inl, inr, ⊎_elim, ◌⊎◌, dite, ℕ_discrete, dec_le, eq-eqb, ne_eqb, File, Event}

@@ -1,4 +1,5 @@
--- A pass that removed a hot file visits the hold words of the others: where one names the node, the pass marks it.
+-- A pass that removed a hot file visits the hold words of the others: where one names the node, the
+-- pass marks it.
 use Rattle.fx_lasting.proofs.Words.{Round, round_at, IsToVisit, IsPassed, list_place}
 use Rattle.fx_lasting.proofs.Words.{◌≡◌, ◌≢◌, ℕ, ◌+◌, ◌^◌, ◌<◌, ◌≤◌, List, [], set, length, sym, refl, ap, ◌∙◌, subst, arith, Option, none, keeps}
 use Rattle.fx_lasting.proofs.Words.{Closed, File, WorkAgrees, HoldAgrees, GuardAgrees, MayBeUnmarked, slots_of, nodes_of, word_of, hold_word_of, held_in}

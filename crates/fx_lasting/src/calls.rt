@@ -1,6 +1,6 @@
-//! The calls of a pass that never wait, allocate or retry: each makes at most as many atomic steps as its clause says.
-//! They are inlined into their caller, except for a withdrawal, for the visits of a retirement and for taking a file out.
-//! These hints change no proof.
+//! The calls of a pass that never wait, allocate or retry: each makes at most as many atomic steps
+//! as its clause says. They are inlined into their caller, except for a withdrawal, for the visits
+//! of a retirement and for taking a file out. These hints change no proof.
 ghost use Rattle.std.specs.Prelude.{◌≡◌, ◌≢◌, ◌+◌, ◌*◌, ◌-◌, ◌/◌, ◌<◌, ◌≤◌, false, Option, option_map, Err};
 ghost use Rattle.fx_plain.specs.declared.event.File.{File};
 ghost use Rattle.fx_table.specs.Calls.{Looked, LookedUp, Released, Placed, Cleared, Taken, HasRetired};
@@ -26,10 +26,11 @@ use fx_table::{Empty, Hold, LookFault, LookUp, Retired};
 use fx_words::{entry_of, node_of, slot_word};
 
 impl LastingTable {
-    /// Looks up a slot below `size`, for an idle pass (`is_idle`), in at most eight atomic steps. The file there has one
-    /// more hold until the pass releases it (io_uring_enter(2), "IOSQE_FIXED_FILE"). The file that the look-up first saw
-    /// may be removed before it is held. The look-up then looks again, and returns the removed file as `freed`, to be
-    /// closed, if it was its last user.
+    /// Looks up a slot below `size`, for an idle pass (`is_idle`), in at most eight atomic steps.
+    /// The file there has one more hold until the pass releases it (io_uring_enter(2),
+    /// "IOSQE_FIXED_FILE"). The file that the look-up first saw may be removed before it is held.
+    /// The look-up then looks again, and returns the removed file as `freed`, to be closed, if it
+    /// was its last user.
     ///
     /// # Errors
     /// In `found`: `Empty` if the slot has no file.
@@ -62,7 +63,8 @@ impl LastingTable {
         LookUp { found, freed: None }
     }
 
-    // Looks up a slot for a pass that isn't listed: lists the pass and takes what the slot names, in at most three steps.
+    // Looks up a slot for a pass that isn't listed: lists the pass and takes what the slot names,
+    // in at most three steps.
     #[inline(always)]
     fn look_first(&self, pass: &mut LastingPass, slot: u32) -> LookUp
         requires seated { IsSeatOfTable self.now pass.old }
@@ -135,8 +137,9 @@ impl LastingTable {
         found
     }
 
-    /// Releases the file that the pass looked up, by the `Hold` that it got, in at most three atomic steps. Returns the
-    /// file, to be closed, if it was retired and nobody else uses it. Afterwards the pass is idle.
+    /// Releases the file that the pass looked up, by the `Hold` that it got, in at most three
+    /// atomic steps. Returns the file, to be closed, if it was retired and nobody else uses it.
+    /// Afterwards the pass is idle.
     #[inline(always)]
     pub fn release(&self, pass: &mut LastingPass, hold: Hold) -> Option<OpenFile>
         requires fits { IsPassOfTable self.now pass.old }
@@ -154,10 +157,11 @@ impl LastingTable {
         self.let_go(&mut pass.seat, node)
     }
 
-    /// Installs a file at a slot below `size`, under a number that no file has had, for an idle pass (`is_idle`) that
-    /// installs files (`numbers_left`), on the node that it has chosen, if it has (`next_node`). It makes at most three atomic
-    /// steps more than the pass's block has nodes. Returns the file that it replaced, to be retired, or `None`
-    /// (io_uring_prep_openat(3), `io_uring_prep_openat_direct`).
+    /// Installs a file at a slot below `size`, under a number that no file has had, for an idle
+    /// pass (`is_idle`) that installs files (`numbers_left`), on the node that it has chosen, if it
+    /// has (`next_node`). It makes at most three atomic steps more than the pass's block has nodes.
+    /// Returns the file that it replaced, to be retired, or `None` (io_uring_prep_openat(3),
+    /// `io_uring_prep_openat_direct`).
     #[inline(always)]
     pub fn put(&self, pass: &mut LastingPass, slot: u32, file: OpenFile) -> Option<Retired>
         requires fits { IsPassOfTable self.now pass.old }
@@ -185,9 +189,9 @@ impl LastingTable {
         replaced
     }
 
-    /// Empties a slot below `size` for an update, for an idle pass (`is_idle`), in at most three atomic steps. Returns
-    /// the file that was there, to be retired, or `None` (io_uring_register(2), "IORING_REGISTER_FILES_UPDATE", an
-    /// entry of -1).
+    /// Empties a slot below `size` for an update, for an idle pass (`is_idle`), in at most three
+    /// atomic steps. Returns the file that was there, to be retired, or `None`
+    /// (io_uring_register(2), "IORING_REGISTER_FILES_UPDATE", an entry of -1).
     #[inline(always)]
     pub fn clear(&self, pass: &mut LastingPass, slot: u32) -> Option<Retired>
         requires fits { IsPassOfTable self.now pass.old }
@@ -210,8 +214,9 @@ impl LastingTable {
         removed
     }
 
-    /// Empties a slot below `size` for a close, for an idle pass (`is_idle`), in at most three atomic steps. Returns
-    /// the file that was there, to be retired (io_uring_prep_close(3), `io_uring_prep_close_direct`).
+    /// Empties a slot below `size` for a close, for an idle pass (`is_idle`), in at most three
+    /// atomic steps. Returns the file that was there, to be retired (io_uring_prep_close(3),
+    /// `io_uring_prep_close_direct`).
     ///
     /// # Errors
     /// `Empty` if the slot has no file.
@@ -237,9 +242,10 @@ impl LastingTable {
         removed.ok_or(Empty)
     }
 
-    /// Retires the file that the pass removed, by the `Retired` that it got, in at most twice as many atomic steps as the
-    /// table has passes, and one for each 64 passes. Returns the file, to be closed, if nobody uses it now. Otherwise its last release returns it, or
-    /// a look-up that first saw it and came too late (`LookUp::freed`). Afterwards the pass is idle.
+    /// Retires the file that the pass removed, by the `Retired` that it got, in at most twice as
+    /// many atomic steps as the table has passes, and one for each 64 passes. Returns the file, to
+    /// be closed, if nobody uses it now. Otherwise its last release returns it, or a look-up that
+    /// first saw it and came too late (`LookUp::freed`). Afterwards the pass is idle.
     #[inline(always)]
     pub fn retire(&self, pass: &mut LastingPass, retired: Retired) -> Option<OpenFile>
         requires fits { IsPassOfTable self.now pass.old }
@@ -267,8 +273,8 @@ impl LastingTable {
         Some(self.take_out(&mut pass.seat, node))
     }
 
-    // Returns the first pass that the retirement of a removed file may visit, from the word that named the file: a file
-    // of a slot that wasn't hot is held by takes alone.
+    // Returns the first pass that the retirement of a removed file may visit, from the word that
+    // named the file: a file of a slot that wasn't hot is held by takes alone.
     fn first_visit(&self, word: u64) -> u32
         ensures { result ≡ first_visit self.now.passes word }
     {

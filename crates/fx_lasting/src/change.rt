@@ -1,6 +1,7 @@
-//! The count of full slots in the allocation range, in the control word. A pass takes a slot off the count before it empties the
-//! slot, and adds a slot after it has filled it, or if it emptied a slot that was empty. So the word never counts more full slots than there are, and a word that counts
-//! them all says that the range is full.
+//! The count of full slots in the allocation range, in the control word. A pass takes a slot off
+//! the count before it empties the slot, and adds a slot after it has filled it, or if it emptied a
+//! slot that was empty. So the word never counts more full slots than there are, and a word that
+//! counts them all says that the range is full.
 ghost use Rattle.std.specs.Prelude.{◌≡◌, ℕ, [], true};
 ghost use Rattle.fx_lasting.specs.AtWork.{IsAtWork};
 ghost use Rattle.fx_lasting.specs.Control.{is_in, uncounted};
@@ -41,7 +42,8 @@ impl LastingTable {
         }
     }
 
-    // Adds a slot that was empty to the count, if it is in the range: it is full now, or was taken off the count in vain.
+    // Adds a slot that was empty to the count, if it is in the range: it is full now, or was taken
+    // off the count in vain.
     #[inline(always)]
     pub(crate) fn raise(
         &self,

@@ -20,8 +20,9 @@ use fx_words::node_of;
 use std::alloc::Global;
 
 impl LastingTable {
-    /// Turns the table back into a table of one thread, after all its passes have come back, idle (`is_idle`). Requires as
-    /// many passes as `open` returned, in any order. It can't run out of memory.
+    /// Turns the table back into a table of one thread, after all its passes have come back, idle
+    /// (`is_idle`). Requires as many passes as `open` returned, in any order. It can't run out of
+    /// memory.
     pub fn close(self, mut passes: Vec<LastingPass>) -> PlainTable
         requires all { length passes.items ≡ (opening_of_table self).passes }
         requires ready { All (λ p. IsPassOfTable self p × IsIdle (view_of p)) passes.items }
@@ -53,7 +54,8 @@ impl LastingTable {
         seat
     }
 
-    // Takes the files out of their places and into the table of one thread, when all passes are in one seat.
+    // Takes the files out of their places and into the table of one thread, when all passes are in
+    // one seat.
     fn finish(self, seat: Seat<Option<OpenFile>, View>) -> PlainTable
         requires fits { seat.table_id ≡ self.table.shared.table_id }
         requires idle { AllAreIdle self.table.shared.key seat.id seat.me.0 }
@@ -85,8 +87,9 @@ impl LastingTable {
         shell
     }
 
-    /// Consumes the table without closing it, and lets its memory go. The passes need not have come back; each of them is
-    /// consumed by [`LastingPass::abandon`]. The files of the table go without a close.
+    /// Consumes the table without closing it, and lets its memory go. The passes need not have come
+    /// back; each of them is consumed by [`LastingPass::abandon`]. The files of the table go
+    /// without a close.
     pub fn abandon(self) {
         let LastingTable {
             table,

@@ -65,7 +65,8 @@ impl Play<Option<OpenFile>, View> for Announcing {
     ghost then = { Announces };
 }
 
-/// Confirm: a pass that announced a node holds its file, if the slot is hot and names the node still.
+/// Confirm: a pass that announced a node holds its file, if the slot is hot and names the node
+/// still.
 pub struct Confirming;
 
 impl Play<Option<OpenFile>, View> for Confirming {
@@ -92,7 +93,8 @@ impl Play<Option<OpenFile>, View> for Taking {
     ghost then = { Takes };
 }
 
-/// Heat: a pass adds itself to the heat of a slot that had its takes. The slot is hot until its word is swapped.
+/// Heat: a pass adds itself to the heat of a slot that had its takes. The slot is hot until its
+/// word is swapped.
 pub struct HeatingUp;
 
 impl Play<Option<OpenFile>, View> for HeatingUp {
@@ -110,7 +112,8 @@ impl Play<Option<OpenFile>, View> for SteppingDown {
     ghost then = { StepsDown };
 }
 
-/// Drop: a mark or a take less in the word of a node. Where none is left of a retired file, the file goes to the pass.
+/// Drop: a mark or a take less in the word of a node. Where none is left of a retired file, the
+/// file goes to the pass.
 pub struct Letting;
 
 impl Play<Option<OpenFile>, View> for Letting {
@@ -146,7 +149,8 @@ impl Play<Option<OpenFile>, View> for Resting {
     ghost then = { Rests };
 }
 
-/// Skim: a pass that removed a hot file reads which of 64 passes are listed, and so may announce its node.
+/// Skim: a pass that removed a hot file reads which of 64 passes are listed, and so may announce
+/// its node.
 pub struct Skimming;
 
 impl Play<Option<OpenFile>, View> for Skimming {
@@ -173,7 +177,8 @@ impl Play<Option<OpenFile>, View> for Marking {
     ghost then = { Marks };
 }
 
-/// Retire: takes and marks turn the word of a removed file's node into what is still to be dropped. Where nothing is left, the file goes to the pass.
+/// Retire: takes and marks turn the word of a removed file's node into what is still to be dropped.
+/// Where nothing is left, the file goes to the pass.
 pub struct Retire;
 
 impl Play<Option<OpenFile>, View> for Retire {
@@ -248,8 +253,8 @@ impl Play<Option<OpenFile>, View> for Lowering {
     ghost then = { Turns Inside };
 }
 
-/// Raise: the control word counts one full slot more, after the pass filled that slot, or took it off the count in vain, since
-/// it was empty.
+/// Raise: the control word counts one full slot more, after the pass filled that slot, or took it
+/// off the count in vain, since it was empty.
 pub struct Raising;
 
 impl Play<Option<OpenFile>, View> for Raising {

@@ -1,5 +1,5 @@
-//! The law of each kind of step: where the rule holds before the step, it holds after it, whatever the table and the
-//! other passes are.
+//! The law of each kind of step: where the rule holds before the step, it holds after it, whatever
+//! the table and the other passes are.
 ghost use Rattle.std.specs.Prelude.{◌≡◌, ℕ};
 ghost use Rattle.fx_lasting.specs.Bounds.{WordsAreBounded};
 ghost use Rattle.fx_lasting.specs.Choices.{ChosenNodesAreFree};
@@ -25,7 +25,8 @@ pub fn limits_are_numbers()
     ensures most_installing { MOST_INSTALLING ≡ 64 }
 {}
 
-/// A table that begins with the words and places of its opening keeps the rule, with one seat that has all passes.
+/// A table that begins with the words and places of its opening keeps the rule, with one seat that
+/// has all passes.
 pub fn opening_keeps_rule()
     ensures { OpeningKeeps ⟦<OneHistory as TableRule<Option<OpenFile>, View, Start>>⟧.holds ⟦<OneHistory as TableRule<Option<OpenFile>, View, Start>>⟧.first }
 {}
@@ -45,8 +46,8 @@ pub fn announce_keeps_rule()
     ensures { AnnouncesKeep ⟦<Announcing as Play<Option<OpenFile>, View>>⟧.then }
 {}
 
-/// A pass that announced a node and loads the slot's word again keeps the rule. Where the slot is hot and names the
-/// node still, it holds the file.
+/// A pass that announced a node and loads the slot's word again keeps the rule. Where the slot is
+/// hot and names the node still, it holds the file.
 pub fn confirm_keeps_rule()
     ensures { ConfirmsKeep ⟦<Confirming as Play<Option<OpenFile>, View>>⟧.then }
 {}
@@ -56,13 +57,14 @@ pub fn withdraw_keeps_rule()
     ensures { WithdrawsKeep ⟦<Withdrawing as Play<Option<OpenFile>, View>>⟧.then }
 {}
 
-/// A listed pass that adds 1 to a slot's word keeps the rule, and holds the file that the word names.
+/// A listed pass that adds 1 to a slot's word keeps the rule, and holds the file that the word
+/// names.
 pub fn take_keeps_rule()
     ensures { TakesOnceKeep ⟦<Taking as Play<Option<OpenFile>, View>>⟧.then }
 {}
 
-/// A listed pass that adds 2^21 to the word of a slot that had its takes when it took there keeps the rule. No carry leaves the 11 bits
-/// of the slot's heat.
+/// A listed pass that adds 2^21 to the word of a slot that had its takes when it took there keeps
+/// the rule. No carry leaves the 11 bits of the slot's heat.
 pub fn heat_keeps_rule()
     ensures { HeatsKeep ⟦<HeatingUp as Play<Option<OpenFile>, View>>⟧.then }
 {}
@@ -72,8 +74,8 @@ pub fn step_down_keeps_rule()
     ensures { StepsDownKeep ⟦<SteppingDown as Play<Option<OpenFile>, View>>⟧.then }
 {}
 
-/// A pass that subtracts a mark or a take from the word of a node keeps the rule. Where it finds 2, the file is
-/// closed and with the pass.
+/// A pass that subtracts a mark or a take from the word of a node keeps the rule. Where it finds 2,
+/// the file is closed and with the pass.
 pub fn let_go_keeps_rule()
     ensures { LettingGoKeeps ⟦<Letting as Play<Option<OpenFile>, View>>⟧.then }
 {}
@@ -83,18 +85,20 @@ pub fn seek_keeps_rule()
     ensures { SeeksKeep ⟦<Seeking as Play<Option<OpenFile>, View>>⟧.then }
 {}
 
-/// A pass that stores the first word of a file in that of a free node of its block keeps the rule, and has its place.
+/// A pass that stores the first word of a file in that of a free node of its block keeps the rule,
+/// and has its place.
 pub fn birth_keeps_rule()
     ensures { BirthsKeep ⟦<Birth as Play<Option<OpenFile>, View>>⟧.then }
 {}
 
-/// A pass that stores 0 in the word of a node whose file is closed, or which it placed in vain, keeps the rule.
+/// A pass that stores 0 in the word of a node whose file is closed, or which it placed in vain,
+/// keeps the rule.
 pub fn rest_keeps_rule()
     ensures { RestsKeep ⟦<Resting as Play<Option<OpenFile>, View>>⟧.then }
 {}
 
-/// A pass that removed a hot file and loads a word of the list keeps the rule. It need not visit the passes of the word that have no
-/// bit there.
+/// A pass that removed a hot file and loads a word of the list keeps the rule. It need not visit
+/// the passes of the word that have no bit there.
 pub fn skim_keeps_rule()
     ensures { SkimsKeep ⟦<Skimming as Play<Option<OpenFile>, View>>⟧.then }
 {}
@@ -109,23 +113,26 @@ pub fn mark_keeps_rule()
     ensures { MarksKeep ⟦<Marking as Play<Option<OpenFile>, View>>⟧.then }
 {}
 
-/// A pass that subtracts 2^32 less the takes and marks of the file that it removed keeps the rule. Where 1 is left
-/// nobody has still to let the file go: it is closed and with the pass.
+/// A pass that subtracts 2^32 less the takes and marks of the file that it removed keeps the rule.
+/// Where 1 is left nobody has still to let the file go: it is closed and with the pass.
 pub fn retire_keeps_rule()
     ensures { RetiresKeep ⟦<Retire as Play<Option<OpenFile>, View>>⟧.then }
 {}
 
-/// A pass that subtracts 1 from the control word, before it empties a slot of the range, keeps the rule.
+/// A pass that subtracts 1 from the control word, before it empties a slot of the range, keeps the
+/// rule.
 pub fn lower_keeps_rule()
     ensures { LowersKeep ⟦<Lowering as Play<Option<OpenFile>, View>>⟧.then }
 {}
 
-/// A pass that adds the slot to the control word that the word counts too few on its account keeps the rule.
+/// A pass that adds the slot to the control word that the word counts too few on its account keeps
+/// the rule.
 pub fn raise_keeps_rule()
     ensures { RaisesKeep ⟦<Raising as Play<Option<OpenFile>, View>>⟧.then }
 {}
 
-/// A pass that loads the control word keeps the rule. Where the word says so, every slot of the range is full.
+/// A pass that loads the control word keeps the rule. Where the word says so, every slot of the
+/// range is full.
 pub fn ask_keeps_rule()
     ensures { AsksKeep ⟦<Asking as Play<Option<OpenFile>, View>>⟧.then }
 {}
@@ -145,63 +152,70 @@ pub fn join_keeps_rule()
     ensures { JoinsKeep ⟦<Gather as Join<View>>⟧.both ⟦<Gather as Join<View>>⟧.spent }
 {}
 
-/// An idle pass that swaps 0 into a slot's word for an update keeps the rule, and has the file that was there to
-/// retire.
+/// An idle pass that swaps 0 into a slot's word for an update keeps the rule, and has the file that
+/// was there to retire.
 pub fn clear_keeps_rule()
     ensures { ClearsKeep ⟦<Clearing as Play<Option<OpenFile>, View>>⟧.then }
 {}
 
-/// An idle pass that swaps 0 into a slot's word for a close keeps the rule, and has the file that was there to
-/// retire.
+/// An idle pass that swaps 0 into a slot's word for a close keeps the rule, and has the file that
+/// was there to retire.
 pub fn take_out_keeps_rule()
     ensures { TakesOutKeep ⟦<TakingOut as Play<Option<OpenFile>, View>>⟧.then }
 {}
 
-/// A pass that swaps the word of the file that it places into a slot keeps the rule, and has the file that was there
-/// to retire.
+/// A pass that swaps the word of the file that it places into a slot keeps the rule, and has the
+/// file that was there to retire.
 pub fn install_keeps_rule()
     ensures { InstallsKeep ⟦<Installing as Play<Option<OpenFile>, View>>⟧.then }
 {}
 
-/// A pass that exchanges a word that names no file for that of the file that it places keeps the rule.
+/// A pass that exchanges a word that names no file for that of the file that it places keeps the
+/// rule.
 pub fn exchange_keeps_rule()
     ensures { ExchangesKeep ⟦<Exchanging as Play<Option<OpenFile>, View>>⟧.then }
 {}
 
-/// While the rule holds, no word overflows, and no part of a slot's word carries into the next. A slot has at most the takes of a cold one,
-/// and one more for each pass, in 21 bits; its heat is at most the number of passes, in 11 bits. The word of a node
-/// is above 2 until its file is retired, so no drop finds 2 before that. The control word is between 64,512 and 65,792.
+/// While the rule holds, no word overflows, and no part of a slot's word carries into the next. A
+/// slot has at most the takes of a cold one, and one more for each pass, in 21 bits; its heat is at
+/// most the number of passes, in 11 bits. The word of a node is above 2 until its file is retired,
+/// so no drop finds 2 before that. The control word is between 64,512 and 65,792.
 pub fn words_are_bounded()
     ensures { WordsAreBounded }
 {}
 
-/// While the rule holds, a node is that of one file as long as the file is held: holds of one node are of one file, which
-/// is the file of the slot whose word names the node. The number of a held file, modulo the number of nodes, is its node. A
-/// node whose word is 0, as that which a search finds, is that of no file which is held.
+/// While the rule holds, a node is that of one file as long as the file is held: holds of one node
+/// are of one file, which is the file of the slot whose word names the node. The number of a held
+/// file, modulo the number of nodes, is its node. A node whose word is 0, as that which a search
+/// finds, is that of no file which is held.
 pub fn nodes_are_of_one_file()
     ensures { NodesAreOfOneFile }
 {}
 
-/// While the rule holds, the node that a pass has chosen for its next file (`LastingTable::next_node`) is free: its word is 0, no
-/// slot's word names it, it is that of no file that is at a slot, held, or removed and not closed. No other pass has chosen it.
+/// While the rule holds, the node that a pass has chosen for its next file
+/// (`LastingTable::next_node`) is free: its word is 0, no slot's word names it, it is that of no
+/// file that is at a slot, held, or removed and not closed. No other pass has chosen it.
 pub fn chosen_nodes_are_free()
     ensures { ChosenNodesAreFree }
 {}
 
-/// While the rule holds, one legal history is that of all passes: what a pass has seen is a beginning of it, and its events of the
-/// pass are the pass's own. So the laws of histories (`fx_plain::laws`) hold of what all passes do, at any time before the close: no file
-/// comes out of two calls, and none while a pass holds it.
+/// While the rule holds, one legal history is that of all passes: what a pass has seen is a
+/// beginning of it, and its events of the pass are the pass's own. So the laws of histories
+/// (`fx_plain::laws`) hold of what all passes do, at any time before the close: no file comes out
+/// of two calls, and none while a pass holds it.
 pub fn has_one_history()
     ensures { HasOneHistory }
 {}
 
-/// While the rule holds, each file that was removed and isn't closed has a user: a pass that retires it, one that holds it, or one that is
-/// within a look-up and has announced its node. So while no look-up is under way, no retired file that nobody holds is open.
+/// While the rule holds, each file that was removed and isn't closed has a user: a pass that
+/// retires it, one that holds it, or one that is within a look-up and has announced its node. So
+/// while no look-up is under way, no retired file that nobody holds is open.
 pub fn removed_files_have_users()
     ensures { RemovedFilesHaveUsers }
 {}
 
-/// Each word of a table of `size` slots, with `passes` passes and `nodes` nodes, has its place inside the table's memory.
+/// Each word of a table of `size` slots, with `passes` passes and `nodes` nodes, has its place
+/// inside the table's memory.
 pub fn places_are_inside()
     ensures { (size passes nodes : ℕ) → PlacesAreInside size passes nodes }
 {}

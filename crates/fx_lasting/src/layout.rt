@@ -1,5 +1,6 @@
-//! The places of a table's words. The control word, each slot's word and each pass's hold word have a cache line of their
-//! own, and so has the list of passes that ever looked a file up, a bit for each. The nodes' words follow them, side by side
+//! The places of a table's words. The control word, each slot's word and each pass's hold word have
+//! a cache line of their own, and so has the list of passes that ever looked a file up, a bit for
+//! each. The nodes' words follow them, side by side
 //!.
 ghost use Rattle.std.specs.Prelude.{◌≡◌, ◌<◌, ◌≤◌};
 ghost use Rattle.fx_plain.specs.declared.table.TheConstants.{MOST_SLOTS};

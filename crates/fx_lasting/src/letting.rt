@@ -15,8 +15,8 @@ use atomic_table::Seat;
 use fx_base::OpenFile;
 
 impl LastingTable {
-    // Subtracts the mark that the pass owes, or the hold that it releases, from the node's word, in at most two steps.
-    // Returns the file if it was retired and nobody else has still to let it go.
+    // Subtracts the mark that the pass owes, or the hold that it releases, from the node's word, in
+    // at most two steps. Returns the file if it was retired and nobody else has still to let it go.
     #[inline(always)]
     pub(crate) fn let_go(
         &self,
@@ -42,8 +42,8 @@ impl LastingTable {
         Some(self.take_out(seat, node))
     }
 
-    // Withdraws the pass's announcement of the node, in at most three steps. Returns the file if it was retired and
-    // nobody else has still to let it go.
+    // Withdraws the pass's announcement of the node, in at most three steps. Returns the file if it
+    // was retired and nobody else has still to let it go.
     #[inline(never)]
     pub(crate) fn withdraw(
         &self,
@@ -67,8 +67,8 @@ impl LastingTable {
         self.let_go(seat, node)
     }
 
-    // Releases the file of the node, which the pass holds by its hold word, in at most three steps. Returns the file if
-    // it was retired and nobody else has still to let it go.
+    // Releases the file of the node, which the pass holds by its hold word, in at most three steps.
+    // Returns the file if it was retired and nobody else has still to let it go.
     #[inline(always)]
     pub(crate) fn step_down(
         &self,

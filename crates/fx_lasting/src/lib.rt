@@ -1,8 +1,9 @@
-//! A shared file table without a lock that never has to be closed. A cold file is looked up by an addition to its slot's
-//! word, a hot one by its name in a word of the pass's own; only an open at any slot may wait.
+//! A shared file table without a lock that never has to be closed. A cold file is looked up by an
+//! addition to its slot's word, a hot one by its name in a word of the pass's own; only an open at
+//! any slot may wait.
 //!
-//! Begin reading at `calls.rt`, then `specs/Agrees.antt` (the rule that every step keeps) and `layout.rt` (the places of the
-//! words).
+//! Begin reading at `calls.rt`, then `specs/Agrees.antt` (the rule that every step keeps) and
+//! `layout.rt` (the places of the words).
 #![tactic(auto)]
 
 mod calls;

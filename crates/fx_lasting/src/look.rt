@@ -1,4 +1,5 @@
-//! The steps of a look-up: a cold file is counted at its slot, a hot one is announced in the pass's hold word.
+//! The steps of a look-up: a cold file is counted at its slot, a hot one is announced in the pass's
+//! hold word.
 ghost use Rattle.std.specs.Prelude.{◌≡◌, ℕ, ◌<◌, []};
 ghost use Rattle.fx_lasting.specs.AtWork.{IsAtWork};
 ghost use Rattle.fx_lasting.specs.Ends.{Guards, LooksByTake};
@@ -18,8 +19,9 @@ use fx_table::{Hold, LookFault};
 use fx_words::{entry_of, node_of};
 
 impl LastingTable {
-    // Announces the node of a hot slot and looks at the slot again, in two steps. Returns the file's entry if the slot
-    // still has the file; the pass holds it then. Otherwise the announcement is to be withdrawn.
+    // Announces the node of a hot slot and looks at the slot again, in two steps. Returns the
+    // file's entry if the slot still has the file; the pass holds it then. Otherwise the
+    // announcement is to be withdrawn.
     #[inline(always)]
     pub(crate) fn guard(
         &self,
@@ -49,8 +51,8 @@ impl LastingTable {
         }
     }
 
-    // Adds a take to the slot's word, and heats the slot if it had its takes, in at most two steps. Returns the hold of the
-    // file there.
+    // Adds a take to the slot's word, and heats the slot if it had its takes, in at most two steps.
+    // Returns the hold of the file there.
     #[inline(always)]
     pub(crate) fn take_at(
         &self,

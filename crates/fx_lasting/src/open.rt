@@ -31,12 +31,14 @@ use std::alloc::Global;
 use std::snapshot::Snapshot;
 
 impl LastingTable {
-    /// Shares a settled table (`PlainTable::is_settled`) between `passes` passes, 1 to [`MOST_PASSES`]. The first
-    /// `installing` of them install files, 1 to [`MOST_INSTALLING`]. The passes are idle, and numbered from 1 in the order
-    /// of the list. The file at slot `s` gets node `s`. All memory is allocated here.
+    /// Shares a settled table (`PlainTable::is_settled`) between `passes` passes, 1 to
+    /// [`MOST_PASSES`]. The first `installing` of them install files, 1 to [`MOST_INSTALLING`]. The
+    /// passes are idle, and numbered from 1 in the order of the list. The file at slot `s` gets
+    /// node `s`. All memory is allocated here.
     ///
     /// # Errors
-    /// `NoMemory` if an allocation fails. The table comes back settled, with its files, size and range.
+    /// `NoMemory` if an allocation fails. The table comes back settled, with its files, size and
+    /// range.
     pub fn open(
         alloc: Global,
         plain: PlainTable,

@@ -1,15 +1,18 @@
-//! The parts of words that `fx_words` doesn't have: a slot's heat and takes, and what a retirement subtracts.
+//! The parts of words that `fx_words` doesn't have: a slot's heat and takes, and what a retirement
+//! subtracts.
 ghost use Rattle.std.specs.Prelude.{◌≡◌, ◌+◌, ◌≤◌, ◌^◌, ◌↔◌, IsTrue};
 ghost use Rattle.fx_words.specs.Words.{name_in, bias};
 ghost use Rattle.fx_lasting.specs.Parts.{count_in, IsHot, bit_of, announced, mark, retirement_amount, cold_takes};
 
-// The amount that a pass adds to a slot's word to heat the slot: its file is looked up by hold words then.
+// The amount that a pass adds to a slot's word to heat the slot: its file is looked up by hold
+// words then.
 pub(crate) const HEAT: u64 = 1 << 21;
 
 // The word of a node before anybody has let its file go.
 pub(crate) const BORN: u64 = (1 << 32) + 1;
 
-// Returns the number of takes from which on a slot becomes hot, in a table with this number of passes.
+// Returns the number of takes from which on a slot becomes hot, in a table with this number of
+// passes.
 pub(crate) fn cold_takes(passes: u32) -> u32
     ensures { result ≡ cold_takes passes }
 {
@@ -59,7 +62,8 @@ pub(crate) fn marked(node: u32) -> u64
     u64::from(node) + 1 + (1 << 32)
 }
 
-// Returns the amount that the retirement of a file with these takes and marks subtracts from its node's word.
+// Returns the amount that the retirement of a file with these takes and marks subtracts from its
+// node's word.
 pub(crate) fn retire_amount(takes: u32, marks: u32) -> u64
     requires { takes + marks ≤ 2 ^ 32 }
     ensures { result ≡ retirement_amount takes marks }
@@ -67,7 +71,8 @@ pub(crate) fn retire_amount(takes: u32, marks: u32) -> u64
     (1 << 32) - (u64::from(takes) + u64::from(marks))
 }
 
-// Checks whether the control word counts `len` full slots. It never counts too many, so all slots of the range are full then.
+// Checks whether the control word counts `len` full slots. It never counts too many, so all slots
+// of the range are full then.
 pub(crate) fn says_full(word: u64, len: u32) -> bool
     ensures { IsTrue result ↔ (word ≡ bias + len) }
 {

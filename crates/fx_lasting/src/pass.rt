@@ -7,9 +7,9 @@ use crate::view::View;
 use atomic_table::Seat;
 use fx_base::OpenFile;
 
-/// A pass of a [`crate::LastingTable`]. It must be consumed: the compiler rejects a program that drops one without
-/// [`crate::LastingTable::close`] or [`LastingPass::abandon`]. Two neighbouring passes of a list are 128 bytes apart, so
-/// that threads that use them share no cache line.
+/// A pass of a [`crate::LastingTable`]. It must be consumed: the compiler rejects a program that
+/// drops one without [`crate::LastingTable::close`] or [`LastingPass::abandon`]. Two neighbouring
+/// passes of a list are 128 bytes apart, so that threads that use them share no cache line.
 pub struct LastingPass {
     pub(crate) seat: Seat<Option<OpenFile>, View>,
     // The number of the pass, from 1.
@@ -74,8 +74,9 @@ impl LastingPass {
         seat
     }
 
-    /// Consumes the pass of a table that is abandoned, or is to be ([`crate::LastingTable::abandon`]). A file that it holds
-    /// or has to retire stays in the table's places, and is never returned.
+    /// Consumes the pass of a table that is abandoned, or is to be
+    /// ([`crate::LastingTable::abandon`]). A file that it holds or has to retire stays in the
+    /// table's places, and is never returned.
     pub fn abandon(self) {
         let _seat = self.into_seat();
     }

@@ -24,10 +24,11 @@ use std::sync::Wait;
 use std::thread;
 
 impl LastingTable {
-    /// Installs a file at an empty slot of the allocation range, under a number that no file has had, for an idle pass
-    /// (`is_idle`) that installs files (`numbers_left`), on the node that it has chosen, if it has (`next_node`), and returns
-    /// the slot (io_uring_prep_openat(3), "IORING_FILE_INDEX_ALLOC"). It tries again while other passes change the range, and
-    /// yields its thread between two tries.
+    /// Installs a file at an empty slot of the allocation range, under a number that no file has
+    /// had, for an idle pass (`is_idle`) that installs files (`numbers_left`), on the node that it
+    /// has chosen, if it has (`next_node`), and returns the slot (io_uring_prep_openat(3),
+    /// "IORING_FILE_INDEX_ALLOC"). It tries again while other passes change the range, and yields
+    /// its thread between two tries.
     ///
     /// # Errors
     /// Returns the file if every slot of the range has a file (ENFILE).
@@ -57,11 +58,13 @@ impl LastingTable {
         unreachable!()
     }
 
-    /// Tries once to install a file at an empty slot of the allocation range, under a number that no file has had, for an
-    /// idle pass (`is_idle`) that installs files (`numbers_left`). It never waits: it makes at most three atomic steps for
-    /// each slot of the range, and three more than the pass's block has nodes. It begins at the slot that the pass emptied
-    /// last, or else after the slot that it filled last, and goes once over the range. Returns the slot, or the file if every
-    /// slot of the range had a file at one moment (ENFILE), or if neither was found; then nothing has changed.
+    /// Tries once to install a file at an empty slot of the allocation range, under a number that
+    /// no file has had, for an idle pass (`is_idle`) that installs files (`numbers_left`). It never
+    /// waits: it makes at most three atomic steps for each slot of the range, and three more than
+    /// the pass's block has nodes. It begins at the slot that the pass emptied last, or else after
+    /// the slot that it filled last, and goes once over the range. Returns the slot, or the file if
+    /// every slot of the range had a file at one moment (ENFILE), or if neither was found; then
+    /// nothing has changed.
     pub fn try_put_any(&self, pass: &mut LastingPass, file: OpenFile) -> TriedPut
         requires fits { IsPassOfTable self.now pass.old }
         requires idle { IsIdle (view_of pass.old) }
@@ -91,8 +94,8 @@ impl LastingTable {
         }
     }
 
-    // Installs the file at a slot of the range that is empty when the scan reaches it, and returns that slot. The scan begins
-    // at `from`, if that is in the range, and goes once over the range.
+    // Installs the file at a slot of the range that is empty when the scan reaches it, and returns
+    // that slot. The scan begins at `from`, if that is in the range, and goes once over the range.
     fn scan(
         &self,
         seat: &mut Seat<Option<OpenFile>, View>,
@@ -149,8 +152,8 @@ impl LastingTable {
         }
     }
 
-    // Tries to install the file at the slot, in at most three steps. Returns whether the slot was empty and now has the
-    // file.
+    // Tries to install the file at the slot, in at most three steps. Returns whether the slot was
+    // empty and now has the file.
     fn try_slot(
         &self,
         seat: &mut Seat<Option<OpenFile>, View>,

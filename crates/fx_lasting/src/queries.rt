@@ -73,8 +73,8 @@ impl LastingTable {
         PASS_LOOKS
     }
 
-    /// Returns the number of files that the pass can install: 0 if it installs none, and otherwise always
-    /// [`fx_table::CHAIN_NUMBERS`].
+    /// Returns the number of files that the pass can install: 0 if it installs none, and otherwise
+    /// always [`fx_table::CHAIN_NUMBERS`].
     pub fn numbers_left(&self, pass: &LastingPass) -> u32
         requires { IsPassOfTable self.now pass.now }
         ensures { result ≡ (view_of pass.now).numbers_left }

@@ -1,4 +1,5 @@
-//! The search for a free node of a pass's own block. One is always free, and none of them goes away while the pass looks.
+//! The search for a free node of a pass's own block. One is always free, and none of them goes away
+//! while the pass looks.
 ghost use Rattle.std.specs.Prelude.{◌≡◌, ℕ, ◌+◌, ◌<◌, ◌≤◌, []};
 ghost use Rattle.fx_table.specs.Pass.{IsIdle};
 ghost use Rattle.fx_lasting.specs.AtWork.{IsAtWork};
@@ -21,8 +22,8 @@ use atomic_table::Seat;
 use fx_base::OpenFile;
 
 impl LastingTable {
-    // Finds a free node of the pass's block, from `start` on, in at most as many steps as the block has nodes: `start` itself, if
-    // the pass has chosen it.
+    // Finds a free node of the pass's block, from `start` on, in at most as many steps as the block
+    // has nodes: `start` itself, if the pass has chosen it.
     pub(crate) fn seek(
         &self,
         seat: &mut Seat<Option<OpenFile>, View>,
@@ -57,9 +58,10 @@ impl LastingTable {
         unreachable!()
     }
 
-    /// Chooses the node of the next file of an idle pass (`is_idle`), and returns it, in at most as many steps as the pass's
-    /// block has nodes. The next installation uses it, if no look-up or removal comes between. No open file is on it until
-    /// then (`chosen_nodes_are_free`). For a pass that isn't idle it returns the node where the pass's next search begins.
+    /// Chooses the node of the next file of an idle pass (`is_idle`), and returns it, in at most as
+    /// many steps as the pass's block has nodes. The next installation uses it, if no look-up or
+    /// removal comes between. No open file is on it until then (`chosen_nodes_are_free`). For a
+    /// pass that isn't idle it returns the node where the pass's next search begins.
     pub fn next_node(&self, pass: &mut LastingPass) -> u32
         requires fits { IsPassOfTable self.now pass.old }
         requires numbers { 0 < (view_of pass.old).numbers_left }
@@ -80,7 +82,8 @@ impl LastingTable {
     }
 }
 
-// Returns the node after this one in a block of `len` nodes from `first` on; the last one's is the first.
+// Returns the node after this one in a block of `len` nodes from `first` on; the last one's is the
+// first.
 fn node_after(first: u32, len: u32, node: u32) -> u32
     requires low { first ≤ node }
     requires high { node < first + len }

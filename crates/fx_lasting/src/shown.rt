@@ -1,5 +1,5 @@
-//! The order between the calls of two threads: a pass shows what it has seen, and another pass learns it. Neither call makes
-//! an atomic step.
+//! The order between the calls of two threads: a pass shows what it has seen, and another pass
+//! learns it. Neither call makes an atomic step.
 ghost use Rattle.std.specs.Prelude.{◌≡◌};
 ghost use Rattle.fx_table.specs.Showing.{Learns};
 ghost use Rattle.fx_lasting.specs.Tables.{view_of, opening_of_table, IsPassOfTable, steps_taken};

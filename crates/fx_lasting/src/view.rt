@@ -2,8 +2,8 @@ use fx_plain::{Event, File, PlainTable};
 use std::collections::LinkedList;
 use std::snapshot::Snapshot;
 
-/// The opening of a lasting table, for contracts alone: the table that was opened, the number of passes, and the number
-/// of those that install files.
+/// The opening of a lasting table, for contracts alone: the table that was opened, the number of
+/// passes, and the number of those that install files.
 #[derive(Drop)]
 pub struct Start {
     /// The table as it was opened.
@@ -26,7 +26,8 @@ pub struct Log {
     pub listed: bool,
 }
 
-/// The progress of a retirement's round through the other passes, as contracts see it. No value of it is made.
+/// The progress of a retirement's round through the other passes, as contracts see it. No value of
+/// it is made.
 pub struct Round {
     /// It has visited the passes before this one that it has to visit.
     pub next: u32,
@@ -36,8 +37,8 @@ pub struct Round {
     pub last: u64,
 }
 
-/// The work of a seat's pass between two steps, as contracts see it. A node is named by its number. No value of it is
-/// made.
+/// The work of a seat's pass between two steps, as contracts see it. A node is named by its number.
+/// No value of it is made.
 pub enum Work {
     /// Nothing.
     Idle,
@@ -47,16 +48,18 @@ pub enum Work {
     Counted(File, u32),
     /// It holds the file of the node by its hold word.
     Guarded(File, u32),
-    /// Its announcement of the node was marked and withdrawn, and it has still to subtract the mark.
+    /// Its announcement of the node was marked and withdrawn, and it has still to subtract the
+    /// mark.
     Owing(u32),
-    /// Its hold of the file of the node was marked, and it has still to subtract the mark, which is its release.
+    /// Its hold of the file of the node was marked, and it has still to subtract the mark, which is
+    /// its release.
     Yielding(File, u32),
     /// It looks for a free node of its block, and this one is free.
     Searching(u32),
     /// It has the place of the node, whose file it is about to install.
     Placing(u32),
-    /// It removed the file of the node with this many takes, has come so far on its round through the other passes, and
-    /// made this many marks.
+    /// It removed the file of the node with this many takes, has come so far on its round through
+    /// the other passes, and made this many marks.
     Retiring(File, u32, u32, Round, u32),
     /// It has the place of the node, whose file is closed.
     Emptying(u32),
@@ -74,12 +77,13 @@ pub enum Glance {
     Heating(u32),
 }
 
-/// The account of a pass with the control word, which counts the full slots of the allocation range, as contracts see it. No value
-/// of it is made.
+/// The account of a pass with the control word, which counts the full slots of the allocation
+/// range, as contracts see it. No value of it is made.
 pub enum Change {
     /// The control word counts what the pass did.
     Outside,
-    /// The control word counts one full slot too few: the pass is about to empty that slot, or has still to add it.
+    /// The control word counts one full slot too few: the pass is about to empty that slot, or has
+    /// still to add it.
     Inside,
 }
 

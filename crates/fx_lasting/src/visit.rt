@@ -1,5 +1,5 @@
-//! The round of a retirement through the other passes: each announcement of the removed file is marked. A pass that isn't listed
-//! announces nothing, and isn't visited.
+//! The round of a retirement through the other passes: each announcement of the removed file is
+//! marked. A pass that isn't listed announces nothing, and isn't visited.
 ghost use Rattle.std.specs.Prelude.{◌≡◌, ◌≢◌, ◌+◌, ◌*◌, ◌-◌, ◌<◌, ◌≤◌, [], ℕ, ◌⊎◌};
 ghost use Rattle.fx_plain.specs.declared.event.File.{File};
 ghost use Rattle.fx_lasting.specs.AtWork.{IsAtWork};
@@ -20,8 +20,8 @@ use atomic_table::Seat;
 use fx_base::OpenFile;
 
 impl LastingTable {
-    // Marks the announcements of the node by other passes, from `first` on, in at most two steps for each, and one for each
-    // 64 passes. Returns the number of marks.
+    // Marks the announcements of the node by other passes, from `first` on, in at most two steps
+    // for each, and one for each 64 passes. Returns the number of marks.
     #[inline(never)]
     pub(crate) fn mark_all(
         &self,
@@ -51,8 +51,8 @@ impl LastingTable {
         marks
     }
 
-    // Visits the listed ones of the 64 passes from `first` on, in at most two steps for each, and one. Returns the number of
-    // marks that it made.
+    // Visits the listed ones of the 64 passes from `first` on, in at most two steps for each, and
+    // one. Returns the number of marks that it made.
     fn mark_listed(
         &self,
         seat: &mut Seat<Option<OpenFile>, View>,
@@ -90,7 +90,8 @@ impl LastingTable {
         marks
     }
 
-    // Visits the pass, unless it is this one, in at most two steps. Returns the number of marks that it made.
+    // Visits the pass, unless it is this one, in at most two steps. Returns the number of marks
+    // that it made.
     fn visit(
         &self,
         seat: &mut Seat<Option<OpenFile>, View>,
@@ -124,7 +125,8 @@ impl LastingTable {
         }
     }
 
-    // Marks the announcement of another pass, if it announces the node, in at most two steps. Returns whether it did.
+    // Marks the announcement of another pass, if it announces the node, in at most two steps.
+    // Returns whether it did.
     fn mark(
         &self,
         seat: &mut Seat<Option<OpenFile>, View>,

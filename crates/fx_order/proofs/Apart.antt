@@ -81,8 +81,8 @@ module _ (files others left : List Closed) (i : ℕ) (so_far : IsPermutation fil
         λ same. (Decides-eqb n 0).1 (let short = length_permutation files others same in omega arith),
       )
 
--- If no mark is placed twice, and none that is in the table, each removed file isn't there afterwards, and was removed
--- once.
+-- If no mark is placed twice, and none that is in the table, each removed file isn't there
+-- afterwards, and was removed once.
 
 -- no mark is placed twice
 abbrev pub PlacesOnce : List (ℕ × Closed) → Type 0

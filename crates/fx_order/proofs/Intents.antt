@@ -1,4 +1,5 @@
--- A request's accesses are those that it intends, and its completion is the answer by what they found.
+-- A request's accesses are those that it intends, and its completion is the answer by what they
+-- found.
 use Rattle.fx_order.proofs.Words.{◌≡◌, ◌⊎◌, ◌↔◌, ℕ, zero, suc, ◌+◌, ◌<◌, ℤ, pos, negsuc, List, [], ◌∷◌, ◌++◌, refl, sym, ap, ◌∙◌, inl, inr, Option, Some, None}
 use Rattle.fx_order.proofs.Words.{FileEntry, ENOMEM, Completed, Operation, Opens, Reads, Closes, Updates, Place, Slot, Any, Access, Looks, Puts, Clears}
 use Rattle.fx_order.proofs.Words.{Takes, Allocates, FindsFull, IsRefused, IsEntryDone, AreEntriesDone, IsDoneAtTable, installed}

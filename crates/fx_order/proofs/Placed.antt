@@ -45,7 +45,8 @@ abbrev pub Removes : List Access → Closed → Type 0
 Removes [] file = ⊥
 Removes (access ∷ accesses) file = (file_removed_by access ≡ Some file) ⊎ Removes accesses file
 
--- a file that is at a slot after a write was there, and the write was elsewhere, or it is the written one
+-- a file that is at a slot after a write was there, and the write was elsewhere, or it is the
+-- written one
 written : (t : Table) {slot : ℕ} {new : Option Closed} {s : ℕ} {f : Closed} → (with_file t slot new).at s ≡ Some f
     → ((s ≢ slot) × (t.at s ≡ Some f)) ⊎ ((s ≡ slot) × (new ≡ Some f))
 written t {slot} {new} {s} {f} = grind arith
@@ -100,7 +101,8 @@ left_or_removed t (x ∷ xs) may (inl was) = ⊎_elim
 left_or_removed t (x ∷ xs) {s} {f} may (inr new) = ⊎_elim (λ end. inl end) (λ gone. inr (inr gone)) (left_or_removed (table_with t x) xs may.1
     (⊎_elim (λ here. inl (step_placed t x s here)) (λ later. inr later) (has_either (placed_by x) (placed xs) s f new)))
 
--- the slot of a removed file: it was there, and what is there then is another file that the access placed, or none
+-- the slot of a removed file: it was there, and what is there then is another file that the access
+-- placed, or none
 pub record IsEmptied (t : Table) (x : Access) (g : Closed) : Type 0 where
   pub slot : ℕ
   pub inside : slot < t.size

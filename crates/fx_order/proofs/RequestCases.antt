@@ -1,4 +1,5 @@
--- A request's accesses and completion, by its operation and its entries. A new kind of request adds its cases here.
+-- A request's accesses and completion, by its operation and its entries. A new kind of request adds
+-- its cases here.
 use Rattle.fx_order.proofs.Words.{◌≡◌, ℕ, zero, suc, ◌+◌, ◌<◌, ℤ, pos, negsuc, int_le, Bool, false, if◌then◌else◌, List, [], ◌∷◌, ◌++◌, length, refl}
 use Rattle.fx_order.proofs.Words.{sym, ap, ◌∙◌, arith, length-append, Some, slice_get, filter, leb-false, list_any, or_parts, Submitted, Closed}
 use Rattle.fx_order.proofs.Words.{Place, installed, is_bad_entry, list_installs, list_installs-cons, Access, IsEntryDone, AreEntriesDone, inl, inr}

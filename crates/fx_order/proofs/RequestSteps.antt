@@ -1,5 +1,5 @@
--- A request's accesses, and the steps that they are: each explains the answers that the other does. A new kind of request
--- adds its cases here.
+-- A request's accesses, and the steps that they are: each explains the answers that the other does.
+-- A new kind of request adds its cases here.
 use Rattle.fx_order.proofs.Words.{◌≡◌, ℕ, ◌+◌, ◌-◌, ◌<◌, ◌≤◌, ◌==◌, true, false, List, [], ◌∷◌, ◌++◌, length, map, refl, sym, ◌∙◌, arith, Option}
 use Rattle.fx_order.proofs.Words.{Some, None, ReleasesItsOwn, IsSome, if◌then◌else◌, option_to_list, Closed, File, Event, Action, Look, Release, Put}
 use Rattle.fx_order.proofs.Words.{Clear, Take, Allocate, Full, State, IsSettled, ◌▷◌, ◌▷▷◌, state_after, AllowsAll, AllReleaseTheirOwn, held_by}
@@ -40,7 +40,8 @@ installs access = length (placed_by access)
 abbrev pub by : ℕ → Action → Event
 by chain a = record { pass = chain; chain = chain; action = a }
 
--- an access that was done at once in a settled state: by its actions, to a settled state, by the next number
+-- an access that was done at once in a settled state: by its actions, to a settled state, by the
+-- next number
 pub record Done (st : State) (number : ℕ) (access : Access) : Type 0 where
   pub own : List Action
   pub does : Does access own
@@ -113,8 +114,8 @@ module _ (st : State) (number : ℕ) (settled : IsSettled st) where
       refl refl refl fresh_behind (λ _. tt) refl refl
   done FindsFull fresh may = grind arith
 
--- A request's accesses, and the steps that they are: each explains the answers that the other does. A new kind of request adds
--- its cases here.
+-- A request's accesses, and the steps that they are: each explains the answers that the other does.
+-- A new kind of request adds its cases here.
 
 -- the actions of accesses in two parts
 pub record Parted (xs ys : List Access) (actions : List Action) : Type 0 where
@@ -244,7 +245,8 @@ module _ (catalogue : List FileEntry) (size : ℕ) (place : Place) (events : Lis
       → IsRequestDone catalogue size place operation (accesses_in events) c
   request_done operation = same_options (refusal_of catalogue size operation) (at_table_done operation) refusal_done
 
--- The members of chains, by their accesses and by the steps that these are: each explains the answers that the other does.
+-- The members of chains, by their accesses and by the steps that these are: each explains the
+-- answers that the other does.
 
 module _ (catalogue : List FileEntry) (size : ℕ) where
   -- a chain

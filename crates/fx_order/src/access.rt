@@ -5,9 +5,9 @@ ghost use Rattle.fx_order.specs.Access.{file_removed_by, finding_of};
 use fx_base::Closed;
 use fx_chain::Finding;
 
-/// An access of a table by a request, when requests are done one at a time. A request that reaches the table makes one
-/// access, and an update one for each entry of its list that isn't a skip. Slots come first, then the file that is
-/// installed, then the file that was found there.
+/// An access of a table by a request, when requests are done one at a time. A request that reaches
+/// the table makes one access, and an update one for each entry of its list that isn't a skip.
+/// Slots come first, then the file that is installed, then the file that was found there.
 #[derive(Clone, Copy, Debug, PartialEq, Eq)]
 pub enum Access {
     /// A read looks at a slot.

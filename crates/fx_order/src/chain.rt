@@ -30,9 +30,9 @@ fn are_canceled(place: Place, requests: &[Request], completions: &[Completion]) 
     c.is_refusal(place, Errno::ECANCELED) && are_canceled(next, requests, completions)
 }
 
-/// Checks whether the members of a chain from this place on made these accesses, one after another, and have these
-/// completions: up to and including the first one that severs the chain, and the later ones canceled. Returns
-/// `NoMemory` if the allocation for the bytes of a read fails.
+/// Checks whether the members of a chain from this place on made these accesses, one after another,
+/// and have these completions: up to and including the first one that severs the chain, and the
+/// later ones canceled. Returns `NoMemory` if the allocation for the bytes of a read fails.
 pub(crate) fn is_chain_done(
     setting: &OrderSetting<'_>,
     place: Place,

@@ -1,8 +1,10 @@
-//! One order: whatever the schedule, a submission's completions and closes are those of its requests done one at a
-//! time, in some order that keeps each chain's (an update counts entry by entry).
+//! One order: whatever the schedule, a submission's completions and closes are those of its
+//! requests done one at a time, in some order that keeps each chain's (an update counts entry by
+//! entry).
 //!
-//! The contract that others rely on is [`laws::each_history_is_an_order`]. [`is_one_order`] decides whether an order of
-//! the requests leads to a report. Begin reading at `specs/Order.antt`, then `laws.rt` and `report.rt`.
+//! The contract that others rely on is [`laws::each_history_is_an_order`]. [`is_one_order`] decides
+//! whether an order of the requests leads to a report. Begin reading at `specs/Order.antt`, then
+//! `laws.rt` and `report.rt`.
 #![tactic(auto)]
 
 mod access;

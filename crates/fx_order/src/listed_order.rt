@@ -17,7 +17,8 @@ pub struct AccessPlace {
 pub struct Order {
     /// The number of the submission among the accepted ones, from 1.
     pub submission: u32,
-    /// The accesses that the requests make, in order. A request that doesn't reach the table makes none.
+    /// The accesses that the requests make, in order. A request that doesn't reach the table makes
+    /// none.
     pub accesses: Vec<ChainAccess>,
     /// The places of their requests, in the same order.
     pub places: Vec<AccessPlace>,

@@ -10,8 +10,8 @@ use crate::slots::Slots;
 use fx_base::{Closed, NoMemory};
 use std::alloc::Global;
 
-/// Makes the accesses of an order, one after another, and returns whether each was permitted. If one isn't, those
-/// before it are made and no later one is.
+/// Makes the accesses of an order, one after another, and returns whether each was permitted. If
+/// one isn't, those before it are made and no later one is.
 pub fn make_all(slots: &mut Slots, order: &[ChainAccess]) -> bool
     ensures permitted { IsTrue result
         ↔ PermitsAll (table_of_slots slots.old) (accesses_of order.now) }
@@ -78,8 +78,8 @@ fn last_first(alloc: Global, files: &[Closed]) -> Result<Vec<Closed>, NoMemory>
     Ok(left)
 }
 
-// Checks whether both lists have the same files, each the same number of times. If the others are in order of mark,
-// each is the last one of those that are left.
+// Checks whether both lists have the same files, each the same number of times. If the others are
+// in order of mark, each is the last one of those that are left.
 fn has_same_files(alloc: Global, files: &[Closed], others: &[Closed]) -> Result<bool, NoMemory>
     ensures { IfOk result (λ yes. IsTrue yes ↔ IsPermutation files.now others.now) }
 {
@@ -105,7 +105,8 @@ fn is_in_order(files: &[Closed]) -> bool
     true
 }
 
-/// Checks whether these closes are the files that the accesses took from their slots, in order of mark.
+/// Checks whether these closes are the files that the accesses took from their slots, in order of
+/// mark.
 ///
 /// # Errors
 /// `NoMemory` if an allocation for a list of the files fails.

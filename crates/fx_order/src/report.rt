@@ -28,13 +28,14 @@ fn are_within(order: &[ChainAccess], chains: usize) -> bool
         .all(|x| 1 <= x.chain && x.chain as usize <= chains)
 }
 
-/// Returns the slots that an order of a submission's requests leaves, done one at a time at a table with these slots,
-/// or `None` if the order doesn't lead to the submission's report. Requires that no request has a fault
-/// ([`fx_chain::check`]), and that the submission's number and the number of slots fit 32 bits.
+/// Returns the slots that an order of a submission's requests leaves, done one at a time at a table
+/// with these slots, or `None` if the order doesn't lead to the submission's report. Requires that
+/// no request has a fault ([`fx_chain::check`]), and that the submission's number and the number of
+/// slots fit 32 bits.
 ///
 /// # Errors
-/// `NoMemory` if an allocation fails: for lists as long as the submission, the order or the table, or for the bytes of
-/// a read.
+/// `NoMemory` if an allocation fails: for lists as long as the submission, the order or the table,
+/// or for the bytes of a read.
 pub fn slots_left(
     alloc: Global,
     submitted: &SubmissionReport<'_>,
@@ -75,13 +76,14 @@ pub fn slots_left(
     Ok(Some(left))
 }
 
-/// Checks whether this order of a submission's requests, done one at a time, leads to the report, at a ring with this
-/// catalogue. If it does, the ring becomes the one that the order leaves; otherwise it stays. Requires that no request
-/// has a fault ([`fx_chain::check`]), and that the number of slots fits 32 bits.
+/// Checks whether this order of a submission's requests, done one at a time, leads to the report,
+/// at a ring with this catalogue. If it does, the ring becomes the one that the order leaves;
+/// otherwise it stays. Requires that no request has a fault ([`fx_chain::check`]), and that the
+/// number of slots fits 32 bits.
 ///
 /// # Errors
-/// `NoMemory` if an allocation fails: for lists as long as the submission, the order or the table, or for the bytes of
-/// a read. The ring stays.
+/// `NoMemory` if an allocation fails: for lists as long as the submission, the order or the table,
+/// or for the bytes of a read. The ring stays.
 pub fn is_one_order(
     alloc: Global,
     catalogue: &Catalogue,

@@ -1,5 +1,5 @@
-//! Checking a request's accesses and completion: the accesses are those that it intends, and its completion is the answer by
-//! what they found.
+//! Checking a request's accesses and completion: the accesses are those that it intends, and its
+//! completion is the answer by what they found.
 ghost use Rattle.std.specs.Prelude.{◌≡◌, ◌<◌, ◌+◌, ◌^◌, ◌↔◌, IfNone, IfOk, IfSome, IsTrue, List, None, ℕ};
 ghost use Rattle.std.specs.Prelude.{drop, is_some, length, take, true};
 ghost use Rattle.std.specs.List.{AllZip};
@@ -78,8 +78,8 @@ fn is_of(intent: Intent, access: &Access) -> bool
     }
 }
 
-// Checks whether accesses are those that a request intends at its place, from the access numbered `made` on. `opened` is the
-// place, and the catalogue entry that the request opens.
+// Checks whether accesses are those that a request intends at its place, from the access numbered
+// `made` on. `opened` is the place, and the catalogue entry that the request opens.
 #[tactic(auto, using(crate::proofs::Intents::drop_got, crate::proofs::Intents::drop_past))]
 fn are_intended(
     setting: &OrderSetting<'_>,
@@ -105,7 +105,8 @@ fn are_intended(
     is_of(intent, access) && are_intended(setting, request, opened, made + 1, others)
 }
 
-// Returns the catalogue entry of the file that the first access installs, or `None` if it installs none.
+// Returns the catalogue entry of the file that the first access installs, or `None` if it installs
+// none.
 fn entry_installed(accesses: &[Access]) -> Option<u8>
     ensures { result ≡ entry_installed accesses.now }
 {
@@ -116,7 +117,8 @@ fn entry_installed(accesses: &[Access]) -> Option<u8>
     }
 }
 
-// Returns a catalogue entry that the request opens: if there are several, the one that the first access installs.
+// Returns a catalogue entry that the request opens: if there are several, the one that the first
+// access installs.
 fn entry_opened(catalogue: &Catalogue, request: &Request, accesses: &[Access]) -> Option<u8>
     ensures some { IfSome result (λ entry.
         IsOpened catalogue.now (operation_of request.now.op) entry) }
@@ -156,7 +158,8 @@ fn last_finding(accesses: &[Access]) -> Option<Finding>
     }
 }
 
-// Checks whether the completion is the answer by what the accesses found, which the request intends.
+// Checks whether the completion is the answer by what the accesses found, which the request
+// intends.
 #[tactic(auto, using(crate::proofs::Intents::free_answer))]
 fn is_answered(
     setting: &OrderSetting<'_>,
@@ -227,8 +230,8 @@ pub(crate) fn accesses_made(setting: &OrderSetting<'_>, request: &Request, c: &C
     count_of(setting.catalogue, setting.size, request)
 }
 
-/// Returns the position in the list of an update, from 0, for each access that a request made, if it has this
-/// completion, or `None` for the access of another request.
+/// Returns the position in the list of an update, from 0, for each access that a request made, if
+/// it has this completion, or `None` for the access of another request.
 ///
 /// # Errors
 /// `NoMemory` if an allocation fails.

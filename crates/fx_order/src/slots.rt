@@ -55,7 +55,8 @@ impl Slots {
         })
     }
 
-    /// Checks whether both tables have the same files at the same slots, and the same allocation range.
+    /// Checks whether both tables have the same files at the same slots, and the same allocation
+    /// range.
     pub fn is_same(&self, other: &Slots) -> bool
         ensures same { IsTrue result → table_of_slots self.now ≡ table_of_slots other.now }
         ensures all { self.now.range ≡ other.now.range → self.now.at.items ≡ other.now.at.items

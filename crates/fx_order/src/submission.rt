@@ -39,8 +39,9 @@ pub struct OrderedRequests<'a> {
     pub order: &'a [ChainAccess],
 }
 
-/// Checks whether the chains from number `chain` on made their accesses of an order and have these completions, which
-/// are in order of place. Requires that the chains are those of the requests ([`fx_chain::cut`]).
+/// Checks whether the chains from number `chain` on made their accesses of an order and have these
+/// completions, which are in order of place. Requires that the chains are those of the requests
+/// ([`fx_chain::cut`]).
 ///
 /// # Errors
 /// `NoMemory` if an allocation fails: for the accesses of a chain, or for the bytes of a read.

@@ -20,7 +20,8 @@ held_more c n = record c { holds = slice_set c.holds n (slice_index c.holds n + 
 abbrev pub held_less : Contents → ℕ → Contents
 held_less c n = record c { holds = slice_set c.holds n (slice_index c.holds n - 1) }
 
--- a table with another number of holds of a file keeps its invariant, unless a retired file has no hold left
+-- a table with another number of holds of a file keeps its invariant, unless a retired file has no
+-- hold left
 module _ (c : Contents) {n : ℕ} (h : ℕ) (inside : n < length c.holds) where
   holds_keep : IsTable c → (is_retired (node_at c.nodes n) ≡ true → 0 < h) → IsTable (record c { holds = slice_set c.holds n h })
   holds_keep t some =

@@ -39,7 +39,8 @@ module _ (P : File → Type 0) where
   abbrev pub HoldsOfAll : State → Type 0
   HoldsOfAll st = HoldsOfFiles P (λ _. P) (λ _ p. p) st
 
-  -- a property of each file at the start, and of each that was installed, holds for each file at the end
+  -- a property of each file at the start, and of each that was installed, holds for each file at
+  -- the end
   pub holds_at_end : (start : State) (h : List Event) → HoldsOfAll start → AllowsAll start (map action_of h) → ((f : File) → IsInstalled h f → P f)
       → HoldsOfAll (state_after start (map action_of h))
   holds_at_end start [] all may new = all

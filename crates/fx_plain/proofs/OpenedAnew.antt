@@ -8,7 +8,8 @@ use Rattle.fx_plain.proofs.LawFiles.{installed_now, used_after}
 use Rattle.fx_plain.proofs.Renaming.{IsOneToOne, IsNamed, renamed_state, IsRenamable, InstallsNamed, legal_renamed}
 use Rattle.fx_plain.specs.Reopening.{Renaming, renamed_found, renamed_event, numbers_given, with_number_of, HasOtherNumbers, IsTableAtRest}
 
--- The place of a number in a list of distinct ones, from the last one on, and the slot that has the file of a number.
+-- The place of a number in a list of distinct ones, from the last one on, and the slot that has the
+-- file of a number.
 abbrev pub place_of : ℕ → List ℕ → ℕ
 place_of n [] = 0
 place_of n (x ∷ l) = if x == n then length l else place_of n l

@@ -1,4 +1,5 @@
--- Each file moves to the node of its slot's number, one slot after another, and slots outside the span have such numbers.
+-- Each file moves to the node of its slot's number, one slot after another, and slots outside the
+-- span have such numbers.
 use Rattle.fx_plain.proofs.Words.{◌≡◌, ◌≢◌, ℕ, ◌<◌, ◌≤◌, List, length, sym, ◌∙◌, arith, slice_set, Option, Some, None, length-set, get_or-set_other}
 use Rattle.fx_plain.proofs.Words.{slot_at, SlotSpan, IsOutside, HaveOwnOutside, ◌+◌, [], ◌∷◌, ◌++◌, refl, ap, set-set, get_or_append_left, Closed}
 use Rattle.fx_plain.proofs.Words.{AllPlaced, IsFiled, subst, node_at, file_named, identity_in, opening_slot, moved_node, nodes_without, file_count_of}

@@ -1,5 +1,5 @@
-//! The holds of a table's files by number. As in the list of nodes, numbers that no look-up has reached aren't written;
-//! their holds are 0.
+//! The holds of a table's files by number. As in the list of nodes, numbers that no look-up has
+//! reached aren't written; their holds are 0.
 ghost use Rattle.std.specs.Prelude.{◌≡◌, ◌+◌, ◌-◌, ◌<◌, ◌^◌, ◌≤◌, ℕ, [], length, replicate, slice_index, slice_set, vec_len, vec_capacity, IfOk, IfSome, IfNone};
 ghost use Rattle.fx_plain.specs.Reserved.{with_rest};
 
@@ -44,7 +44,8 @@ impl HoldList {
         Ok(HoldList { written, len })
     }
 
-    // Creates `len` zeros, or returns `None` if this list has at least `len` numbers and can be reused.
+    // Creates `len` zeros, or returns `None` if this list has at least `len` numbers and can be
+    // reused.
     pub(crate) fn zeros_beyond(&self, alloc: Global, len: u32) -> Result<Option<HoldList>, NoMemory>
         ensures new { IfOk result (λ new. IfSome new (λ holds. holds ≡ replicate len 0)) }
         ensures here { IfOk result (λ new. IfNone new (len ≤ length self.now)) }

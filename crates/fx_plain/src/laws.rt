@@ -1,5 +1,5 @@
-//! The limit of a table, and laws of histories, which follow from the model's steps and legal histories alone. Each is
-//! the contract of a function with an empty body.
+//! The limit of a table, and laws of histories, which follow from the model's steps and legal
+//! histories alone. Each is the contract of a function with an empty body.
 
 ghost use Rattle.std.specs.Prelude.{◌≡◌};
 ghost use Rattle.fx_plain.specs.Laws.{NoCloseWhileHeld, ClosedAtMostOnce, EveryRemovedFileIsClosed, EveryFileWasThereOrInstalled, OpeningIsStart};
@@ -22,16 +22,17 @@ pub fn closed_at_most_once()
     ensures { ClosedAtMostOnce }
 {}
 
-/// States that in a settled state, where no file has a hold and none waits for its close, each file that was at a slot
-/// at the start or was installed since is either still at a slot and was never closed, or at no slot and was closed
-/// once.
+/// States that in a settled state, where no file has a hold and none waits for its close, each file
+/// that was at a slot at the start or was installed since is either still at a slot and was never
+/// closed, or at no slot and was closed once.
 #[tactic(auto, using(crate::proofs::LawFiles::every_removed_file_is_closed))]
 pub fn every_removed_file_is_closed()
     ensures { EveryRemovedFileIsClosed }
 {}
 
-/// States that if no file waits for its close at the start, each file that was closed, or is at a slot at the end, was
-/// at a slot at the start or was installed since. So a property of all those files holds for every file of the table.
+/// States that if no file waits for its close at the start, each file that was closed, or is at a
+/// slot at the end, was at a slot at the start or was installed since. So a property of all those
+/// files holds for every file of the table.
 pub fn every_file_was_there_or_installed()
     ensures { EveryFileWasThereOrInstalled }
 {}
@@ -41,8 +42,8 @@ pub fn opening_is_start()
     ensures { OpeningIsStart }
 {}
 
-/// States that a table that is opened is at rest: the laws apply from its state, as in [`opening_is_start`], and it has
-/// no file past its slots.
+/// States that a table that is opened is at rest: the laws apply from its state, as in
+/// [`opening_is_start`], and it has no file past its slots.
 pub fn opening_is_at_rest()
     ensures { OpeningIsAtRest }
 {}
@@ -53,13 +54,14 @@ pub fn a_table_comes_to_rest()
     ensures { StaysAtRest }
 {}
 
-/// States that what happens to a table at rest may also happen to a table that is opened with its files: numbers are
-/// only names.
+/// States that what happens to a table at rest may also happen to a table that is opened with its
+/// files: numbers are only names.
 pub fn a_later_part_may_open_a_table()
     ensures { OpenedAnew }
 {}
 
-/// States that if no pass holds a file, the continuation of a legal history is legal from the state reached so far.
+/// States that if no pass holds a file, the continuation of a legal history is legal from the state
+/// reached so far.
 pub fn what_comes_behind_is_legal()
     ensures { LegalBehind }
 {}

@@ -1,5 +1,5 @@
-//! The nodes of a table by number. Memory for all of them is reserved at once, and a node is written when its number is
-//! first used, so that unused numbers cost no time.
+//! The nodes of a table by number. Memory for all of them is reserved at once, and a node is
+//! written when its number is first used, so that unused numbers cost no time.
 ghost use Rattle.std.specs.Prelude.{◌≡◌, ◌<◌, ◌≤◌, ℕ, [], false, length, take, slice_index_or, slice_set, vec_len, vec_capacity, IsSome, IsTrue, Some};
 ghost use Rattle.fx_plain.specs.Contents.{node_at, is_fresh, is_leaving, is_retired, identity_in, node_after_removal, node_after_retirement, KeepsFirst, Fresh, Gone};
 ghost use Rattle.fx_plain.specs.Reserved.{with_rest};
@@ -52,8 +52,8 @@ impl NodeList {
         NodeList { written, len }
     }
 
-    // Extends the list to at least `len` nodes, if the first `kept` nodes are there and no allocation is needed.
-    // Returns whether it did.
+    // Extends the list to at least `len` nodes, if the first `kept` nodes are there and no
+    // allocation is needed. Returns whether it did.
     pub(crate) fn extend(&mut self, kept: usize, len: u32) -> bool
         ensures there { IsTrue result → kept ≤ length self.old }
         ensures enough { IsTrue result → len ≤ length self.new }
@@ -75,8 +75,8 @@ impl NodeList {
         true
     }
 
-    // Keeps the first `kept` nodes and discards the files of the others. Afterwards there are `len` nodes, and those
-    // after the kept ones are fresh.
+    // Keeps the first `kept` nodes and discards the files of the others. Afterwards there are `len`
+    // nodes, and those after the kept ones are fresh.
     pub(crate) fn cut(&mut self, kept: usize, len: u32)
         requires kept { kept ≤ len }
         requires len { len ≤ length self.old }

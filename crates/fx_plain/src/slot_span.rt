@@ -2,7 +2,8 @@
 ghost use Rattle.std.specs.Prelude.{◌≡◌, ◌≤◌, ◌<◌, ◌+◌, ◌^◌, ℕ};
 ghost use Rattle.fx_plain.specs.OwnNumbers.{IsOutside};
 
-// The slots from `start` up to, but not including, `end`. The span is empty unless `end` is above `start`.
+// The slots from `start` up to, but not including, `end`. The span is empty unless `end` is above
+// `start`.
 #[derive(Drop)]
 pub(crate) struct SlotSpan {
     pub(crate) start: u32,

@@ -24,15 +24,16 @@ pub const MOST_SLOTS: u32 = 256;
 #[derive(Clone, Copy, Debug, PartialEq, Eq)]
 pub struct BadRange;
 
-/// The file table of one thread: slots, each empty or with one open file, an allocation range, and the files that were
-/// removed and aren't closed yet. It must be consumed: the compiler rejects a program that drops one without
-/// [`PlainTable::dismiss`] or [`PlainTable::abandon`]. Slots are numbered from 0, and a call that names a slot requires
-/// that it is below [`PlainTable::size`].
+/// The file table of one thread: slots, each empty or with one open file, an allocation range, and
+/// the files that were removed and aren't closed yet. It must be consumed: the compiler rejects a
+/// program that drops one without [`PlainTable::dismiss`] or [`PlainTable::abandon`]. Slots are
+/// numbered from 0, and a call that names a slot requires that it is below [`PlainTable::size`].
 ///
-/// Each file has a number of its own from [`PlainTable::prepare`] on. A removed file is *leaving* until it is retired.
-/// It is handed out, to be closed, once it is retired and has no holds. Numbers, holds and retirement are this
-/// project's own. Contracts see the state of the model as `state_of`, the set of leaving files as `leaving`, and the
-/// number of prepared numbers as `numbers_of`.
+/// Each file has a number of its own from [`PlainTable::prepare`] on. A removed file is *leaving*
+/// until it is retired. It is handed out, to be closed, once it is retired and has no holds.
+/// Numbers, holds and retirement are this project's own. Contracts see the state of the model as
+/// `state_of`, the set of leaving files as `leaving`, and the number of prepared numbers as
+/// `numbers_of`.
 pub struct PlainTable {
     // The number of the file at each slot.
     slots: Vec<Option<u32>>,
@@ -46,7 +47,8 @@ pub struct PlainTable {
     full: u32,
     held: u64,
     removed: u32,
-    // Outside this span each file has its slot's own number, so that a preparation has nothing to do there.
+    // Outside this span each file has its slot's own number, so that a preparation has nothing to
+    // do there.
     to_renumber: SlotSpan,
 }
 
@@ -76,7 +78,8 @@ impl Model for PlainTable {
 }
 
 impl PlainTable {
-    /// Creates a table without slots and with an empty allocation range, as a ring has before a registration.
+    /// Creates a table without slots and with an empty allocation range, as a ring has before a
+    /// registration.
     pub fn none(alloc: Global) -> PlainTable
         ensures state { state_of result ≡ vacant 0 }
         ensures numbers { numbers_of result ≡ 0 }
@@ -96,8 +99,8 @@ impl PlainTable {
     }
 
     /// Creates a table of `n` empty slots, 1 to [`MOST_SLOTS`], all of them in the allocation range
-    /// (io_uring_register_files(3), `io_uring_register_files_sparse`). It is settled, as a preparation and a shared
-    /// table require.
+    /// (io_uring_register_files(3), `io_uring_register_files_sparse`). It is settled, as a
+    /// preparation and a shared table require.
     ///
     /// # Errors
     /// `NoMemory` if the allocation for the slots fails.
@@ -148,7 +151,8 @@ impl PlainTable {
     /// "IORING_REGISTER_FILE_ALLOC_RANGE"). `len` may be 0. Nothing else changes.
     ///
     /// # Errors
-    /// `BadRange` if `off + len`, computed without overflow, is above the size. The table then stays as it was.
+    /// `BadRange` if `off + len`, computed without overflow, is above the size. The table then
+    /// stays as it was.
     pub fn set_range(&mut self, off: u32, len: u32) -> Result<(), BadRange>
         ensures accepted { IsOk result ↔ (off + len ≤ (state_of self.old).size) }
         ensures ok { OnOk result (SetsRange self.old self.new off len) }
@@ -193,7 +197,8 @@ impl PlainTable {
         Some(self.nodes.file(number).identity())
     }
 
-    /// Returns the number of file numbers that were last prepared; before the first preparation, the size at creation.
+    /// Returns the number of file numbers that were last prepared; before the first preparation,
+    /// the size at creation.
     pub fn numbers(&self) -> u32
         ensures { result ≡ numbers_of self.now }
     {

@@ -1,7 +1,7 @@
 //! The printed lines of a ring's answers: results, completions, closed files and tags.
 //!
-//! Others rely on the contracts that equate each text with one of `specs/Text.antt`, above all that of
-//! [`submission_text`]. Begin reading there, then at `text.rt`.
+//! Others rely on the contracts that equate each text with one of `specs/Text.antt`, above all that
+//! of [`submission_text`]. Begin reading there, then at `text.rt`.
 #![tactic(auto)]
 
 mod digits;

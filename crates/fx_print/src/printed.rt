@@ -10,8 +10,8 @@ use std::alloc::Global;
 use std::thread;
 use std::thread::Threads;
 
-/// The least number of bytes of lines that several threads produce. One thread produces fewer before another has
-/// started.
+/// The least number of bytes of lines that several threads produce. One thread produces fewer
+/// before another has started.
 const LARGE: usize = 262_144;
 
 // Returns all texts, or the first failure.
@@ -25,7 +25,8 @@ fn all_made(alloc: Global, made: Vec<Result<String, NoMemory>>) -> Result<Vec<St
     Ok(texts)
 }
 
-// Returns the lines of completions, `size` completions in each text, produced in threads if these can be started.
+// Returns the lines of completions, `size` completions in each text, produced in threads if these
+// can be started.
 fn texts_of(
     rt: &(impl Threads + Sync),
     alloc: Global,
@@ -64,9 +65,9 @@ fn joined(alloc: Global, texts: Vec<String>) -> Result<String, NoMemory>
     Ok(all)
 }
 
-/// Returns the text of a submission, as [`submission_text`] does. If the text is large, as many threads as the
-/// submission has workers produce its lines, which are then joined. Requires that the entry of each closed file is
-/// below [`Catalogue::len`].
+/// Returns the text of a submission, as [`submission_text`] does. If the text is large, as many
+/// threads as the submission has workers produce its lines, which are then joined. Requires that
+/// the entry of each closed file is below [`Catalogue::len`].
 ///
 /// # Errors
 /// `NoMemory` if an allocation for the text or the tags fails.

@@ -11,8 +11,8 @@ use fx_base::{Catalogue, CloseList, Closed, Mark, NoMemory, TagCompletion};
 use fx_chain::{Completion, CutFault, CutKind, Place};
 use std::alloc::{AllocError, Global};
 
-/// The greatest number of bytes of a completion's line besides the bytes of a read: four numbers of at most eleven
-/// bytes.
+/// The greatest number of bytes of a completion's line besides the bytes of a read: four numbers of
+/// at most eleven bytes.
 const COMPLETION_ROOM: usize = 50;
 
 /// The greatest number of bytes of a closed file's line: four numbers and a name.
@@ -193,7 +193,8 @@ fn kind_name(kind: CutKind) -> &'static str
     }
 }
 
-/// Returns the line of a refused submission: the name of the fault, and the number of its request, from 1.
+/// Returns the line of a refused submission: the name of the fault, and the number of its request,
+/// from 1.
 ///
 /// # Errors
 /// `NoMemory` if an allocation for the text fails.
@@ -250,8 +251,9 @@ pub(crate) fn completions_text(
     Ok(text)
 }
 
-/// Returns the text of a submission: a line for each completion, then one for each file that was closed, then one for
-/// each of their tags. Requires that the entry of each closed file is below [`Catalogue::len`].
+/// Returns the text of a submission: a line for each completion, then one for each file that was
+/// closed, then one for each of their tags. Requires that the entry of each closed file is below
+/// [`Catalogue::len`].
 ///
 /// # Errors
 /// `NoMemory` if an allocation for the text or the tags fails.
@@ -274,8 +276,8 @@ pub fn submission_text(
     Ok(text)
 }
 
-/// Returns a first line, and the lines of closed files and of their tags. Requires that the entry of each closed file
-/// is below [`Catalogue::len`].
+/// Returns a first line, and the lines of closed files and of their tags. Requires that the entry
+/// of each closed file is below [`Catalogue::len`].
 ///
 /// # Errors
 /// `NoMemory` if an allocation for the text or the tags fails.
@@ -298,8 +300,9 @@ pub fn with_closes(
     Ok(text)
 }
 
-/// Returns the lines at the end of a script: `teardown` and the lines of the files that were left in the table, or no
-/// line if none was left. Requires that the entry of each closed file is below [`Catalogue::len`].
+/// Returns the lines at the end of a script: `teardown` and the lines of the files that were left
+/// in the table, or no line if none was left. Requires that the entry of each closed file is below
+/// [`Catalogue::len`].
 ///
 /// # Errors
 /// `NoMemory` if an allocation for the text or the tags fails.

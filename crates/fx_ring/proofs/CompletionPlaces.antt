@@ -86,7 +86,8 @@ explained_of_members catalogue size place (request ∷ requests) events (own, ot
     (λ cut. subst (AreOfMembers (next_member place) requests) (sym cut.1) (canceled_of_members (next_member place) requests))
     (λ more. explained_of_members catalogue size (next_member place) requests others more) behind))
 
--- The completions of a submission, once they are in order of place: they are the chains' parts, one after another.
+-- The completions of a submission, once they are in order of place: they are the chains' parts, one
+-- after another.
 
 rises_append : {m : ℕ} (xs ys : List Completed) → Rises place_key xs → Rises place_key ys → All (λ c. place_key c < m) xs
     → All (λ c. m ≤ place_key c) ys → Rises place_key (xs ++ ys)

@@ -133,7 +133,8 @@ module _ (catalogue : List FileEntry) (size : ℕ) where
       let is : m ≡ place.member = cc in
       omega arith
 
-  -- the steps of a chain install files of the catalogue with marks of its members, and no mark twice
+  -- the steps of a chain install files of the catalogue with marks of its members, and no mark
+  -- twice
   pub explained_puts : (place : Place) (requests : List Asked) (events : List Action) (completions : List Completed)
       → Explains catalogue size place requests events completions → Puts (IsOfMembers (length catalogue) place) events
   explained_puts place [] events completions it =

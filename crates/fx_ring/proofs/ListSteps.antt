@@ -97,7 +97,8 @@ module _ (k : ℕ) (at : ℕ → Option Closed) (off : ℕ) (list : List ℤ) (t
         ∙ ap (λ (n : ℕ × ℕ). removed_by_number z (at (off + i)) ++ removed_from at n.0 (drop n.1 list))
         (let e : off + i + 1 ≡ off + (i + 1) = omega arith in let f : suc i ≡ i + 1 = omega arith in λ j. (e j, f j))
 
--- the first so many numbers of a list were applied; the rest has still to be removed, and has its room
+-- the first so many numbers of a list were applied; the rest has still to be removed, and has its
+-- room
 pub record IsApplied (k off : ℕ) (list : List ℤ) (tags : List ℕ) (old cur : State) (before mid : CloseListView) (i : ℕ) : Type 0 where
   pub size : cur.size ≡ old.size
   pub range : cur.range ≡ old.range

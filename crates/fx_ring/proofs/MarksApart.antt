@@ -69,7 +69,8 @@ puts_may_close P steps (Some removed) events may puts = ⊎_elim
     (λ is. subst (Puts P) (sym is) (puts_and_closes P steps removed puts))
     may
 
--- A table whose files have marks apart keeps them apart, as long as each mark that is installed is a new one.
+-- A table whose files have marks apart keeps them apart, as long as each mark that is installed is
+-- a new one.
 
 -- a step leaves all slots, or changes one to what it installs
 slots_after : (st : State) (a : Action) → ((after st a).at ≡ st.at) ⊎ ((slot : ℕ) × ((after st a).at ≡ changed_at st.at slot (installed_by a)))
@@ -128,7 +129,8 @@ module _ (P : File → Type 0) where
       (λ changed. subst (IsApart (a ∷ h)) (sym changed.1) (changed_apart h a st.at changed.0 fresh unlike before))
       (slots_after st a)
 
--- Where each chain's part of a history installs no mark twice, and marks of that chain alone, the history doesn't either.
+-- Where each chain's part of a history installs no mark twice, and marks of that chain alone, the
+-- history doesn't either.
 
 -- the file was installed by a chain of a submission
 abbrev pub IsOfChain : ℕ → ℕ → File → Type 0

@@ -17,7 +17,8 @@ module _ {W X : Type 0} (g : W → List X) where
   no_parts (w ∷ ws) none =
       ap (λ (l : List X). l ++ flat_map g ws) (none w (contains_head w ws)) ∙ no_parts ws (λ v h. none v (contains_tail w ws v h))
 
-  -- where one element is counted, and a part is empty where nothing is counted, that element's part is the whole
+  -- where one element is counted, and a part is empty where nothing is counted, that element's part
+  -- is the whole
   pub one_part : {count : W → ℕ} (ws : List W) {w : W} → sum_by count ws ≤ 1 → Contains ws w → 1 ≤ count w
       → ((v : W) → Contains ws v → count v ≡ 0 → g v ≡ []) → flat_map g ws ≡ g w
   one_part [] {w} few h counted none = absurd (contains_none w h)
@@ -87,7 +88,8 @@ module _ {X : Type 0} (key : X → ℕ) where
   none_within first [] all = refl
   none_within first (x ∷ xs) all = let one = All-head (Within first 0) x xs all in let low = one.0 in let high = one.1 in absurd (omega arith)
 
-  -- where each key is one of so many from the first on: what is made of the list is made of the parts by key
+  -- where each key is one of so many from the first on: what is made of the list is made of the
+  -- parts by key
   pub made_by_key : {Y : Type 0} (made : List X → List Y) → made [] ≡ []
       → ((k : ℕ) (xs : List X) → IsPermutation (made xs) (made (filter (has k) xs) ++ made (filter (lacks k) xs)))
       → (first n : ℕ) (xs : List X) → All (Within first n) xs

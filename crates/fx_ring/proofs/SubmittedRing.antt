@@ -14,7 +14,8 @@ use Rattle.std.specs.Global.{Vec}
 use Rattle.fx_ring.proofs.LonePlays.{at_rest_of}
 use Rattle.fx_table.proofs.Histories.{own_history}
 
--- each chain's part of the history installs files of the catalogue with marks of its own, and no mark twice
+-- each chain's part of the history installs files of the catalogue with marks of its own, and no
+-- mark twice
 part_puts : (catalogue : List FileEntry) (size : ℕ) {submission : ℕ} (first : ℕ) (runs : List (List Asked)) (history : List Event)
     (completions : List Completed) → ExplainsParts catalogue size submission first runs history completions
     → {chain : ℕ} → first ≤ chain → chain < first + length runs

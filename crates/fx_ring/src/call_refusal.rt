@@ -1,5 +1,6 @@
-//! The errors of calls between submissions, apart from failed allocations. If several apply, the first that the manual's order gives
-//! is returned. They depend on the catalogue, the number of slots (0 without a table) and the number of accepted registrations.
+//! The errors of calls between submissions, apart from failed allocations. If several apply, the
+//! first that the manual's order gives is returned. They depend on the catalogue, the number of
+//! slots (0 without a table) and the number of accepted registrations.
 ghost use Rattle.std.specs.Prelude.{◌≡◌, ◌+◌, ◌<◌, ◌≤◌, [], IfNone, false, length};
 ghost use Rattle.std.specs.List.{list_any};
 ghost use Rattle.fx_chain.specs.Answers.{is_bad_entry};
@@ -61,7 +62,8 @@ pub fn register_refusal(
     None
 }
 
-/// Returns the error with which an update of the slots from `off` on by a list and its optional tags is refused.
+/// Returns the error with which an update of the slots from `off` on by a list and its optional
+/// tags is refused.
 pub fn update_refusal(
     catalogue: &Catalogue,
     size: usize,

@@ -32,13 +32,14 @@ pub fn no_file_is_lost()
     ensures { NoFileIsLost }
 {}
 
-/// States that a single pass which plays a submission on a table that stays open makes one legal history.
+/// States that a single pass which plays a submission on a table that stays open makes one legal
+/// history.
 pub fn what_a_pass_alone_does_is_one_history()
     ensures { PartIsOneHistory }
 {}
 
-/// States that a submission can have the same results on two rings that contracts see as equal: the numbers of their files make
-/// no difference.
+/// States that a submission can have the same results on two rings that contracts see as equal: the
+/// numbers of their files make no difference.
 pub fn rings_that_show_the_same_may_do_the_same()
     ensures { SameRingsDoTheSame }
 {}

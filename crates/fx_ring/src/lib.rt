@@ -1,10 +1,10 @@
 //! A ring in memory: a catalogue, the registered file table, and the calls on them, which are
 //! registrations, updates and submissions.
 //!
-//! The contract that other crates use is the one of [`Ring::submit`], clause `one_history`: the report of a
-//! submission and the table afterwards are those of one legal history of a table of one thread, on
-//! any number of workers (`IsOneHistory` in `specs/Submission.antt`). Contracts see a ring by
-//! `ring_of` (`specs/Ring.antt`).
+//! The contract that other crates use is the one of [`Ring::submit`], clause `one_history`: the
+//! report of a submission and the table afterwards are those of one legal history of a table of one
+//! thread, on any number of workers (`IsOneHistory` in `specs/Submission.antt`). Contracts see a
+//! ring by `ring_of` (`specs/Ring.antt`).
 //!
 //! Begin with `ring.rt` (the type), then `registration.rt` (calls between submissions),
 //! `submission.rt` (`submit`) and `laws.rt` (what the history of a submission says about files).

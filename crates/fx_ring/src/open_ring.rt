@@ -23,11 +23,12 @@ use std::alloc::Global;
 use std::marker::Model;
 use std::sync::Wait;
 
-/// A ring whose table stays open for one worker, so that no submission opens or closes it. [`Ring::open`] makes one. It must
-/// be consumed: the compiler rejects a program that drops it without [`OpenRing::close`], which returns the ring.
+/// A ring whose table stays open for one worker, so that no submission opens or closes it.
+/// [`Ring::open`] makes one. It must be consumed: the compiler rejects a program that drops it
+/// without [`OpenRing::close`], which returns the ring.
 ///
-/// Contracts see the ring, the number of chains that the table can still play, and the most files that each of them may
-/// install.
+/// Contracts see the ring, the number of chains that the table can still play, and the most files
+/// that each of them may install.
 pub struct OpenRing<T: FileTable> {
     catalogue: Catalogue,
     table: T,
@@ -59,9 +60,10 @@ impl<T: FileTable> Model for OpenRing<T> {
 }
 
 impl Ring {
-    /// Opens the ring's table for one worker and for `chains` chains, at most [`fx_table::MAX_CHAINS`]. Each of them may
-    /// install at most `most` files, and `most` is at most [`fx_table::CHAIN_NUMBERS`]. Contracts see the same ring, whose
-    /// files may have other numbers.
+    /// Opens the ring's table for one worker and for `chains` chains, at most
+    /// [`fx_table::MAX_CHAINS`]. Each of them may install at most `most` files, and `most` is at
+    /// most [`fx_table::CHAIN_NUMBERS`]. Contracts see the same ring, whose files may have other
+    /// numbers.
     ///
     /// # Errors
     /// `NoMemory` if memory is refused. The ring is returned with its files.
@@ -131,12 +133,12 @@ impl<T: FileTable> OpenRing<T> {
         self.size
     }
 
-    /// Plays a submission on the open table, as [`Ring::submit`] does with one worker (io_uring_enter(2)). Each chain of the
-    /// submission uses one of the table's chains.
+    /// Plays a submission on the open table, as [`Ring::submit`] does with one worker
+    /// (io_uring_enter(2)). Each chain of the submission uses one of the table's chains.
     ///
-    /// Returns `None`, and changes nothing, exactly if the table has no room for the submission: it has fewer chains left than
-    /// the submission, or a chain installs more files than the table was opened for. [`OpenRing::close`] then returns a ring
-    /// that can play it.
+    /// Returns `None`, and changes nothing, exactly if the table has no room for the submission: it
+    /// has fewer chains left than the submission, or a chain installs more files than the table was
+    /// opened for. [`OpenRing::close`] then returns a ring that can play it.
     ///
     /// # Errors
     /// Those of [`Ring::submit`] with one worker. The ring is then as before.

@@ -73,8 +73,8 @@ impl Outcome {
         Ok(outcomes)
     }
 
-    /// Joins the outcomes of all workers. A single one is returned as it is. Several are appended to
-    /// the lists of `self`, which are empty and have room for them, so no memory is needed.
+    /// Joins the outcomes of all workers. A single one is returned as it is. Several are appended
+    /// to the lists of `self`, which are empty and have room for them, so no memory is needed.
     pub(crate) fn joined(mut self, mut others: Vec<Outcome>) -> Outcome
         requires nothing_yet { (self.completions.items ≡ []) × (self.closes.files ≡ []) }
         requires completions { sum_by (λ other. length other.completions.items) others.items

@@ -23,7 +23,8 @@ pub(crate) struct Submission<'a, R, G> {
     pub(crate) rt: &'a R,
     pub(crate) alloc: Global,
     pub(crate) catalogue: &'a Catalogue,
-    // The number of submissions that the ring accepted before, one less than the number of this one.
+    // The number of submissions that the ring accepted before, one less than the number of this
+    // one.
     pub(crate) earlier: u32,
     pub(crate) requests: &'a [Request],
     pub(crate) chains: &'a [Chain],

@@ -30,8 +30,8 @@ impl Ring {
         register_refusal(&self.catalogue, size, self.registrations, list, tags)
     }
 
-    // Returns the reason to refuse an update of the slots from `off` on by the list with its tags, if
-    // any are given.
+    // Returns the reason to refuse an update of the slots from `off` on by the list with its tags,
+    // if any are given.
     fn update_refusal(&self, off: u32, list: &[i32], tags: Option<&[u64]>) -> Option<Errno>
         ensures value { result ≡ update_refusal (ring_of self.now) off list.now
             (tags_for list.now tags.entry) }
@@ -104,9 +104,9 @@ impl Ring {
     /// closed, the list that names it returns the completion of its tag ([`CloseList::tags`]).
     ///
     /// # Errors
-    /// Those of [`Ring::register`], in the same order. EINVAL is also returned, in its place in that
-    /// order, if `tags` and `list` differ in length or a number below 0 has a tag other than 0. The
-    /// ring is then as before.
+    /// Those of [`Ring::register`], in the same order. EINVAL is also returned, in its place in
+    /// that order, if `tags` and `list` differ in length or a number below 0 has a tag other than
+    /// 0. The ring is then as before.
     pub fn register_tagged(
         &mut self,
         alloc: Global,
@@ -218,8 +218,8 @@ impl Ring {
     /// Updates the slots from `off` on by a list (io_uring_register(2),
     /// "IORING_REGISTER_FILES_UPDATE"): -1 empties a slot, -2 leaves it, and a number from 0 on
     /// opens that catalogue entry there. Returns the length of the list, and the files that were
-    /// replaced or removed, in order of mark. Marks are made as by [`Ring::register`]. The new files
-    /// have no tags: [`Ring::update_tagged`] gives them.
+    /// replaced or removed, in order of mark. Marks are made as by [`Ring::register`]. The new
+    /// files have no tags: [`Ring::update_tagged`] gives them.
     ///
     /// # Errors
     /// In this order: ENXIO if the ring has no table, EINVAL for an empty list or one that ends
@@ -238,8 +238,8 @@ impl Ring {
     }
 
     /// Updates slots as [`Ring::update`] does, and gives each new file the tag at the same place, 0
-    /// for none (io_uring_register(2), "IORING_REGISTER_FILES_UPDATE2"). A file that was replaced or
-    /// removed is listed with the tag that it was installed with ([`CloseList::tags`]).
+    /// for none (io_uring_register(2), "IORING_REGISTER_FILES_UPDATE2"). A file that was replaced
+    /// or removed is listed with the tag that it was installed with ([`CloseList::tags`]).
     ///
     /// # Errors
     /// Those of [`Ring::update`], in the same order. EINVAL is also returned, in its place in that

@@ -122,8 +122,8 @@ pub(crate) fn accept(
 impl Ring {
     /// Plays a submission on the ring's table (io_uring_enter(2)). Linked requests make a chain,
     /// whose members start one after another. A request that isn't linked is a chain of its own.
-    /// Each worker draws a chain, plays it and draws the next one. The promises hold for every table
-    /// `T` and every number of workers. There are at most as many workers as chains.
+    /// Each worker draws a chain, plays it and draws the next one. The promises hold for every
+    /// table `T` and every number of workers. There are at most as many workers as chains.
     ///
     /// The workers are threads. If no thread can be started, they work one after another, and the
     /// same promises hold. One worker starts no thread. The gate is called before each request that
@@ -139,12 +139,12 @@ impl Ring {
     /// range and the number of registrations stay as they are.
     ///
     /// # Errors
-    /// In this order: `Workers` if the number of workers is not from 1 to [`MAX_PASSES`], `Cut` with
-    /// the first request that has a fault ([`fx_chain::check`]), `TooMany` after
-    /// [`MOST_SUBMISSIONS`] accepted submissions, and `NoMemory` if memory is refused. The ring then
-    /// has the files, size, range and counts that it had. A test checks that no request has started.
-    /// The memory for the bytes of a read is allocated while the read is played. If it is refused,
-    /// the read completes with ENOMEM.
+    /// In this order: `Workers` if the number of workers is not from 1 to [`MAX_PASSES`], `Cut`
+    /// with the first request that has a fault ([`fx_chain::check`]), `TooMany` after
+    /// [`MOST_SUBMISSIONS`] accepted submissions, and `NoMemory` if memory is refused. The ring
+    /// then has the files, size, range and counts that it had. A test checks that no request has
+    /// started. The memory for the bytes of a read is allocated while the read is played. If it is
+    /// refused, the read completes with ENOMEM.
     pub fn submit<T: FileTable, G: Gate>(
         &mut self,
         rt: &(impl Threads + Wait + Sync),

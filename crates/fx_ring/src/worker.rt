@@ -37,8 +37,8 @@ fn work<T: FileTable, R: Wait, G: Gate>(play: &Play<'_, T, R, G>, worker: &mut W
     }
 }
 
-// Plays the chains of a submission on its workers, each in a thread of its own if one can be started.
-// A single worker starts no thread.
+// Plays the chains of a submission on its workers, each in a thread of its own if one can be
+// started. A single worker starts no thread.
 fn work_all<T: FileTable, R: Threads + Wait + Sync, G: Gate>(
     play: &Play<'_, T, R, G>,
     workers: &mut [Worker<T::Pass>],

@@ -1,8 +1,10 @@
-//! Running scripts: a run reads a script, plays it on a ring, and prints the result of each command.
+//! Running scripts: a run reads a script, plays it on a ring, and prints the result of each
+//! command.
 //!
-//! The contract that others rely on is that of [`run`]: its output is a text of the script (`specs/Play.antt`), or it
-//! returns the first fault. The language is in `fx_language` and the printed lines are in `fx_print`; both are exported
-//! here. Begin reading at `specs/Play.antt`, then `runner.rt` and `player.rt`.
+//! The contract that others rely on is that of [`run`]: its output is a text of the script
+//! (`specs/Play.antt`), or it returns the first fault. The language is in `fx_language` and the
+//! printed lines are in `fx_print`; both are exported here. Begin reading at `specs/Play.antt`,
+//! then `runner.rt` and `player.rt`.
 #![tactic(auto)]
 
 pub mod laws;

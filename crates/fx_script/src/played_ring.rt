@@ -1,4 +1,5 @@
-//! The ring of a play: the table may stay open between submissions that one worker plays one after another.
+//! The ring of a play: the table may stay open between submissions that one worker plays one after
+//! another.
 ghost use Rattle.std.specs.Prelude.{◌≡◌, ◌≤◌, IfOk, string_bytes};
 ghost use Rattle.std.specs.Option.{MatchOption};
 ghost use Rattle.fx_table.specs.declared.limits.TheConstants.{CHAIN_NUMBERS, MAX_CHAINS};
@@ -17,7 +18,8 @@ use fx_table::{CHAIN_NUMBERS, FileTable, MAX_CHAINS};
 use std::sync::Wait;
 use std::thread::Threads;
 
-// The number of chains that a table is opened for, and the greatest number of files that each may install.
+// The number of chains that a table is opened for, and the greatest number of files that each may
+// install.
 #[derive(Clone, Copy, Drop)]
 struct Needs {
     chains: u32,
@@ -45,8 +47,9 @@ impl Needs {
     }
 }
 
-// Returns the needs of a submission's chains; a refused submission has none. Each counts as at least one chain, so that
-// at most as many submissions are considered together as a table has chains.
+// Returns the needs of a submission's chains; a refused submission has none. Each counts as at
+// least one chain, so that at most as many submissions are considered together as a table has
+// chains.
 fn needs_of_submission(requests: &[Request]) -> Needs {
     let mut chains = 1;
     let mut most = 0;
@@ -65,8 +68,8 @@ fn needs_of_submission(requests: &[Request]) -> Needs {
     Needs { chains, most }
 }
 
-// Returns the joint needs of the submissions that `commands` begins with: of as many as need no more numbers together,
-// on a table of `slots` slots, than each on its own.
+// Returns the joint needs of the submissions that `commands` begins with: of as many as need no
+// more numbers together, on a table of `slots` slots, than each on its own.
 fn needs_together(commands: &[Command], slots: u32) -> Needs {
     let mut needs = Needs { chains: 0, most: 0 };
     let mut apart: u64 = 0;
@@ -87,7 +90,8 @@ fn needs_together(commands: &[Command], slots: u32) -> Needs {
     needs
 }
 
-/// The ring of a play, with an open table of type `O` or without one. It must be consumed, as the ring must.
+/// The ring of a play, with an open table of type `O` or without one. It must be consumed, as the
+/// ring must.
 pub enum PlayedRing<O> {
     /// The table is closed.
     Closed(Ring),
@@ -107,8 +111,8 @@ impl<T: FileTable> PlayedRing<OpenRing<T>> {
     }
 }
 
-// Opens the table for the submissions that `commands` begins with, if one worker plays them together. It stays closed
-// if an allocation for opening it fails.
+// Opens the table for the submissions that `commands` begins with, if one worker plays them
+// together. It stays closed if an allocation for opening it fails.
 fn opened<T: FileTable, R, G>(
     setting: &Setting<'_, R, G>,
     ring: Ring,
@@ -129,8 +133,8 @@ fn opened<T: FileTable, R, G>(
     }
 }
 
-// Plays a command on an open table, and returns its text, or `None` if it isn't a submission for which the table has
-// room.
+// Plays a command on an open table, and returns its text, or `None` if it isn't a submission for
+// which the table has room.
 fn text_on<T: FileTable, R: Threads + Wait + Sync, G: Gate>(
     setting: &Setting<'_, R, G>,
     opened: &mut OpenRing<T>,
@@ -150,9 +154,10 @@ fn text_on<T: FileTable, R: Threads + Wait + Sync, G: Gate>(
     }
 }
 
-/// Plays a command on an open table, and returns its text, or `None` if no table is open or the command isn't a
-/// submission for which the table has room. The ring stays where it is, since it has a few hundred bytes: moving them for
-/// each command took a quarter of the instructions of a small submission.
+/// Plays a command on an open table, and returns its text, or `None` if no table is open or the
+/// command isn't a submission for which the table has room. The ring stays where it is, since it
+/// has a few hundred bytes: moving them for each command took a quarter of the instructions of a
+/// small submission.
 pub fn open_text<T: FileTable, R: Threads + Wait + Sync, G: Gate>(
     setting: &Setting<'_, R, G>,
     ring: &mut PlayedRing<OpenRing<T>>,
@@ -182,8 +187,9 @@ fn closed_text<T: FileTable, R: Threads + Wait + Sync, G: Gate>(
     (PlayedRing::Closed(ring), text)
 }
 
-/// Plays a command that [`open_text`] didn't play, and returns its text. If no table is open, one is opened and stays open
-/// if one worker plays the command together with the submissions after it. `commands` begins with the command.
+/// Plays a command that [`open_text`] didn't play, and returns its text. If no table is open, one
+/// is opened and stays open if one worker plays the command together with the submissions after it.
+/// `commands` begins with the command.
 pub fn text_anew<T: FileTable, R: Threads + Wait + Sync, G: Gate>(
     setting: &Setting<'_, R, G>,
     ring: PlayedRing<OpenRing<T>>,
@@ -193,7 +199,8 @@ pub fn text_anew<T: FileTable, R: Threads + Wait + Sync, G: Gate>(
     ensures { IfOk result.1 (λ text. Prints (ring_played ring) (instruction_of command.now)
         (ring_played result.0) (string_bytes text)) }
 {
-    // a submission for which an open table has no room is played by itself, and the next one may open a table again
+    // a submission for which an open table has no room is played by itself, and the next one may
+    // open a table again
     let together: &[Command] = match &ring {
         PlayedRing::Open(_) => &[],
         PlayedRing::Closed(_) => commands,

@@ -1,4 +1,5 @@
-//! Playing a script: the ring executes its commands, one after another, and the text of each is written.
+//! Playing a script: the ring executes its commands, one after another, and the text of each is
+//! written.
 ghost use Rattle.std.specs.Prelude.{◌≡◌, ◌≤◌, IfErr, IsOkAnd, OnOk, string_bytes};
 ghost use Rattle.std.specs.Io.KnownBytes.{Appends};
 ghost use Rattle.fx_table.specs.declared.limits.TheConstants.{MAX_PASSES};
@@ -20,8 +21,8 @@ use std::io::Write;
 use std::sync::Wait;
 use std::thread::Threads;
 
-/// The values that stay the same while a script is played: the means to start threads and to wait, the allocator, the
-/// number of workers of each submission, and the gate.
+/// The values that stay the same while a script is played: the means to start threads and to wait,
+/// the allocator, the number of workers of each submission, and the gate.
 #[derive(Drop)]
 pub struct Setting<'a, R, G> {
     pub rt: &'a R,
@@ -32,7 +33,8 @@ pub struct Setting<'a, R, G> {
     pub ghost few: { workers ≤ MAX_PASSES },
 }
 
-// Writes the text of a command in one call, so that a reader that gets one write at a time gets one command at a time.
+// Writes the text of a command in one call, so that a reader that gets one write at a time gets one
+// command at a time.
 pub fn write_text<W: Write>(writer: &mut W, text: Result<String, NoMemory>) -> Result<(), PlayFault>
     ensures written { OnOk result (IsOkAnd text (λ text.
         Appends (W.contents writer.old) (W.contents writer.new) (string_bytes text))) }
@@ -80,12 +82,13 @@ fn play_commands<T: FileTable, R: Threads + Wait + Sync, G: Gate, W: Write>(
     (ring, write_text(writer, text))
 }
 
-/// Plays a script on a ring without a table, each submission on `workers` workers, and writes the text of each command
-/// when it is done. The files that are left are closed at the end. Requires 1 to [`fx_table::MAX_PASSES`] workers.
+/// Plays a script on a ring without a table, each submission on `workers` workers, and writes the
+/// text of each command when it is done. The files that are left are closed at the end. Requires 1
+/// to [`fx_table::MAX_PASSES`] workers.
 ///
 /// # Errors
-/// `Write` if a write fails; how much of its text was written is unknown. `NoMemory` if an allocation fails; then the
-/// text of the earlier commands was written. Open files are discarded.
+/// `Write` if a write fails; how much of its text was written is unknown. `NoMemory` if an
+/// allocation fails; then the text of the earlier commands was written. Open files are discarded.
 pub fn play<T: FileTable, G: Gate, W: Write>(
     rt: &(impl Threads + Wait + Sync),
     alloc: Global,

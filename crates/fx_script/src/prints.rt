@@ -25,9 +25,9 @@ use std::alloc::Global;
 use std::sync::Wait;
 use std::thread::Threads;
 
-/// Returns the text of a submission: a line for each completion, then one for each file that was closed, then one for
-/// each of their tags. Requires that the entry of each closed file is below [`Catalogue::len`], as with the catalogue
-/// of the ring that returned the report.
+/// Returns the text of a submission: a line for each completion, then one for each file that was
+/// closed, then one for each of their tags. Requires that the entry of each closed file is below
+/// [`Catalogue::len`], as with the catalogue of the ring that returned the report.
 ///
 /// # Errors
 /// `NoMemory` if an allocation for the text or the tags fails.
@@ -48,9 +48,9 @@ pub fn report_text(
     )
 }
 
-// Returns the text of a submission's answer: the text of its report, as [`report_text`] does, or the line of its
-// refusal. If the text of a report is large, as many threads as the submission has workers produce it. Fails if an
-// allocation of the submission or of the text fails.
+// Returns the text of a submission's answer: the text of its report, as [`report_text`] does, or
+// the line of its refusal. If the text of a report is large, as many threads as the submission has
+// workers produce it. Fails if an allocation of the submission or of the text fails.
 pub fn answer_text<R: Threads + Sync, G>(
     setting: &Setting<'_, R, G>,
     catalogue: &Catalogue,
@@ -182,8 +182,8 @@ fn submit<T: FileTable, R: Threads + Wait + Sync, G: Gate>(
     answer_text(setting, ring.catalogue(), answer)
 }
 
-// Executes a command on the ring, and returns its text. An allocation failure of a call between submissions is printed;
-// here `NoMemory` means that one of a submission or of a text failed.
+// Executes a command on the ring, and returns its text. An allocation failure of a call between
+// submissions is printed; here `NoMemory` means that one of a submission or of a text failed.
 pub fn command_text<T: FileTable, R: Threads + Wait + Sync, G: Gate>(
     setting: &Setting<'_, R, G>,
     ring: &mut Ring,

@@ -19,7 +19,8 @@ use thiserror::Error;
 /// The reason why a run ended early. Its text is what the program prints.
 #[derive(Clone, Copy, Debug, PartialEq, Eq, Error)]
 pub enum PlayFault {
-    /// The input was not read to its end: a read failed, or there were too many reads. Nothing was written.
+    /// The input was not read to its end: a read failed, or there were too many reads. Nothing was
+    /// written.
     #[error("read failed")]
     Read,
     /// The input isn't a script. Nothing was written.
@@ -74,8 +75,8 @@ fn front(bytes: &[u8], most: usize) -> &[u8]
     }
 }
 
-// Reads to the end, and keeps only as many bytes as show that a script is too long. An interrupted read is a failed
-// read.
+// Reads to the end, and keeps only as many bytes as show that a script is too long. An interrupted
+// read is a failed read.
 fn read_all<I: Read>(alloc: Global, reader: &mut I) -> Result<Vec<u8>, PlayFault>
     ensures kept { IfOk result (λ input. IfSome (I.remaining reader.old)
         (λ bytes. input.items ≡ take (LONGEST_SCRIPT + 1) bytes)) }
@@ -106,11 +107,13 @@ fn read_script<I: Read>(alloc: Global, reader: &mut I) -> Result<Script, PlayFau
     Ok(script)
 }
 
-/// Reads a script to its end and plays it as [`play`] does. Requires 1 to [`fx_table::MAX_PASSES`] workers.
+/// Reads a script to its end and plays it as [`play`] does. Requires 1 to [`fx_table::MAX_PASSES`]
+/// workers.
 ///
 /// # Errors
-/// `Read` if a read fails or is interrupted, or if the end isn't reached after 8,388,608 reads. `Script` if the input
-/// isn't a script, with its fault. In both cases nothing is written. `Write` and `NoMemory` as in [`play`].
+/// `Read` if a read fails or is interrupted, or if the end isn't reached after 8,388,608 reads.
+/// `Script` if the input isn't a script, with its fault. In both cases nothing is written. `Write`
+/// and `NoMemory` as in [`play`].
 pub fn run<T: FileTable, G: Gate, R: Read, W: Write>(
     rt: &(impl Threads + Wait + Sync),
     alloc: Global,

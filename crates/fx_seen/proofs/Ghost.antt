@@ -1,4 +1,5 @@
--- Steps of the proof alone in a table's invariant: a seat shows a view, and a seat learns from a shown view. Assumes `Logic`.
+-- Steps of the proof alone in a table's invariant: a seat shows a view, and a seat learns from a
+-- shown view. Assumes `Logic`.
 use Rattle.std.proofs.Common.{◌≡◌, ℕ, zero, suc, ◌+◌, List, [], ◌∷◌, ◌++◌, length, set, sym, refl, ap, subst, arith}
 use mathlib.Core.Option.{some-ne-none}
 use mathlib.Core.Option as maybe

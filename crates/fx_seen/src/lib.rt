@@ -1,13 +1,16 @@
-//! Knowledge of a shared `atomic_table` that threads pass on to each other, without any cost at run time.
+//! Knowledge of a shared `atomic_table` that threads pass on to each other, without any cost at run
+//! time.
 //!
-//! A seat's view is what its thread knows, such as the history so far. [`show`] makes a [`Seen`]: a view that was shown once
-//! and stays in the table for ever, so that the table's rule always holds of it. A `Seen` has no bytes, can be copied
-//! ([`Seen::again`]) and may go to another thread by any means that moves a value. [`learn`] gives one to another seat:
-//! that seat gets a view that the rule allows in a table with the shown view. All three calls have an empty body: they are
+//! A seat's view is what its thread knows, such as the history so far. [`show`] makes a [`Seen`]: a
+//! view that was shown once and stays in the table for ever, so that the table's rule always holds
+//! of it. A `Seen` has no bytes, can be copied ([`Seen::again`]) and may go to another thread by
+//! any means that moves a value. [`learn`] gives one to another seat: that seat gets a view that
+//! the rule allows in a table with the shown view. All three calls have an empty body: they are
 //! steps of the proof alone.
 //!
-//! The calls of `atomic_table` can't carry this knowledge: each view belongs to one seat, and changes only at a step of that
-//! seat. So this is the only crate whose functions are proved by walks of their own. Begin reading at `specs/Kept.antt`.
+//! The calls of `atomic_table` can't carry this knowledge: each view belongs to one seat, and
+//! changes only at a step of that seat. So this is the only crate whose functions are proved by
+//! walks of their own. Begin reading at `specs/Kept.antt`.
 #![tactic(auto)]
 
 ghost use Rattle.core.specs.Prelude.{◌≡◌, ℕ};
@@ -33,8 +36,8 @@ impl<V> Model for Seen<V> {
     ghost also_shares = { λ s _ κ. said (seen_owns V.row.coded.code s.table_id s.id s.view) κ };
 }
 
-/// The change of a view when its seat learns: a relation of the seat's view before, the shown view, and the seat's view
-/// after.
+/// The change of a view when its seat learns: a relation of the seat's view before, the shown view,
+/// and the seat's view after.
 pub trait Learning<V> {
     ghost then: { V → V → V → Type 0 };
 }

@@ -1,7 +1,7 @@
 -- A worker's memory is lent to a call for a lifetime that is made for it, and comes back with the
 -- worker's last value.
---     ref_own, kept    the `&mut` of the worker, and the right to the memory once the lifetime is over
---     returned         what an export ensures, from the memory and what is known of the worker in it
+--     ref_own, kept    the `&mut` of the worker, and the right to the memory after the lifetime
+--     returned         what an export ensures, from the memory and what is known of the worker
 use Rattle.std.proofs.Common.{[], ◌∷◌, ℕ}
 use seplogic.Ra.Ura.{Ura}
 use base.Fraction.{full_share}

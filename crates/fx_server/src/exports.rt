@@ -1,6 +1,6 @@
-//! The functions that C calls. Each takes the pointer of a worker's box, and calls the worker. `w` is
-//! the worker as the call finds it. The call returns its memory, with the worker as the call leaves
-//! it.
+//! The functions that C calls. Each takes the pointer of a worker's box, and calls the worker. `w`
+//! is the worker as the call finds it. The call returns its memory, with the worker as the call
+//! leaves it.
 ghost use Rattle.std.specs.Prelude.{◌≡◌, ◌≢◌, ◌⊎◌, length, pos};
 ghost use types.Logic.{sem};
 ghost use Rattle.fx_lasting.specs.Passes.{nodes_of};

@@ -47,7 +47,8 @@ leaving_file c sound f there leaves = ⊎_elim (λ s. let put = stays_put c soun
 pub removed_file : (c : Contents) → IsTable c → (f g : File) → HasFile (state_of c) f → (state_of c).removed f.number ≡ Some g → f ≡ g
 removed_file c sound f g there out = ⊎_elim (λ s. let put = not_removed c sound s.0 f s.1 in absurd (cc (put, out))) (λ e. cc (e, out)) there
 
--- A slot gets another file, or none, and the file that was there is removed: each file is still in the table
+-- A slot gets another file, or none, and the file that was there is removed: each file is still in
+-- the table
 module _ (s : State) (slot : ℕ) (new found : Option File) (is : found ≡ s.at slot) (apart : (x f : File) → found ≡ Some x
     → s.removed f.number ≡ Some f → f.number ≢ x.number) where
   at_slot : (f : File) (o : Option File) → o ≡ Some f → with_removed s.removed o f.number ≡ Some f

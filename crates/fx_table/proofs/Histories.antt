@@ -48,7 +48,8 @@ pub one_author : (p chain : ℕ) (actions : List Action) (e : Event)
     → Contains (map (λ action. record { pass = p; chain = chain; action = action }) actions) e → e.pass ≡ p
 one_author p chain actions e h = ap (λ (z : Event). z.pass) (contains_map _ actions e h).2
 
--- The history of all passes, which a close yields, and that of a table with one pass before its close.
+-- The history of all passes, which a close yields, and that of a table with one pass before its
+-- close.
 
 -- the contract of a close, except for the table that is returned
 pub record IsWhole (o : Opening) (history : List Event) (passes : List PassView) : Type 0 where

@@ -73,7 +73,8 @@ module _ (shell : State) (file : ℕ → Option Closed) where
       → IsPartlyBack shell file from to st'
   last_back {from = from} {to = to} = grind arith
 
--- Files come out of the places of a shared table, and back to a table of one thread, one slot after the other.
+-- Files come out of the places of a shared table, and back to a table of one thread, one slot after
+-- the other.
 
 -- the place of the file at each of `size` slots
 module _ (size : ℕ) (place_at : ℕ → Option ℕ) where

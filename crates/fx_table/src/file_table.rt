@@ -15,16 +15,19 @@ use fx_plain::PlainTable;
 use std::alloc::Global;
 use std::sync::Wait;
 
-/// A shared table that is opened for the chains of a submission, which its passes draw. Each chain has numbers for the
-/// files that it installs, and each pass has a number of look-ups, so such a table doesn't last.
+/// A shared table that is opened for the chains of a submission, which its passes draw. Each chain
+/// has numbers for the files that it installs, and each pass has a number of look-ups, so such a
+/// table doesn't last.
 pub trait FileTable: SharedTable + Sized {
-    /// Shares a settled table (`PlainTable::is_settled`) between `passes` passes, 1 to [`crate::MAX_PASSES`], which
-    /// play `chains` chains, at most [`crate::MAX_CHAINS`]. The file at slot `s` gets number `s`, and chain `c`, from
-    /// 1, the numbers from `numbers_for(c - 1)` up to, but not including, `numbers_for(c)` ([`crate::numbers_for`]).
-    /// The passes are idle, and numbered from 1 in the order of the list.
+    /// Shares a settled table (`PlainTable::is_settled`) between `passes` passes, 1 to
+    /// [`crate::MAX_PASSES`], which play `chains` chains, at most [`crate::MAX_CHAINS`]. The file
+    /// at slot `s` gets number `s`, and chain `c`, from 1, the numbers from `numbers_for(c - 1)` up
+    /// to, but not including, `numbers_for(c)` ([`crate::numbers_for`]). The passes are idle, and
+    /// numbered from 1 in the order of the list.
     ///
     /// # Errors
-    /// `NoMemory` if an allocation fails. The table comes back settled, with its files, size and range.
+    /// `NoMemory` if an allocation fails. The table comes back settled, with its files, size and
+    /// range.
     fn open(
         alloc: Global,
         plain: PlainTable,
@@ -42,10 +45,11 @@ pub trait FileTable: SharedTable + Sized {
             map (λ p. Self.view p) list.items ≡ new_passes passes) }
         ensures refused { IfErr result (λ (back, _). IsGivenBack plain back) };
 
-    /// Shares a settled table as [`FileTable::open`] does, for chains that install at most `most` files each. `most` is
-    /// at most [`crate::CHAIN_NUMBERS`]. Each chain has the same number `n` of file numbers, from `most` to
-    /// `CHAIN_NUMBERS`: chain `c` has those from `256 + n * (c - 1)` on. An implementation may use `most` to reserve
-    /// memory for fewer numbers; the default opens the table as [`FileTable::open`] does.
+    /// Shares a settled table as [`FileTable::open`] does, for chains that install at most `most`
+    /// files each. `most` is at most [`crate::CHAIN_NUMBERS`]. Each chain has the same number `n`
+    /// of file numbers, from `most` to `CHAIN_NUMBERS`: chain `c` has those from `256 + n * (c -
+    /// 1)` on. An implementation may use `most` to reserve memory for fewer numbers; the default
+    /// opens the table as [`FileTable::open`] does.
     ///
     /// # Errors
     /// The errors of [`FileTable::open`].
@@ -72,9 +76,9 @@ pub trait FileTable: SharedTable + Sized {
         Self::open(alloc, plain, chains, passes)
     }
 
-    /// Draws the next chain for an idle pass (`is_idle`), or returns `None` if there are no more. The chains of a pass
-    /// rise, and no chain is drawn twice; a single pass draws 1, 2 and so on. After `None`, each draw of the pass
-    /// returns `None`. A draw adds no event to the history.
+    /// Draws the next chain for an idle pass (`is_idle`), or returns `None` if there are no more.
+    /// The chains of a pass rise, and no chain is drawn twice; a single pass draws 1, 2 and so on.
+    /// After `None`, each draw of the pass returns `None`. A draw adds no event to the history.
     fn draw(&self, pass: &mut Self::Pass) -> Option<u32>
         requires fits { Self.fits self.now pass.old }
         requires idle { IsIdle (Self.view pass.old) }
@@ -84,12 +88,14 @@ pub trait FileTable: SharedTable + Sized {
         ensures next { (Self.opening self.now).passes ≡ 1
             → DrawsNext (Self.opening self.now) (Self.view pass.old) result };
 
-    /// Looks up a slot below `size`, for an idle pass (`is_idle`), as [`SharedTable::look_up`] does. The file there has
-    /// one more hold until the pass releases it (io_uring_enter(2), "IOSQE_FIXED_FILE").
+    /// Looks up a slot below `size`, for an idle pass (`is_idle`), as [`SharedTable::look_up`]
+    /// does. The file there has one more hold until the pass releases it (io_uring_enter(2),
+    /// "IOSQE_FIXED_FILE").
     ///
     /// # Errors
-    /// `Spent` if the pass has no look-ups left (`looks_left`); then nothing changes. `Empty` if the slot has no file.
-    /// Each look-up uses one of the pass's look-ups unless it returns `Spent`.
+    /// `Spent` if the pass has no look-ups left (`looks_left`); then nothing changes. `Empty` if
+    /// the slot has no file. Each look-up uses one of the pass's look-ups unless it returns
+    /// `Spent`.
     fn look(&self, rt: &impl Wait, pass: &mut Self::Pass, slot: u32) -> Result<Hold, LookFault>
         requires fits { Self.fits self.now pass.old }
         requires idle { IsIdle (Self.view pass.old) }
@@ -98,8 +104,9 @@ pub trait FileTable: SharedTable + Sized {
         ensures looked { Looked (Self.opening self.now) (Self.view pass.old) slot result
             (Self.view pass.new) };
 
-    /// Establishes, for an idle pass (`is_idle`) that is the table's only one (`passes` is 1), that its own events are
-    /// the whole history so far, that no file is held, and that each removed file is closed. Nothing changes.
+    /// Establishes, for an idle pass (`is_idle`) that is the table's only one (`passes` is 1), that
+    /// its own events are the whole history so far, that no file is held, and that each removed
+    /// file is closed. Nothing changes.
     fn settle(&self, pass: &mut Self::Pass)
         requires alone { (Self.opening self.now).passes ≡ 1 }
         requires fits { Self.fits self.now pass.old }

@@ -1,5 +1,5 @@
-//! The limits of every shared table, as numbers, and laws that follow from the contract of a shared table alone (this
-//! project's own). Each is the contract of a function with an empty body.
+//! The limits of every shared table, as numbers, and laws that follow from the contract of a shared
+//! table alone (this project's own). Each is the contract of a function with an empty body.
 ghost use Rattle.std.specs.Prelude.{◌≡◌};
 ghost use Rattle.fx_table.specs.Showing.{CallsFollowWhatWasShown};
 ghost use Rattle.fx_table.specs.Finding.{LookUpFindsTheChange, LookUpFindsThePut, LookUpFindsTheRemoval};
@@ -7,8 +7,8 @@ ghost use Rattle.fx_table.specs.Finding.{FullFollowsAnInstallation};
 ghost use Rattle.fx_table.specs.Laws.{CallsCompose, ChainHasOnePass, CallsKeepDrawnChains, ChainIsPartOfItsPass};
 ghost use Rattle.fx_table.specs.declared.limits.TheConstants.{MAX_CHAINS, MAX_PASSES, PASS_LOOKS, FIRST_CHAIN_NUMBER, CHAIN_NUMBERS};
 
-/// States that a table plays at most 1,023 chains on at most 16 passes, each with 1,048,576 look-ups, and that each
-/// chain has 64 file numbers, the first chain's from 256 on.
+/// States that a table plays at most 1,023 chains on at most 16 passes, each with 1,048,576
+/// look-ups, and that each chain has 64 file numbers, the first chain's from 256 on.
 pub fn limits_are_numbers()
     ensures max_chains { MAX_CHAINS ≡ 1023 }
     ensures max_passes { MAX_PASSES ≡ 16 }
@@ -27,22 +27,26 @@ pub fn calls_follow_what_was_shown()
     ensures { CallsFollowWhatWasShown }
 {}
 
-/// States that a look-up after a change of its slot finds what the change left, or what a later change left.
+/// States that a look-up after a change of its slot finds what the change left, or what a later
+/// change left.
 pub fn a_look_up_finds_the_change()
     ensures { LookUpFindsTheChange }
 {}
 
-/// States that a look-up after a put at its slot finds the new file, if no action between changes the slot.
+/// States that a look-up after a put at its slot finds the new file, if no action between changes
+/// the slot.
 pub fn a_look_up_finds_the_put()
     ensures { LookUpFindsThePut }
 {}
 
-/// States that a look-up after a removal at its slot finds no file, if no action between changes the slot.
+/// States that a look-up after a removal at its slot finds no file, if no action between changes
+/// the slot.
 pub fn a_look_up_finds_the_removal()
     ensures { LookUpFindsTheRemoval }
 {}
 
-/// States that a call which finds every slot full after a removal at one of them follows an installation there.
+/// States that a call which finds every slot full after a removal at one of them follows an
+/// installation there.
 pub fn full_follows_an_installation()
     ensures { FullFollowsAnInstallation }
 {}
@@ -52,12 +56,14 @@ pub fn chain_has_one_pass()
     ensures { ChainHasOnePass }
 {}
 
-/// States that a call acts for a drawn chain, if the pass's earlier actions did and its last chain is a drawn one.
+/// States that a call acts for a drawn chain, if the pass's earlier actions did and its last chain
+/// is a drawn one.
 pub fn calls_keep_drawn_chains()
     ensures { CallsKeepDrawnChains }
 {}
 
-/// States that a chain's events in the history of a closed table are those that the pass which drew it made for it.
+/// States that a chain's events in the history of a closed table are those that the pass which drew
+/// it made for it.
 pub fn chain_is_part_of_its_pass()
     ensures { ChainIsPartOfItsPass }
 {}

@@ -1,4 +1,5 @@
-//! The real-time law of a shared table: what a thread does after another thread's call returned follows that call.
+//! The real-time law of a shared table: what a thread does after another thread's call returned
+//! follows that call.
 ghost use Rattle.std.specs.Prelude.{◌≡◌, ◌≢◌, ◌<◌, true, false, None, Err, List};
 ghost use Rattle.fx_plain.specs.declared.event.Event.{Event};
 ghost use Rattle.fx_table.specs.Opening.{size_of};
@@ -12,11 +13,12 @@ use std::sync::Wait;
 
 /// A shared table whose calls respect real time.
 ///
-/// A pass shows what it has seen, which includes all its own calls, as a value without bytes. The value goes to another
-/// thread by whatever makes that thread continue after the calls returned: a message, a join, a lock. That thread's pass
-/// learns the value. Every later event of that pass follows all that was shown, in the one history of the table
-/// (`laws::calls_follow_what_was_shown`). A pass may show and learn whatever it is doing. These calls do nothing at run
-/// time.
+/// A pass shows what it has seen, which includes all its own calls, as a value without bytes. The
+/// value goes to another thread by whatever makes that thread continue after the calls returned: a
+/// message, a join, a lock. That thread's pass learns the value. Every later event of that pass
+/// follows all that was shown, in the one history of the table
+/// (`laws::calls_follow_what_was_shown`). A pass may show and learn whatever it is doing. These
+/// calls do nothing at run time.
 pub trait RealTime: SharedTable {
     /// The history that a pass had seen when it showed it. It has no bytes, and may be dropped.
     type Seen: Send + Sync + Drop;
@@ -41,7 +43,8 @@ pub trait RealTime: SharedTable {
         ensures here { shows self.now result }
         ensures shown { shown result ≡ shown seen.now };
 
-    /// Adds what was shown to the pass's front, so that all its later events follow it. Nothing else of the pass changes.
+    /// Adds what was shown to the pass's front, so that all its later events follow it. Nothing
+    /// else of the pass changes.
     fn learn(&self, pass: &mut Self::Pass, seen: &Self::Seen)
         requires fits { Self.fits self.now pass.old }
         requires here { shows self.now seen.now }
@@ -49,9 +52,9 @@ pub trait RealTime: SharedTable {
         ensures learns { Learns (Self.opening self.now) (shown seen.now) (Self.view pass.old)
             (Self.view pass.new) };
 
-    /// Learns what was shown, and then looks up a slot as [`SharedTable::look_up`] does. If a file was put at the slot in
-    /// what was shown, the look-up finds that file, or what a later change left there
-    /// (`laws::a_look_up_finds_the_change`).
+    /// Learns what was shown, and then looks up a slot as [`SharedTable::look_up`] does. If a file
+    /// was put at the slot in what was shown, the look-up finds that file, or what a later change
+    /// left there (`laws::a_look_up_finds_the_change`).
     ///
     /// # Errors
     /// The errors of [`SharedTable::look_up`].

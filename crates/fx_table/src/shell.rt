@@ -1,5 +1,5 @@
-//! The table of one thread that a shared table is opened from: its files move to the places of the shared table, and
-//! come back if the opening is refused.
+//! The table of one thread that a shared table is opened from: its files move to the places of the
+//! shared table, and come back if the opening is refused.
 ghost use Rattle.std.specs.Prelude.{◌≡◌, ◌+◌, ◌<◌, ◌≤◌, ℕ, length, IfOk, OnOk, OnErr, None, vec_len, vec_capacity};
 ghost use Rattle.fx_plain.specs.State.{IsSettled};
 ghost use Rattle.fx_plain.specs.Contents.{Contents, state_of, IsPrepared};
@@ -32,9 +32,10 @@ pub fn full_in_range(plain: &PlainTable) -> u32
     full
 }
 
-/// Moves the files of a settled table ([`PlainTable::is_settled`]) to a new list of `count` places, at least as many as
-/// there are slots: the file at slot `s` to place `s`. The other places are empty. Size and range of the table stay the
-/// same, and it has room for the files, so that [`put_all`] and [`PlainTable::put_back`] can't run out of memory.
+/// Moves the files of a settled table ([`PlainTable::is_settled`]) to a new list of `count` places,
+/// at least as many as there are slots: the file at slot `s` to place `s`. The other places are
+/// empty. Size and range of the table stay the same, and it has room for the files, so that
+/// [`put_all`] and [`PlainTable::put_back`] can't run out of memory.
 ///
 /// # Errors
 /// `NoMemory` if an allocation fails. The table then stays as it was.
@@ -76,8 +77,8 @@ fn make_room(plain: &mut PlainTable) -> Result<(), NoMemory>
     Ok(())
 }
 
-/// Puts all files that [`move_out`] took out back at their slots. Requires the table and the places as it left them.
-/// Afterwards the table is settled and has its files, size and range again.
+/// Puts all files that [`move_out`] took out back at their slots. Requires the table and the places
+/// as it left them. Afterwards the table is settled and has its files, size and range again.
 pub fn put_all(plain: &mut PlainTable, mut homes: Vec<Option<OpenFile>>)
     requires { (before : Contents) × (count : ℕ)
         × HasMovedOut before count plain.old homes.items }

@@ -2,12 +2,12 @@
 use fx_base::OpenFile;
 use fx_plain::File;
 
-/// The hold of a file that a pass looked up and has not released. It must be consumed: the compiler rejects a program
-/// that drops one.
+/// The hold of a file that a pass looked up and has not released. It must be consumed: the compiler
+/// rejects a program that drops one.
 ///
-/// The fields may be read. A caller that takes a hold apart must still release it: the pass isn't idle (`is_idle`)
-/// until its `release` gets the same value again, and no table is closed while a pass isn't idle. A hold made elsewhere
-/// is accepted only if it is that same value.
+/// The fields may be read. A caller that takes a hold apart must still release it: the pass isn't
+/// idle (`is_idle`) until its `release` gets the same value again, and no table is closed while a
+/// pass isn't idle. A hold made elsewhere is accepted only if it is that same value.
 pub struct Hold {
     /// The number of the file in its table, or in a table that lasts the number of its node there.
     pub node: u32,
@@ -15,12 +15,12 @@ pub struct Hold {
     pub entry: u8,
 }
 
-/// The removal of a file that a pass took from its slot and has not retired. It must be consumed: the compiler rejects
-/// a program that drops one.
+/// The removal of a file that a pass took from its slot and has not retired. It must be consumed:
+/// the compiler rejects a program that drops one.
 ///
-/// The fields may be read. A caller that takes one apart must still retire the file: the pass isn't idle (`is_idle`)
-/// until its `retire` gets the same value again, and no table is closed while a pass isn't idle. A value made elsewhere
-/// is accepted only if it is that same value.
+/// The fields may be read. A caller that takes one apart must still retire the file: the pass isn't
+/// idle (`is_idle`) until its `retire` gets the same value again, and no table is closed while a
+/// pass isn't idle. A value made elsewhere is accepted only if it is that same value.
 pub struct Retired {
     /// The number of the file in its table, or in a table that lasts the number of its node there.
     pub node: u32,
@@ -30,11 +30,13 @@ pub struct Retired {
     pub takes: u32,
 }
 
-/// The result of a look-up of a shared table. It must be consumed: the compiler rejects a program that drops one.
+/// The result of a look-up of a shared table. It must be consumed: the compiler rejects a program
+/// that drops one.
 pub struct LookUp {
     /// The hold of the file at the slot, or the reason why there is none.
     pub found: Result<Hold, LookFault>,
-    /// A removed file that this look-up was the last to use, to be closed. It is `None` unless the table lasts.
+    /// A removed file that this look-up was the last to use, to be closed. It is `None` unless the
+    /// table lasts.
     pub freed: Option<OpenFile>,
 }
 
@@ -61,8 +63,8 @@ pub enum Doing {
     Retiring(File, Retired),
 }
 
-/// The activity of a pass of a table whose holds and removals name files by their numbers, as contracts of such tables
-/// see it. No code creates a value of it.
+/// The activity of a pass of a table whose holds and removals name files by their numbers, as
+/// contracts of such tables see it. No code creates a value of it.
 pub enum Task {
     /// Nothing.
     Idle,

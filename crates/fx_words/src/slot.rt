@@ -20,7 +20,8 @@ pub fn node_of(word: u64) -> Option<u32>
     }
 }
 
-/// Returns the catalogue entry of the file that a slot word names. The entry of an empty slot has no meaning.
+/// Returns the catalogue entry of the file that a slot word names. The entry of an empty slot has
+/// no meaning.
 pub fn entry_of(word: u64) -> u8
     ensures { result ≡ entry_in word }
 {

@@ -1,6 +1,7 @@
-//! The program `test_refusals`: makes one call, whose allocations are refused from outside, and prints its result.
-//! After an allocation failure it makes the call again. tests/check-allocation-failures runs it and judges what it
-//! prints. Contracts say what a failed call leaves. Begin reading at `rings.rt`.
+//! The program `test_refusals`: makes one call, whose allocations are refused from outside, and
+//! prints its result. After an allocation failure it makes the call again.
+//! tests/check-allocation-failures runs it and judges what it prints. Contracts say what a failed
+//! call leaves. Begin reading at `rings.rt`.
 #![tactic(auto)]
 
 mod rings;
@@ -23,8 +24,8 @@ test_refusals reads a line CALL TABLE COUNT, and makes the call";
 // The number of attempts of a call: a second one after an allocation failure.
 const ATTEMPTS: u32 = 2;
 
-// A call; the table, if it is a call on a shared table; and the number of workers, passes, file numbers or catalogue
-// entries, as the call needs.
+// A call; the table, if it is a call on a shared table; and the number of workers, passes, file
+// numbers or catalogue entries, as the call needs.
 type Asked<'a> = (&'a str, &'a str, u32);
 
 // Returns the call that a line of standard input asks for, or `None`.
@@ -77,7 +78,8 @@ fn make<R: Threads + Wait + Print + Sync>(rt: &R, alloc: Global, asked: Asked<'_
     }
 }
 
-// Makes the call that is asked for. Of the output, only the end allocates: a failure there is printed.
+// Makes the call that is asked for. Of the output, only the end allocates: a failure there is
+// printed.
 fn main(rt: HostRuntime) -> ExitCode {
     let mut line = [0u8; 64];
     let Some(asked) = asked(&mut rt.reader(), &mut line) else {

@@ -1,4 +1,5 @@
-//! The calls of a ring that allocate, and that no script makes so: `fixfiles` plays the calls between submissions.
+//! The calls of a ring that allocate, and that no script makes so: `fixfiles` plays the calls
+//! between submissions.
 use crate::{ATTEMPTS, print_closes, print_refused, print_report};
 use bitflags::Flags;
 use fx_base::{Catalogue, NoMemory};
@@ -10,8 +11,9 @@ use std::sync::Wait;
 use std::sync::atomic::{AtomicU32, Ordering};
 use std::thread::Threads;
 
-// Creates a ring whose catalogue has `a.txt`, with the bytes `hello`, and `b.txt`, with `hi`. Its table has two slots:
-// slot 0 has `a.txt` with tag 7, and slot 1 is the allocation range. Returns `None` if an allocation fails.
+// Creates a ring whose catalogue has `a.txt`, with the bytes `hello`, and `b.txt`, with `hi`. Its
+// table has two slots: slot 0 has `a.txt` with tag 7, and slot 1 is the allocation range. Returns
+// `None` if an allocation fails.
 fn ring_of_two_files(alloc: Global) -> Option<Ring> {
     let mut catalogue = Catalogue::new(alloc);
     for (name, bytes) in [("a.txt", "hello"), ("b.txt", "hi")] {
@@ -27,8 +29,8 @@ fn ring_of_two_files(alloc: Global) -> Option<Ring> {
     Some(ring)
 }
 
-// Creates a chain that reads five bytes of slot 0 and closes it, and a chain that opens `b.txt` at any slot. Returns
-// `None` if an allocation fails.
+// Creates a chain that reads five bytes of slot 0 and closes it, and a chain that opens `b.txt` at
+// any slot. Returns `None` if an allocation fails.
 fn requests(alloc: Global) -> Option<Vec<Request>> {
     let (name, target) = (String::from_str(alloc, "b.txt").ok()?, Target::Any);
     let (slot, off, len) = (0, 0, 5);
@@ -87,8 +89,8 @@ pub(crate) fn tags<R: Print>(rt: &R, alloc: Global) -> Option<()> {
     Some(())
 }
 
-/// Submits a chain that reads and closes a file, and one that opens another file, to `workers` workers. If the
-/// submission is refused, no request has started.
+/// Submits a chain that reads and closes a file, and one that opens another file, to `workers`
+/// workers. If the submission is refused, no request has started.
 pub(crate) fn submit<T: FileTable, R: Threads + Wait + Print + Sync>(
     rt: &R,
     alloc: Global,
@@ -113,8 +115,8 @@ pub(crate) fn submit<T: FileTable, R: Threads + Wait + Print + Sync>(
     Some(())
 }
 
-/// Submits the same chains on a ring whose table is open. The opening, too, has a second attempt after an allocation
-/// failure.
+/// Submits the same chains on a ring whose table is open. The opening, too, has a second attempt
+/// after an allocation failure.
 pub(crate) fn submit_open<T: FileTable, R: Wait + Print>(rt: &R, alloc: Global) -> Option<()> {
     let requests = requests(alloc)?;
     let opened = match ring_of_two_files(alloc)?.open::<T>(alloc, 2, 1) {

@@ -1,4 +1,5 @@
-//! Calls without a ring: adding a file to a catalogue, preparing a table of one thread, and sharing it between passes.
+//! Calls without a ring: adding a file to a catalogue, preparing a table of one thread, and sharing
+//! it between passes.
 ghost use Rattle.std.specs.Prelude.{IfSome};
 ghost use Rattle.fx_plain.specs.State.{IsSettled};
 ghost use Rattle.fx_plain.specs.Contents.{state_of};
@@ -12,7 +13,8 @@ use std::alloc::Global;
 /// The number of chains that a shared table is opened for.
 const CHAINS: u32 = 2;
 
-/// Adds a file of two bytes to a catalogue of `entries` entries: the n-th, from 0, is `n.txt` and has no bytes.
+/// Adds a file of two bytes to a catalogue of `entries` entries: the n-th, from 0, is `n.txt` and
+/// has no bytes.
 pub(crate) fn add<R: Print>(rt: &R, alloc: Global, entries: u32) -> Option<()> {
     let mut catalogue = Catalogue::new(alloc);
     for n in 0..entries {
@@ -32,7 +34,8 @@ pub(crate) fn add<R: Print>(rt: &R, alloc: Global, entries: u32) -> Option<()> {
     Some(())
 }
 
-// Creates a settled table of four slots, prepared for eight numbers. Returns `None` if an allocation fails.
+// Creates a settled table of four slots, prepared for eight numbers. Returns `None` if an
+// allocation fails.
 fn prepared_table(alloc: Global) -> Option<PlainTable>
     ensures { IfSome result (λ plain. IsSettled (state_of plain)) }
 {

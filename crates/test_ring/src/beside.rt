@@ -1,5 +1,6 @@
-//! Threads that really run at the same time: a gate stops chains until others have reached the same point. No clause
-//! says that two threads ran, so a player of all chains on one thread would be proved as well.
+//! Threads that really run at the same time: a gate stops chains until others have reached the same
+//! point. No clause says that two threads ran, so a player of all chains on one thread would be
+//! proved as well.
 use crate::setting::{Players, TABLES, Table, play};
 use fx_chain::{Gate, Place};
 use std::alloc::Global;
@@ -13,7 +14,8 @@ use std::thread::Threads;
 // The number of times that a chain checks whether others have come.
 const MOST_TURNS: u32 = 50_000_000;
 
-// Waits until a count reaches `least`. After one chain has waited in vain, which is recorded, no other chain waits.
+// Waits until a count reaches `least`. After one chain has waited in vain, which is recorded, no
+// other chain waits.
 fn wait_for(count: &AtomicU32, least: u32, is_late: &AtomicBool) {
     for turn in 0..MOST_TURNS {
         if count.load(Ordering::SeqCst) >= least || is_late.load(Ordering::SeqCst) {
@@ -26,7 +28,8 @@ fn wait_for(count: &AtomicU32, least: u32, is_late: &AtomicBool) {
     is_late.store(true, Ordering::SeqCst);
 }
 
-// A gate before the only members of chains; the first `held` chains wait at it until all have reached it.
+// A gate before the only members of chains; the first `held` chains wait at it until all have
+// reached it.
 #[derive(Drop)]
 struct Meeting {
     held: u32,
@@ -49,8 +52,8 @@ impl Gate for Meeting {
     }
 }
 
-// Checks whether the first `held` chains of a script meet, and whether the gate is called once before each member and
-// once after it.
+// Checks whether the first `held` chains of a script meet, and whether the gate is called once
+// before each member and once after it.
 fn meet<R: Threads + Wait + Abort + Sync>(
     rt: &R,
     alloc: Global,
@@ -90,8 +93,9 @@ fn each_number_of_workers_play_beside_each_other(rt: HostRuntime) -> Result<(), 
     Ok(())
 }
 
-// Of two workers, one is held at the first of three chains. On the lock-free table the other one plays the next chains.
-// On the table guarded by one word the passes take turns, and the third chain belongs to the pass that waits.
+// Of two workers, one is held at the first of three chains. On the lock-free table the other one
+// plays the next chains. On the table guarded by one word the passes take turns, and the third
+// chain belongs to the pass that waits.
 #[test]
 fn submit_shares_out_chains_itself(rt: HostRuntime) {
     let script = "close 0\nclose 0\nclose 0\nsubmit\n";
@@ -100,8 +104,8 @@ fn submit_shares_out_chains_itself(rt: HostRuntime) {
     }
 }
 
-// A gate that holds the second chain until the first one's first member has completed, and the first chain's second
-// member until the second chain has completed.
+// A gate that holds the second chain until the first one's first member has completed, and the
+// first chain's second member until the second chain has completed.
 #[derive(Drop)]
 struct Between {
     done: AtomicU32,

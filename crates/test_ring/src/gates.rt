@@ -1,5 +1,5 @@
-//! The requests that the gate is called for: each that is started, once before and once after, in order, and no other.
-//! Which requests are started was worked out by hand.
+//! The requests that the gate is called for: each that is started, once before and once after, in
+//! order, and no other. Which requests are started was worked out by hand.
 use crate::setting::{TABLES, end, play, read, ring_of, submit};
 use bitflags::Flags;
 use fx_chain::{CutFault, CutKind, Gate, Place, Request, SqeFlags};
@@ -8,8 +8,8 @@ use std::alloc::{AllocError, Global};
 use std::sync::atomic::{AtomicBool, AtomicU32, Ordering};
 use std::test::Fail;
 
-// A gate of a first submission that counts its calls for each chain, and records a call that isn't the next one of its
-// chain: before the first member, after it, before the second one, and so on.
+// A gate of a first submission that counts its calls for each chain, and records a call that isn't
+// the next one of its chain: before the first member, after it, before the second one, and so on.
 #[derive(Drop)]
 struct Calls {
     chains: Vec<AtomicU32>,
@@ -33,8 +33,8 @@ impl Calls {
         }
     }
 
-    // Checks whether exactly the first `started` members of each chain were started: the gate was called once before
-    // each of them and once after it, in order.
+    // Checks whether exactly the first `started` members of each chain were started: the gate was
+    // called once before each of them and once after it, in order.
     fn were_started(&self, started: &[u32]) -> bool {
         let mut chains = self.chains.iter().zip(started);
         chains.all(|(chain, count)| chain.load(Ordering::SeqCst) == count.wrapping_mul(2))
@@ -53,8 +53,8 @@ impl Gate for Calls {
     }
 }
 
-// Scripts with one submission, or with none that is accepted, each with the number of started members of each chain.
-// The chains of the first script are at slots of their own.
+// Scripts with one submission, or with none that is accepted, each with the number of started
+// members of each chain. The chains of the first script are at slots of their own.
 const ROWS: [(&str, &[u32]); 4] = [
     (
         "file a.txt 68656c6c6f\nregister -1,0,-1,0,-1,-1,0\n\

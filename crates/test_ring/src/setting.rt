@@ -1,4 +1,5 @@
-//! The values that the tests share: requests, rings and players. Memory is ample: a test fails if an allocation fails.
+//! The values that the tests share: requests, rings and players. Memory is ample: a test fails if
+//! an allocation fails.
 ghost use Rattle.std.specs.Prelude.{◌≡◌, IfOk};
 ghost use Rattle.fx_chain.specs.Operation.{Opens, Reads, Closes, operation_of};
 ghost use Rattle.fx_chain.specs.declared.request.Target.TheVariants.{Slot};
@@ -41,8 +42,8 @@ pub fn close(slot: u32) -> Request
     Request { op, flags }
 }
 
-/// Links the request at position `at` of a submission, from 0, into chains of 16: each but the last of a chain is
-/// linked with the next one.
+/// Links the request at position `at` of a submission, from 0, into chains of 16: each but the last
+/// of a chain is linked with the next one.
 pub fn in_chain(mut request: Request, at: u32) -> Request
     ensures { result.op ≡ request.op }
 {

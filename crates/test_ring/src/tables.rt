@@ -1,6 +1,6 @@
-//! Shared tables without a ring: two passes in every interleaving of their calls, and a chain on a table that lasts.
-//! Each call returns, whatever the other pass holds or has yet to retire: no clause says that a call which may wait
-//! returns. What it returns is in its contract.
+//! Shared tables without a ring: two passes in every interleaving of their calls, and a chain on a
+//! table that lasts. Each call returns, whatever the other pass holds or has yet to retire: no
+//! clause says that a call which may wait returns. What it returns is in its contract.
 ghost use Rattle.std.specs.Prelude.{◌≡◌, ◌+◌, true, All, length};
 ghost use Rattle.fx_table.specs.Pass.{IsHoldOf, IsIdle, IsRetiredOf};
 ghost use Rattle.fx_lasting.specs.Tables.{IsPassOfTable, opening_of_table, view_of};
@@ -194,8 +194,9 @@ fn give_back<T: SharedTable, R: Abort>(rt: &R, table: &T, passes: &mut Vec<T::Pa
     }
 }
 
-// A chain opens a file at the slot, reads five bytes of it and closes the slot. Nobody else uses the table, so that the
-// close finds the file and closes it. No ring plays a chain on a table that lasts, so that only this test does.
+// A chain opens a file at the slot, reads five bytes of it and closes the slot. Nobody else uses
+// the table, so that the close finds the file and closes it. No ring plays a chain on a table that
+// lasts, so that only this test does.
 #[test]
 fn chain_on_a_table_that_lasts(rt: HostRuntime) -> Result<(), Fail> {
     let alloc = rt.alloc();

@@ -1,4 +1,5 @@
-//! Results that no script shows: values worked out by hand, the memory of reads, and an order of a report.
+//! Results that no script shows: values worked out by hand, the memory of reads, and an order of a
+//! report.
 use crate::setting::{
     TABLES, Table, close, end, first_chain, in_chain, one_file, open_at, read, ring_of, submit,
 };
@@ -59,8 +60,8 @@ fn request_with_both_flags_is_a_hard_link(rt: HostRuntime) {
     assert!(rt; !request.severs(&failed));
 }
 
-// A read allocates exactly the bytes that it asks for. By its contract it may fail for lack of memory; here none does.
-// The built program plays scripts of every size (tests/check-limits).
+// A read allocates exactly the bytes that it asks for. By its contract it may fail for lack of
+// memory; here none does. The built program plays scripts of every size (tests/check-limits).
 #[test]
 fn reads_of_each_length(rt: HostRuntime) -> Result<(), Fail> {
     let alloc = rt.alloc();
@@ -90,9 +91,9 @@ fn by(chain: u32, access: Access) -> ChainAccess {
     ChainAccess { chain, access }
 }
 
-// One worker plays a chain that opens a file at slot 0 and reads it, and then one that closes the slot. Without the
-// close, the order isn't one of the report. No program here computes orders, so only this test sees that memory
-// suffices for one.
+// One worker plays a chain that opens a file at slot 0 and reads it, and then one that closes the
+// slot. Without the close, the order isn't one of the report. No program here computes orders, so
+// only this test sees that memory suffices for one.
 #[test]
 fn order_of_a_report(rt: HostRuntime) -> Result<(), Fail> {
     let alloc = rt.alloc();

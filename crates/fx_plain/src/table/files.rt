@@ -11,17 +11,18 @@ use crate::table::PlainTable;
 use fx_base::OpenFile;
 
 impl PlainTable {
-    /// Checks whether there is room for a file at each slot under the slot's own number. That is so after a preparation
-    /// ([`PlainTable::prepare`]), and in a table without slots.
+    /// Checks whether there is room for a file at each slot under the slot's own number. That is so
+    /// after a preparation ([`PlainTable::prepare`]), and in a table without slots.
     pub fn is_prepared(&self) -> bool
         ensures { IsTrue result ↔ IsPrepared self.now }
     {
         self.slots.len() <= self.nodes.len() as usize
     }
 
-    /// Takes all files out of a settled table ([`PlainTable::is_settled`]), slot by slot: each slot's file, or `None`,
-    /// is appended to the list. Requires room in the list for as many elements as there are slots, so that it can't run
-    /// out of memory. Afterwards every slot is empty. Size, range and numbers stay the same.
+    /// Takes all files out of a settled table ([`PlainTable::is_settled`]), slot by slot: each
+    /// slot's file, or `None`, is appended to the list. Requires room in the list for as many
+    /// elements as there are slots, so that it can't run out of memory. Afterwards every slot is
+    /// empty. Size, range and numbers stay the same.
     pub fn take_files(&mut self, files: &mut Vec<Option<OpenFile>>)
         requires settled { IsSettled (state_of self.old) }
         requires room { vec_len files.old + (state_of self.old).size ≤ vec_capacity files.old }
@@ -37,10 +38,11 @@ impl PlainTable {
         self.full = 0;
     }
 
-    /// Puts a file at an empty slot of a settled table ([`PlainTable::is_settled`]), under the slot's own number, as a
-    /// preparation does. Requires that the table has room for it ([`PlainTable::is_prepared`]), so that it can't run
-    /// out of memory. The table stays settled. It is for files that are installed before the table is shared, and for
-    /// those that [`PlainTable::take_files`] took out.
+    /// Puts a file at an empty slot of a settled table ([`PlainTable::is_settled`]), under the
+    /// slot's own number, as a preparation does. Requires that the table has room for it
+    /// ([`PlainTable::is_prepared`]), so that it can't run out of memory. The table stays settled.
+    /// It is for files that are installed before the table is shared, and for those that
+    /// [`PlainTable::take_files`] took out.
     pub fn put_back(&mut self, slot: u32, file: OpenFile)
         requires slot { slot < (state_of self.old).size }
         requires empty { (state_of self.old).at slot ≡ None }

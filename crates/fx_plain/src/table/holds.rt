@@ -10,8 +10,8 @@ use crate::table::PlainTable;
 use fx_base::OpenFile;
 
 impl PlainTable {
-    /// Looks a slot up: returns the number and the catalogue entry of the file there, which gets one more hold, or
-    /// `None` if the slot is empty (io_uring_enter(2), "IOSQE_FIXED_FILE").
+    /// Looks a slot up: returns the number and the catalogue entry of the file there, which gets
+    /// one more hold, or `None` if the slot is empty (io_uring_enter(2), "IOSQE_FIXED_FILE").
     ///
     /// Requires that one more hold of the file fits 32 bits. That is so in a settled table
     /// ([`PlainTable::is_settled`]), and if at most 16 passes have at most one hold each.
@@ -33,8 +33,9 @@ impl PlainTable {
         Some((number, entry))
     }
 
-    /// Ends one hold of the file with this number. If the file is retired and this was its last hold, returns the file,
-    /// to be closed. Requires that the file is held ([`PlainTable::is_held`]).
+    /// Ends one hold of the file with this number. If the file is retired and this was its last
+    /// hold, returns the file, to be closed. Requires that the file is held
+    /// ([`PlainTable::is_held`]).
     pub fn release(&mut self, number: u32) -> Option<OpenFile>
         requires { 0 < (state_of self.old).holds number }
         ensures { EndsHold self.old self.new number result }
@@ -51,9 +52,9 @@ impl PlainTable {
         Some(self.nodes.take_file(number))
     }
 
-    /// Retires a removed file, so that its last release hands it out. Returns the file, to be closed, if it has no
-    /// holds now. Requires that the file is leaving: a removal returned its number and it wasn't retired since
-    /// ([`PlainTable::is_leaving`]).
+    /// Retires a removed file, so that its last release hands it out. Returns the file, to be
+    /// closed, if it has no holds now. Requires that the file is leaving: a removal returned its
+    /// number and it wasn't retired since ([`PlainTable::is_leaving`]).
     pub fn retire(&mut self, number: u32) -> Option<OpenFile>
         requires { leaving self.old number ≡ true }
         ensures answer { result ≡ identity_of (closed_by_retirement self.old number) }

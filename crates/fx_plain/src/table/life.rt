@@ -16,11 +16,12 @@ use std::alloc::Global;
 use std::mem;
 
 impl PlainTable {
-    /// Prepares a settled table ([`PlainTable::is_settled`]) for passes: the file at a slot gets the slot's number, and
-    /// the numbers from the size up to `numbers - 1` are fresh. Requires that `numbers` is at least
-    /// [`PlainTable::size`]. Files, size and range stay the same, the table stays settled, and empty slots stay empty.
-    /// Memory for all numbers, under 64 bytes for each, is reserved now unless an earlier preparation reserved it. It
-    /// is written only up to the greatest number that a file gets.
+    /// Prepares a settled table ([`PlainTable::is_settled`]) for passes: the file at a slot gets
+    /// the slot's number, and the numbers from the size up to `numbers - 1` are fresh. Requires
+    /// that `numbers` is at least [`PlainTable::size`]. Files, size and range stay the same, the
+    /// table stays settled, and empty slots stay empty. Memory for all numbers, under 64 bytes for
+    /// each, is reserved now unless an earlier preparation reserved it. It is written only up to
+    /// the greatest number that a file gets.
     ///
     /// # Errors
     /// `NoMemory` if that allocation fails. The table then stays as it was.
@@ -47,11 +48,11 @@ impl PlainTable {
         Ok(())
     }
 
-    /// Closes all files of a settled table ([`PlainTable::is_settled`]), in order of slot. Requires room for them in
-    /// the list ([`CloseList::room`] is at least [`PlainTable::full`]), so that it can't run out of memory. Afterwards
-    /// the table has no slots and an empty allocation range. The number of prepared numbers stays the same. The table
-    /// stays settled and has no file, so [`PlainTable::dismiss`] may follow (io_uring_register(2),
-    /// "IORING_UNREGISTER_FILES").
+    /// Closes all files of a settled table ([`PlainTable::is_settled`]), in order of slot. Requires
+    /// room for them in the list ([`CloseList::room`] is at least [`PlainTable::full`]), so that it
+    /// can't run out of memory. Afterwards the table has no slots and an empty allocation range.
+    /// The number of prepared numbers stays the same. The table stays settled and has no file, so
+    /// [`PlainTable::dismiss`] may follow (io_uring_register(2), "IORING_UNREGISTER_FILES").
     pub fn empty_into(&mut self, closes: &mut CloseList)
         requires settled { IsSettled (state_of self.old) }
         requires room { length (files_of (state_of self.old)) ≤ closes.old.room }
@@ -71,7 +72,8 @@ impl PlainTable {
         self.to_renumber = SlotSpan::none();
     }
 
-    /// Consumes a settled table ([`PlainTable::is_settled`]) that has no file ([`PlainTable::full`] is 0).
+    /// Consumes a settled table ([`PlainTable::is_settled`]) that has no file ([`PlainTable::full`]
+    /// is 0).
     pub fn dismiss(self)
         requires settled { IsSettled (state_of self) }
         requires empty { files_of (state_of self) ≡ [] }
@@ -79,8 +81,8 @@ impl PlainTable {
         self.abandon();
     }
 
-    /// Consumes the table and discards all its files, without listing them. It is the way out after a fault, and can't
-    /// run out of memory.
+    /// Consumes the table and discards all its files, without listing them. It is the way out after
+    /// a fault, and can't run out of memory.
     pub fn abandon(self) {
         let PlainTable {
             slots: _,
@@ -115,8 +117,8 @@ fn move_file(slots: &mut Vec<Option<u32>>, nodes: &mut NodeList, slot: usize) ->
     Node::At(slot as u32, nodes.take_file(number))
 }
 
-// Moves the file at each slot to the node of the slot's own number, and makes the list `numbers` nodes long. It reuses
-// the list if that has room.
+// Moves the file at each slot to the node of the slot's own number, and makes the list `numbers`
+// nodes long. It reuses the list if that has room.
 fn renumber(
     slots: &mut Vec<Option<u32>>,
     nodes: &mut NodeList,
@@ -160,7 +162,8 @@ fn renumber_into(slots: &mut Vec<Option<u32>>, nodes: &mut NodeList, moved: &mut
     }
 }
 
-// Moves the file that a slot names to the node of the slot's own number, unless it is there already.
+// Moves the file that a slot names to the node of the slot's own number, unless it is there
+// already.
 fn settle(slots: &mut Vec<Option<u32>>, nodes: &mut NodeList, slot: usize)
     requires slot { (slot < vec_len slots.old) × (slot < 2 ^ 32) }
     requires node { slot < length nodes.old }

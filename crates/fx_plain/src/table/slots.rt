@@ -11,9 +11,10 @@ use crate::table::PlainTable;
 use fx_base::OpenFile;
 
 impl PlainTable {
-    /// Installs a file at a slot, under a fresh number ([`PlainTable::is_fresh`]). Returns the number of the file that
-    /// it replaced, which is leaving from now on, or `None` if the slot was empty. A settled table stays settled if the
-    /// slot was empty (io_uring_prep_openat(3), `io_uring_prep_openat_direct`).
+    /// Installs a file at a slot, under a fresh number ([`PlainTable::is_fresh`]). Returns the
+    /// number of the file that it replaced, which is leaving from now on, or `None` if the slot was
+    /// empty. A settled table stays settled if the slot was empty (io_uring_prep_openat(3),
+    /// `io_uring_prep_openat_direct`).
     pub fn put(&mut self, slot: u32, number: u32, file: OpenFile) -> Option<u32>
         requires slot { slot < (state_of self.old).size }
         requires fresh { (state_of self.old).fresh number ≡ true }
@@ -42,13 +43,13 @@ impl PlainTable {
         }
     }
 
-    /// Installs a file at an empty slot of the allocation range, under a fresh number ([`PlainTable::is_fresh`]), and
-    /// returns the slot. It is the first such slot, which no contract promises (io_uring_prep_openat(3),
-    /// "IORING_FILE_INDEX_ALLOC").
+    /// Installs a file at an empty slot of the allocation range, under a fresh number
+    /// ([`PlainTable::is_fresh`]), and returns the slot. It is the first such slot, which no
+    /// contract promises (io_uring_prep_openat(3), "IORING_FILE_INDEX_ALLOC").
     ///
     /// # Errors
-    /// Returns the file if every slot of the range has a file (ENFILE). The table then stays as it was, and the number
-    /// stays fresh.
+    /// Returns the file if every slot of the range has a file (ENFILE). The table then stays as it
+    /// was, and the number stays fresh.
     pub fn put_any(&mut self, number: u32, file: OpenFile) -> Result<u32, OpenFile>
         requires { (state_of self.old).fresh number ≡ true }
         ensures ok { IfOk result (λ slot.
@@ -84,8 +85,9 @@ impl PlainTable {
         None
     }
 
-    /// Empties a slot for an update. Returns the number of the file that was there, which is leaving from now on, or
-    /// `None` if the slot was empty (io_uring_register(2), "IORING_REGISTER_FILES_UPDATE", an entry of -1).
+    /// Empties a slot for an update. Returns the number of the file that was there, which is
+    /// leaving from now on, or `None` if the slot was empty (io_uring_register(2),
+    /// "IORING_REGISTER_FILES_UPDATE", an entry of -1).
     pub fn clear(&mut self, slot: u32) -> Option<u32>
         requires { slot < (state_of self.old).size }
         ensures { let found = (state_of self.old).at slot in
@@ -94,8 +96,9 @@ impl PlainTable {
         self.take(slot)
     }
 
-    /// Empties a slot for a close. Returns the number of the file that was there, which is leaving from now on, or
-    /// `None` if the slot was empty (io_uring_prep_close(3), `io_uring_prep_close_direct`).
+    /// Empties a slot for a close. Returns the number of the file that was there, which is leaving
+    /// from now on, or `None` if the slot was empty (io_uring_prep_close(3),
+    /// `io_uring_prep_close_direct`).
     pub fn take(&mut self, slot: u32) -> Option<u32>
         requires { slot < (state_of self.old).size }
         ensures { let found = (state_of self.old).at slot in

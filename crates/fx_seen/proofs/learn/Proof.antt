@@ -36,29 +36,38 @@ learn_spec 𝓤 𝓛 𝓜 𝓡 wired T U Q P Mv _ _ _ _ _ g d g' d' _ _ =
     let others : Fml = fsep (flft κs.1.1.1.0 qs.1.1.1.0) (fsep (flft κs.1.1.1.1.0 qs.1.1.1.1.0) (fsep (flft κs.1.1.1.1.1.0 qs.1.1.1.1.1.0) (fsep (flft κs.1.1.1.1.1.1.0 qs.1.1.1.1.1.1.0) (fsep (flft κs.1.1.1.1.1.1.1.0 qs.1.1.1.1.1.1.1.0) ftrue)))) in
     qed 𝓛 (((‵ (flft κs.0 qs.0) ⊛ ‵ (flft κs.1.0 qs.1.0) ⊛ ‵ (flft κs.1.1.0 qs.1.1.0) ⊛ ‵ others) ⊛ ‵ (owns (types_at En.signature.params κs) a y.0.4)) ∷ raw (fact 𝓤 _) ∷ raw (fact 𝓤 _) ∷ raw (fact 𝓤 _) ∷ raw (fact 𝓤 _) ∷ raw (fact 𝓤 _) ∷ raw (fact 𝓤 Of) ∷ raw (fact 𝓤 Here) ∷ raw (fact 𝓤 May) ∷ []) ∵
     keep ! (6 ∷ 7 ∷ 8 ∷ 0 ∷ []) $ heard ! Of (λ of. heard ! Here (λ here. heard ! May (λ may. split ! $ split3 ! $ move ! (2 ∷ []) $ split ! $ move ! (4 ∷ []) $ fsplit3 ! $ fsplit ! $ move ! (2 ∷ []) $ fsplit3 ! $ move ! (5 ∷ []) $ fsplit ! $ fsplit ! $ keep ! (7 ∷ 10 ∷ 4 ∷ 5 ∷ 11 ∷ 9 ∷ 1 ∷ 8 ∷ []) $
-    -- [the table; its token; the seat, in two; its token; the other tokens; what was shown; its token]
+    -- [the table; its token; the seat, in two; its token; the other tokens; what was shown; its
+    -- token]
     enter ! 𝓣.C 𝓣.Λ fn (vptr a.0.ref_ptr.0 a.0.ref_ptr.1 ∷ vptr a.1.0.ref_ptr.0 a.1.0.ref_ptr.1 ∷ vptr a.1.1.0.ref_ptr.0 a.1.1.0.ref_ptr.1 ∷ []) Post $ alloc_all ! (λ l. pass_all ! refl ((tt, tt), ((tt, tt), ((tt, tt), tt))) $
     use1 𝓛 (‵ (hidden_shr D κ (w, (p, (tt, tt))) b o) ⊛ ‵ (base.Fml.fhide (table.the_lent R W X Y g t (block_ptr b o) κ))) (lent_out 𝓛 (table.struct R W X Y g) (table.the_codes T.Denot U.Denot Q.Denot P.Denot R.coded W.coded X.coded Y.coded (marker.the_row (Tuple (Y ∷ W ∷ X ∷ []))).coded) (table.the_heap R W X Y g) (table.the_lent R W X Y g) κ t b o) $
     split ! $ drop ! $ unhide ! $ fsplit ! $
-    -- [the table's lifetime lasts; what all know of the table; its token; the seat, in two; its token; the other tokens; what was shown; its token]
+    -- [the table's lifetime lasts; what all know of the table; its token; the seat, in two; its
+    -- token; the other tokens; what was shown; its token]
     move ! (7 ∷ []) $ use1 𝓛 (‵ (hidden_shr (Token W) κs.1.1.0 (tt, tt) b₂ o₂) ⊛ ‵ (base.Fml.fhide (seen_owns cv.code n.table_id j x))) (lent_out 𝓛 (Seen.struct W) (Seen.the_codes U.Denot W.coded (marker.the_row W).coded) (Seen.the_heap W) (Seen.the_lent W) κs.1.1.0 n b₂ o₂) $
     split ! $ drop ! $ unhide ! $ rewrite ! 0 (λ (i : TableId). ‵ (seen_owns cv.code i j x)) here refl $
     move ! (1 ∷ 3 ∷ []) $ shr_bor-open ! tt (tokens_halve 𝓛 α) (λ s. move ! (1 ∷ []) $ use1 𝓛 (‵ (flft α (Share.left s)) ⊛ ‵ (flft α (Share.right s))) (𝓛.lfts.lft_split α s) $ split ! $
-    -- [two parts of the table's token; the open loan of it; what was shown; what all know; the seat, in two; its token; the other tokens; the token of what was shown]
+    -- [two parts of the table's token; the open loan of it; what was shown; what all know; the
+    -- seat, in two; its token; the other tokens; the token of what was shown]
     move ! (3 ∷ 0 ∷ []) $ shr_bor-open ! tt (view_halves 𝓛 cv z.views_name j x) (λ q.
-    -- [the open loan of what was shown; a share of that; the other part of the table's token; the open loan of the token; what all know; the seat, in two; its token; the other tokens; the token of what was shown]
+    -- [the open loan of what was shown; a share of that; the other part of the table's token; the
+    -- open loan of the token; what all know; the seat, in two; its token; the other tokens; the
+    -- token of what was shown]
     move ! (5 ∷ 6 ∷ 7 ∷ []) $ opens ! tt Sr b' o' (λ ts. move ! (1 ∷ []) $ fsplit ! $ rewrite ! 1 (λ (i : TableId). ‵ (mine R cv.code i id v)) of refl $
-    -- [the seat's fields; what it owns; its cell, in four; the open loan of what was shown; a share of that; the part of the table's token; the open loan; what all know; the other tokens; ..]
+    -- [the seat's fields; what it owns; its cell, in four; the open loan of what was shown; a share
+    -- of that; the part of the table's token; the open loan; what all know; the other tokens; ..]
     move ! (1 ∷ 7 ∷ []) $ fjoin ! $ move ! (9 ∷ 7 ∷ 0 ∷ []) $
     use3 𝓛 (later (‵ (learned 𝓛 R cv (g.holds t.key) w p z id v j x q then) ⊛ ‵ (flft α (Share.right s)))) (learns 𝓛 R cv (g.holds t.key) w p z id v j x q then (Share.right s) may) $ await ! tt $ split ! $ fsplit ! $
-    -- [what was learned; a share of what was shown; the part of the table's token; the seat's fields; its cell, in four; the two open loans; the other tokens; the token of what was shown]
+    -- [what was learned; a share of what was shown; the part of the table's token; the seat's
+    -- fields; its cell, in four; the two open loans; the other tokens; the token of what was shown]
     move ! (8 ∷ 1 ∷ []) $ obor_close ! tt $ drop ! $ move ! (0 ∷ 2 ∷ []) $ use2 𝓛 (‵ (flft α s)) (𝓛.lfts.lft_join α s) $
     move ! (7 ∷ 0 ∷ []) $ obor_close ! tt $ drop ! $ move ! (1 ∷ []) $ fpick ! (λ u. fsplit ! $ fpick ! (λ so. drop ! $
-    -- [the seat; the token of κ; the seat's fields; its cell, in four; the other tokens; the token of what was shown]
+    -- [the seat; the token of κ; the seat's fields; its cell, in four; the other tokens; the token
+    -- of what was shown]
     let h' : Sr.Denot = record { marker = h.marker; table_id = z; id = id; me = (u, v.1) } in
     move ! (2 ∷ 0 ∷ []) $ fjoin ! $ move ! (2 ∷ 0 ∷ 3 ∷ 4 ∷ 5 ∷ []) $ closes ! tt Sr h' ts b' o' $ feq_i ! (List Val) (vptr b' o' ∷ []) (vptr b' o' ∷ []) refl $ fjoin3 ! $
     sets ! (of_opd ! (unit_lit !)) refl (tt, tt) $ nothing ! $ nothing ! $ fjoin ! $ move ! (1 ∷ 0 ∷ []) $ fjoin ! $ nothing ! $ fjoin ! $
-    -- [what is left of the parameters; the seat's token; that of the table; the other tokens; that of what was shown]
+    -- [what is left of the parameters; the seat's token; that of the table; the other tokens; that
+    -- of what was shown]
     move ! (4 ∷ 3 ∷ []) $ join ! $ move ! (2 ∷ 0 ∷ []) $ join ! $ move ! (2 ∷ 0 ∷ []) $ join ! $
     use0 𝓛 (raw (fact 𝓤 (then u))) (fact_i 𝓤 (then u) (emp 𝓤) so) $ use0 𝓛 (raw (fact 𝓤 (v.1 ≡ v.1))) (fact_i 𝓤 (v.1 ≡ v.1) (emp 𝓤) refl) $ join ! $
     use0 𝓛 (raw (fact 𝓤 (id ≡ id))) (fact_i 𝓤 (id ≡ id) (emp 𝓤) refl) $ join ! $ use0 𝓛 (raw (fact 𝓤 (z ≡ h.table_id))) (fact_i 𝓤 (z ≡ h.table_id) (emp 𝓤) (sym of)) $ join ! $ feq_i ! (List Val) (vunit ∷ []) (vunit ∷ []) refl $

@@ -36,21 +36,26 @@ show_spec 𝓤 𝓛 𝓜 𝓡 wired T U Q P Mv _ _ _ _ _ g d g' d' _ _ =
     enter ! 𝓣.C 𝓣.Λ fn (vptr a.0.ref_ptr.0 a.0.ref_ptr.1 ∷ vptr a.1.0.ref_ptr.0 a.1.0.ref_ptr.1 ∷ []) Post $ alloc_all ! (λ l. pass_all ! refl ((tt, tt), ((tt, tt), tt)) $
     use1 𝓛 (‵ (hidden_shr D κ (w, (p, (tt, tt))) b o) ⊛ ‵ (base.Fml.fhide (table.the_lent R W X Y g t (block_ptr b o) κ))) (lent_out 𝓛 (table.struct R W X Y g) (table.the_codes T.Denot U.Denot Q.Denot P.Denot R.coded W.coded X.coded Y.coded (marker.the_row (Tuple (Y ∷ W ∷ X ∷ []))).coded) (table.the_heap R W X Y g) (table.the_lent R W X Y g) κ t b o) $
     split ! $ drop ! $ unhide ! $ fsplit ! $
-    -- [the table's lifetime lasts; what all know of the table; the token of κ; the seat; its token; the other tokens]
+    -- [the table's lifetime lasts; what all know of the table; the token of κ; the seat; its token;
+    -- the other tokens]
     move ! (0 ∷ 2 ∷ []) $ shr_bor-open ! tt (tokens_halve 𝓛 α) (λ s. move ! (3 ∷ 4 ∷ 5 ∷ []) $
     opens ! tt Sr b' o' (λ ts. move ! (1 ∷ []) $ fsplit ! $ rewrite ! 1 (λ (x : TableId). ‵ (mine R cv.code x id v)) of refl $
-    -- [the seat's fields; what it owns; its cell, in four entries; the open loan; the table's token; what all know; the other tokens]
+    -- [the seat's fields; what it owns; its cell, in four entries; the open loan; the table's
+    -- token; what all know; the other tokens]
     move ! (8 ∷ 7 ∷ 1 ∷ []) $ use3 𝓛 (later (‵ (fex ℕ (shown 𝓛 R cv (g.holds t.key) w p z id v lv rv)) ⊛ ‵ (flft α s))) (shows 𝓛 R cv (g.holds t.key) w p z id v lv rv s may) $ await ! tt $ split ! $
-    -- [shown; the table's token; the seat's fields; its cell, in four; the open loan; the other tokens]
+    -- [shown; the table's token; the seat's fields; its cell, in four; the open loan; the other
+    -- tokens]
     move ! (7 ∷ 1 ∷ []) $ obor_close ! tt $ drop ! $ move ! (1 ∷ []) $ fpick ! (λ j. fsplit ! $
     use1 𝓛 (later (‵ (seen_owns cv.code z j rv))) (lends 𝓛 R cv (g.holds t.key) w p z j rv) $ await ! tt $
-    -- [the view shown; the seat; the token of κ; the seat's fields; its cell, in four; the other tokens]
+    -- [the view shown; the seat; the token of κ; the seat's fields; its cell, in four; the other
+    -- tokens]
     let h' : Sr.Denot = record { marker = h.marker; table_id = z; id = id; me = (lv, v.1) } in let r : Nr.Denot = record { marker = record {}; table_id = z; id = j; view = rv } in
     let Same : Type 0 = z ≡ h.table_id in let Id : Type 0 = id ≡ id in let Me' : Type 0 = h'.me ≡ h'.me in let View : Type 0 = rv ≡ rv in
     use0 𝓛 (‵ ((Token W).own_val (tt, tt) (token ∷ []))) (token_made W 𝓛) $ fjoin ! $ sets ! (agg ! (no_more !)) refl (tt, tt) $ sets ! (agg ! (and_then ! (get ! refl) (no_more !))) refl (tt, (tt, tt)) $
     move ! (3 ∷ 1 ∷ []) $ fjoin ! $ move ! (3 ∷ 0 ∷ 4 ∷ 5 ∷ 6 ∷ []) $ closes ! tt Sr h' ts b' o' $ feq_i ! (List Val) (vptr b' o' ∷ []) (vptr b' o' ∷ []) refl $ fjoin3 ! $
     nothing ! $ move ! (1 ∷ 0 ∷ []) $ fjoin ! $ nothing ! $ fjoin ! $
-    -- [what is left of the parameters; the seat's token; the result; the token of κ; the other tokens]
+    -- [what is left of the parameters; the seat's token; the result; the token of κ; the other
+    -- tokens]
     move ! (1 ∷ 4 ∷ []) $ join ! $ move ! (3 ∷ 0 ∷ []) $ join ! $
     use0 𝓛 (raw (fact 𝓤 View)) (fact_i 𝓤 View (emp 𝓤) refl) $ use0 𝓛 (raw (fact 𝓤 Same)) (fact_i 𝓤 Same (emp 𝓤) (sym of)) $ join ! $ use0 𝓛 (raw (fact 𝓤 Me')) (fact_i 𝓤 Me' (emp 𝓤) refl) $ join ! $
     use0 𝓛 (raw (fact 𝓤 Id)) (fact_i 𝓤 Id (emp 𝓤) refl) $ join ! $ use0 𝓛 (raw (fact 𝓤 Same)) (fact_i 𝓤 Same (emp 𝓤) (sym of)) $ join ! $

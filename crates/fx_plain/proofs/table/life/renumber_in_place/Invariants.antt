@@ -2,7 +2,8 @@ use Rattle.fx_plain.proofs.Words.{◌≡◌, ◌≤◌, ◌<◌, ℕ, Some, leng
 use Rattle.fx_plain.proofs.OwnNumbers.{IsOpened}
 use Rattle.fx_plain.proofs.table.life.renumber_in_place.Given as goal
 
--- the slots so far name their own numbers, whose nodes have their files, and what the others name is as it was
+-- the slots so far name their own numbers, whose nodes have their files, and what the others name
+-- is as it was
 abbrev pub invariant-loop-slot : goal.invariant-loop-slot
 invariant-loop-slot l = record {
   len : vec_len l.slots ≡ vec_len l.fn.slots;
