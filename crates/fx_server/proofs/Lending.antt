@@ -19,8 +19,7 @@ use mir.Raw.{raw as bare}
 use denote.Memory.{mem, lone}
 use denote.Ref.{MutRef}
 use denote.Triple.Walked.{says}
-use Rattle.libc.specs.Heap.{chunk}
-use Rattle.fx_server.specs.Handle.{HasWorker, handle_owns}
+use Rattle.fx_server.specs.Handle.{HasWorker, handle_owns, may_free}
 use Rattle.fx_server.specs.declared.worker.TableWorker.{TableWorker}
 use Rattle.fx_server.specs.contracts.worker.TableWorker.{the_row}
 
@@ -38,7 +37,7 @@ kept α δ b o = flent (α ∷ []) (Body (mem R) b o δ)
 module _ {M : Type 1} {𝓤 : Ura M} (𝓛 : Logic 𝓤) where
   -- nothing lies at null
   pub never_null : (w : TableWorker) → ent 𝓤 (sem 𝓛 (handle_owns null_ptr w)) (never 𝓤)
-  never_null w = fst∗ 𝓤 (never 𝓤) (sem 𝓛 (chunk (bare (lone R.mir)) null_ptr))
+  never_null w = fst∗ 𝓤 (never 𝓤) (sem 𝓛 (may_free (bare (lone R.mir)) null_ptr))
 
   pub returned : (p : Ptr) (w : TableWorker) (φ : TableWorker → Type 0) → φ w → ent 𝓤 (sem 𝓛 (handle_owns p w)) (HasWorker 𝓛 p φ)
   returned p w φ holds = qed 𝓛 (‵ (handle_owns p w) ∷ []) ∵ show ! (λ (after : TableWorker). sep 𝓤 (sem 𝓛 (handle_owns p after)) (fact 𝓤 (φ after))) w $ says ! holds $ done !

@@ -4,18 +4,28 @@ use base.Fml.{Fml, ftrue}
 use base.Logic.{SProp, sep, ex}
 use base.Stored.{Coded}
 use contract.Monad.{fact}
+use mir.Syntax.{Ty}
 use denote.RawPtr.{Ptr}
 use types.Logic.{Logic, sem}
-use Rattle.libc.specs.Heap.{chunk}
 use Rattle.std.specs.Box.Ownership.{box_owns}
 use Rattle.std.specs.Prelude.{Option, Some, None}
 use Rattle.std.specs.Coded.{coded_option}
+use Rattle.std.specs.Global.{Global}
+use Rattle.std_heap.specs.contracts.GlobalAllocator.TheImpl.{ghosts}
 use Rattle.fx_server.specs.contracts.worker.TableWorker.{the_row}
 use Rattle.fx_server.specs.declared.worker.TableWorker.{TableWorker}
 
+-- the allocator of all workers, whose type has this value alone
+abbrev pub heap : Global
+heap = record { memory = record { seal = tt } }
+
+-- the right to free memory at a pointer
+abbrev pub may_free : Ty → Ptr → Fml
+may_free = ghosts.dealloc_token heap
+
 -- the worker lies at the pointer, and who owns it may free its memory: what a box of it owns
 abbrev pub handle_owns : Ptr → TableWorker → Fml
-handle_owns = box_owns chunk the_row
+handle_owns = box_owns may_free the_row
 
 -- a worker lies at the pointer, as `handle_owns` says, and it is as φ says
 abbrev pub HasWorker : {M : Type 1} {𝓤 : Ura M} → Logic 𝓤 → Ptr → (TableWorker → Type 0) → SProp 𝓤
