@@ -1,12 +1,14 @@
 //! A server over a table without a lock that never has to be closed. Requests arrive in a bounded
 //! queue, and four threads serve them, each by a pass of its own. Begin with `serve.rt`, the work
-//! of a thread, and `life.rt`, the life of the table.
+//! of a thread, `life.rt`, the life of the table, and `hand_over.rt`, the order between two
+//! threads.
 #![tactic(auto)]
 
 ghost use Rattle.std.specs.Prelude.{◌≡◌, IfOk, length};
 
 mod desk;
 mod feed;
+mod hand_over;
 mod life;
 mod serve;
 
@@ -14,6 +16,7 @@ use crossbeam_channel::{Sender, bounded};
 use desk::{Desk, Job};
 use feed::feed;
 use fx_base::{AddFault, Catalogue, NoMemory};
+use hand_over::hand_over_once;
 use life::serve_all;
 use std::alloc::Global;
 use std::sync::Wait;
@@ -61,6 +64,9 @@ fn main(rt: HostRuntime) -> Result<(), AddFault> {
     }
     // The very first look-ups may find a slot that no request has filled.
     let read = desk.read.load(Ordering::SeqCst).div_ceil(1000);
+    let Ok(found) = hand_over_once(&rt, alloc, &catalogue) else {
+        return Err(AddFault::NoMemory);
+    };
     // A line that can't be written changes nothing.
     let _ = println!(&rt;
         "requests served: {}, refused: {}",
@@ -77,5 +83,11 @@ fn main(rt: HostRuntime) -> Result<(), AddFault> {
         desk.closed.load(Ordering::SeqCst),
         desk.reported.load(Ordering::SeqCst)
     );
+    if let Some(entry) = found {
+        let _ = println!(&rt;
+            "one thread put entry 1, and another one found entry {}",
+            entry
+        );
+    }
     Ok(())
 }

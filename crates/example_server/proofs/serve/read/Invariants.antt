@@ -1,5 +1,3 @@
-use Rattle.std.proofs.Common.{◌<◌}
-use Rattle.fx_table.specs.Opening.{size_of}
 use Rattle.fx_table.specs.Pass.{IsIdle}
 use Rattle.example_server.proofs.serve.read.Given as goal
 

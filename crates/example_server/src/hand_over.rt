@@ -1,0 +1,173 @@
+//! One thread hands a file over to another: it puts the file at a slot, and the other thread looks
+//! the slot up once the first thread is done. By the clause `found` of `hand_over` the other thread
+//! finds that file, unless an action between the two changed the slot.
+ghost use Rattle.std.specs.Prelude.{◌≡◌, ◌<◌, ◌≤◌, ◌+◌, length, All};
+ghost use Rattle.std.specs.Thread.{IsSync};
+ghost use Rattle.fx_table.specs.Opening.{size_of};
+ghost use Rattle.fx_table.specs.Pass.{IsIdle};
+ghost use Rattle.example_server.specs.HandOver.{HasPut, FindsThePut};
+
+use fx_base::{Catalogue, CloseList, Mark, NoMemory, OpenFile};
+use fx_lasting::LastingTable;
+use fx_plain::PlainTable;
+use fx_table::{LookUp, RealTime, SharedTable};
+use std::alloc::Global;
+use std::sync::Wait;
+use std::thread::{Threads, join_mut};
+
+// Puts a file at a slot, and shows what the pass has seen by then. Returns the file that was
+// replaced, if nobody uses it.
+fn put_and_show<T: RealTime, R: Wait>(
+    rt: &R,
+    catalogue: &Catalogue,
+    table: &T,
+    pass: &mut T::Pass,
+    slot: u32,
+    entry: u8,
+) -> (T::Seen, Option<OpenFile>)
+    requires ready { T.fits table.now pass.old × IsIdle (T.view pass.old) }
+    requires slot { slot < size_of (T.opening table.now) }
+    requires entry { entry < length catalogue.now }
+    requires numbers { 0 < (T.view pass.old).numbers_left }
+    ensures ready { T.fits table.now pass.new × IsIdle (T.view pass.new) }
+    ensures here { T.shows table.now result.0 }
+    ensures put { HasPut slot entry (T.shown result.0) }
+{
+    let file = catalogue.open(entry, Mark::Registered { k: 1, i: slot }, 0);
+    let removed = table.put(rt, pass, slot, file);
+    let seen = table.show(pass);
+    let Some(removed) = removed else {
+        return (seen, None);
+    };
+    (seen, table.retire(rt, pass, removed))
+}
+
+// Looks a slot up after what was shown, and returns the entry that it finds.
+fn find<T: RealTime, R: Wait>(
+    rt: &R,
+    table: &T,
+    pass: &mut T::Pass,
+    slot: u32,
+    entry: u8,
+    seen: &T::Seen,
+    closes: &mut CloseList,
+) -> Option<u8>
+    requires ready { T.fits table.now pass.old × IsIdle (T.view pass.old) }
+    requires slot { slot < size_of (T.opening table.now) }
+    requires looks { 0 < (T.view pass.old).looks_left }
+    requires here { T.shows table.now seen.now }
+    requires put { HasPut slot entry (T.shown seen.now) }
+    requires room { 2 ≤ closes.old.room }
+    ensures ready { T.fits table.now pass.new × IsIdle (T.view pass.new) }
+    ensures found { FindsThePut slot entry result (T.view pass.new).front }
+{
+    let LookUp { found, freed } = table.look_up_after(rt, pass, slot, seen);
+    if let Some(file) = freed {
+        closes.close(file);
+    }
+    let Ok(hold) = found else {
+        return None;
+    };
+    let entry = hold.entry;
+    if let Some(file) = table.release(rt, pass, hold) {
+        closes.close(file);
+    }
+    Some(entry)
+}
+
+/// Puts a file of an entry at a slot, in a thread of its own, and looks the slot up by another pass
+/// once that thread is done. Returns the entry that the other pass finds, or `None` if the slot has
+/// no file. It is the entry that was put, unless an action between changed the slot.
+pub fn hand_over<T: RealTime, R: Threads + Wait + Sync>(
+    rt: &R,
+    catalogue: &Catalogue,
+    table: &T,
+    first: &mut T::Pass,
+    second: &mut T::Pass,
+    slot: u32,
+    entry: u8,
+    closes: &mut CloseList,
+) -> Option<u8>
+    requires first { T.fits table.now first.old × IsIdle (T.view first.old) }
+    requires second { T.fits table.now second.old × IsIdle (T.view second.old) }
+    requires slot { slot < size_of (T.opening table.now) }
+    requires entry { entry < length catalogue.now }
+    requires numbers { 0 < (T.view first.old).numbers_left }
+    requires looks { 0 < (T.view second.old).looks_left }
+    requires room { 3 ≤ closes.old.room }
+    ensures first { T.fits table.now first.new × IsIdle (T.view first.new) }
+    ensures second { T.fits table.now second.new × IsIdle (T.view second.new) }
+    ensures found { FindsThePut slot entry result (T.view second.new).front }
+{
+    let ((seen, replaced), ()) = join_mut(
+        rt,
+        &mut || -> (T::Seen, Option<OpenFile>)
+            requires { IsSync R.row × T.fits table.now first.now × IsIdle (T.view first.now)
+                × (slot < size_of (T.opening table.now)) × (entry < length catalogue.now)
+                × (0 < (T.view first.now).numbers_left) }
+            ensures { T.fits table.entry.now first.exit.now × IsIdle (T.view first.exit.now)
+                × T.shows table.entry.now result.0 × HasPut slot entry (T.shown result.0) }
+        { put_and_show(rt, catalogue, table, first, slot, entry) },
+        &mut || (),
+    );
+    if let Some(file) = replaced {
+        closes.close(file);
+    }
+    find(rt, table, second, slot, entry, &seen, closes)
+}
+
+// Hands entry 1 over at slot 0 between the two passes of a list, if the first has a number left and
+// the second a look-up.
+fn hand_over_between<T: RealTime, R: Threads + Wait + Sync>(
+    rt: &R,
+    catalogue: &Catalogue,
+    table: &T,
+    passes: &mut Vec<T::Pass>,
+    closes: &mut CloseList,
+) -> Option<u8>
+    requires two { length passes.old.items ≡ 2 }
+    requires ready { All (λ p. T.fits table.now p × IsIdle (T.view p)) passes.old.items }
+    requires slot { 0 < size_of (T.opening table.now) }
+    requires entry { 1 < length catalogue.now }
+    requires room { 3 ≤ closes.old.room }
+    ensures two { length passes.new.items ≡ 2 }
+    ensures ready { All (λ p. T.fits table.now p × IsIdle (T.view p)) passes.new.items }
+{
+    let mut second = passes.pop().unwrap();
+    let mut first = passes.pop().unwrap();
+    let mut found = None;
+    if table.numbers_left(&first) > 0 && table.looks_left(&second) > 0 {
+        let (one, other) = (&mut first, &mut second);
+        found = hand_over(rt, catalogue, table, one, other, 0, 1, closes);
+    }
+    passes.push_reserved(first);
+    passes.push_reserved(second);
+    found
+}
+
+/// Opens a table of one slot for two passes, hands entry 1 over from one thread to another, and
+/// closes the table. Returns the entry that the other thread found.
+///
+/// # Errors
+/// `NoMemory` if an allocation fails.
+pub fn hand_over_once<R: Threads + Wait + Sync>(
+    rt: &R,
+    alloc: Global,
+    catalogue: &Catalogue,
+) -> Result<Option<u8>, NoMemory>
+    requires entry { 1 < length catalogue.now }
+{
+    let mut closes = CloseList::with_room(alloc, 3)?;
+    let plain = PlainTable::sparse(alloc, 1)?;
+    match LastingTable::open(alloc, plain, 2, 2) {
+        Ok((table, mut passes)) => {
+            let found = hand_over_between(rt, catalogue, &table, &mut passes, &mut closes);
+            table.close(passes).abandon();
+            Ok(found)
+        }
+        Err((plain, refused)) => {
+            plain.abandon();
+            Err(refused)
+        }
+    }
+}
