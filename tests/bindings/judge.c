@@ -67,35 +67,27 @@ static void lists(void) {
     WANT(outcomes("sparse\n", YACHT_STATES, sizeof texts, 16) == YACHT_BAD_SCRIPT && found.line == 1 && found.count == 0);
 }
 
-static void refused_allocations(void) {
+static uint32_t judges(void) { return judge(script, text, YACHT_STATES, sizeof words); }
+
+static uint32_t lists_texts(void) { return outcomes(two, YACHT_STATES, sizeof texts, 16); }
+
+static void refused_allocations(uint32_t (*call)(void), uint32_t expected) {
     int refused = 0;
-    for (long count = 0;; count++) {
+    uint32_t answer = YACHT_JUDGE_NO_MEMORY;
+    for (long count = 0; answer == YACHT_JUDGE_NO_MEMORY; count++) {
         allowed = count;
-        uint32_t answer = judge(script, text, YACHT_STATES, sizeof words);
+        answer = call();
         allowed = -1;
-        if (answer != YACHT_JUDGE_NO_MEMORY) {
-            WANT(answer == YACHT_LEGAL && refused > 10);
-            break;
-        }
-        refused++;
+        refused += answer == YACHT_JUDGE_NO_MEMORY;
     }
-    refused = 0;
-    for (long count = 0;; count++) {
-        allowed = count;
-        uint32_t answer = outcomes(two, YACHT_STATES, sizeof texts, 16);
-        allowed = -1;
-        if (answer != YACHT_JUDGE_NO_MEMORY) {
-            WANT(answer == YACHT_ALL && refused > 10);
-            break;
-        }
-        refused++;
-    }
+    WANT(answer == expected && refused > 10);
 }
 
 int main(void) {
     verdicts();
     notes_with_little_room();
     lists();
-    refused_allocations();
+    refused_allocations(judges, YACHT_LEGAL);
+    refused_allocations(lists_texts, YACHT_ALL);
     return report("judge");
 }
