@@ -7,7 +7,7 @@
  * it, and each look-up (yacht_get_at) under way that first saw it. Such a look-up is a user until
  * it ends, even if it returns another value. So yacht_get_at may drop a value that its caller never
  * got, and a thread that is stopped within yacht_get_at may delay a drop. While no call is under
- * way, each value that is in no slot and that no handle holds has been dropped.
+ * way, each value that was replaced or removed, and that no handle holds, has been dropped.
  *
  * The caller must ensure the following, which nothing checks:
  * - A table or a handle comes from a function of this header, and its table is not yet freed.
@@ -99,9 +99,9 @@ int yacht_get_at(yacht_handle *handle, uint32_t slot, void **value);
  * Returns YACHT_DONE, or YACHT_IDLE. */
 int yacht_release(yacht_handle *handle);
 
-/* Installs a value, not NULL, at a free slot. It waits while other threads change slots. It may
- * wait for as long as one other thread is stopped within yacht_insert, yacht_try_insert,
- * yacht_replace_at or yacht_remove_at.
+/* Installs a value, not NULL, at a free slot. It may wait while other threads change slots, and for
+ * as long as one other thread is stopped within yacht_insert, yacht_try_insert, yacht_replace_at or
+ * yacht_remove_at.
  * Returns the slot; or YACHT_FULL, YACHT_BUSY, YACHT_READER or YACHT_BAD_ARGUMENT: then the caller
  * still owns the value. */
 int yacht_insert(yacht_handle *handle, void *value);
