@@ -42,7 +42,8 @@ enum {
  * them. */
 enum { YACHT_STATES = 1000000, YACHT_MEMORY = 1024 };
 
-/* The details of a verdict. A field is 0 unless its number is returned. */
+/* The details of a verdict. A field is 0 unless its number is returned; after
+ * YACHT_JUDGE_NO_MEMORY, `line` and `note` say nothing. */
 typedef struct yacht_verdict {
     /* YACHT_NOT_LEGAL: the number of commands that may have printed the text before the break */
     uint64_t commands;

@@ -1,8 +1,8 @@
 """The verified judge of io_uring's registered file table: judge(script, text) and outcomes(script).
 
 A script is what fixfiles plays. A text is what fixfiles, or a kernel, prints for it. Both are str or bytes. The library
-libyachtjudge.so.3 is looked for in the folder YACHTBANYAN_LIB_DIR if that is set; else beside this file, in the folders lib above it,
-and where the system finds libraries.
+libyachtjudge.so.3 is looked for in the folder YACHTBANYAN_LIB_DIR if that is set, else beside this file and in the folders lib above it;
+and at last where the system finds libraries.
 
     >>> import yachtjudge
     >>> script = "file a.txt 68656c6c6f\\nsparse 2\\nopen a.txt at 0\\nsubmit\\n"
@@ -166,7 +166,8 @@ def _limits(states: int, memory: int) -> tuple[int, int]:
 
 
 def judge(script: Words, text: Words, states: int = STATES, memory: int = MEMORY) -> Verdict:
-    """Decides whether a script may print a text, by a search of at most `states` states and `memory` MiB.
+    """Decides whether a script may print a text, by a search of at most `states` states and `memory` MiB for each part of a submission that
+    has slots of its own.
 
     Raises BadScript if `script` is not a script, NoMemory if an allocation fails, TypeError if an argument has another type, and
     ValueError if a limit is negative or above 2**32 - 1."""
@@ -188,7 +189,8 @@ def judge(script: Words, text: Words, states: int = STATES, memory: int = MEMORY
 
 
 def outcomes(script: Words, states: int = STATES, memory: int = MEMORY) -> Outcomes:
-    """Returns the texts, as bytes, that a script may print if no allocation fails, by searches of at most `states` states and `memory` MiB.
+    """Returns the texts, as bytes, that a script may print if no allocation fails, by searches of at most `states` states and `memory` MiB
+    in all.
 
     Raises what `judge` raises."""
     given, limits = _bytes(script, "script"), _limits(states, memory)

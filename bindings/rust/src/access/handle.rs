@@ -213,7 +213,8 @@ impl<T> Handle<T> {
         Ok(old?.map(|it| *it))
     }
 
-    /// Checks whether a slot has a value. A slot that the table hasn't has none.
+    /// Checks whether a slot has a value. A slot that the table hasn't has none. It is a look-up,
+    /// and may drop values that others replaced or removed while it ran.
     ///
     /// ```
     /// let table = yachtbanyan::Table::<u64>::with_slots(2)?;
@@ -230,8 +231,8 @@ impl<T> Handle<T> {
         sees
     }
 
-    /// Returns the number of slots that had a value when each was looked at. It looks at every
-    /// slot.
+    /// Returns the number of slots that had a value when each was looked at. It looks every slot up
+    /// by [`Handle::contains`].
     ///
     /// ```
     /// let table = yachtbanyan::Table::<u64>::with_slots(4)?;
@@ -246,7 +247,7 @@ impl<T> Handle<T> {
         slots.map(|it| u32::from(self.contains(it))).sum()
     }
 
-    /// Checks whether no slot had a value when each was looked at.
+    /// Checks whether no slot had a value when each was looked at, by [`Handle::contains`].
     ///
     /// ```
     /// let table = yachtbanyan::Table::<u64>::with_slots(4)?;

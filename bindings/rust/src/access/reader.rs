@@ -67,7 +67,8 @@ impl<T> Reader<T> {
     }
 
     /// Returns a guard of the value at a slot. The look-up may drop another value: one that it saw
-    /// first, and that others replaced or removed while it ran.
+    /// first, and that others replaced or removed while it ran. So a lock that the drop of a value
+    /// takes must not be held here.
     ///
     /// # Errors
     /// `Empty` if the slot has no value, `NoSlot` if the table has no such slot, `NoSeat` if a
@@ -105,7 +106,7 @@ impl<T> Reader<T> {
     }
 
     /// Returns an iterator over guards of the values: what each slot had when it was looked at.
-    /// Slots that are empty then are left out.
+    /// Slots that are empty then are left out. Each step is a look-up, as [`Reader::get_at`].
     ///
     /// ```
     /// use yachtbanyan::Table;

@@ -75,7 +75,8 @@ impl<T> Table<T> {
     }
 
     /// Takes a handle, which installs, for one thread at a time. It is free again when it is
-    /// dropped.
+    /// dropped. If calls of the table use all seats that no handle has, it waits for the end of
+    /// one.
     ///
     /// # Errors
     /// [`NoSeat::Handle`] if all are in use.
@@ -116,7 +117,8 @@ impl<T> Table<T> {
 
     /// Returns a guard of the value at a slot that borrows nothing. It takes a guard's seat of the
     /// table until it is dropped. The look-up may drop another value: one that it saw first, and
-    /// that others replaced or removed while it ran.
+    /// that others replaced or removed while it ran. So a lock that the drop of a value takes must
+    /// not be held here. It never waits for another thread.
     ///
     /// # Errors
     /// `Empty` if the slot has no value, `NoSlot` if the table has no such slot, `NoSeat` if all
@@ -156,7 +158,8 @@ impl<T> Table<T> {
     }
 
     /// Installs a value at a free slot, and returns the slot, by a seat for this call. It may wait
-    /// as long as one other thread is stopped within its own insert, replace or remove.
+    /// as long as one other thread is stopped within its own insert, replace or remove. It also
+    /// waits while other calls of the table use all seats that no handle has.
     ///
     /// # Errors
     /// `Full` with the value if at one moment during the call every slot had a value, `NoSeat` with
@@ -181,7 +184,9 @@ impl<T> Table<T> {
         answer.map_err(Refused::new)
     }
 
-    /// Installs a value at a slot, by a seat for this call. Returns what became of the old value.
+    /// Installs a value at a slot, by a seat for this call. Returns what became of the old value. A
+    /// value that is in use is dropped by its last user. The call waits while others of the table
+    /// use all seats that no handle has.
     ///
     /// # Errors
     /// `NoSlot` with the value if the table has no such slot, `NoSeat` with the value if all seats
@@ -210,7 +215,8 @@ impl<T> Table<T> {
     }
 
     /// Empties a slot, by a seat for this call. Returns what became of its value: `Old::None` if it
-    /// was empty.
+    /// was empty. A value that is in use is dropped by its last user. It waits while other calls of
+    /// the table use all seats that no handle has.
     ///
     /// # Errors
     /// `NoSlot` if the table has no such slot, `NoSeat` if all seats that install have handles.
@@ -232,7 +238,8 @@ impl<T> Table<T> {
     }
 
     /// Checks whether a slot has a value, by a seat for this call. A slot that the table hasn't has
-    /// none.
+    /// none. It is a look-up: it may drop values that others replaced or removed while it ran. It
+    /// waits while other calls of the table use all seats that no handle has.
     ///
     /// # Errors
     /// [`NoSeat::Handle`] if all seats that install have handles.
