@@ -1,0 +1,180 @@
+//! A table that never has to be closed. One thread replaces a file 100,000 times, and another one
+//! looks it up 100,000 times.
+#![tactic(auto)]
+
+ghost use Rattle.std.specs.Prelude.{◌≡◌, ◌<◌, All, IfOk, length};
+ghost use Rattle.fx_plain.specs.Contents.{state_of};
+ghost use Rattle.fx_plain.specs.State.{IsSettled};
+ghost use Rattle.fx_table.specs.Opening.{size_of};
+ghost use Rattle.fx_table.specs.Pass.{IsIdle};
+
+use fx_base::{AddFault, Catalogue, CloseList, Mark, NoMemory, OpenFile};
+use fx_lasting::LastingTable;
+use fx_plain::PlainTable;
+use fx_table::{LookUp, SharedTable};
+use std::alloc::Global;
+use std::sync::Wait;
+use std::sync::atomic::{AtomicU32, Ordering};
+use std::thread;
+use std::thread::Threads;
+
+const SLOTS: u32 = 4;
+
+const TIMES: u32 = 100_000;
+
+// Discards a file that a call returned, and counts it. A server would close it.
+fn discard(file: Option<OpenFile>, closed: &AtomicU32) {
+    if let Some(file) = file {
+        file.discard();
+        closed.fetch_add(1, Ordering::SeqCst);
+    }
+}
+
+// Puts a new opening of entry 0 at slot 0. Does nothing if the pass may not install files.
+fn replace<T: SharedTable, R: Wait>(
+    rt: &R,
+    catalogue: &Catalogue,
+    table: &T,
+    pass: &mut T::Pass,
+    closed: &AtomicU32,
+)
+    requires ready { T.fits table.now pass.old × IsIdle (T.view pass.old) }
+    requires slot { 0 < size_of (T.opening table.now) }
+    requires entry { 0 < length catalogue.now }
+    ensures ready { T.fits table.now pass.new × IsIdle (T.view pass.new) }
+{
+    if table.numbers_left(pass) == 0 {
+        return;
+    }
+    let file = catalogue.open(0, Mark::Registered { k: 1, i: 0 }, 0);
+    if let Some(removed) = table.put(rt, pass, 0, file) {
+        discard(table.retire(rt, pass, removed), closed);
+    }
+}
+
+// Looks slot 0 up, and releases the file. Each call may return a removed file that nobody uses.
+fn look<T: SharedTable, R: Wait>(rt: &R, table: &T, pass: &mut T::Pass, closed: &AtomicU32)
+    requires ready { T.fits table.now pass.old × IsIdle (T.view pass.old) }
+    requires slot { 0 < size_of (T.opening table.now) }
+    ensures ready { T.fits table.now pass.new × IsIdle (T.view pass.new) }
+{
+    let LookUp { found, freed } = table.look_up(rt, pass, 0);
+    discard(freed, closed);
+    if let Ok(hold) = found {
+        discard(table.release(rt, pass, hold), closed);
+    }
+}
+
+// Replaces the file `TIMES` times, or looks it up `TIMES` times.
+fn work<T: SharedTable, R: Wait>(
+    rt: &R,
+    catalogue: &Catalogue,
+    table: &T,
+    pass: &mut T::Pass,
+    replaces: bool,
+    closed: &AtomicU32,
+)
+    requires ready { T.fits table.now pass.old × IsIdle (T.view pass.old) }
+    requires slot { 0 < size_of (T.opening table.now) }
+    requires entry { 0 < length catalogue.now }
+    ensures ready { T.fits table.now pass.new × IsIdle (T.view pass.new) }
+{
+    for _ in 0..TIMES {
+        if replaces {
+            replace(rt, catalogue, table, pass, closed);
+        } else {
+            look(rt, table, pass, closed);
+        }
+    }
+}
+
+// Runs each pass in a thread of its own, and waits for both threads. The first thread replaces.
+fn run_both<T: SharedTable, R: Threads + Wait + Sync>(
+    rt: &R,
+    catalogue: &Catalogue,
+    table: &T,
+    passes: &mut [T::Pass],
+    closed: &AtomicU32,
+)
+    requires ready { All (λ p. T.fits table.now p × IsIdle (T.view p)) passes.old }
+    requires slot { 0 < size_of (T.opening table.now) }
+    requires entry { 0 < length catalogue.now }
+    ensures ready { All (λ p. T.fits table.now p × IsIdle (T.view p)) passes.new }
+    ensures count { length passes.new ≡ length passes.old }
+{
+    thread::for_each_mut(
+        rt,
+        passes,
+        2,
+        &|i, pass: &mut T::Pass|
+            requires { T.fits table.now pass.old × IsIdle (T.view pass.old)
+                × (0 < size_of (T.opening table.now)) × (0 < length catalogue.now) }
+            ensures { T.fits table.entry.now pass.new × IsIdle (T.view pass.new) }
+        { work(rt, catalogue, table, pass, i == 0, closed) },
+    );
+}
+
+// Closes all files of a table, and spends the table. Returns the number of closed files.
+fn close_all(alloc: Global, plain: PlainTable) -> Result<u32, NoMemory>
+    requires { IsSettled (state_of plain) }
+{
+    let mut plain = plain;
+    match CloseList::with_room(alloc, plain.full()) {
+        Ok(mut closes) => {
+            plain.empty_into(&mut closes);
+            plain.dismiss();
+            Ok(closes.len())
+        }
+        Err(refused) => {
+            plain.abandon();
+            Err(refused)
+        }
+    }
+}
+
+// Shares a table of empty slots between two passes. The first pass may install files. Returns the
+// number of files that were left at the end.
+fn share<R: Threads + Wait + Sync>(
+    rt: &R,
+    alloc: Global,
+    catalogue: &Catalogue,
+    closed: &AtomicU32,
+) -> Result<u32, NoMemory>
+    requires entry { 0 < length catalogue.now }
+{
+    let plain = PlainTable::sparse(alloc, SLOTS)?;
+    match LastingTable::open(alloc, plain, 2, 1) {
+        Ok((table, mut passes)) => {
+            run_both(rt, catalogue, &table, passes.as_mut_slice(), closed);
+            close_all(alloc, table.close(passes))
+        }
+        Err((plain, refused)) => {
+            plain.abandon();
+            Err(refused)
+        }
+    }
+}
+
+// Makes a catalogue of one file.
+fn one_file(alloc: Global) -> Result<Catalogue, AddFault>
+    ensures { IfOk result (λ catalogue. length catalogue ≡ 1) }
+{
+    let mut catalogue = Catalogue::new(alloc);
+    catalogue.add(
+        String::from_str(alloc, "page.html")?,
+        b"hello".to_vec(alloc)?,
+    )?;
+    Ok(catalogue)
+}
+
+fn main(rt: HostRuntime) -> Result<(), AddFault> {
+    let catalogue = one_file(rt.alloc())?;
+    let closed = AtomicU32::new(0);
+    let Ok(at_end) = share(&rt, rt.alloc(), &catalogue, &closed) else {
+        return Err(AddFault::NoMemory);
+    };
+    let by_threads = closed.load(Ordering::SeqCst);
+    // A line that can't be written changes nothing.
+    let _ = println!(&rt; "closed by the threads: {by_threads}, at the end: {at_end}");
+    Ok(())
+}
