@@ -10,7 +10,8 @@ use check_judge::{Judgement, judge};
 use fx_script::{Script, ScriptError};
 use std::alloc::Global;
 
-/// The details of a verdict. A field that the number doesn't speak of is 0.
+/// The details of a verdict. After `NO_MEMORY` the fields mean nothing. Otherwise a field that the
+/// number doesn't speak of is 0.
 #[repr(C)]
 #[derive(Drop)]
 pub struct YachtVerdict {

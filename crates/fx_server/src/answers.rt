@@ -20,7 +20,7 @@ pub enum ServerRefusal {
     NoBlock,
     /// At one step every slot had a file.
     Full,
-    /// The slots changed during the round.
+    /// The round installed nothing, and found no step at which every slot had a file.
     Again,
     /// A number is out of its range.
     Bad,

@@ -27,7 +27,7 @@ pub const NO_BLOCK: i64 = -5;
 /// At one step every slot had a file.
 pub const FULL: i64 = -6;
 
-/// The slots changed during the round.
+/// The round installed nothing, and found no step at which every slot had a file.
 pub const AGAIN: i64 = -7;
 
 /// An argument is out of range.

@@ -173,7 +173,7 @@ impl TableWorker {
     ///
     /// # Errors
     /// `Busy`, `NoBlock`, in this order; `Full` if at one step every slot had a file; `Again` if
-    /// the slots changed during the round.
+    /// the round installed nothing, and found no such step.
     pub fn put_any(&mut self, tag: u64) -> Result<u32, ServerRefusal>
         requires good { IsGood self.old }
         ensures good { IsGood self.new }
