@@ -5,7 +5,7 @@ ghost use Rattle.fx_plain.specs.Contents.{state_of};
 ghost use Rattle.fx_table.specs.declared.limits.TheConstants.{MAX_CHAINS};
 ghost use Rattle.bench_tables.specs.Holds.{HasHoldsUpTo};
 
-use crate::shared::{Subject, discard};
+use crate::shared::{Subject, discard, discard_all};
 use fx_base::OpenFile;
 use fx_plain::PlainTable;
 use fx_table::numbers_for;
@@ -41,20 +41,14 @@ impl Guarded {
         })
     }
 
-    // Returns the settled table that is left.
-    fn into_plain(self, alloc: Global) -> PlainTable
-        ensures { IsSettled (state_of result) }
-    {
+    // Discards the files that are left, and returns their number.
+    fn end(self) -> usize {
         let Guarded {
             plain,
             looks: _,
             next: _,
         } = self;
-        if plain.is_settled() {
-            return plain;
-        }
-        plain.abandon();
-        PlainTable::none(alloc)
+        discard_all(plain)
     }
 
     // Looks a slot up, and returns the number and the entry of the file there.
@@ -122,7 +116,6 @@ impl Guarded {
 /// A table of one thread with a lock.
 pub(crate) struct Locked {
     table: Mutex<Guarded>,
-    alloc: Global,
 }
 
 impl Locked {
@@ -155,14 +148,14 @@ impl Subject for Locked {
             return Err(plain);
         };
         let table = Mutex::new(Guarded::new(plain, chains)?);
-        Ok((Locked { table, alloc }, list))
+        Ok((Locked { table }, list))
     }
 
-    fn close(self, _passes: Vec<()>) -> PlainTable
-        ensures { IsSettled (state_of result) }
+    fn close(self, _alloc: Global, _passes: Vec<()>) -> Option<usize>
+        requires { Unit {0} }
     {
-        let Locked { table, alloc } = self;
-        table.into_inner().into_plain(alloc)
+        let Locked { table } = self;
+        Some(table.into_inner().end())
     }
 
     fn look_up<R: Wait>(&self, rt: &R, _pass: &mut (), slot: u32) -> Option<(u32, u8)> {

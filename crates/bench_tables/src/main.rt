@@ -63,8 +63,8 @@ fn report<R: Threads + Wait + Clock + CpuClock + Print + Sync>(
     println!(rt; "{nanoseconds}").ok()
 }
 
-// Uses a table of four slots whose first two are full, which has three files afterwards. Prints the
-// bytes that were read at slot 2 while it was empty and while it had a file, and the slots at which
+// Uses a table of four slots whose last one is empty, which has three files afterwards. Prints the
+// bytes that were read at slot 3 while it was empty and while it had a file, and the slots at which
 // a file was installed at any empty slot: first, after that file's removal, and when no slot was
 // empty.
 fn use_table<S: Subject, R: Wait + Print>(
@@ -79,14 +79,14 @@ fn use_table<S: Subject, R: Wait + Print>(
     requires room { READ_LEN ≤ vec_capacity into.old }
     ensures { S.ready subject.now pass.new }
 {
-    read(rt, subject, pass, catalogue, 2, into);
+    read(rt, subject, pass, catalogue, 3, into);
     let empty = into.len();
     let first = subject.put_any(rt, pass, catalogue.open(0, MARK, 0));
-    read(rt, subject, pass, catalogue, 2, into);
+    read(rt, subject, pass, catalogue, 3, into);
     let full = into.len();
-    subject.take(rt, pass, 2);
+    subject.take(rt, pass, 3);
     let again = subject.put_any(rt, pass, catalogue.open(0, MARK, 0));
-    look(rt, subject, pass, 2);
+    look(rt, subject, pass, 3);
     subject.put(rt, pass, 2, catalogue.open(0, MARK, 0));
     subject.put(rt, pass, 3, catalogue.open(0, MARK, 0));
     let last = subject.put_any(rt, pass, catalogue.open(0, MARK, 0));
@@ -104,10 +104,10 @@ fn try_table<S: Subject, R: Wait + Print>(
     requires { 0 < length catalogue.now }
 {
     let mut into = Vec::with_capacity(alloc, READ_LEN as usize).ok()?;
-    let (slots, full, range) = (4, 2, 4);
+    let (slots, full, range) = (4, 3, 4);
     let shape = Shape { slots, full, range };
     print!(rt; "{name}: ").ok()?;
-    let plain = match S::open(alloc, shaped(alloc, catalogue, shape)?, 1, 1) {
+    let files = match S::open(alloc, shaped(alloc, catalogue, shape)?, 1, 1) {
         Err(plain) => {
             plain.abandon();
             return None;
@@ -116,11 +116,9 @@ fn try_table<S: Subject, R: Wait + Print>(
             if !passes.is_empty() {
                 let _ = use_table(rt, &subject, &mut passes[0], catalogue, &mut into);
             }
-            subject.close(passes)
+            subject.close(alloc, passes)?
         }
     };
-    let files = plain.full();
-    plain.abandon();
     println!(rt; "{files} files").ok()
 }
 

@@ -134,10 +134,10 @@ pub(crate) fn time<S: Subject, R: Threads + Wait + Clock + CpuClock + Sync>(
     requires threads { (1 ≤ threads) × (threads ≤ MAX_PASSES) }
 {
     let watch = Watch::new(rt, threads).ok()?;
-    let plain = shaped(alloc, catalogue, row.shape)?;
     if let Work::Open = row.work {
-        return time_of_openings::<S, R>(rt, alloc, plain, threads, row.times);
+        return time_of_openings::<S, R>(rt, alloc, catalogue, row, threads);
     }
+    let plain = shaped(alloc, catalogue, row.shape)?;
     match S::open(alloc, plain, MAX_CHAINS, threads) {
         Err(plain) => {
             plain.abandon();
@@ -148,33 +148,36 @@ pub(crate) fn time<S: Subject, R: Threads + Wait + Clock + CpuClock + Sync>(
                 let passes = passes.as_mut_slice();
                 work_all(rt, alloc, &subject, passes, catalogue, row, &watch);
             }
-            subject.close(passes).abandon();
+            subject.close(alloc, passes)?;
             watch.took()
         }
     }
 }
 
-// Returns the CPU time, in nanoseconds, of opening and closing a table `times` times, or `None` if
-// the clock fails.
+// Returns the CPU time, in nanoseconds, of opening and closing a table of the row's shape as often
+// as the row says, or `None` if an allocation or the clock fails.
 fn time_of_openings<S: Subject, R: CpuClock>(
     rt: &R,
     alloc: Global,
-    plain: PlainTable,
+    catalogue: &Catalogue,
+    row: Row,
     passes: u32,
-    times: u32,
 ) -> Option<u64>
-    requires settled { IsSettled (state_of plain) }
+    requires entry { 0 < length catalogue.now }
     requires passes { (1 ≤ passes) × (passes ≤ MAX_PASSES) }
 {
-    let before = used(rt);
-    let mut plain = plain;
-    for _ in 0..times {
-        plain = match S::open(alloc, plain, MAX_CHAINS, passes) {
-            Ok((subject, passes)) => subject.close(passes),
-            Err(back) => back,
+    let mut spent: u64 = 0;
+    for _ in 0..row.times {
+        let plain = shaped(alloc, catalogue, row.shape)?;
+        let before = used(rt);
+        match S::open(alloc, plain, MAX_CHAINS, passes) {
+            Err(plain) => {
+                plain.abandon();
+                return None;
+            }
+            Ok((subject, passes)) => subject.close(alloc, passes)?,
         };
+        spent = spent.checked_add(used(rt)?.checked_sub(before?)?)?;
     }
-    let after = used(rt);
-    plain.abandon();
-    after?.checked_sub(before?)
+    Some(spent)
 }

@@ -5,6 +5,10 @@ ghost use Rattle.fx_plain.specs.State.{IsSettled};
 ghost use Rattle.fx_plain.specs.Contents.{state_of};
 ghost use Rattle.fx_table.specs.Pass.{IsIdle};
 ghost use Rattle.fx_table.specs.declared.limits.TheConstants.{MAX_CHAINS, MAX_PASSES};
+ghost use Rattle.fx_baton.specs.Passes.{view_of as baton_view};
+ghost use Rattle.fx_baton.specs.Tables.{opening_of_table as opening_of_baton, IsPassOfTable as IsPassOfBaton};
+ghost use Rattle.fx_counted.specs.Tables.{view_of as counted_view, opening_of_table as opening_of_counted, IsPassOfTable as IsPassOfCounted};
+ghost use Rattle.fx_lasting.specs.Tables.{view_of as lasting_view, opening_of_table as opening_of_lasting, IsPassOfTable as IsPassOfLasting};
 
 use fx_base::OpenFile;
 use fx_baton::{BatonPass, BatonTable};
@@ -49,11 +53,11 @@ pub(crate) trait Subject: Sync {
         ensures gave { IfOk result (λ (table, list). gave table (length list.items)) }
         ensures refused { IfErr result (λ back. IsSettled (state_of back)) };
 
-    /// Closes the table, and returns the settled table of one thread that is left.
-    fn close(self, passes: Vec<Self::Pass>) -> PlainTable
+    /// Closes the table, discards the files that are left, and returns their number, or `None` if
+    /// an allocation fails.
+    fn close(self, alloc: Global, passes: Vec<Self::Pass>) -> Option<usize>
         requires all { gave self (length passes.items) }
-        requires ready { All (ready self) passes.items }
-        ensures { IsSettled (state_of result) };
+        requires ready { All (ready self) passes.items };
 
     /// Looks a slot up, and returns the file there, to be released, with its entry of the
     /// catalogue.
@@ -100,6 +104,12 @@ pub(crate) trait Opened: SharedTable {
             All (λ p. Self.fits t p × IsIdle (Self.view p)) list.items) }
         ensures count { IfOk result (λ (t, list). length list.items ≡ (Self.opening t).passes) }
         ensures refused { IfErr result (λ back. IsSettled (state_of back)) };
+
+    /// Closes the table, discards the files that are left, and returns their number, or `None` if
+    /// an allocation fails.
+    fn closed(self, alloc: Global, passes: Vec<Self::Pass>) -> Option<usize>
+        requires all { length passes.items ≡ (Self.opening self).passes }
+        requires ready { All (λ p. Self.fits self p × IsIdle (Self.view p)) passes.items };
 
     /// Checks whether the pass can install a file, after a draw if the table has chains and the
     /// last one has no number left.
@@ -152,6 +162,13 @@ impl Opened for CountedTable {
         open_with_chains::<CountedTable>(alloc, plain, chains, passes)
     }
 
+    fn closed(self, _alloc: Global, passes: Vec<CountedPass>) -> Option<usize>
+        requires all { length passes.items ≡ (opening_of_counted self).passes }
+        requires ready { All (λ p. IsPassOfCounted self p × IsIdle (counted_view p)) passes.items }
+    {
+        Some(discard_all(self.close(passes)))
+    }
+
     fn can_install(&self, pass: &mut CountedPass) -> bool {
         draw_if_needed(self, pass)
     }
@@ -165,6 +182,13 @@ impl Opened for BatonTable {
         passes: u32,
     ) -> Result<(BatonTable, Vec<BatonPass>), PlainTable> {
         open_with_chains::<BatonTable>(alloc, plain, chains, passes)
+    }
+
+    fn closed(self, _alloc: Global, passes: Vec<BatonPass>) -> Option<usize>
+        requires all { length passes.items ≡ (opening_of_baton self).passes }
+        requires ready { All (λ p. IsPassOfBaton self p × IsIdle (baton_view p)) passes.items }
+    {
+        Some(discard_all(self.close(passes)))
     }
 
     fn can_install(&self, pass: &mut BatonPass) -> bool {
@@ -185,6 +209,27 @@ impl Opened for LastingTable {
         }
     }
 
+    fn closed(self, alloc: Global, mut passes: Vec<LastingPass>) -> Option<usize>
+        requires all { length passes.items ≡ (opening_of_lasting self).passes }
+        requires ready { All (λ p. IsPassOfLasting self p × IsIdle (lasting_view p)) passes.items }
+    {
+        let Ok(room) = Vec::with_capacity(alloc, self.size() as usize) else {
+            while let Some(pass) = passes.pop() {
+                pass.abandon();
+            }
+            passes.destroy_empty();
+            self.abandon();
+            return None;
+        };
+        let mut left = self.close(passes, room);
+        let files = left.len();
+        while let Some((_slot, file)) = left.pop() {
+            file.discard();
+        }
+        left.destroy_empty();
+        Some(files)
+    }
+
     fn can_install(&self, pass: &mut LastingPass) -> bool {
         self.numbers_left(pass) > 0
     }
@@ -193,6 +238,13 @@ impl Opened for LastingTable {
 /// A shared table that is measured.
 pub(crate) struct Shared<T: Opened> {
     table: T,
+}
+
+/// Discards the files of a table, and returns their number.
+pub(crate) fn discard_all(plain: PlainTable) -> usize {
+    let files = plain.full();
+    plain.abandon();
+    files as usize
 }
 
 /// Discards a file that a call returned, if any.
@@ -226,13 +278,12 @@ impl<T: Opened> Subject for Shared<T> {
         Ok((Shared { table }, list))
     }
 
-    fn close(self, passes: Vec<T::Pass>) -> PlainTable
+    fn close(self, alloc: Global, passes: Vec<T::Pass>) -> Option<usize>
         requires all { length passes.items ≡ (T.opening self.table).passes }
         requires ready { All (λ p. T.fits self.table p × IsIdle (T.view p)) passes.items }
-        ensures { IsSettled (state_of result) }
     {
         let Shared { table } = self;
-        table.close(passes)
+        table.closed(alloc, passes)
     }
 
     #[inline(always)]

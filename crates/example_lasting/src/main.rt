@@ -3,14 +3,11 @@
 #![tactic(auto)]
 
 ghost use Rattle.std.specs.Prelude.{◌≡◌, ◌<◌, All, IfOk, length};
-ghost use Rattle.fx_plain.specs.Contents.{state_of};
-ghost use Rattle.fx_plain.specs.State.{IsSettled};
 ghost use Rattle.fx_table.specs.Opening.{size_of};
 ghost use Rattle.fx_table.specs.Pass.{IsIdle};
 
-use fx_base::{AddFault, Catalogue, CloseList, Mark, NoMemory, OpenFile};
+use fx_base::{AddFault, Catalogue, Mark, NoMemory, OpenFile};
 use fx_lasting::LastingTable;
-use fx_plain::PlainTable;
 use fx_table::{LookUp, SharedTable};
 use std::alloc::Global;
 use std::sync::Wait;
@@ -114,42 +111,36 @@ fn run_both<T: SharedTable, R: Threads + Wait + Sync>(
     );
 }
 
-// Closes all files of a table, and spends the table. Returns the number of closed files.
-fn close_all(alloc: Global, plain: PlainTable) -> Result<u32, NoMemory>
-    requires { IsSettled (state_of plain) }
-{
-    let mut plain = plain;
-    match CloseList::with_room(alloc, plain.full()) {
-        Ok(mut closes) => {
-            plain.empty_into(&mut closes);
-            plain.dismiss();
-            Ok(closes.len())
-        }
-        Err(refused) => {
-            plain.abandon();
-            Err(refused)
-        }
+// Discards the files that the closed table had, and returns their number. A server would close
+// them.
+fn discard_all(mut left: Vec<(u32, OpenFile)>) -> usize {
+    let count = left.len();
+    while let Some((_slot, file)) = left.pop() {
+        file.discard();
     }
+    left.destroy_empty();
+    count
 }
 
 // Shares a table of empty slots between two passes. The first pass may install files. Returns the
-// number of files that were left at the end.
+// number of files that were left at the end. The list for them is allocated first, so that the
+// close can't fail.
 fn share<R: Threads + Wait + Sync>(
     rt: &R,
     alloc: Global,
     catalogue: &Catalogue,
     closed: &AtomicU32,
-) -> Result<u32, NoMemory>
+) -> Result<usize, NoMemory>
     requires entry { 0 < length catalogue.now }
 {
-    let plain = PlainTable::sparse(alloc, SLOTS)?;
-    match LastingTable::open(alloc, plain, 2, 1) {
+    let room = Vec::with_capacity(alloc, SLOTS as usize)?;
+    match LastingTable::open_sparse(alloc, SLOTS, (0, SLOTS), 2, 1) {
         Ok((table, mut passes)) => {
             run_both(rt, catalogue, &table, passes.as_mut_slice(), closed);
-            close_all(alloc, table.close(passes))
+            Ok(discard_all(table.close(passes, room)))
         }
-        Err((plain, refused)) => {
-            plain.abandon();
+        Err(refused) => {
+            room.destroy_empty();
             Err(refused)
         }
     }

@@ -7,9 +7,9 @@ ghost use Rattle.fx_table.specs.Opening.{size_of};
 ghost use Rattle.fx_table.specs.Pass.{IsIdle};
 ghost use Rattle.example_server.specs.HandOver.{HasPut, FindsThePut};
 
+use crate::life::close_all;
 use fx_base::{Catalogue, CloseList, Mark, NoMemory, OpenFile};
 use fx_lasting::LastingTable;
-use fx_plain::PlainTable;
 use fx_table::{LookUp, RealTime, SharedTable};
 use std::alloc::Global;
 use std::sync::Wait;
@@ -158,15 +158,16 @@ pub fn hand_over_once<R: Threads + Wait + Sync>(
     requires entry { 1 < length catalogue.now }
 {
     let mut closes = CloseList::with_room(alloc, 3)?;
-    let plain = PlainTable::sparse(alloc, 1)?;
-    match LastingTable::open(alloc, plain, 2, 2) {
+    let mut at_end = CloseList::with_room(alloc, 1)?;
+    let room = Vec::with_capacity(alloc, 1)?;
+    match LastingTable::open_sparse(alloc, 1, (0, 1), 2, 2) {
         Ok((table, mut passes)) => {
             let found = hand_over_between(rt, catalogue, &table, &mut passes, &mut closes);
-            table.close(passes).abandon();
+            close_all(table.close(passes, room), &mut at_end);
             Ok(found)
         }
-        Err((plain, refused)) => {
-            plain.abandon();
+        Err(refused) => {
+            room.destroy_empty();
             Err(refused)
         }
     }

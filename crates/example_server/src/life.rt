@@ -1,14 +1,11 @@
 //! The life of the table: it is opened, served by four threads, and closed after the last request.
-ghost use Rattle.std.specs.Prelude.{All};
-ghost use Rattle.fx_plain.specs.State.{IsSettled};
-ghost use Rattle.fx_plain.specs.Contents.{state_of};
+ghost use Rattle.std.specs.Prelude.{◌≤◌, All, vec_len};
 ghost use Rattle.fx_table.specs.Pass.{IsIdle};
 
 use crate::desk::Desk;
 use crate::serve::serve;
-use fx_base::{CloseList, NoMemory};
+use fx_base::{CloseList, NoMemory, OpenFile};
 use fx_lasting::LastingTable;
-use fx_plain::PlainTable;
 use fx_table::SharedTable;
 use std::alloc::Global;
 use std::sync::Wait;
@@ -43,43 +40,36 @@ fn serve_by_threads<T: SharedTable, R: Threads + Wait + Sync>(
     );
 }
 
-// Closes the files that are left, and spends the table.
-fn end(alloc: Global, desk: &Desk<'_>, plain: PlainTable) -> Result<(), NoMemory>
-    requires { IsSettled (state_of plain) }
+/// Closes the files that the closed table had.
+pub(crate) fn close_all(mut left: Vec<(u32, OpenFile)>, closes: &mut CloseList)
+    requires { vec_len left ≤ closes.old.room }
 {
-    let mut plain = plain;
-    match CloseList::with_room(alloc, plain.full()) {
-        Ok(mut closes) => {
-            plain.empty_into(&mut closes);
-            plain.dismiss();
-            desk.report(&closes);
-            Ok(())
-        }
-        Err(refused) => {
-            plain.abandon();
-            Err(refused)
-        }
+    while let Some((_slot, file)) = left.pop() {
+        closes.close(file);
     }
+    left.destroy_empty();
 }
 
 /// Serves until there are no more requests.
 ///
 /// # Errors
-/// `NoMemory` if the memory of the table or of its last closes is refused. The files are then
-/// dropped without listing them.
+/// `NoMemory` if the memory of the table or of its last closes is refused. Nothing is served then.
 pub fn serve_all<R: Threads + Wait + Sync>(
     rt: &R,
     alloc: Global,
     desk: &Desk<'_>,
 ) -> Result<(), NoMemory> {
-    let plain = PlainTable::sparse(alloc, SLOTS)?;
-    match LastingTable::open(alloc, plain, PASSES, PASSES) {
+    let mut closes = CloseList::with_room(alloc, SLOTS)?;
+    let room = Vec::with_capacity(alloc, SLOTS as usize)?;
+    match LastingTable::open_sparse(alloc, SLOTS, (0, SLOTS), PASSES, PASSES) {
         Ok((table, mut passes)) => {
             serve_by_threads(rt, alloc, desk, &table, passes.as_mut_slice());
-            end(alloc, desk, table.close(passes))
+            close_all(table.close(passes, room), &mut closes);
+            desk.report(&closes);
+            Ok(())
         }
-        Err((plain, refused)) => {
-            plain.abandon();
+        Err(refused) => {
+            room.destroy_empty();
             Err(refused)
         }
     }

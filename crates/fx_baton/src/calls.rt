@@ -30,14 +30,6 @@ impl SharedTable for BatonTable {
 
     ghost view = { view_of };
 
-    fn close(self, passes: Vec<BatonPass>) -> PlainTable
-        requires all { length passes.items ≡ (opening_of_table self).passes }
-        requires ready { All (λ p. IsPassOfTable self p × IsIdle (view_of p)) passes.items }
-        ensures { ClosesTable (opening_of_table self) (map view_of passes.items) result }
-    {
-        self.close_all(passes)
-    }
-
     fn size(&self) -> u32 {
         self.size
     }
@@ -153,7 +145,9 @@ impl SharedTable for BatonTable {
 }
 
 impl FileTable for BatonTable {
-    ghost use Rattle.std.specs.Prelude.{refl};
+    ghost use Rattle.std.specs.Prelude.{refl, ℕ, ◌≤◌};
+    ghost use mathlib.Core.Path.{subst};
+    ghost use Rattle.fx_plain.specs.declared.table.TheConstants.{MOST_SLOTS};
 
     fn open(
         alloc: Global,
@@ -174,6 +168,14 @@ impl FileTable for BatonTable {
                 Err(refused)
             }
         }
+    }
+
+    fn close(self, passes: Vec<BatonPass>) -> PlainTable
+        requires all { length passes.items ≡ (opening_of_table self).passes }
+        requires ready { All (λ p. IsPassOfTable self p × IsIdle (view_of p)) passes.items }
+        ensures { ClosesTable (opening_of_table self) (map view_of passes.items) result }
+    {
+        self.close_all(passes)
     }
 
     // Pass p of n draws the chains p, p + n, p + 2n and so on.
@@ -213,6 +215,8 @@ impl FileTable for BatonTable {
             Some((node, entry)) => Ok(Hold { node, entry }),
         }
     }
+
+    ghost few = { λ t. subst (λ (n : ℕ). n ≤ MOST_SLOTS) t.same_size t.few_slots };
 
     ghost ends = { λ t. refl };
 }

@@ -14,17 +14,17 @@ use crate::pass::BatonPass;
 use crate::table::BatonTable;
 use fx_base::OpenFile;
 use fx_plain::PlainTable;
-use fx_table::{Empty, Hold, LookUp, Retired, SharedTable};
+use fx_table::{Empty, FileTable, Hold, LookUp, Retired, SharedTable};
 use std::sync::Wait;
 
 impl BatonTable {
-    /// Turns the table back into a table of one thread, as [`SharedTable::close`] does.
+    /// Turns the table back into a table of one thread, as [`FileTable::close`] does.
     pub fn close(self, passes: Vec<BatonPass>) -> PlainTable
         requires all { length passes.items ≡ (opening_of_table self).passes }
         requires ready { All (λ p. IsPassOfTable self p × IsIdle (view_of p)) passes.items }
         ensures { ClosesTable (opening_of_table self) (map view_of passes.items) result }
     {
-        SharedTable::close(self, passes)
+        FileTable::close(self, passes)
     }
 
     /// Returns the number of slots, at most [`fx_plain::MOST_SLOTS`].
@@ -32,7 +32,7 @@ impl BatonTable {
         ensures value { result ≡ size_of (opening_of_table self.now) }
         ensures few { result ≤ MOST_SLOTS }
     {
-        SharedTable::size(self)
+        self.size
     }
 
     /// Returns the allocation range: the first slot and the number of slots.

@@ -1,5 +1,5 @@
 //! Opens of catalogue entries into a shared table.
-ghost use Rattle.std.specs.Prelude.{◌≡◌, ◌<◌, ◌≤◌, None, length};
+ghost use Rattle.std.specs.Prelude.{◌≡◌, ◌<◌, ◌^◌, None, length};
 ghost use Rattle.fx_table.specs.Opening.{size_of};
 ghost use Rattle.fx_chain.specs.Answers.{AnswersAtTable, OpensAt};
 ghost use Rattle.fx_chain.specs.Completed.{completed_of};
@@ -13,7 +13,6 @@ use crate::context::{Context, Player};
 use crate::removal::put;
 use crate::request::Target;
 use fx_base::Errno;
-use fx_plain::MOST_SLOTS;
 use fx_table::SharedTable;
 use std::sync::Wait;
 
@@ -43,7 +42,7 @@ fn open_any<T: SharedTable, R: Wait>(
     player: &mut Player<'_, T::Pass>,
     entry: u8,
 ) -> Completion
-    requires size { size_of (T.opening context.now.table.now) ≤ MOST_SLOTS }
+    requires size { size_of (T.opening context.now.table.now) < 2 ^ 31 }
     requires entry { entry < length context.now.catalogue.now }
     requires ready { IsReady T.view (T.fits context.now.table.now) player.old 0 1 1 }
     ensures kept { IsSamePlayer (T.fits context.now.table.now) player.old player.new }
@@ -67,7 +66,7 @@ pub(crate) fn open<T: SharedTable, R: Wait>(
     name: &str,
     target: Target,
 ) -> Completion
-    requires size { size_of (T.opening context.now.table.now) ≤ MOST_SLOTS }
+    requires size { size_of (T.opening context.now.table.now) < 2 ^ 31 }
     requires accepted { refusal_of context.now.catalogue.now
         (size_of (T.opening context.now.table.now)) (Opens name.now target) ≡ None }
     requires ready { IsReady T.view (T.fits context.now.table.now) player.old 0 1 1 }

@@ -13,7 +13,6 @@ use crate::completion::Completion;
 use crate::context::{Context, Player};
 use crate::removal::{clear, put};
 use fx_base::MOST_ENTRIES;
-use fx_plain::MOST_SLOTS;
 use fx_table::SharedTable;
 use std::sync::Wait;
 
@@ -79,7 +78,7 @@ pub(crate) fn update<T: SharedTable, R: Wait>(
     off: u32,
     list: &[i32],
 ) -> Completion
-    requires size { size_of (T.opening context.now.table.now) ≤ MOST_SLOTS }
+    requires size { size_of (T.opening context.now.table.now) < 2 ^ 31 }
     requires entries { length context.now.catalogue.now ≤ MOST_ENTRIES }
     requires accepted { refusal_of context.now.catalogue.now
         (size_of (T.opening context.now.table.now)) (Updates off list.now) ≡ None }

@@ -24,14 +24,6 @@ impl SharedTable for CountedTable {
 
     ghost view = { view_of };
 
-    fn close(self, passes: Vec<CountedPass>) -> PlainTable
-        requires all { length passes.items ≡ (opening_of_table self).passes }
-        requires ready { All (λ p. IsPassOfTable self p × IsIdle (view_of p)) passes.items }
-        ensures { ClosesTable (opening_of_table self) (map view_of passes.items) result }
-    {
-        self.close(passes)
-    }
-
     fn size(&self) -> u32 {
         self.size()
     }
@@ -108,7 +100,9 @@ impl SharedTable for CountedTable {
 }
 
 impl FileTable for CountedTable {
-    ghost use Rattle.std.specs.Prelude.{refl};
+    ghost use Rattle.std.specs.Prelude.{refl, ℕ, ◌≤◌};
+    ghost use mathlib.Core.Path.{subst};
+    ghost use Rattle.fx_plain.specs.declared.table.TheConstants.{MOST_SLOTS};
 
     fn open(
         alloc: Global,
@@ -129,6 +123,14 @@ impl FileTable for CountedTable {
         CountedTable::open_for(alloc, plain, chains, most, passes)
     }
 
+    fn close(self, passes: Vec<CountedPass>) -> PlainTable
+        requires all { length passes.items ≡ (opening_of_table self).passes }
+        requires ready { All (λ p. IsPassOfTable self p × IsIdle (view_of p)) passes.items }
+        ensures { ClosesTable (opening_of_table self) (map view_of passes.items) result }
+    {
+        self.close(passes)
+    }
+
     fn draw(&self, pass: &mut CountedPass) -> Option<u32> {
         self.draw(pass)
     }
@@ -140,6 +142,8 @@ impl FileTable for CountedTable {
     fn look(&self, _rt: &impl Wait, pass: &mut CountedPass, slot: u32) -> Result<Hold, LookFault> {
         self.look(pass, slot)
     }
+
+    ghost few = { λ t. subst (λ (n : ℕ). n ≤ MOST_SLOTS) t.same_size t.few_slots };
 
     ghost ends = { λ t. refl };
 }

@@ -9,7 +9,7 @@ use Rattle.fx_lasting.proofs.Histories.{grows_none, each_changed}
 use Rattle.fx_lasting.proofs.Frames.{busy, does_now}
 use Rattle.fx_lasting.proofs.Keeping.{Turn, turn_of, After, Homes, word_at, slot_word, Made, by_turn, its_log, its_work, in_range, tells, tells_less, w, end}
 use Rattle.fx_lasting.proofs.NodeSteps.{after, node_kept, own_keeps, guards_else}
-use Rattle.fx_lasting.proofs.Places.{node_words, node_here, node_else, node_slot, node_hold, node_control, node_list}
+use Rattle.fx_lasting.proofs.Places.{node_words, node_here, node_else, node_slot, node_hold, node_alike, node_list}
 use Rattle.fx_lasting.proofs.Calm.{read_before, read_before_kept, Reads}
 use Rattle.fx_lasting.proofs.Choosing.{no_file, no_take, not_busy, holds_none}
 use Rattle.fx_lasting.proofs.Words.{HasNoFile, HoldAgrees, IsAllowed, GuardAgrees, rested, IsInside, changed_at}
@@ -167,7 +167,7 @@ module _ (turn : Turn) where
           removed = λ m. r.removed m ∙ sym (each_changed (λ i z. removed_in m z ≡ removed_in m (r.phase i)) r.phase
               (λ is. sym (ap (λ (i : ℕ). removed_in m (r.phase i)) is ∙ ap (removed_in m) its.1)) (λ _. refl));
           slot_words = same;
-          control_word = node_control turn n its.0 birth_word;
+          alike = node_alike turn n its.0 birth_word;
           lists = node_list turn n its.0 birth_word;
           node_words = λ m l other. node_else turn n its.0 birth_word m other;
           home_else = λ m l other. set_else st.homes n m none other;
@@ -255,7 +255,7 @@ module _ (turn : Turn) where
             removed = λ m. r.removed m ∙ sym (each_changed (λ i z. removed_in m z ≡ removed_in m (r.phase i)) r.phase
                 (λ is. sym (ap (λ (i : ℕ). removed_in m (r.phase i)) is ∙ q.3 m)) (λ _. refl));
             slot_words = same;
-            control_word = node_control turn n q.0 0;
+            alike = node_alike turn n q.0 0;
             lists = node_list turn n q.0 0;
             node_words = λ m l other. node_else turn n q.0 0 m other;
             home_else = λ m l other. set_else st.homes n m (some None) other;

@@ -1,7 +1,8 @@
 -- The places of a call's steps.
 use Rattle.fx_lasting.proofs.Words.{◌≡◌, ◌<◌, ◌≤◌, ℕ, ◌*◌, arith, ⊎_elim, Start, LastingTable, list_place, slot_place, hold_place}
 use Rattle.fx_lasting.proofs.Words.{node_place, word_of, hold_word_of, nodes_of, slots_of, block_for, block_start, HasPlace, IsAtWork, Sat, Emptying, Placing}
-use Rattle.fx_lasting.proofs.Words.{Option, Closed, IsInBlock, mul-le-mul_right}
+use Rattle.fx_lasting.proofs.Words.{Option, Closed, IsInBlock, mul-le-mul_right, ap, groups_in, group_place, range_at_start, IsGroup}
+use Rattle.fx_lasting.proofs.Groups.{few_groups}
 use Rattle.fx_lasting.proofs.Births.{block_inside}
 use Rattle.fx_lasting.proofs.Running.{its_inside}
 
@@ -16,6 +17,20 @@ slot_inside t {slot} l is = omega (arith, l, is, t.words)
 -- the word of the list that has a pass's bit is one of the table
 pub list_inside : (t : LastingTable) {p i : ℕ} → p ≤ 1024 → i ≡ list_place p → i < t.table.shared.table_id.words
 list_inside t {p} few is = omega (arith, few, is, t.words)
+
+-- a range has few groups, and they are those of the rule
+pub few_in : (t : LastingTable) → groups_in t.range_len ≤ 64
+few_in t = few_groups t.range_len (omega (arith, t.range_inside, t.few_slots))
+
+pub same_groups : (t : LastingTable) → groups_in t.range_len ≡ groups_in (range_at_start t.table.shared.key).1
+same_groups t = ap (λ (z : ℕ × ℕ). groups_in z.1) t.same_range
+
+pub its_group : (t : LastingTable) {g : ℕ} → g < groups_in t.range_len → IsGroup t.table.shared.key g
+its_group t {g} l = omega (arith, l, same_groups t)
+
+-- the word of a group is one of the table
+pub group_word : (t : LastingTable) {g i : ℕ} → g < groups_in t.range_len → i ≡ group_place g → i < t.table.shared.table_id.words
+group_word t {g} l is = omega (arith, l, is, few_in t, t.words)
 
 -- the hold word of a pass is one of the table
 pub hold_inside : (t : LastingTable) {p i : ℕ} → p ≤ t.table.shared.key.passes → i ≡ hold_place t.size p → i < t.table.shared.table_id.words
@@ -37,7 +52,7 @@ pub place_inside : {k : Start} {p n : ℕ} {x : Option Closed} {m : Sat} → IsA
 place_inside {n = n} {m = m} at has = ⊎_elim (λ (e : m.0.work ≡ Emptying n). its_inside at e) (λ (e : m.0.work ≡ Placing n). its_inside at e) has.work
 
 -- a table has few nodes
-pub few_nodes : (t : LastingTable) → nodes_of t.table.shared.key ≤ 164096
+pub few_nodes : (t : LastingTable) → nodes_of t.table.shared.key ≤ 659456
 few_nodes t = let k = t.table.shared.key in let b = t.bounds in let few = t.few_slots in
     let m : k.installing * block_for (slots_of k) k.passes ≤ 64 * block_for (slots_of k) k.passes =
     mul-le-mul_right (block_for (slots_of k) k.passes) (omega (arith, t.key.1, b.3)) in

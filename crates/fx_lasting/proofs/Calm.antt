@@ -1,18 +1,19 @@
 -- Steps at which no slot and no node changes: they change the pass alone, and perhaps its hold word
--- or the control word.
+-- or a word that counts or asks.
 use Rattle.fx_lasting.proofs.Words.{◌≡◌, ◌≢◌, ℕ, ◌+◌, ◌<◌, List, set, length, refl, ap, ◌∙◌, subst, arith, Option, Bool, held_by, File, Event}
-use Rattle.fx_lasting.proofs.Words.{range_at_start, NodeAgrees, IsAllowed, Agrees, ControlCounts, slots_of, nodes_of, IsHistory, state_after_all}
-use Rattle.fx_lasting.proofs.Words.{held_in, held_of, taken_of, taking, Work, Glance, Change, ⊎_elim, ◌⊎◌, inr, control_place, word_of, hold_word_of}
+use Rattle.fx_lasting.proofs.Words.{range_at_start, NodeAgrees, IsAllowed, Agrees, RangeCounts, Survey, slots_of, nodes_of, IsHistory, state_after_all}
+use Rattle.fx_lasting.proofs.Words.{held_in, held_of, taken_of, taking, Work, Glance, Change, ⊎_elim, ◌⊎◌, inr, word_of, hold_word_of}
 use Rattle.fx_lasting.proofs.Words.{count_in, name_in, HoldAgrees, GuardAgrees, WorkAgrees, sum_set, sum_by, get_elem?, length-set, set-get_or}
 use Rattle.fx_lasting.proofs.Words.{owed, seated, [], IsSeenBy, part_of_pass, ◌≤◌, inl, true, list_place, IsListedIn}
 use Rattle.fx_lasting.proofs.Histories.{Grows}
-use Rattle.fx_lasting.proofs.Frames.{busy, owner_stays, owner_same, slot_same, node_same, control_same, Leaves, keeps_other, guards_same, covers_same}
+use Rattle.fx_lasting.proofs.Frames.{busy, owner_stays, owner_same, slot_same, node_same, Leaves, keeps_other, guards_same, covers_same}
 use Rattle.fx_lasting.proofs.Frames.{sees_same}
-use Rattle.fx_lasting.proofs.Keeping.{Turn, After, Keeps, word_at, slot_word, step_kept, w, end, its_log, in_range}
+use Rattle.fx_lasting.proofs.Keeping.{Turn, After, Keeps, word_at, slot_word, step_kept, w, end, its_log, in_range, asks_alike, few_slots}
+use Rattle.fx_lasting.proofs.Groups.{counts_same}
 use Rattle.fx_lasting.proofs.Lists.{ListGoesOn}
-use Rattle.fx_lasting.proofs.Places.{hold_words, hold_here, hold_node, hold_slot, hold_else, hold_control, hold_list}
+use Rattle.fx_lasting.proofs.Places.{hold_words, hold_here, hold_node, hold_slot, hold_else, hold_alike, hold_list}
 
-module _ (turn : Turn) (h' front : List Event) (words' : List ℕ) (d : Work) (g : Glance) (c : Change) (l : Bool)
+module _ (turn : Turn) (h' front : List Event) (words' : List ℕ) (d : Work) (g : Glance) (c : Change) (q : Survey) (l : Bool)
     (still : turn.x.listed ≡ true → l ≡ true) where
   open turn use {st, v, r, id, x, here, one}
 
@@ -29,6 +30,7 @@ module _ (turn : Turn) (h' front : List Event) (words' : List ℕ) (d : Work) (g
     work = d;
     glance = g;
     change = c;
+    asked = q;
     listed = l;
     still_listed = still;
   }
@@ -45,7 +47,7 @@ module _ (turn : Turn) (h' front : List Event) (words' : List ℕ) (d : Work) (g
     pub slot_words : (s : ℕ) → s < slots_of v.start → slot_word words' s ≡ slot_word st.words s
     pub node_words : (n : ℕ) → word_at words' (word_of v.start n) ≡ word_at st.words (word_of v.start n)
     pub hold_words : (p : ℕ) → p ≢ x.number → 0 < p → word_at words' (hold_word_of v.start p) ≡ word_at st.words (hold_word_of v.start p)
-    pub control : ControlCounts (state_after_all v.start r.history).at (range_at_start v.start) (set st.views id (w turn calm_after)) (word_at words' control_place)
+    pub counts : RangeCounts (state_after_all v.start r.history).at (range_at_start v.start) (set st.views id (w turn calm_after)) words'
     pub taken : (n : ℕ) → taking n d ≡ taking n v.work
     pub owners : (d ≡ v.work) ⊎ (busy v.work ≡ 0)
     pub held : held_by h' x.number ≡ held_in d
@@ -81,7 +83,7 @@ module _ (turn : Turn) (h' front : List Event) (words' : List ℕ) (d : Work) (g
         its_bit = s.its_bit;
         its = s.its;
         holds = s.holds;
-        control = rw s.at s.control;
+        counts = rw s.at s.counts;
       }
     where
       inside : (n : ℕ) → n < nodes_of v.start → (i : ℕ) (f : File) → r.phase n ≡ seated i f → i < slots_of v.start
@@ -106,7 +108,7 @@ module _ (turn : Turn) (new : ℕ) (d : Work) where
   own_words = hold_words turn x.number (in_range turn).0 (in_range turn).1 new
 
   abbrev pub own_after : (h' : List Event) → After turn
-  own_after h' = calm_after turn h' h' own_words d v.glance v.change x.listed (λ l. l)
+  own_after h' = calm_after turn h' h' own_words d v.glance v.change x.asked x.listed (λ l. l)
 
   pub record Own (h' : List Event) : Type 0 where
     pub grows : Grows x.number r.history h'
@@ -126,7 +128,7 @@ module _ (turn : Turn) (new : ℕ) (d : Work) where
 
   pub own_kept : {h' : List Event} → Own h' → Agrees v.start (end turn (own_after h'))
   own_kept {h'} s = let low = (in_range turn).0 in let high = (in_range turn).1 in let same = hold_slot turn x.number low high new in
-      let o = its_log turn in calm_kept turn h' h' own_words d v.glance v.change x.listed (λ l. l) record {
+      let o = its_log turn in calm_kept turn h' h' own_words d v.glance v.change x.asked x.listed (λ l. l) record {
         words = length-set st.words (hold_word_of v.start x.number) new;
         grows = s.grows;
         legal = s.legal;
@@ -138,7 +140,8 @@ module _ (turn : Turn) (new : ℕ) (d : Work) where
         slot_words = same;
         node_words = hold_node turn x.number low high new;
         hold_words = λ p other more. hold_else turn x.number low high new p other;
-        control = control_same st.views id v (w turn (own_after h')) here refl (hold_control turn x.number low high new) refl r.control;
+        counts = counts_same id (w turn (own_after h')) here r.counts (few_slots turn) refl (hold_alike turn x.number low high new) refl
+            (asks_alike turn (own_after h') refl);
         taken = s.taken;
         owners = inr s.owners;
         held = s.held;
@@ -160,7 +163,7 @@ module _ (turn : Turn) (d : Work) (g : Glance) where
   open turn use {st, v, r, id, x, here, one}
 
   abbrev pub read_before : (h' front : List Event) → After turn
-  read_before h' front = calm_after turn h' front st.words d g v.change x.listed (λ l. l)
+  read_before h' front = calm_after turn h' front st.words d g v.change x.asked x.listed (λ l. l)
 
   abbrev pub read_after : (h' : List Event) → After turn
   read_after h' = read_before h' h'
@@ -186,7 +189,7 @@ module _ (turn : Turn) (d : Work) (g : Glance) where
         homes = st.homes;
         views = set st.views id (w turn (read_before h' front));
       }
-  read_before_kept {h'} front i seen own s = rw (set-get_or st.words i 0) (calm_kept turn h' front st.words d g v.change x.listed (λ l. l) record {
+  read_before_kept {h'} front i seen own s = rw (set-get_or st.words i 0) (calm_kept turn h' front st.words d g v.change x.asked x.listed (λ l. l) record {
     words = refl;
     grows = s.grows;
     legal = s.legal;
@@ -198,7 +201,8 @@ module _ (turn : Turn) (d : Work) (g : Glance) where
     slot_words = λ s l. refl;
     node_words = λ n. refl;
     hold_words = λ p other more. refl;
-    control = control_same st.views id v (w turn (read_before h' front)) here refl refl refl r.control;
+    counts = counts_same id (w turn (read_before h' front)) here r.counts (few_slots turn) refl (refl, λ g l. refl) refl
+        (asks_alike turn (read_before h' front) refl);
     taken = s.taken;
     owners = s.owners;
     held = s.held;

@@ -1,5 +1,6 @@
 -- The end, when one seat has all passes again, and does nothing: everything is settled, and each
 -- file is at its slot.
+use Rattle.fx_lasting.specs.Passes.{contents_of}
 use Rattle.fx_lasting.proofs.Words.{◌≡◌, ℕ, suc, ◌<◌, ◌≤◌, map, sym, ap, ◌∙◌, subst, arith, Option, Some, None, sum_by, dite, some, dec_le, get_elem?}
 use Rattle.fx_lasting.proofs.Words.{Closed, State, IsSettled, File, sum_zero_at, ℕ_discrete, Does, OwnerAgrees, NodeAgrees, Agrees, Shared, slots_of}
 use Rattle.fx_lasting.proofs.Words.{nodes_of, word_of, state_after_all, state_at_start, held_of, if_file, taken_of, owed, count_in, Phase, free}
@@ -94,5 +95,5 @@ module _ {k : Start} {s : Shared} (r : Agrees k s) (all_idle : (i : ℕ) (u : Vi
   none_outside_end {slot} past = outside slot past
     where
       outside : (slot : ℕ) → slots_of k ≤ slot → end.at slot ≡ None
-      outside slot past = inside_behind (state_at_start k) (map action_of r.history) r.legal.leads.0 (opens_inside k.plain.value 0) slot
+      outside slot past = inside_behind (state_at_start k) (map action_of r.history) r.legal.leads.0 (opens_inside (contents_of k) 0) slot
           (let size = (same_shape k r.history).0 in omega arith)

@@ -1,13 +1,13 @@
--- A step of one seat leaves other seats, slots, nodes and the control word as they were.
+-- A step of one seat leaves other seats, slots and nodes as they were.
 use Rattle.fx_lasting.proofs.Words.{◌≡◌, ◌≢◌, ℕ, ◌+◌, ◌-◌, ◌*◌, ◌<◌, ◌≤◌, List, set, sym, refl, ap, ◌∙◌, subst, arith, Option, Some, None, File, inl}
 use Rattle.fx_lasting.proofs.Words.{inr, some, some-injective, get_elem?, set_here, set_else, stands_at, ⊎_elim, ◌⊎◌, dite}
-use Rattle.fx_lasting.proofs.Words.{ℕ_discrete, sum_set, mul-le-mul_right, dec_le, SlotAgrees, NodeAgrees, OwnerAgrees, WorkAgrees, LogAgrees}
-use Rattle.fx_lasting.proofs.Words.{ControlCounts, HoldAgrees, GuardAgrees, Does, GlanceAgrees, Heats, MayBeUnmarked, IsInBlock, IsHot, HoldsAt, Home}
+use Rattle.fx_lasting.proofs.Words.{ℕ_discrete, mul-le-mul_right, dec_le, SlotAgrees, NodeAgrees, OwnerAgrees, WorkAgrees, LogAgrees}
+use Rattle.fx_lasting.proofs.Words.{HoldAgrees, GuardAgrees, Does, GlanceAgrees, Heats, MayBeUnmarked, IsInBlock, IsHot, HoldsAt, Home}
 use Rattle.fx_lasting.proofs.Words.{IsFileOfNode, IsVacant, name_in, count_in, word_of, hold_word_of, slots_of, nodes_of, state_after_all, held_in, Nodes}
 use Rattle.fx_lasting.proofs.Words.{block_for, block_start, Start, tally, Phase, free, placed, seated, leaving, retired, emptied, owner, Glance, Log}
 use Rattle.fx_lasting.proofs.Words.{View, Work, Idle, Announced, Counted, Guarded, Owing, Yielding, Searching, Placing, Retiring, Emptying, Nothing}
-use Rattle.fx_lasting.proofs.Words.{Hot, Cold, Heating, taken_of, owed, sum_by, suc, owing_of, owing}
-use Rattle.fx_lasting.proofs.Words.{full_in, Deed, untouched, over, heated, has_acted, has_heated}
+use Rattle.fx_lasting.proofs.Words.{Hot, Cold, Heating, taken_of, owed, sum_by, suc}
+use Rattle.fx_lasting.proofs.Words.{Deed, untouched, over, heated, has_acted, has_heated}
 use Rattle.fx_lasting.proofs.Counts.{tally_same}
 use Rattle.fx_lasting.proofs.Keeping.{Turn, After, Keeps, w, word_at, slot_word}
 
@@ -58,13 +58,6 @@ module _ (views : List View) (id : ℕ) (v w : View) (here : get_elem? views id 
   owner_same same n = owner_map views (set views id w) n (λ j d is o. dite (ℕ_discrete j id)
       (λ (e : j ≡ id). subst (λ (i : ℕ). Does (set views id w) i d) (sym e) (does_now views id v w d here (same ∙ work_of e o)))
       (λ (e : j ≢ id). does_else e o))
-
-  -- the control word, where no slot of the range and no change does
-  pub control_same : {at at' : ℕ → Option File} {range : ℕ × ℕ} {word word' : ℕ}
-      → full_in at' range.0 range.1 ≡ full_in at range.0 range.1 → word' ≡ word → w.change ≡ v.change
-      → ControlCounts at range views word → ControlCounts at' range (set views id w) word'
-  control_same full same change ok =
-      let a = sum_set owing_of views id v w here in let d = ap owing change in let u = ok.counts in rw same record { counts = omega arith }
 
 -- a file whose number and place have not changed
 pub file_same : {node_of : Nodes} {next next' n : ℕ} {home home' : Home} {f : File} → next ≤ next' → home' ≡ home → IsFileOfNode node_of next n home f

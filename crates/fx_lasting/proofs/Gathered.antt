@@ -4,7 +4,7 @@ use Rattle.fx_lasting.proofs.Words.{pass_in, ◌≡◌, ◌≢◌, ℕ, ◌+◌,
 use Rattle.fx_lasting.proofs.Words.{map, length, reverse, Closed, Sat, new_log, pass_of, view_of, IsPassOf, IsSeatOf, IsBetweenCalls, LastingPass}
 use Rattle.fx_lasting.proofs.Words.{Log, Start, View, IsNewPass, dealt, numbers_of_pass, block_start, slots_of, some, get_elem?, Contains, sum_by}
 use Rattle.fx_lasting.proofs.Words.{Contents, state_of, IsSettled, contains_head, contains_map, Agrees, LogAgrees, logs_in, Shared, opening_of}
-use Rattle.fx_lasting.proofs.Words.{state_after_all, first_log, Event, HasNoFile, inl, IsAtWork, IsInBlock, IsHistory, lengths, one_if, eqb}
+use Rattle.fx_lasting.proofs.Words.{state_after_all, first_log, Event, HasNoFile, inl, IsAtWork, IsInBlock, IsHistory, lengths, one_if, eqb, true, false}
 use Rattle.atomic_table.specs.declared.shared.Seat.{Seat}
 use Rattle.fx_lasting.specs.Cuts.{without_first, first_alone}
 use Rattle.fx_lasting.specs.Tables.{first_passes, as_first}
@@ -78,6 +78,7 @@ module _ {id : TableId} (k : Start) {p : ℕ} (low : 1 ≤ p) (high : p ≤ k.pa
     block = subst (λ (z : ℕ × ℕ). IsInBlock k z.0 z.1) (λ i. (sym new.its_number i, (sym first ∙ sym new.its_node) i))
         (omega arith, omega (arith, low, high));
     listed = new.unlisted ∙ sym (ap (λ (m : Sat). (pass_in m).listed) me);
+    sure = λ is. let bad : true ≡ false = sym is ∙ new.unsure in absurd (cc bad);
   }
 
   pub is_new_pass : IsPassOf id k x × (shown x ≡ new_pass p)

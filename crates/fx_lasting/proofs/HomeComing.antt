@@ -1,13 +1,13 @@
 -- The files at the settled end of a table whose passes are all idle: they are in the places of
 -- their nodes.
-use Rattle.fx_lasting.proofs.Words.{◌≡◌, ℕ, ◌-◌, sym, refl, ap, ◌∙◌, arith, Option, Some, None, List, subst, Closed, State, state_of, slice_index}
+use Rattle.fx_lasting.proofs.Words.{◌≡◌, ◌≤◌, ℕ, ◌-◌, sym, refl, ap, ◌∙◌, arith, Option, Some, None, List, subst, Closed, State, state_of, slice_index}
 use Rattle.fx_lasting.proofs.Words.{some, get_elem?, node_in, slot_place, stands_at, some-injective, File, Names, name_in, Agrees, slots_of}
 use Rattle.fx_lasting.proofs.Words.{state_after_all, LastingTable, Start, View, HasNoFile, eq-eqb, ne_eqb}
 use Rattle.std.specs.Prelude.{option_map}
 use Rattle.atomic_table.specs.Table.{Final, Seen}
-use Rattle.fx_plain.specs.Contents.{Contents}
-use Rattle.fx_plain.specs.Table.{number_of}
-use Rattle.fx_table.specs.Shells.{AreBack}
+use Rattle.fx_plain.specs.Table.{number_of, identity_of}
+use Rattle.fx_lasting.specs.Closing.{files_at_slots}
+use Rattle.fx_lasting.proofs.Listed.{with_files, has_files, at_rest, same_list}
 use Rattle.fx_table.proofs.Shells.{AreAtHome, AreStored, at_home, file_at, files_are}
 use Rattle.fx_lasting.specs.Lives.{AllAreIdle, Leaves}
 use Rattle.fx_lasting.proofs.Ending.{home_file, file_home, one_slot, none_outside_end}
@@ -60,16 +60,19 @@ module _ (t : LastingTable) {id : ℕ} {v : View} {words : List ℕ} (xs : List 
   pub home_at_end : AreAtHome t.size (node_at words) xs
   home_at_end = rw t.same_size (at_home size (node_at words) end r.node_of xs stored)
 
-  pub leaves_at_end : {left : Contents} → AreBack (state_of t.shell) (file_at t.size (node_at words) xs) (state_of left) → Leaves k id v left
-  leaves_at_end {left} back = let shape = same_shape k r.history in record {
+  none_past : (slot : ℕ) → end.size ≤ slot → end.at slot ≡ None
+  none_past slot g = none_outside_end r all_idle (subst (λ (n : ℕ). n ≤ slot) (same_shape k r.history).0 g)
+
+  file_is : (slot : ℕ) → file_at t.size (node_at words) xs slot ≡ identity_of (end.at slot)
+  file_is slot = ap (λ (n : ℕ). file_at n (node_at words) xs slot) t.same_size ∙ files_are size (node_at words) end r.node_of xs stored slot
+
+  pub leaves_at_end : {files : List (ℕ × Closed)} → files ≡ files_at_slots (file_at t.size (node_at words) xs) t.size → Leaves k id v files
+  leaves_at_end {files} listed = record {
     last = final.0;
     rule = r;
     view = final.1.1;
-    files = record {
-      size = back.size ∙ (t.emptied.size ∙ sym shape.0);
-      range = back.range ∙ (t.emptied.range ∙ sym shape.1);
-      files = λ slot. back.files slot ∙ (ap (λ (n : ℕ). file_at n (node_at words) xs slot) t.same_size
-          ∙ files_are size (node_at words) end r.node_of xs stored slot);
-    };
-    settled = back.settled;
+    left = with_files end none_past;
+    same = has_files end none_past;
+    settled = at_rest end none_past;
+    files_are = listed ∙ ((λ i. files_at_slots (λ slot. file_is slot i) ((t.same_size ∙ sym (same_shape k r.history).0) i)) ∙ same_list end none_past);
   }

@@ -3,11 +3,12 @@ use Rattle.fx_lasting.proofs.Words.{Contains, contains_head, contains_only, ◌�
 use Rattle.fx_lasting.proofs.Words.{refl, ap, ◌∙◌, subst, arith, get_or, Option, inr, eq-eqb, eqb, some, get_elem?, Closed, part_of_pass, Event}
 use Rattle.fx_lasting.proofs.Words.{Action, sum_by, sum_set, sum_at, sum_of, sum_two, Bool, true, ⊎_elim, one_if, bit_here, once_is, held_by}
 use Rattle.fx_lasting.proofs.Words.{IsSeenBy, at_set, Allows, stepped, Act, Valid, carried_after, SlotAgrees, NodeAgrees, OwnerAgrees, WorkAgrees}
-use Rattle.fx_lasting.proofs.Words.{LogAgrees, ViewAgrees, lengths, Agrees, ControlCounts, HoldAgrees, GuardAgrees, GlanceAgrees, Heats, IsAllowed}
-use Rattle.fx_lasting.proofs.Words.{count_in, control_place, slot_place, word_of, hold_word_of, Shared, slots_of, nodes_of, range_at_start, state_after_all}
+use Rattle.fx_lasting.proofs.Words.{LogAgrees, ViewAgrees, lengths, Agrees, RangeCounts, HoldAgrees, GuardAgrees, GlanceAgrees, Heats, IsAllowed}
+use Rattle.fx_lasting.proofs.Words.{count_in, slot_place, word_of, hold_word_of, Shared, slots_of, nodes_of, range_at_start, state_after_all}
 use Rattle.fx_lasting.proofs.Words.{IsHistory, held_in, held_of, taken_of, logs_of, owed, Sat, Stepped, IsInside, pass_event, HasPass, Phase}
 use Rattle.fx_lasting.proofs.Words.{free, removed_in, Change, Glance, Log, Start, View, Work, found_sum, found_by, at_index}
-use Rattle.fx_lasting.proofs.Words.{◌⊎◌, list_place, IsListedIn, Deed, untouched}
+use Rattle.fx_lasting.proofs.Words.{◌⊎◌, list_place, IsListedIn, Deed, untouched, Survey, as_asked}
+use Rattle.fx_lasting.proofs.Groups.{AskAlike}
 use Rattle.fx_lasting.proofs.Histories.{Grows, legal_before}
 use Rattle.fx_seen.proofs.Views.{of_replaced}
 use Rattle.fx_lasting.proofs.Lists.{ListGoesOn, stays_listed, was_listed}
@@ -30,9 +31,9 @@ slot_word words s = word_at words (slot_place s)
 abbrev pub now : View → Log → Work → Glance → Change → View
 now v y d g c = record v { logs = y ∷ []; work = d; glance = g; change = c }
 
--- a pass that has seen the history, and is listed or not, after one more step
-abbrev pub logged : Log → Bool → List Event → Log
-logged x l h = record x { front = h; steps = x.steps + 1; listed = l }
+-- a pass that has seen the history, is listed or not, and has asked so, after one more step
+abbrev pub logged : Log → Bool → Survey → List Event → Log
+logged x l a h = record x { front = h; steps = x.steps + 1; listed = l; asked = a }
 
 -- a seat with one pass, which makes the next step
 pub record Turn : Type 0 where
@@ -95,6 +96,10 @@ its_range {k} {st} r j {u} there {y} at = let a = r.passes y.number in let t = s
     let e = sum_of (λ z. one_if (eqb z.number y.number)) u.logs y at in let f = bit_here y.number y.number refl in
     (omega (arith, once_is k.passes y.number), omega (arith, once_is k.passes y.number))
 
+-- a range has few slots
+pub few_in_range : {k : Start} {st : Shared} → Agrees k st → (range_at_start k).1 ≤ 4096
+few_in_range r = let a = r.shape.range in let b = r.shape.slots in omega arith
+
 -- each pass of the table is in a view
 pub find_pass : {k : Start} {st : Shared} → Agrees k st → {p : ℕ} → 0 < p → p ≤ k.passes
     → (j : ℕ) × (u : View) × (z : Log) × (get_elem? st.views j ≡ some u) × Contains u.logs z × (z.number ≡ p)
@@ -105,7 +110,7 @@ find_pass {k} {st} r {p} low high = let a = found_sum (logs_of p) st.views (omeg
 module _ (turn : Turn) where
   open turn use {st, v, r, id, x, here, one}
 
-  has_x : Contains v.logs x
+  pub has_x : Contains v.logs x
   has_x = subst (λ (l : List Log). Contains l x) (sym one) (contains_head x [])
 
   pub its_log : LogAgrees v.start r.history st.words r.phase r.debt r.deed v.work v.glance x
@@ -131,12 +136,13 @@ module _ (turn : Turn) where
     pub work : Work
     pub glance : Glance
     pub change : Change
+    pub asked : Survey
     pub listed : Bool
     pub still_listed : x.listed ≡ true → listed ≡ true
 
   module _ (a : After) where
     abbrev pub w : View
-    w = now v (logged x a.listed a.front) a.work a.glance a.change
+    w = now v (logged x a.listed a.asked a.front) a.work a.glance a.change
 
     abbrev pub views' : List View
     views' = set st.views id w
@@ -180,7 +186,7 @@ module _ (turn : Turn) where
       pub lists : (p : ℕ) → p ≤ 1024 → ListGoesOn x.number a.listed p (word_at st.words (list_place p)) (word_at a.words (list_place p))
       pub deed_on : (s q : ℕ) → s < slots_of v.start → a.deed s q ≢ untouched → (r.deed s q ≢ untouched) ⊎ ((q ≡ x.number) × (a.listed ≡ true))
       pub its_bit : a.listed ≡ true → (x.listed ≡ true) ⊎ IsListedIn (word_at a.words (list_place x.number)) x.number
-      pub control : ControlCounts (state_after_all v.start a.h).at (range_at_start v.start) views' (word_at a.words control_place)
+      pub counts : RangeCounts (state_after_all v.start a.h).at (range_at_start v.start) views' a.words
 
     module _ (s : Step) where
       other_log : (j : ℕ) (u : View) (z : Log) → j ≢ id → get_elem? st.views j ≡ some u → Contains u.logs z
@@ -214,7 +220,7 @@ module _ (turn : Turn) where
               (s.others j u z other there at (not_there r here one other there z at) (its_range r j there at)
               ((r.each_view j u there).logs z at) (r.each_view j u there).work).work
 
-      its_own : LogAgrees v.start a.h a.words a.phase a.debt a.deed a.work a.glance (logged x a.listed a.front)
+      its_own : LogAgrees v.start a.h a.words a.phase a.debt a.deed a.work a.glance (logged x a.listed a.asked a.front)
       its_own = let few : x.number ≤ 1024 = omega (arith, in_range.1, r.shape.passes) in record {
         seen = s.seen;
         own = s.own;
@@ -251,7 +257,7 @@ module _ (turn : Turn) where
         each_view = λ j u e. ⊎_elim (λ (t : (j ≡ id) × (w ≡ u)).
             subst (λ (z : ℕ × View). ViewAgrees v.start a.h a.words a.phase a.debt a.deed z.0 z.1) (λ i. (sym t.0 i, t.1 i)) record {
               logs = λ z h. subst (LogAgrees v.start a.h a.words a.phase a.debt a.deed a.work a.glance)
-                  (sym (contains_only (logged x a.listed a.front) z h)) its_own;
+                  (sym (contains_only (logged x a.listed a.asked a.front) z h)) its_own;
               work = s.its.work;
               empty = λ none. absurd (omega (arith, ap (length {A = Log}) none));
               start = inr refl;
@@ -271,21 +277,22 @@ module _ (turn : Turn) where
             s.grows.parts p (λ same. let a = its_one same in omega arith) ∙ r.authors p none;
         listed = λ p low high is. ⊎_elim (λ before. r.listed p low high before) (λ same. let z = in_range.1 in omega (arith, same, z))
             (was_listed x.number a.listed p in_range.0 low (s.lists p high) is);
-        control = s.control;
+        counts = s.counts;
       }
 
   -- the effect of the step on its pass
-  pub tells : (a : After) → a.listed ≡ x.listed → (carried homes : List (ℕ × Option Closed)) (actions : List Action) → Grows x.number r.history a.front
+  pub tells : (a : After) → ◌≡◌ {A = Bool × Survey} (a.listed, a.asked) (x.listed, x.asked) → (carried homes : List (ℕ × Option Closed)) (actions : List Action) → Grows x.number r.history a.front
       → IsHistory v.start a.front → part_of_pass x.number a.front ≡ map (pass_event x) actions ++ part_of_pass x.number r.history
       → IsInside v.start a.work → Stepped (v, carried) actions a.work a.glance a.change (w a, homes)
-  tells a same_listed carried homes actions grows legal own inside = let o = its_log in rw one record {
-    one = (logged x a.listed a.front, refl);
+  tells a same carried homes actions grows legal own inside = let o = its_log in rw one record {
+    one = (logged x a.listed a.asked a.front, refl);
     number = refl;
     seen = grows.seen x.front o.seen;
     legal = legal;
     own = own ∙ ap (λ (l : List Event). map (pass_event x) actions ++ l) o.own;
     steps = refl;
-    listed = same_listed;
+    listed = ap (λ (z : Bool × Survey). z.0) same;
+    asked = ap (λ (z : Bool × Survey). z.1) same;
     work = refl;
     inside = inside;
     glance = refl;
@@ -293,17 +300,46 @@ module _ (turn : Turn) where
     start = refl;
   }
 
+  -- the effect of a step after which the pass has asked otherwise
+  pub tells_asked : (a : After) → a.listed ≡ x.listed → (carried : List (ℕ × Option Closed)) → Grows x.number r.history a.front
+      → IsHistory v.start a.front → part_of_pass x.number a.front ≡ part_of_pass x.number r.history → IsInside v.start a.work
+      → Stepped (as_asked a.asked (v, carried)) [] a.work a.glance a.change (w a, carried)
+  tells_asked a same carried grows legal own inside = let o = its_log in rw one record {
+    one = (logged x a.listed a.asked a.front, refl);
+    number = refl;
+    seen = grows.seen x.front o.seen;
+    legal = legal;
+    own = own ∙ o.own;
+    steps = refl;
+    listed = same;
+    asked = refl;
+    work = refl;
+    inside = inside;
+    glance = refl;
+    change = refl;
+    start = refl;
+  }
+
+  -- the pass has asked what it had asked
+  pub asks_alike : (a : After) → a.asked ≡ x.asked → AskAlike (w a) v
+  asks_alike a same y has = subst (λ (y : Log). (z : Log) × Contains v.logs z × (z.number ≡ y.number) × (z.asked ≡ y.asked))
+      (sym (contains_only (logged x a.listed a.asked a.front) y has)) (x, has_x, refl, sym same)
+
+  pub few_slots : (range_at_start v.start).1 ≤ 4096
+  few_slots = few_in_range r
+
   -- the effect of a step after which the pass has seen what it had seen
-  pub tells_less : (a : After) → a.listed ≡ x.listed → (carried homes : List (ℕ × Option Closed)) → a.front ≡ x.front → IsInside v.start a.work
+  pub tells_less : (a : After) → ◌≡◌ {A = Bool × Survey} (a.listed, a.asked) (x.listed, x.asked) → (carried homes : List (ℕ × Option Closed)) → a.front ≡ x.front → IsInside v.start a.work
       → Stepped (v, carried) [] a.work a.glance a.change (w a, homes)
-  tells_less a same_listed carried homes same inside = let o = its_log in rw one record {
-    one = (logged x a.listed a.front, refl);
+  tells_less a same_pass carried homes same inside = let o = its_log in rw one record {
+    one = (logged x a.listed a.asked a.front, refl);
     number = refl;
     seen = ([], same);
     legal = rw same (legal_before v.start x.front o.seen.0 (subst (IsHistory v.start) o.seen.1 r.legal));
     own = ap (part_of_pass x.number) same;
     steps = refl;
-    listed = same_listed;
+    listed = ap (λ (z : Bool × Survey). z.0) same_pass;
+    asked = ap (λ (z : Bool × Survey). z.1) same_pass;
     work = refl;
     inside = inside;
     glance = refl;

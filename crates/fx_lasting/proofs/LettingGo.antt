@@ -11,7 +11,7 @@ use Rattle.fx_lasting.proofs.Frames.{busy, does_now}
 use Rattle.fx_lasting.proofs.Keeping.{Turn, After, Homes, word_at, slot_word, in_range, tells, w, end}
 use Rattle.fx_lasting.proofs.NodeSteps.{own_keeps, guards_else}
 use Rattle.fx_lasting.proofs.NodeSteps.{after, node_kept}
-use Rattle.fx_lasting.proofs.Places.{node_words, node_here, node_else, node_slot, node_hold, node_control, node_list}
+use Rattle.fx_lasting.proofs.Places.{node_words, node_here, node_else, node_slot, node_hold, node_alike, node_list}
 use Rattle.fx_lasting.proofs.Unheld.{held_alone, held_not, on_node}
 
 pub taking_few : (n : ℕ) (d : Work) → taking n d ≤ 1
@@ -94,7 +94,7 @@ module _ {turn : Turn} {n : ℕ} {f : File} {h₁ : List Event} {debt' : ℕ →
       removed = λ m. ap (λ (z : ℕ → Option File). z m) g.removed ∙ (r.removed m ∙ sym (each_changed
           (λ k z. removed_in m z ≡ removed_in m (r.phase k)) r.phase (λ is. removes m ∙ ap (λ (k : ℕ). removed_in m (r.phase k)) (sym is)) (λ _. refl)));
       slot_words = same_slots;
-      control_word = node_control turn n g.its.0 less;
+      alike = node_alike turn n g.its.0 less;
       lists = node_list turn n g.its.0 less;
       node_words = λ m l other. node_else turn n g.its.0 less m other;
       home_else = λ m l other. refl;
@@ -174,7 +174,7 @@ module _ {turn : Turn} {n : ℕ} {f : File} {h₁ : List Event} {debt' : ℕ →
       fresh = g.fresh;
       removed = removed₂;
       slot_words = same_slots;
-      control_word = node_control turn n g.its.0 less;
+      alike = node_alike turn n g.its.0 less;
       lists = node_list turn n g.its.0 less;
       node_words = λ m l other. node_else turn n g.its.0 less m other;
       home_else = λ m l other. set_else st.homes n m none other;

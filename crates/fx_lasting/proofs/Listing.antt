@@ -2,13 +2,14 @@
 use Rattle.fx_lasting.proofs.Words.{ℕ, ◌≤◌, ◌^◌, List, Option, Closed, refl, inl, inr, arith, none, keeps, Idle, Announced, Counted, Guarded, Owing, Yielding, Searching, Placing, Retiring, Emptying, true, bit_or, bit_of, list_place}
 use Rattle.fx_lasting.proofs.Words.{step, length-set, dite, ℕ_discrete, Work, IsAllowed, Lists, ListsKeep, [], Bool, Start}
 use Rattle.fx_lasting.proofs.Histories.{grows_none}
-use Rattle.fx_lasting.proofs.Frames.{guards_same, covers_same, sees_same, control_same}
-use Rattle.fx_lasting.proofs.Keeping.{Turn, turn_of, After, word_at, Made, by_turn, its_log, its_work, in_range, logged, w, end}
+use Rattle.fx_lasting.proofs.Frames.{guards_same, covers_same, sees_same}
+use Rattle.fx_lasting.proofs.Keeping.{Turn, turn_of, After, word_at, Made, by_turn, its_log, its_work, in_range, logged, w, end, asks_alike, few_slots}
 use Rattle.fx_lasting.proofs.Calm.{calm_after, calm_kept}
 use Rattle.fx_lasting.proofs.Words.{◌≡◌, ◌+◌, ◌%◌, ◌<◌, ◌∙◌, sym, false}
 use Rattle.fx_lasting.proofs.Lists.{ListGoesOn, now_listed, bit_added}
-use Rattle.fx_lasting.proofs.ControlSteps.{its_inside}
-use Rattle.fx_lasting.proofs.Places.{list_words, list_here, list_apart, list_node, list_hold, list_slot, list_control}
+use Rattle.fx_lasting.proofs.GroupSteps.{its_inside}
+use Rattle.fx_lasting.proofs.Places.{list_words, list_here, list_apart, list_node, list_hold, list_slot, list_alike}
+use Rattle.fx_lasting.proofs.Groups.{counts_same}
 use Rattle.fx_lasting.specs.Agrees.{Agrees}
 
 -- a pass that is listed may do what it did
@@ -42,7 +43,7 @@ module _ (turn : Turn) (not_yet : turn.x.listed ≡ false) (fits : word_at turn.
   words' = list_words turn x.number few new
 
   abbrev listed_after : After turn
-  listed_after = calm_after turn r.history r.history words' v.work v.glance v.change true (λ l. refl)
+  listed_after = calm_after turn r.history r.history words' v.work v.glance v.change x.asked true (λ l. refl)
 
   -- each word of the list
   goes_on : (p : ℕ) → ListGoesOn x.number true p (word_at st.words (list_place p)) (word_at words' (list_place p))
@@ -54,7 +55,7 @@ module _ (turn : Turn) (not_yet : turn.x.listed ≡ false) (fits : word_at turn.
   kept = let o = its_log turn in let same = list_slot turn x.number few new in
       let own = guards_same turn listed_after x.number v.work (list_hold turn x.number few new x.number (in_range turn).0) refl
       (covers_same turn words' same x.number) o.hold o.guarded in
-      calm_kept turn r.history r.history words' v.work v.glance v.change true (λ l. refl) record {
+      calm_kept turn r.history r.history words' v.work v.glance v.change x.asked true (λ l. refl) record {
         words = length-set st.words (list_place x.number) new;
         grows = grows_none x.number r.history;
         legal = r.legal;
@@ -66,7 +67,8 @@ module _ (turn : Turn) (not_yet : turn.x.listed ≡ false) (fits : word_at turn.
         slot_words = same;
         node_words = list_node turn x.number few new;
         hold_words = λ p other low. list_hold turn x.number few new p low;
-        control = control_same st.views id v (w turn listed_after) here refl (list_control turn x.number few new) refl r.control;
+        counts = counts_same id (w turn listed_after) here r.counts (few_slots turn) refl (list_alike turn x.number few new) refl
+            (asks_alike turn listed_after refl);
         taken = λ n. refl;
         owners = inl refl;
         held = o.held;
@@ -93,13 +95,14 @@ module _ (turn : Turn) (not_yet : turn.x.listed ≡ false) (fits : word_at turn.
     record {
       goes = record {
         stepped = let o = its_log turn in let grows = grows_none x.number r.history in rw one record {
-          one = (logged x true r.history, refl);
+          one = (logged x true x.asked r.history, refl);
           number = refl;
           seen = grows.seen x.front o.seen;
           legal = r.legal;
           own = o.own;
           steps = refl;
           listed = refl;
+          asked = refl;
           work = refl;
           inside = its_inside turn;
           glance = refl;

@@ -1,15 +1,16 @@
 -- A step on one node, at which no slot changes: on its word and place, or on the hold word of a
 -- pass that names it.
 use Rattle.fx_lasting.proofs.Words.{◌≡◌, ◌≢◌, ℕ, ◌+◌, ◌<◌, ◌≤◌, List, [], set, length, sym, refl, ap, ◌∙◌, subst, arith, Option, Some, Bool, some}
-use Rattle.fx_lasting.proofs.Words.{get_elem?, held_by, changed_at, File, Event, range_at_start, NodeAgrees, OwnerAgrees, WorkAgrees, IsAllowed, Agrees}
-use Rattle.fx_lasting.proofs.Words.{full_in, slots_of, nodes_of, IsHistory, state_after_all, held_in, held_of, taken_of, taking, owed, Phase, free}
-use Rattle.fx_lasting.proofs.Words.{seated, owner, file_in, removed_in, View, Work, ⊎_elim, ◌⊎◌, inr, control_place, word_of, hold_word_of, count_in}
+use Rattle.fx_lasting.proofs.Words.{get_elem?, held_by, changed_at, File, Event, NodeAgrees, OwnerAgrees, WorkAgrees, IsAllowed, Agrees}
+use Rattle.fx_lasting.proofs.Words.{slots_of, nodes_of, IsHistory, state_after_all, held_in, held_of, taken_of, taking, owed, Phase, free}
+use Rattle.fx_lasting.proofs.Words.{seated, owner, file_in, removed_in, View, Work, ⊎_elim, ◌⊎◌, inr, word_of, hold_word_of, count_in}
 use Rattle.fx_lasting.proofs.Words.{name_in, IsInBlock, sum_by, sum_set, HoldAgrees, GuardAgrees, MayBeUnmarked, Glance}
 use Rattle.fx_lasting.proofs.Words.{inl, list_place}
 use Rattle.fx_lasting.proofs.Histories.{Grows, each_changed}
-use Rattle.fx_lasting.proofs.Frames.{busy, owner_stays, slot_same, node_same, control_same, Leaves, keeps_other, one_block}
+use Rattle.fx_lasting.proofs.Frames.{busy, owner_stays, slot_same, node_same, Leaves, keeps_other, one_block}
 use Rattle.fx_lasting.proofs.Frames.{sees_same, covers_same, guards_same}
-use Rattle.fx_lasting.proofs.Keeping.{Turn, After, Keeps, Homes, word_at, slot_word, step_kept, w, end, in_range, its_log}
+use Rattle.fx_lasting.proofs.Keeping.{Turn, After, Keeps, Homes, word_at, slot_word, step_kept, w, end, in_range, its_log, asks_alike, few_slots}
+use Rattle.fx_lasting.proofs.Groups.{CountAlike, counts_same}
 
 module _ (turn : Turn) (q : ℕ) (its : q < nodes_of turn.v.start) (ph : Phase) (h' : List Event) (words' : List ℕ) (homes' : Homes)
     (debt' : ℕ → ℕ) (d : Work) (g : Glance) where
@@ -28,6 +29,7 @@ module _ (turn : Turn) (q : ℕ) (its : q < nodes_of turn.v.start) (ph : Phase) 
     work = d;
     glance = g;
     change = v.change;
+    asked = x.asked;
     listed = x.listed;
     still_listed = λ l. l;
   }
@@ -46,7 +48,7 @@ module _ (turn : Turn) (q : ℕ) (its : q < nodes_of turn.v.start) (ph : Phase) 
     pub fresh : (state_after_all v.start h').fresh ≡ (state_after_all v.start r.history).fresh
     pub removed : (number : ℕ) → (state_after_all v.start h').removed number ≡ removed_in number (changed_at r.phase q ph (r.node_of number))
     pub slot_words : (s : ℕ) → s < slots_of v.start → slot_word words' s ≡ slot_word st.words s
-    pub control_word : word_at words' control_place ≡ word_at st.words control_place
+    pub alike : CountAlike words' st.words
     pub lists : (p : ℕ) → p ≤ 1024 → word_at words' (list_place p) ≡ word_at st.words (list_place p)
     -- other nodes
     pub node_words : (n : ℕ) → n < nodes_of v.start → n ≢ q → word_at words' (word_of v.start n) ≡ word_at st.words (word_of v.start n)
@@ -153,8 +155,7 @@ module _ (turn : Turn) (q : ℕ) (its : q < nodes_of turn.v.start) (ph : Phase) 
       its_bit = λ l. inl l;
       its = s.its_own;
       holds = s.holds;
-      control = control_same st.views id v (w turn after) here (ap (λ (f : ℕ → Option File). full_in f (range_at_start v.start).0 (range_at_start v.start).1) s.at)
-          s.control_word refl r.control;
+      counts = counts_same id (w turn after) here r.counts (few_slots turn) s.at s.alike refl (asks_alike turn after refl);
     }
       where
         inside : (i : ℕ) (f : File) → ph ≡ seated i f → i < slots_of v.start

@@ -1,4 +1,5 @@
 -- A table that is opened keeps the rule.
+use Rattle.fx_lasting.specs.Passes.{contents_of}
 use Rattle.fx_lasting.proofs.Words.{◌≡◌, ℕ, zero, suc, ◌+◌, ◌<◌, ◌≤◌, Bool, nat_lt, cond, List, [], ◌∷◌, map, sym, refl, ap, ◌∙◌, subst, arith}
 use Rattle.fx_lasting.proofs.Words.{lt-ltb, le-ltb, inr, Option, Some, None, slice_index, dite, some, some-injective, some-ne-none, dec_le, get_elem?}
 use Rattle.fx_lasting.proofs.Words.{Closed, state_of, State, File, birth_word, name_made, entry_made, takes_made, SlotAgrees, NodeAgrees, OwnerAgrees}
@@ -12,7 +13,8 @@ use Rattle.std.proofs.Common.{not}
 use Rattle.std.proofs.Math.Nat.{mod-eq_of_lt}
 use Rattle.atomic_table.specs.Table.{opening}
 use Rattle.fx_lasting.proofs.Counts.{tally_none, tally_same}
-use Rattle.fx_lasting.proofs.Words.{untouched, list_place}
+use Rattle.fx_lasting.proofs.Words.{untouched, list_place, group_start, group_len, HasQuestionOf}
+use Rattle.fx_lasting.proofs.Groups.{few_slots}
 use Rattle.fx_table.proofs.FullSlots.{full_few}
 use Rattle.fx_plain.proofs.Prepared.{numbered_anew}
 use Rattle.fx_seen.proofs.Views.{of_one}
@@ -41,7 +43,7 @@ module _ (k : Start) (words : List ℕ) (homes : List (Option Closed)) (o : Open
 
   -- the file at a slot has the slot's number
   its_number : (slot : ℕ) (f : File) → first_file k slot ≡ Some f → f.number ≡ slot
-  its_number slot f is = numbered_anew ((state_of k.plain.value).at slot) slot f is
+  its_number slot f is = numbered_anew ((state_of (contents_of k)).at slot) slot f is
 
   more_nodes : slots_of k ≤ nodes_of k
   more_nodes = omega arith
@@ -177,5 +179,10 @@ module _ (k : Start) (words : List ℕ) (homes : List (Option Closed)) (o : Open
     whole = let a = length-map-range_with_len new_log 1 k.passes in omega arith;
     authors = λ p none. refl;
     listed = λ p low high is. absurd (no_bits p high is);
-    control = let a = o.control in let b = full_few (first_file k) (range_at_start k).0 (range_at_start k).1 in record { counts = omega arith };
+    counts = record {
+      groups = λ g l. let a = o.groups g l in let b = full_few (first_file k) (group_start (range_at_start k) g) (group_len (range_at_start k).1 g) in
+          let c = few_slots (range_at_start k).1 g in record { counts = omega (arith, a, b, c) };
+      questions = λ j v x e has few asked. let z = subst (λ (q : ℕ). HasQuestionOf q x.number) o.question asked in
+          let a = bit_at-zero (bit_of x.number) in absurd (omega (arith, z, a));
+    };
   }

@@ -21,7 +21,7 @@ use Rattle.fx_table.specs.declared.values.LookFault.{LookFault}
 use Rattle.fx_table.specs.declared.values.LookFault.TheVariants.{Spent, Empty as EmptySlot}
 use Rattle.fx_table.specs.declared.values.Retired.{Retired}
 use Rattle.fx_lasting.proofs.Running.{runs_one, runs_then, turns_then, does_then, still_at_work, number_is, at_listed}
-use Rattle.fx_lasting.proofs.Words.{dite, dec_le, lt-ltb, IsIdleSeatOf, HasNoFile, Searching, is_in, account, uncounted, ⊎_elim}
+use Rattle.fx_lasting.proofs.Words.{dite, dec_le, lt-ltb, IsIdleSeatOf, HasNoFile, Searching, is_in, account, uncounted, group_of, ⊎_elim}
 
 -- the changes that a seat's steps make to its view
 pub adds_run : (m : Sat) {k : Start} → m.0.start ≡ k → {m' : Sat} {xs : List Action} {w : Work} {g : Glance} {c : Change} {n : ℕ} → Runs m xs w g c n m'
@@ -50,20 +50,21 @@ module _ {id : TableId} {k : Start} {p : LastingPass} (seated : IsSeatOf id k p)
 
   -- a pass whose seat has made some steps, and whose fields fit its work
   pub still_seat : (q : LastingPass) {xs : List Action} {w : Work} {g : Glance} {n : ℕ} → Runs p.seat.me xs w g Outside n q.seat.me
-      → (q.number ≡ p.number) × (q.listed ≡ p.listed) → q.seat.table_id ≡ p.seat.table_id → q.seat.me.1 ≡ [] → IsInBlock k q.number q.next_node
-      → IsSeatOf id k q
+      → (q.number ≡ p.number) × ◌≡◌ {A = Bool × Bool} (q.listed, q.sure) (p.listed, p.sure) → q.seat.table_id ≡ p.seat.table_id → q.seat.me.1 ≡ []
+      → IsInBlock k q.number q.next_node → IsSeatOf id k q
   still_seat q r same table places block = record {
     table = table ∙ seated.table;
     places = places;
     at = subst (λ (n : ℕ). IsAtWork k n q.seat.me) (sym same.0) (still_at_work seated.at r);
     change = r.change;
     block = block;
-    listed = same.1 ∙ (seated.listed ∙ sym r.listed);
+    listed = ap (λ (z : Bool × Bool). z.0) same.1 ∙ (seated.listed ∙ sym r.listed);
+    sure = λ is. r.asked ∙ seated.sure (sym (ap (λ (z : Bool × Bool). z.1) same.1) ∙ is);
   }
 
   pub still_pass : (q : LastingPass) {xs : List Action} {w : Work} {n : ℕ} → Runs p.seat.me xs w Nothing Outside n q.seat.me
-      → (q.number ≡ p.number) × (q.listed ≡ p.listed) → q.seat.table_id ≡ p.seat.table_id → q.seat.me.1 ≡ [] → IsInBlock k q.number q.next_node
-      → IsBetweenCalls k.passes q.idle q.guarded q.next_visit q.next_node w → IsPassOf id k q
+      → (q.number ≡ p.number) × ◌≡◌ {A = Bool × Bool} (q.listed, q.sure) (p.listed, p.sure) → q.seat.table_id ≡ p.seat.table_id → q.seat.me.1 ≡ []
+      → IsInBlock k q.number q.next_node → IsBetweenCalls k.passes q.idle q.guarded q.next_visit q.next_node w → IsPassOf id k q
   still_pass q r same table places block knows = record {
     seated = still_seat q r same table places block;
     calm = r.glance;
@@ -81,7 +82,7 @@ module _ {id : TableId} {k : Start} {p : LastingPass} (seated : IsSeatOf id k p)
 
   -- its seat goes on
   pub listed_seat : (q : LastingPass) {w : Work} {g : Glance} {n : ℕ} → Runs (as_listed p.seat.me) [] w g Outside n q.seat.me
-      → (q.number ≡ p.number) × (q.listed ≡ true) → q.seat.table_id ≡ p.seat.table_id → q.seat.me.1 ≡ [] → IsInBlock k q.number q.next_node
+      → (q.number ≡ p.number) × ◌≡◌ {A = Bool × Bool} (q.listed, q.sure) (true, p.sure) → q.seat.table_id ≡ p.seat.table_id → q.seat.me.1 ≡ [] → IsInBlock k q.number q.next_node
       → IsSeatOf id k q
   listed_seat q r same table places block = record {
     table = table ∙ seated.table;
@@ -89,7 +90,8 @@ module _ {id : TableId} {k : Start} {p : LastingPass} (seated : IsSeatOf id k p)
     at = subst (λ (n : ℕ). IsAtWork k n q.seat.me) (sym same.0) (still_at_work (at_listed seated.at) r);
     change = r.change;
     block = block;
-    listed = same.1 ∙ sym r.listed;
+    listed = ap (λ (z : Bool × Bool). z.0) same.1 ∙ sym r.listed;
+    sure = λ is. r.asked ∙ seated.sure (sym (ap (λ (z : Bool × Bool). z.1) same.1) ∙ is);
   }
 
 -- a pass that has no file does nothing for its caller
@@ -205,14 +207,14 @@ module _ {id : TableId} {k : Start} {p : LastingPass} (fits : IsPassOf id k p) w
   its_retiring {f} {retired} = work_retiring k.passes p.next_visit p.next_node p.idle p.guarded f retired p.seat.me.0.work fits.knows
 
 -- a step between a begin and an end, if there are such
-pub goes_around : {m m' m'' m₃ : Sat} {action : Action} {w w' : Work} {g : Glance} {c c' : Change} → Runs m [] w g c 1 m'
-    → Stepped m' ([] ▷ action) w' m'.0.glance c' m'' → Runs m'' [] m''.0.work m''.0.glance Outside 1 m₃ → Runs m ([] ▷ action) w' g Outside 3 m₃
+pub goes_around : {m m' m'' m₃ : Sat} {action : Action} {w w' : Work} {g : Glance} {c c' : Change} → Runs m [] w g c 3 m'
+    → Stepped m' ([] ▷ action) w' m'.0.glance c' m'' → Runs m'' [] m''.0.work m''.0.glance Outside 1 m₃ → Runs m ([] ▷ action) w' g Outside 5 m₃
 goes_around {m' = m'} {m'' = m''} {action = action} {w' = w'} {c' = c'} began s ended = turns_then
     (runs_then began (subst (λ (z : Glance). Runs m' ([] ▷ action) w' z c' 1 m'') began.glance (runs_one s))) ended
 
 -- the same, up to the step
-pub goes_in : {m m' m'' : Sat} {action : Action} {w w' : Work} {g : Glance} {c c' : Change} → Runs m [] w g c 1 m'
-    → Stepped m' ([] ▷ action) w' m'.0.glance c' m'' → Runs m ([] ▷ action) w' g c' 2 m''
+pub goes_in : {m m' m'' : Sat} {action : Action} {w w' : Work} {g : Glance} {c c' : Change} → Runs m [] w g c 3 m'
+    → Stepped m' ([] ▷ action) w' m'.0.glance c' m'' → Runs m ([] ▷ action) w' g c' 4 m''
 goes_in {m' = m'} {m'' = m''} {action = action} {w' = w'} {c' = c'} began s =
     runs_then began (subst (λ (z : Glance). Runs m' ([] ▷ action) w' z c' 1 m'') began.glance (runs_one s))
 
@@ -353,14 +355,14 @@ knows_removed k found (Some f) removed idle guarded visit next is says first = (
     visits_first true = inr refl
     visits_first false = inl refl
 
--- its account with the control word
+-- its account with the groups' words
 pub account_so : (range : ℕ × ℕ) (slot found : ℕ) (file : Option File) (removed : Option Retired) (inside was_empty : Bool)
     → removed ≡ option_map (λ (f : File). retired_at f (name_in found - 1) (count_in found)) file → is_some removed ≡ not was_empty
-    → inside ≡ is_in range slot → account range slot file ≡ uncounted inside was_empty
+    → inside ≡ is_in range slot → account range slot file ≡ uncounted inside was_empty (group_of range slot)
 account_so range slot found None removed inside was_empty is says at =
-    let e = not-false was_empty (sym says ∙ ap is_some is) in λ i. uncounted (sym at i) (sym e i)
+    let e = not-false was_empty (sym says ∙ ap is_some is) in λ i. uncounted (sym at i) (sym e i) (group_of range slot)
 account_so range slot found (Some f) removed inside was_empty is says at =
-    let e = not-true was_empty (sym says ∙ ap is_some is) in λ i. uncounted (sym at i) (sym e i)
+    let e = not-true was_empty (sym says ∙ ap is_some is) in λ i. uncounted (sym at i) (sym e i) (group_of range slot)
 
 -- a pass that was idle, once a slot's old file is with it
 pub at_ease_looking : {id : TableId} {k : Start} {p : LastingPass} → IsPassOf id k p → {m' : Sat} {xs : List Action} {j : Start} (found : ℕ)

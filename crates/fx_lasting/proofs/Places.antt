@@ -1,12 +1,14 @@
 -- Places are inside, and apart; and what a write to one of them leaves as it was.
-use Rattle.fx_lasting.proofs.Words.{◌≡◌, ◌≢◌, ℕ, ◌<◌, ◌≤◌, List, set, arith, get_or-set_other, get_or-set_same, control_place, list_place, slot_place, word_of}
-use Rattle.fx_lasting.proofs.Words.{hold_word_of, slots_of, nodes_of, slot_of, pass_at, Start}
+use Rattle.fx_lasting.proofs.Words.{◌≡◌, ◌≢◌, ℕ, ◌<◌, ◌≤◌, List, set, arith, get_or-set_other, get_or-set_same, list_place, slot_place, word_of}
+use Rattle.fx_lasting.proofs.Words.{hold_word_of, slots_of, nodes_of, slot_of, group_at, group_place, pass_at, Start}
 use Rattle.fx_lasting.specs.Layout.{PlacesAreInside, PlacesAreApart}
+use Rattle.fx_lasting.proofs.Groups.{CountAlike}
 use Rattle.fx_lasting.proofs.Keeping.{Turn, word_at, slot_word}
 
 pub places_inside : (size passes nodes : ℕ) → PlacesAreInside size passes nodes
 places_inside size passes nodes = record {
-  control = omega arith;
+  question = omega arith;
+  group = λ group l. omega arith;
   list = λ pass few. omega arith;
   slot = λ slot l. omega arith;
   hold = λ pass l. omega arith;
@@ -19,10 +21,16 @@ places_apart size passes = record {
   holds = λ pass other same. omega arith;
   nodes = λ node other same. omega arith;
   bits = λ pass other low more word bit. omega arith;
-  list_and_control = λ pass same. omega arith;
-  slot_and_control = λ slot same. omega arith;
-  hold_and_control = λ pass low same. omega arith;
-  node_and_control = λ node same. omega arith;
+  groups = λ group other same. omega arith;
+  list_and_question = λ pass same. omega arith;
+  group_and_question = λ group same. omega arith;
+  slot_and_question = λ slot same. omega arith;
+  hold_and_question = λ pass low same. omega arith;
+  node_and_question = λ node same. omega arith;
+  group_and_list = λ group pass few same. omega arith;
+  slot_and_group = λ slot group few same. omega arith;
+  hold_and_group = λ pass group low few same. omega arith;
+  node_and_group = λ node group few same. omega arith;
   slot_and_list = λ slot pass few same. omega arith;
   hold_and_list = λ pass other low few same. omega arith;
   node_and_list = λ node pass few same. omega arith;
@@ -33,6 +41,9 @@ places_apart size passes = record {
 
 pub slot_back : (s : ℕ) → slot_of (slot_place s) ≡ s
 slot_back s = omega arith
+
+pub group_back : (g : ℕ) → group_at (group_place g) ≡ g
+group_back g = omega arith
 
 pub pass_back : (k : Start) (p : ℕ) → pass_at k (hold_word_of k p) ≡ p
 pass_back k p = omega arith
@@ -62,8 +73,8 @@ module _ (turn : Turn) (q : ℕ) (its : q < nodes_of turn.v.start) (new : ℕ) w
   pub node_list : (p : ℕ) → p ≤ 1024 → word_at node_words (list_place p) ≡ word_at st.words (list_place p)
   node_list p few = node_apart (λ same. omega arith)
 
-  pub node_control : word_at node_words control_place ≡ word_at st.words control_place
-  node_control = node_apart (λ same. omega arith)
+  pub node_alike : CountAlike node_words st.words
+  node_alike = (node_apart (λ same. omega arith), λ g l. node_apart (λ same. omega arith))
 
 -- the hold word of a pass is written
 module _ (turn : Turn) (p : ℕ) (low : 0 < p) (high : p ≤ turn.v.start.passes) (new : ℕ) where
@@ -90,8 +101,8 @@ module _ (turn : Turn) (p : ℕ) (low : 0 < p) (high : p ≤ turn.v.start.passes
   pub hold_list : (p : ℕ) → p ≤ 1024 → word_at hold_words (list_place p) ≡ word_at st.words (list_place p)
   hold_list p few = hold_apart (λ same. omega arith)
 
-  pub hold_control : word_at hold_words control_place ≡ word_at st.words control_place
-  hold_control = hold_apart (λ same. omega arith)
+  pub hold_alike : CountAlike hold_words st.words
+  hold_alike = (hold_apart (λ same. omega arith), λ g l. hold_apart (λ same. omega arith))
 
 -- the word of a slot is written
 module _ (turn : Turn) (s : ℕ) (inside : s < slots_of turn.v.start) (new : ℕ) where
@@ -118,8 +129,8 @@ module _ (turn : Turn) (s : ℕ) (inside : s < slots_of turn.v.start) (new : ℕ
   pub slot_list : (p : ℕ) → p ≤ 1024 → word_at slot_words (list_place p) ≡ word_at st.words (list_place p)
   slot_list p few = slot_apart (λ same. omega arith)
 
-  pub slot_control : word_at slot_words control_place ≡ word_at st.words control_place
-  slot_control = slot_apart (λ same. omega arith)
+  pub slot_alike : CountAlike slot_words st.words
+  slot_alike = (slot_apart (λ same. omega arith), λ g l. slot_apart (λ same. omega arith))
 
 -- the word of the list that has the pass's bit is written
 module _ (turn : Turn) (p : ℕ) (few : p ≤ 1024) (new : ℕ) where
@@ -143,5 +154,5 @@ module _ (turn : Turn) (p : ℕ) (few : p ≤ 1024) (new : ℕ) where
   pub list_slot : (s : ℕ) → s < slots_of v.start → slot_word list_words s ≡ slot_word st.words s
   list_slot s l = list_apart (λ same. omega arith)
 
-  pub list_control : word_at list_words control_place ≡ word_at st.words control_place
-  list_control = list_apart (λ same. omega arith)
+  pub list_alike : CountAlike list_words st.words
+  list_alike = (list_apart (λ same. omega arith), λ g l. list_apart (λ same. omega arith))

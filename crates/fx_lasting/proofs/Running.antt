@@ -1,5 +1,5 @@
 -- Some steps in a row, and the seat after them.
-use Rattle.fx_lasting.proofs.Words.{as_listed, true}
+use Rattle.fx_lasting.proofs.Words.{as_listed, as_asked, Survey, true}
 use Rattle.fx_lasting.proofs.Words.{◌≡◌, ◌≤◌, ℕ, ◌+◌, List, [], ◌++◌, map, sym, refl, ap, ◌∙◌, subst, arith, ◌▷▷◌, Action, Event, Sat, Stepped, Goes, Runs, Change}
 use Rattle.fx_lasting.proofs.Words.{IsAtWork, Log, first_log, ◌∷◌, ◌-◌, ◌<◌, ⊎_elim, inl, dite, ℕ_discrete, eq-eqb, ne_eqb, Option, Some, None, Closed, File}
 use Rattle.fx_lasting.proofs.Words.{◌▷◌, Release, Close, Look, Idle, Owing, Yielding, Counted, Cold, TakesOut, LettingGo, Takes, glance_after}
@@ -28,6 +28,7 @@ runs_then {m} {m'} {m''} {xs} {ys} {w' = w'} {n = n} {n' = n'} a b = record {
       ∙ ap (λ (l : List Event). l ++ part_of_pass (pass_in m).number (pass_in m).front) (sym (map-append (pass_event (pass_in m)) ys xs))))));
   steps = let p = a.steps in let q = b.steps in omega arith;
   listed = b.listed ∙ a.listed;
+  asked = b.asked ∙ a.asked;
   work = b.work;
   inside = subst (λ (k : Start). IsInside k w') a.start b.inside;
   glance = b.glance;
@@ -62,6 +63,7 @@ module _ {k : Start} {p : ℕ} {m : Sat} (at : IsAtWork k p m) where
     own = refl;
     steps = omega arith;
     listed = refl;
+    asked = refl;
     work = refl;
     inside = subst (λ (z : Start). IsInside z m.0.work) (sym at.pass.0) at.inside;
     glance = refl;
@@ -98,6 +100,37 @@ at_listed {k} {m = m} at = record {
   high = at.high;
   legal = subst (λ (l : Log). IsHistory k l.front) (sym (ap first_log at.pass.1)) at.legal;
   inside = at.inside;
+}
+
+-- the seat of a pass that has asked
+pub at_asked : {k : Start} {p : ℕ} {m : Sat} (a : Survey) → IsAtWork k p m → IsAtWork k p (as_asked a m)
+at_asked {k} {m = m} a at = record {
+  log = record (pass_in m) { asked = a };
+  pass = (at.pass.0, refl);
+  its_number = number_is at;
+  low = at.low;
+  high = at.high;
+  legal = subst (λ (l : Log). IsHistory k l.front) (sym (ap first_log at.pass.1)) at.legal;
+  inside = at.inside;
+}
+
+-- whatever a pass has asked, it makes the same steps
+pub runs_asked : {m m' : Sat} {xs : List Action} {w : Work} {g : Glance} {c : Change} {n : ℕ} (a : Survey) → Runs m xs w g c n m'
+    → Runs (as_asked a m) xs w g c n (as_asked a m')
+runs_asked {m' = m'} a r = record {
+  one = (record (pass_in m') { asked = a }, refl);
+  number = r.number;
+  seen = r.seen;
+  legal = r.legal;
+  own = r.own;
+  steps = r.steps;
+  listed = r.listed;
+  asked = refl;
+  work = r.work;
+  inside = r.inside;
+  glance = r.glance;
+  change = r.change;
+  start = r.start;
 }
 
 -- a pass in the same change looks on

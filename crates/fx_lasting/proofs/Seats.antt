@@ -1,6 +1,6 @@
 -- A seat is split off, and one is joined back.
 use Rattle.fx_lasting.proofs.Words.{◌≡◌, ℕ, List, length, sym, refl, ap, ◌∙◌, subst, arith, ⊎_elim, length-append, sum_by, sum_by-append, eqb}
-use Rattle.fx_lasting.proofs.Words.{count_in, WorkAgrees, LogAgrees, NodeAgrees, Agrees, owing, Shared, Outside, Log, Start}
+use Rattle.fx_lasting.proofs.Words.{count_in, WorkAgrees, LogAgrees, NodeAgrees, Agrees, owing, Shared, Outside, Inside, Log, Start, AreFull, range_at_start}
 use Rattle.fx_lasting.proofs.Words.{View, Work, Idle, Nothing, Glance, Change, SplitsKeep, JoinsKeep, together, spent, one_if, held_in, if_file}
 use Rattle.fx_lasting.proofs.Words.{taking, owed, get_elem?, state_after_all, slots_of, word_of, some, set, set_here, set_else, at_set, stands_at, sum_set}
 use Rattle.fx_lasting.proofs.Words.{HasNoFile, ViewAgrees, taken_of, held_of, logs_of, lengths, zero, suc, [], ◌∷◌, ◌≢◌}
@@ -10,8 +10,9 @@ use Rattle.fx_table.proofs.Calls.{seen_from_start}
 use Rattle.fx_lasting.specs.Cuts.{without_first, first_alone}
 use Rattle.fx_table.proofs.Seats.{AreReseated, split, joined}
 use Rattle.fx_lasting.proofs.Choosing.{no_file, no_take, not_busy, holds_none}
-use Rattle.fx_lasting.proofs.Frames.{busy, owner_map, owner_stays, control_same}
-use Rattle.fx_lasting.proofs.Keeping.{IsKnown, word_at, slot_word}
+use Rattle.fx_lasting.proofs.Frames.{busy, owner_map, owner_stays}
+use Rattle.fx_lasting.proofs.Groups.{counts_same, visited_map}
+use Rattle.fx_lasting.proofs.Keeping.{IsKnown, word_at, slot_word, few_in_range}
 
 -- a seat that does nothing, and on whose account no slot is uncounted
 abbrev IsIdle : View → Type 0
@@ -69,8 +70,19 @@ module _ (k : Start) (s : Shared) (r : Agrees k s) (views : List View) (a : AreR
     whole = a.by_logs (length {A = Log}) refl (λ xs ys. length-append xs ys) ∙ r.whole;
     authors = r.authors;
     listed = r.listed;
-    control = let u = r.control.counts in let b = by_change owing refl in record { counts = omega arith };
+    counts = record {
+      groups = λ g l. let u = (r.counts.groups g l).counts in let b = by_change (owing g) refl in record { counts = omega (arith, u, b) };
+      questions = λ j u x e has few asked. visited_map x.asked still_full (⊎_elim
+          (λ new. let w = new.its x has in r.counts.questions w.0 w.1 x w.2 w.4 few asked) (λ old. r.counts.questions j u x old has few asked) (a.each j u e));
+    };
   }
+    where
+      still_full : (n : ℕ) → AreFull (state_after_all k r.history).at (range_at_start k) s.views n
+          → AreFull (state_after_all k r.history).at (range_at_start k) views n
+      still_full n o = record {
+        full = o.full;
+        calm = λ j u g e is. ⊎_elim (λ new. let bad : Inside g ≡ Outside = sym is ∙ new.idle.2 in absurd (cc bad)) (λ old. o.calm j u g old is) (a.each j u e);
+      }
 
 pub splits_keep : SplitsKeep without_first first_alone
 splits_keep k id v idle still out s r at = reseated k s r _ (split logs start k IsIdle s.views id v at (idle, still, out)
@@ -133,7 +145,7 @@ module _ (k : Start) (s : Shared) (r : Agrees k s) (id : ℕ) (v : View) (here :
     whole = let t = sum_set lengths s.views id v forgot here in let h = r.whole in omega arith;
     authors = r.authors;
     listed = r.listed;
-    control = control_same s.views id v forgot here refl refl refl r.control;
+    counts = counts_same id forgot here r.counts (few_in_range r) refl (refl, λ g l. refl) refl (λ y has. (y, has, refl, refl));
   }
 
 -- writes at two places, in the other order

@@ -1,10 +1,10 @@
 -- A pass shows what it has seen, and another pass learns it: the rule holds afterwards. Neither is
 -- an atomic step.
-use Rattle.fx_lasting.proofs.Words.{◌≡◌, ◌≢◌, ℕ, ◌+◌, ◌<◌, ◌≤◌, List, [], ◌∷◌, ◌++◌, set, length, sym, refl, ap, ◌∙◌, subst, arith, inl, inr, eqb, some, get_elem?}
-use Rattle.fx_lasting.proofs.Words.{⊎_elim, at_set, sum_set, sum_by, sum_by-append, one_if, contains_head, contains_only, Contains, IsSeenBy, part_of_pass, Event}
-use Rattle.fx_lasting.proofs.Words.{NodeAgrees, WorkAgrees, LogAgrees, ViewAgrees, Agrees, ControlCounts, Shared, Log, Start, View, Sat, IsInside, Runs, IsHistory}
-use Rattle.fx_lasting.proofs.Words.{owed, state_after_all, slots_of, word_of, taken_of, held_of, logs_of, lengths, owing_of, first_log, count_in, pass_in, pass_of, view_of}
-use Rattle.fx_lasting.proofs.Words.{TableId, LastingPass, IsPassOf, opening_of, doing_in, Idle}
+use Rattle.fx_lasting.proofs.Words.{◌≡◌, ℕ, ◌+◌, ◌≤◌, List, [], ◌∷◌, ◌++◌, set, length, sym, refl, ap, ◌∙◌, subst, arith, inl, inr, eqb, some, get_elem?}
+use Rattle.fx_lasting.proofs.Words.{⊎_elim, at_set, sum_set, sum_by-append, one_if, contains_only, Contains, IsSeenBy, part_of_pass, Event}
+use Rattle.fx_lasting.proofs.Words.{NodeAgrees, LogAgrees, ViewAgrees, Agrees, AreFull, Outside, Inside, range_at_start, Shared, Log, Start, View, IsInside, Runs, IsHistory}
+use Rattle.fx_lasting.proofs.Words.{owed, state_after_all, slots_of, word_of, taken_of, held_of, logs_of, lengths, owing_of, first_log, count_in, view_of}
+use Rattle.fx_lasting.proofs.Words.{TableId, LastingPass, IsPassOf, opening_of, doing_in}
 use Rattle.fx_table.proofs.SumLemmas.{contains_none, contains_alone}
 use Rattle.fx_table.proofs.Calls.{learned_so}
 use Rattle.fx_seen.proofs.Views.{of_appended, of_replaced}
@@ -15,11 +15,11 @@ use Rattle.fx_base.specs.declared.open_file.Closed.{Closed}
 use Rattle.std.proofs.Common.{Option}
 use Rattle.fx_lasting.specs.Cuts.{view_with}
 use Rattle.fx_lasting.specs.Showing.{shown_view, HasLearned}
-use Rattle.fx_lasting.proofs.Frames.{owner_map, owner_same, control_same}
-use Rattle.fx_lasting.proofs.Keeping.{IsKnown, word_at, slot_word, total_same}
+use Rattle.fx_lasting.proofs.Frames.{owner_map, owner_same}
+use Rattle.fx_lasting.proofs.Groups.{counts_same, visited_map}
+use Rattle.fx_lasting.proofs.Keeping.{IsKnown, word_at, slot_word, total_same, few_in_range}
 use Rattle.fx_lasting.proofs.Passing.{adds_so, still_pass, at_rest}
 use Rattle.fx_table.specs.Calls.{Adds, no_use}
-use Rattle.fx_table.specs.Pass.{PassView}
 use Rattle.fx_table.specs.Showing.{Learns}
 use Rattle.fx_seen.specs.Kept.{MayLearn}
 
@@ -63,8 +63,20 @@ module _ (k : Start) (s : Shared) (r : Agrees k s) (h : List Event) (seen : IsSe
     whole = let t = sum_by-append lengths s.views (u ∷ []) in let h = r.whole in omega arith;
     authors = r.authors;
     listed = r.listed;
-    control = let t = sum_by-append owing_of s.views (u ∷ []) in let c = r.control.counts in record { counts = omega arith };
+    counts = record {
+      groups = λ g l. let t = sum_by-append (owing_of g) s.views (u ∷ []) in let c = (r.counts.groups g l).counts in record { counts = omega (arith, t, c) };
+      questions = λ j x y e has few asked. ⊎_elim (λ old. visited_map y.asked still_full (r.counts.questions j x y old has few asked))
+          (λ (new : u ≡ x). absurd (contains_none y (subst (λ (z : View). Contains z.logs y) (sym new) has))) (at_snoc s.views u x j e);
+    };
   }
+    where
+      still_full : (n : ℕ) → AreFull (state_after_all k r.history).at (range_at_start k) s.views n
+          → AreFull (state_after_all k r.history).at (range_at_start k) views' n
+      still_full n o = record {
+        full = o.full;
+        calm = λ j x g e is. ⊎_elim (λ old. o.calm j x g old is)
+            (λ (new : u ≡ x). let bad : Outside ≡ Inside g = ap (λ (z : View). z.change) new ∙ is in absurd (cc bad)) (at_snoc s.views u x j e);
+      }
 
 -- a seat with one pass may show what the pass has seen
 pub may_show : (k : Start) (id : ℕ) (v : View) {x : Log} → v.logs ≡ x ∷ [] → Splits (Agrees k) id v v (shown_view v)
@@ -132,7 +144,9 @@ module _ (k : Start) (id : ℕ) (v w : View) (x : Log) (one : v.logs ≡ x ∷ [
     whole = let t = sum_set lengths s.views id v learned at in let e = ap (length {A = Log}) one in let h = r.whole in omega arith;
     authors = r.authors;
     listed = r.listed;
-    control = control_same s.views id v learned at refl refl refl r.control;
+    counts = counts_same id learned at r.counts (few_in_range r) refl (refl, λ g l. refl) refl
+        (λ y has. subst (λ (y : Log). (z : Log) × Contains v.logs z × (z.number ≡ y.number) × (z.asked ≡ y.asked)) (sym (contains_only log y has))
+        (x, contains_alone one, refl, refl));
   }
 
   learns_so : HasLearned v w learned
@@ -145,6 +159,7 @@ module _ (k : Start) (id : ℕ) (v w : View) (x : Log) (one : v.logs ≡ x ∷ [
       own = subst (λ (z : Log). part_of_pass z.number r.history ≡ part_of_pass z.number z.front) (sym first) o.own;
       steps = subst (λ (z : Log). x.steps ≤ z.steps + 0) (sym first) (omega arith);
       listed = ap (λ (z : Log). z.listed) (sym first);
+      asked = ap (λ (z : Log). z.asked) (sym first);
       work = refl;
       inside = within;
       glance = refl;
@@ -175,6 +190,7 @@ module _ {id : TableId} {k : Start} {p : LastingPass} (fits : IsPassOf id k p) (
     own = o.own;
     steps = o.steps;
     listed = o.listed;
+    asked = o.asked;
     work = o.work;
     inside = o.inside;
     glance = o.glance;

@@ -68,7 +68,7 @@ module _ (turn : Turn) (f : File) (n t : ℕ) (nx : Round) (m : ℕ) (works : tu
   skimmed = let a = (node turn f n t nx m works).few_marks in record {
     words = refl;
     slots = λ s l. refl;
-    control = refl;
+    alike = (refl, λ g l. refl);
     lists = λ p few. refl;
     nodes = λ k. refl;
     own = refl;

@@ -5,7 +5,7 @@ use Rattle.fx_lasting.proofs.Words.{Put, Clear, Take, Allocate, ◌▷◌, State
 use Rattle.fx_lasting.proofs.Words.{Agrees, NodeAgrees, OwnerAgrees, WorkAgrees, IsHistory, state_after_all, slots_of, nodes_of, slot_place, word_of}
 use Rattle.fx_lasting.proofs.Words.{count_in, name_in, slot_word_of, name_made, entry_made, taken_of, taking, held_in, owed, sum_by, sum_set, Phase}
 use Rattle.fx_lasting.proofs.Words.{placed, seated, removed_in, Change, Idle, Placing, Removes, Installs, Exchanges, Stepped, IsOffCount}
-use Rattle.fx_lasting.proofs.Words.{IsInRange, ClearsKeep, TakesOutKeep, InstallsKeep, ExchangesKeep, account, owing, uncounted, is_in, range_at_start, Outside, Bool, true, step, set_here, set_else}
+use Rattle.fx_lasting.proofs.Words.{IsInRange, ClearsKeep, TakesOutKeep, InstallsKeep, ExchangesKeep, account, uncounted, group_of, range_at_start, Outside, Bool, true, step, set_here, set_else}
 use Rattle.fx_lasting.proofs.Words.{length-set, exchanged, IsInside, retiring_work, takes_made}
 use Rattle.fx_lasting.proofs.Words.{◌*◌, ◌≤◌, HasNoFile}
 use Rattle.std.proofs.lemmas.Nat.{mod-mul-add}
@@ -13,11 +13,11 @@ use Rattle.std.proofs.Math.Nat.{le-mul_of_pos_right}
 use prog.Atomic.{either}
 use Rattle.fx_lasting.proofs.Histories.{grows_one, legal_more, part_mine, held_mine, each_changed, same_shape}
 use Rattle.fx_lasting.proofs.Frames.{busy, owner_stays, node_same}
-use Rattle.fx_lasting.proofs.Keeping.{Turn, turn_of, After, word_at, slot_word, Made, by_turn, its_log, its_work, in_range, tells, w, end, Homes}
-use Rattle.fx_lasting.proofs.FullSlots.{control_swap, counted, counted_none, empties, fills, in_range_so}
+use Rattle.fx_lasting.proofs.Keeping.{Turn, turn_of, After, word_at, slot_word, Made, by_turn, its_log, its_work, in_range, tells, w, end, Homes, asks_alike, few_slots}
+use Rattle.fx_lasting.proofs.Groups.{counts_swap, removal_balances, removal_keeps, fill_balances, fill_keeps, in_range_so}
 use Rattle.fx_lasting.proofs.Peeking.{goes_still, still}
 use Rattle.fx_lasting.proofs.Calm.{read_after, read_kept}
-use Rattle.fx_lasting.proofs.Places.{slot_words, slot_here, slot_else, slot_back}
+use Rattle.fx_lasting.proofs.Places.{slot_words, slot_here, slot_else, slot_back, slot_alike}
 use Rattle.fx_lasting.proofs.Looking.{unnamed}
 use Rattle.fx_lasting.proofs.Swaps.{found, old_at, found_so, NotOf, not_old, old_named, d, swap_after, Swap, swap_kept}
 use Rattle.fx_lasting.proofs.Unheld.{in_phase}
@@ -89,12 +89,10 @@ module _ (act : ℕ → Option File → Action) (does : IsRemoval act) (turn : T
     old_home = λ f is. refl;
     owners = λ n l apart. owner_stays st.views id v (w turn removal) here n (λ bad. let a = not_busy free_of in omega arith) (r.phase n) (r.each_owner n l);
     idle_hands = (no_file free_of, no_take free_of, h.0, h.1);
-    control = control_swap (state_after_all v.start r.history).at id (w turn removal) s old None here refl balance r.control;
+    counts = counts_swap id (w turn removal) here r.counts s old None (few_slots turn) refl (slot_alike turn s inside 0) (asks_alike turn removal refl) refl
+        (removal_balances (range_at_start v.start) s old off) (removal_keeps id (w turn removal) here s old off refl);
   }
     where
-      balance : owing c₁ + counted (is_in (range_at_start v.start) s) old ≡ owing v.change + counted (is_in (range_at_start v.start) s) None
-      balance = let a = empties (is_in (range_at_start v.start) s) old in let b = ap owing off in let c = counted_none (is_in (range_at_start v.start) s) in omega arith
-
       untaken : (n : ℕ) → taking n (d turn s inside old refl) ≡ 0
       untaken n = go old
         where
@@ -232,9 +230,6 @@ module _ (turn : Turn) (s : ℕ) (inside : s < slots_of turn.v.start) (old : Opt
         (ap (λ (z : State). z.at i) does.state ∙ changed_else before.at s (Some new_file) i away, ap count_in (slot_else turn s inside new_word i away)))
         (r.each_node m l)
 
-    balance : owing c₂ + counted (is_in (range_at_start v.start) s) old ≡ owing v.change + counted (is_in (range_at_start v.start) s) (Some new_file)
-    balance = let a = fills (is_in (range_at_start v.start) s) old new_file in let b = ap owing out in omega arith
-
     installs : Swap turn s inside old was h₂ new_word (Some new_file) homes₁ phase₁ (number + 1) c₂
     installs = let o = its_log turn in let h = rw works at o.hold in let apart = not_old turn s inside old was its.1 (λ g bad. cc bad) in record {
       grows = grows_one x.number r.history _ refl;
@@ -260,7 +255,9 @@ module _ (turn : Turn) (s : ℕ) (inside : s < slots_of turn.v.start) (old : Opt
       owners = λ m l apart. each_changed (OwnerAgrees (set st.views id (w turn installed))) r.phase (λ same. tt)
           (λ other. owner_stays st.views id v (w turn installed) here m (λ bad. let b = ap busy works in other (omega arith)) (r.phase m) (r.each_owner m l));
       idle_hands = (ap held_in works, λ m. ap (taking m) works, h.0, h.1);
-      control = control_swap before.at id (w turn installed) s old (Some new_file) here was balance r.control;
+      counts = counts_swap id (w turn installed) here r.counts s old (Some new_file) (few_slots turn) was (slot_alike turn s inside new_word)
+          (asks_alike turn installed refl) refl (fill_balances (range_at_start v.start) s old new_file out)
+          (fill_keeps id (w turn installed) here s old new_file was refl);
     }
 
     pub installation_agrees : Agrees v.start (end turn installed)
@@ -369,7 +366,7 @@ module _ (turn : Turn) (slots s n old_word : ℕ) (file : Closed) (carried : Lis
           number,
           sym (r.numbering number) ∙ (on_n ∙ (let same : n ≡ m = cc (sym works ∙ works') in same)),
           rw (← same_f, slot_back s)
-              (subst (λ (b : Bool). Stepped (v, carried) ([] ▷ alloc) Idle v.glance (uncounted b true) (w turn (installed turn s within None at_none n file works small out number late on_n alloc), rest carried))
+              (subst (λ (b : Bool). Stepped (v, carried) ([] ▷ alloc) Idle v.glance (uncounted b true (group_of (range_at_start v.start) s)) (w turn (installed turn s within None at_none n file works small out number late on_n alloc), rest carried))
               (in_range_so (range_at_start v.start) s in_range.0 in_range.1)
               (installation_tells turn s within None at_none n file works small out number late on_n alloc allocating carried (rest carried))),
           refl,

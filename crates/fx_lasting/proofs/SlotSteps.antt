@@ -6,9 +6,10 @@ use Rattle.fx_lasting.proofs.Words.{held_in, held_of, taken_of, taking, Phase, f
 use Rattle.fx_lasting.proofs.Words.{◌⊎◌, inr, dite, ℕ_discrete, slot_place, word_of, count_in, name_in, entry_in, IsHot, cold_takes, tally, birth_word}
 use Rattle.fx_lasting.proofs.Words.{owed, sum_set, sum_by, get_elem?, length-set, MayBeUnmarked, dec_le, suc}
 use Rattle.fx_lasting.proofs.Histories.{Grows}
-use Rattle.fx_lasting.proofs.Frames.{busy, owner_stays, owner_same, slot_same, node_same, control_same, Leaves, keeps_other, guards_same}
-use Rattle.fx_lasting.proofs.Keeping.{Turn, After, Keeps, word_at, slot_word, step_kept, w, end}
-use Rattle.fx_lasting.proofs.Places.{slot_words, slot_here, slot_node, slot_else, slot_hold, slot_control, slot_list}
+use Rattle.fx_lasting.proofs.Frames.{busy, owner_stays, owner_same, slot_same, node_same, Leaves, keeps_other, guards_same}
+use Rattle.fx_lasting.proofs.Keeping.{Turn, After, Keeps, word_at, slot_word, step_kept, w, end, asks_alike, few_slots}
+use Rattle.fx_lasting.proofs.Groups.{counts_same}
+use Rattle.fx_lasting.proofs.Places.{slot_words, slot_here, slot_node, slot_else, slot_hold, slot_alike, slot_list}
 
 module _ (turn : Turn) (s : ℕ) (inside : s < slots_of turn.v.start) (new : ℕ) (h' : List Event) (d : Work) (g : Glance) (deed' : ℕ → ℕ → Deed) where
   open turn use {st, v, r, id, x, here, one}
@@ -29,6 +30,7 @@ module _ (turn : Turn) (s : ℕ) (inside : s < slots_of turn.v.start) (new : ℕ
     work = d;
     glance = g;
     change = v.change;
+    asked = x.asked;
     listed = x.listed;
     still_listed = λ l. l;
   }
@@ -176,5 +178,6 @@ module _ (turn : Turn) (s : ℕ) (inside : s < slots_of turn.v.start) (new : ℕ
       its_bit = λ l. inl l;
       its = p.its;
       holds = p.holds;
-      control = rw p.at (control_same st.views id v (w turn slot_after) here refl (slot_control turn s inside new) refl r.control);
+      counts = rw p.at (counts_same id (w turn slot_after) here r.counts (few_slots turn) refl (slot_alike turn s inside new) refl
+          (asks_alike turn slot_after refl));
     }

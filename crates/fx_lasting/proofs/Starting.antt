@@ -1,28 +1,140 @@
 -- The first words of a shared table, written one slot after the other, and the files of the slots,
 -- which move to its places.
 use Rattle.fx_lasting.proofs.Words.{◌≡◌, ℕ, ◌+◌, ◌<◌, ◌≤◌, List, length, refl, ap, arith, Option, Some, None, slice_index, State}
-use Rattle.fx_lasting.proofs.Words.{File, full_in, control_place, list_place, slot_place, hold_place, node_place, word_for}
+use Rattle.fx_lasting.proofs.Words.{File, full_in, question_place, group_place, group_start, group_len, list_place, slot_place, hold_place, node_place, word_for}
+use Rattle.fx_lasting.specs.Passes.{contents_of}
+use Rattle.fx_lasting.specs.declared.layout.TheConstants.{MOST_SLOTS}
 use Rattle.fx_lasting.proofs.Words.{node_for, sym, ◌∙◌, dite, Closed, state_of, nodes_of, dec_le, home_for, OpensWith, Start}
-use Rattle.fx_plain.specs.State.{file_numbered}
+use Rattle.fx_lasting.proofs.Words.{[], zero, suc}
+use Rattle.fx_plain.specs.State.{file_numbered, files_in_order, files_of}
 use Rattle.fx_plain.specs.Table.{identity_of}
-use Rattle.fx_words.specs.Words.{control_word_of}
 use Rattle.fx_lasting.specs.Firsts.{AreFirstWords}
 use Rattle.fx_table.specs.FullSlots.{first_at}
-use Rattle.fx_table.specs.Shells.{AreFirstHomes}
+use Rattle.fx_table.specs.Shells.{AreFirstHomes, IsShell}
 use Rattle.fx_lasting.specs.Layout.{words_for}
 use Rattle.fx_table.proofs.Shells.{in_place, none_outside}
+use Rattle.fx_lasting.proofs.Groups.{few_groups}
+use Rattle.fx_lasting.proofs.Words.{◌≢◌, subst, ℕ_discrete, length-set, get_or-set_other, get_or-set_same, slot_word_of, birth_word}
+use Rattle.std.specs.Prelude.{slice_set, option_map}
 
--- the words of the slots below this one are written so
-pub record AreWordsSoFar (st : State) (passes nodes done : ℕ) (words : List ℕ) : Type 0 where
+-- the words of the first groups and slots, this many, are written so
+pub record AreWordsSoFar (st : State) (passes nodes groups_done done : ℕ) (words : List ℕ) : Type 0 where
   pub count : length words ≡ words_for st.size passes nodes
   pub entries : (slot : ℕ) (f : File) → slot < done → first_at st slot ≡ Some f → f.identity.entry < 256
-  pub control : slice_index words control_place ≡ control_word_of (full_in (first_at st) st.range.0 st.range.1)
+  pub question : slice_index words question_place ≡ 0
+  pub groups : (group : ℕ) → group < 64 → group < groups_done → slice_index words (group_place group)
+      ≡ full_in (first_at st) (group_start st.range group) (group_len st.range.1 group)
   pub slots : (slot : ℕ) → slot < done → slice_index words (slot_place slot) ≡ word_for (first_at st slot)
   pub nodes_so : (slot : ℕ) → slot < done → slice_index words (node_place st.size passes slot) ≡ node_for (first_at st slot)
   pub slots_left : (slot : ℕ) → done ≤ slot → slot < st.size → slice_index words (slot_place slot) ≡ 0
   pub nodes_left : (node : ℕ) → done ≤ node → slice_index words (node_place st.size passes node) ≡ 0
   pub lists : (pass : ℕ) → pass ≤ 1024 → slice_index words (list_place pass) ≡ 0
   pub holds : (pass : ℕ) → 0 < pass → pass ≤ passes → slice_index words (hold_place st.size pass) ≡ 0
+
+-- the word of one group more is written
+module _ {st : State} {passes nodes g : ℕ} {words : List ℕ} (so : AreWordsSoFar st passes nodes g 0 words) (few : g < 64) (full : ℕ)
+    (is : full ≡ full_in (first_at st) (group_start st.range g) (group_len st.range.1 g)) where
+  abbrev words' : List ℕ
+  words' = slice_set words (group_place g) full
+
+  kept : (place : ℕ) → place ≢ group_place g → slice_index words' place ≡ slice_index words place
+  kept place other = get_or-set_other words (group_place g) place full 0 other
+
+  pub group_written : AreWordsSoFar st passes nodes (g + 1) 0 words'
+  group_written = record {
+    count = length-set words (group_place g) full ∙ so.count;
+    entries = so.entries;
+    question = kept question_place (λ bad. omega (arith, bad)) ∙ so.question;
+    groups = λ h low l. dite (ℕ_discrete h g)
+        (λ same. subst (λ (i : ℕ). slice_index words' (group_place i) ≡ full_in (first_at st) (group_start st.range i) (group_len st.range.1 i)) (sym same)
+        (get_or-set_same words (group_place g) full 0 (omega (arith, so.count, few)) ∙ is))
+        (λ other. kept (group_place h) (λ bad. other (omega (arith, bad))) ∙ so.groups h low (omega (arith, l, other)));
+    slots = λ s l. absurd (omega (arith, l));
+    nodes_so = λ s l. absurd (omega (arith, l));
+    slots_left = λ s low high. kept (slot_place s) (λ bad. omega (arith, bad, few)) ∙ so.slots_left s low high;
+    nodes_left = λ n low. kept (node_place st.size passes n) (λ bad. omega (arith, bad, few)) ∙ so.nodes_left n low;
+    lists = λ p l. kept (list_place p) (λ bad. omega (arith, bad, l)) ∙ so.lists p l;
+    holds = λ p low high. kept (hold_place st.size p) (λ bad. omega (arith, bad, low, few)) ∙ so.holds p low high;
+  }
+
+-- what the entry at a slot says of the file there
+pub entry_full : (found : Option File) (slot entry : ℕ) → Some entry ≡ option_map (λ (f : File). f.identity.entry) found
+    → (f : File) × (file_numbered found slot ≡ Some f) × (f.number ≡ slot) × (f.identity.entry ≡ entry)
+entry_full None slot entry is = absurd (cc is)
+entry_full (Some f) slot entry is = let same : entry ≡ f.identity.entry = cc is in (record f { number = slot }, refl, refl, sym same)
+
+pub entry_none : (found : Option File) (slot : ℕ) → None ≡ option_map (λ (f : File). f.identity.entry) found → file_numbered found slot ≡ None
+entry_none None slot is = refl
+entry_none (Some f) slot is = absurd (cc is)
+
+module _ {st : State} {passes nodes gs slot : ℕ} {words : List ℕ} (so : AreWordsSoFar st passes nodes gs slot words) (inside : slot < st.size) where
+  -- the slot is empty
+  pub slot_empty : first_at st slot ≡ None → AreWordsSoFar st passes nodes gs (slot + 1) words
+  slot_empty gone = record {
+    count = so.count;
+    entries = λ s f l there. dite (ℕ_discrete s slot)
+        (λ same. let bad : Some f ≡ None = sym there ∙ (ap (first_at st) same ∙ gone) in absurd (cc bad)) (λ other. so.entries s f (omega (arith, l, other)) there);
+    question = so.question;
+    groups = so.groups;
+    slots = λ s l. dite (ℕ_discrete s slot)
+        (λ same. subst (λ (i : ℕ). slice_index words (slot_place i) ≡ word_for (first_at st i)) (sym same)
+        (so.slots_left slot (omega arith) inside ∙ ap word_for (sym gone))) (λ other. so.slots s (omega (arith, l, other)));
+    nodes_so = λ s l. dite (ℕ_discrete s slot)
+        (λ same. subst (λ (i : ℕ). slice_index words (node_place st.size passes i) ≡ node_for (first_at st i)) (sym same)
+        (so.nodes_left slot (omega arith) ∙ ap node_for (sym gone))) (λ other. so.nodes_so s (omega (arith, l, other)));
+    slots_left = λ s low high. so.slots_left s (omega (arith, low)) high;
+    nodes_left = λ n low. so.nodes_left n (omega (arith, low));
+    lists = so.lists;
+    holds = so.holds;
+  }
+
+  -- the words of its file are written
+  module _ (many : st.size ≤ nodes) (f : File) (there : first_at st slot ≡ Some f) (number : f.number ≡ slot) (entry : ℕ)
+      (is : f.identity.entry ≡ entry) (small : entry < 256) where
+    abbrev one : List ℕ
+    one = slice_set words (slot_place slot) (slot_word_of slot entry)
+
+    abbrev two : List ℕ
+    two = slice_set one (node_place st.size passes slot) birth_word
+
+    still : (place : ℕ) → place ≢ slot_place slot → place ≢ node_place st.size passes slot → slice_index two place ≡ slice_index words place
+    still place a b = get_or-set_other one (node_place st.size passes slot) place birth_word 0 b
+        ∙ get_or-set_other words (slot_place slot) place (slot_word_of slot entry) 0 a
+
+    count_one : length one ≡ words_for st.size passes nodes
+    count_one = length-set words (slot_place slot) (slot_word_of slot entry) ∙ so.count
+
+    pub slot_written : AreWordsSoFar st passes nodes gs (slot + 1) two
+    slot_written = record {
+      count = length-set one (node_place st.size passes slot) birth_word ∙ count_one;
+      entries = λ s g l its. dite (ℕ_discrete s slot)
+          (λ same. let e : Some g ≡ Some f = sym its ∙ (ap (first_at st) same ∙ there) in let file : g ≡ f = cc e in
+          omega (arith, ap (λ (f : File). f.identity.entry) file, is, small)) (λ other. so.entries s g (omega (arith, l, other)) its);
+      question = still question_place (λ bad. omega (arith, bad)) (λ bad. omega (arith, bad)) ∙ so.question;
+      groups = λ g low l. still (group_place g) (λ bad. omega (arith, bad, low)) (λ bad. omega (arith, bad, low)) ∙ so.groups g low l;
+      slots = λ s l. dite (ℕ_discrete s slot)
+          (λ same. subst (λ (i : ℕ). slice_index two (slot_place i) ≡ word_for (first_at st i)) (sym same)
+          (get_or-set_other one (node_place st.size passes slot) (slot_place slot) birth_word 0 (λ bad. omega (arith, bad, inside))
+          ∙ (get_or-set_same words (slot_place slot) (slot_word_of slot entry) 0 (omega (arith, so.count, inside))
+          ∙ ((λ i. slot_word_of (sym number i) (sym is i)) ∙ ap word_for (sym there)))))
+          (λ other. still (slot_place s) (λ bad. other (omega (arith, bad))) (λ bad. omega (arith, bad, inside, l)) ∙ so.slots s (omega (arith, l, other)));
+      nodes_so = λ s l. dite (ℕ_discrete s slot)
+          (λ same. subst (λ (i : ℕ). slice_index two (node_place st.size passes i) ≡ node_for (first_at st i)) (sym same)
+          (get_or-set_same one (node_place st.size passes slot) birth_word 0 (omega (arith, count_one, inside, many)) ∙ ap node_for (sym there)))
+          (λ other. still (node_place st.size passes s) (λ bad. omega (arith, bad, inside)) (λ bad. other (omega (arith, bad))) ∙ so.nodes_so s (omega (arith, l, other)));
+      slots_left = λ s low high. still (slot_place s) (λ bad. omega (arith, bad, low)) (λ bad. omega (arith, bad, high)) ∙ so.slots_left s (omega (arith, low)) high;
+      nodes_left = λ n low. still (node_place st.size passes n) (λ bad. omega (arith, bad, inside)) (λ bad. omega (arith, bad, low)) ∙ so.nodes_left n (omega (arith, low));
+      lists = λ p l. still (list_place p) (λ bad. omega (arith, bad, l)) (λ bad. omega (arith, bad, l)) ∙ so.lists p l;
+      holds = λ p low high. still (hold_place st.size p) (λ bad. omega (arith, bad, low, inside)) (λ bad. omega (arith, bad, high)) ∙ so.holds p low high;
+    }
+
+-- a table without files has none in order of slot
+none_in_order : (at : ℕ → Option File) → ((slot : ℕ) → at slot ≡ None) → (n : ℕ) → files_in_order at n ≡ []
+none_in_order at none zero = refl
+none_in_order at none (suc n) = rw (none_in_order at none n, none n) refl
+
+pub no_files : {st : State} → IsShell st → files_of st ≡ []
+no_files {st} shell = none_in_order st.at shell.vacant st.size
 
 -- A table with the words and places of a table of one thread keeps the rule.
 home_is : (found : Option File) (slot : ℕ) → identity_of found ≡ home_for (file_numbered found slot)
@@ -31,26 +143,27 @@ home_is (Some f) slot = refl
 
 module _ (k : Start) (words : List ℕ) (homes : List (Option Closed)) where
   abbrev st : State
-  st = state_of k.plain.value
+  st = state_of (contents_of k)
 
-  pub opens_with : st.size ≤ 256 → st.range.0 + st.range.1 ≤ st.size → k.passes ≤ 1024 → nodes_of k ≤ 16777214
-      → AreFirstWords st k.passes (nodes_of k) words → AreFirstHomes k.plain.value (nodes_of k) homes → OpensWith k words homes
+  pub opens_with : st.size ≤ MOST_SLOTS → st.range.0 + st.range.1 ≤ st.size → k.passes ≤ 1024 → nodes_of k ≤ 16777214
+      → AreFirstWords st k.passes (nodes_of k) words → AreFirstHomes (contents_of k) (nodes_of k) homes → OpensWith k words homes
   opens_with few inside passes nodes w h = record {
     slots = few;
     range = inside;
     passes = passes;
     nodes = nodes;
     entries = λ slot f there. dite (dec_le (slot + 1) st.size)
-        (λ l. w.entries slot f (omega (arith, l)) there) (λ g. let gone = none_outside k.plain.value (omega (arith, g)) in
+        (λ l. w.entries slot f (omega (arith, l)) there) (λ g. let gone = none_outside (contents_of k) (omega (arith, g)) in
         let bad : Some f ≡ None = sym there ∙ ap (λ (x : Option File). file_numbered x slot) gone in absurd (cc bad));
     words_length = w.count;
     homes_length = h.count;
-    control = w.control;
+    question = w.question;
+    groups = λ g l. w.groups g (omega (arith, l, few_groups st.range.1 (omega (arith, few, inside)))) l;
     slot_words = w.slot_words;
     node_words = w.node_words;
     files = λ slot l. in_place homes slot (omega (arith, l, h.count)) (h.files slot ∙ home_is (st.at slot) slot);
     free_words = λ n low high. w.free n low;
-    free_places = λ n low high. in_place homes n (omega (arith, high, h.count)) (h.files n ∙ ap identity_of (none_outside k.plain.value low));
+    free_places = λ n low high. in_place homes n (omega (arith, high, h.count)) (h.files n ∙ ap identity_of (none_outside (contents_of k) low));
     list_words = w.lists;
     hold_words = w.holds;
   }

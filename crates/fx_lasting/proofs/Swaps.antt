@@ -4,8 +4,8 @@ use Rattle.fx_lasting.proofs.Words.{IsToVisit, new_round, inl, true}
 use Rattle.fx_lasting.proofs.Words.{◌≡◌, ◌≢◌, ℕ, suc, ◌-◌, ◌^◌, ◌<◌, ◌≤◌, List, [], set, length, sym, refl, ap, ◌∙◌, subst, arith, Option, Some, None}
 use Rattle.fx_lasting.proofs.Words.{get_elem?, Bool, true, false, inl, inr, ⊎_elim, ◌⊎◌, dite, ℕ_discrete, dec_le, eq-eqb, ne_eqb, File, Event}
 use Rattle.fx_lasting.proofs.Words.{State, held_by, with_removed, changed_at, changed_here, changed_else, Agrees, NodeAgrees, OwnerAgrees, WorkAgrees}
-use Rattle.fx_lasting.proofs.Words.{SlotAgrees, Names, IsSeated, HoldAgrees, GuardAgrees, MayBeUnmarked, IsAllowed, ControlCounts, Nodes}
-use Rattle.fx_lasting.proofs.Words.{IsHistory, state_after_all, slots_of, nodes_of, range_at_start, slot_place, word_of, hold_word_of, control_place, count_in}
+use Rattle.fx_lasting.proofs.Words.{SlotAgrees, Names, IsSeated, HoldAgrees, GuardAgrees, MayBeUnmarked, IsAllowed, RangeCounts, Nodes}
+use Rattle.fx_lasting.proofs.Words.{IsHistory, state_after_all, slots_of, nodes_of, range_at_start, slot_place, word_of, hold_word_of, count_in}
 use Rattle.fx_lasting.proofs.Words.{name_in, heat_in, IsHot, Deed, untouched, has_heated, owed, taken_of, taking, held_in, if_file, sum_by, sum_set, Phase, free, placed, seated}
 use Rattle.fx_lasting.proofs.Words.{leaving, retired, emptied, owner, file_in, removed_in, first_visit, retiring_work, Found, Work, Change, Idle, Retiring}
 use Rattle.fx_lasting.proofs.Words.{length-set}
@@ -13,7 +13,7 @@ use Rattle.fx_lasting.proofs.Counts.{tally_same, tally_none}
 use Rattle.fx_lasting.proofs.Histories.{Grows, each_changed}
 use Rattle.fx_lasting.proofs.Frames.{does_now, slot_same, file_same, Leaves, keeps_other, guards_same, SlotGoesOn, sees_on, heats_on}
 use Rattle.fx_lasting.proofs.Keeping.{Turn, After, Homes, word_at, slot_word, step_kept, w, end, its_log, in_range}
-use Rattle.fx_lasting.proofs.Places.{slot_words, slot_here, slot_node, slot_else, slot_hold, slot_control, slot_list}
+use Rattle.fx_lasting.proofs.Places.{slot_words, slot_here, slot_node, slot_else, slot_hold, slot_list}
 use Rattle.fx_lasting.proofs.Unheld.{in_phase}
 
 -- the node isn't that of the file
@@ -104,6 +104,7 @@ module _ (turn : Turn) (s : ℕ) (inside : s < slots_of turn.v.start) where
         work = d;
         glance = v.glance;
         change = c;
+        asked = x.asked;
         listed = x.listed;
         still_listed = λ l. l;
       }
@@ -140,7 +141,7 @@ module _ (turn : Turn) (s : ℕ) (inside : s < slots_of turn.v.start) where
         -- the pass
         pub idle_hands : (held_in v.work ≡ None) × ((n : ℕ) → taking n v.work ≡ 0)
             × (word_at st.words (hold_word_of v.start x.number) ≡ 0) × (r.debt x.number ≡ 0)
-        pub control : ControlCounts (changed_at state.at s new) (range_at_start v.start) (set st.views id (w turn swap_after)) (word_at st.words control_place)
+        pub counts : RangeCounts (changed_at state.at s new) (range_at_start v.start) (set st.views id (w turn swap_after)) (slot_words turn s inside new_word)
 
       module _ (p : Swap) where
         out_here : {f : File} → old ≡ Some f → phase' (r.node_of f.number) ≡ gone_as f
@@ -308,5 +309,5 @@ module _ (turn : Turn) (s : ℕ) (inside : s < slots_of turn.v.start) where
           };
           holds = λ n. let a = ap (if_file n) hands.0 in let b = by_retiring (λ q. if_file n (held_in q) ≡ 0) refl (λ f is. refl) in
               let g = ap (λ (z : State). z.holds n) p.leads in omega arith;
-          control = rw (slot_control turn s inside new_word, p.leads) p.control;
+          counts = rw p.leads p.counts;
         }

@@ -1,9 +1,10 @@
 -- A pass that looks for an empty slot: what its steps leave, one after another.
-use Rattle.fx_lasting.proofs.Words.{◌≡◌, ℕ, ◌+◌, ◌<◌, ◌≤◌, true, [], ◌∷◌, sym, ap, ◌∙◌, subst, arith, Some, none, step, rest, Closed, ◌▷◌}
+use Rattle.fx_lasting.proofs.Words.{◌≡◌, ℕ, ◌+◌, ◌*◌, ◌<◌, ◌≤◌, [], ◌∷◌, sym, ap, ◌∙◌, subst, arith, Some, none, step, rest, Closed, ◌▷◌}
 use Rattle.fx_lasting.proofs.Words.{numbered, Allocate, Sat, Work, Glance, Change, Placing, Idle, Outside, Inside, Runs, Goes, Exchanges, slot_of}
-use Rattle.fx_lasting.proofs.Words.{At, Stepped, LastingTable, IsInRange, List, Action, Start, Asks, Searching, Bool, false, bias, range_at_start}
+use Rattle.fx_lasting.proofs.Words.{Stepped, LastingTable, IsInRange, List, Action, Start, Searching, group_of, range_at_start}
 use Rattle.fx_lasting.specs.Passes.{node_of_number}
-use Rattle.fx_lasting.specs.Tries.{IsPlacing, HasAllocated, StillPlaces}
+use Rattle.fx_lasting.specs.Tries.{IsPlacing, HasAllocated, StillPlaces, group_steps}
+use Rattle.fx_lasting.proofs.Groups.{by_size}
 use Rattle.fx_lasting.proofs.Running.{runs_one, runs_then, runs_goes, runs_within, turns_then, does_then}
 
 -- a slot of the range is one of the table
@@ -39,13 +40,13 @@ module _ {m m₁ m₂ : Sat} {n i slots found old new : ℕ} {file : Closed} (p 
 
   -- the file is at the slot
   module _ (won : found ≡ old) {slot : ℕ} (here : slot_of i ≡ slot) where
-    abbrev wins : (number : ℕ) × (node_of_number m₁.0.start number ≡ n) × Stepped m₁ ([] ▷ Allocate (slot_of i) (numbered number file)) Idle m₁.0.glance Inside m₂
+    abbrev wins : (number : ℕ) × (node_of_number m₁.0.start number ≡ n) × Stepped m₁ ([] ▷ Allocate (slot_of i) (numbered number file)) Idle m₁.0.glance (Inside (group_of (range_at_start m₁.0.start) (slot_of i))) m₂
         × (m₂.1 ≡ rest m₁.1)
     wins = tries.wins n file (peeked p goes).work still_there won
 
-    pub won_run : Runs m ([] ▷ Allocate slot (numbered wins.0 file)) Idle m.0.glance Inside 2 m₂
-    won_run = runs_then (peeked p goes) (subst (λ (z : ℕ × Glance). Runs m₁ ([] ▷ Allocate z.0 (numbered wins.0 file)) Idle z.1 Inside 1 m₂)
-        (λ j. (here j, (peeked p goes).glance j)) (runs_one wins.2))
+    pub won_run : Runs m ([] ▷ Allocate slot (numbered wins.0 file)) Idle m.0.glance (Inside (group_of (range_at_start m.0.start) slot)) 2 m₂
+    won_run = runs_then (peeked p goes) (subst (λ (z : ℕ × Glance × Start). Runs m₁ ([] ▷ Allocate z.0 (numbered wins.0 file)) Idle z.1
+        (Inside (group_of (range_at_start z.2) z.0)) 1 m₂) (λ j. (here j, (peeked p goes).glance j, (peeked p goes).start j)) (runs_one wins.2))
 
     pub won_so : {m₃ : Sat} → Runs m₂ [] m₂.0.work m₂.0.glance Outside 1 m₃ → m₃.1 ≡ m₂.1 → HasAllocated n file slot 3 m m₃
     won_so ended same = (
@@ -73,17 +74,16 @@ allocated_within few one = (one.0, one.1, runs_within few one.2, one.3)
 pub still_placing : {m m' : Sat} {n a : ℕ} {file : Closed} → IsPlacing n file m → StillPlaces n a m m' → IsPlacing n file m'
 still_placing p s = record { work = s.0.work; place = s.1 ∙ p.place }
 
--- the word that says that the range is full
-pub full_of : (t : LastingTable) {k : Start} → k ≡ t.table.shared.key → bias + t.range_len ≡ bias + (range_at_start k).1
-full_of t is = ap (λ (z : ℕ × ℕ). bias + z.1) t.same_range ∙ ap (λ (z : Start). bias + (range_at_start z).1) (sym is)
-
--- a pass that found another word
-pub asked_not : (t : LastingTable) {m m' : Sat} {st : At} {found : ℕ} {b : Bool} → m.0.start ≡ t.table.shared.key → Asks st m found m'
-    → (found ≡ bias + t.range_len → b ≡ true) → b ≡ false → Goes m [] m.0.work m.0.glance m'
-asked_not t {b = b} start asks says not_so = asks.not_full (λ e. let bad : true ≡ false = sym (says (e ∙ sym (full_of t start))) ∙ not_so in cc bad)
-
 -- a pass that has put a file into the place of a node that it found
-pub until_put : {m m₁ m₂ m₃ : Sat} {n most : ℕ} → Goes m [] m.0.work m.0.glance m₁
-    → Runs m₁ [] (Searching n) m₁.0.glance m₁.0.change most m₂ → Runs m₂ [] (Placing n) m₂.0.glance m₂.0.change 1 m₃
-    → Runs m [] (Placing n) m.0.glance m.0.change (1 + most + 1) m₃
-until_put goes sought born = does_then (does_then (runs_goes goes) sought) born
+pub until_put : {m m₂ m₃ : Sat} {n most : ℕ} → Runs m [] (Searching n) m.0.glance m.0.change most m₂
+    → Runs m₂ [] (Placing n) m₂.0.glance m₂.0.change 1 m₃ → Runs m [] (Placing n) m.0.glance m.0.change (most + 1) m₃
+until_put sought born = does_then sought born
+
+-- The steps of a search through some groups
+pub group_more : (len count most : ℕ) → most ≤ count * group_steps len → most + group_steps len ≤ (count + 1) * group_steps len
+group_more len count most = by_size (λ size. most ≤ count * (3 * size + 1) → most + (3 * size + 1) ≤ (count + 1) * (3 * size + 1))
+    (λ l. omega (arith, l)) (λ l. omega (arith, l)) len
+
+pub groups_most : (len count most groups : ℕ) → count ≤ groups → most ≤ count * group_steps len → most ≤ groups * group_steps len
+groups_most len count most groups few = by_size (λ size. most ≤ count * (3 * size + 1) → most ≤ groups * (3 * size + 1))
+    (λ l. omega (arith, l, few)) (λ l. omega (arith, l, few)) len

@@ -13,7 +13,8 @@ use Rattle.fx_lasting.proofs.Histories.{grows_none, each_changed}
 use Rattle.fx_lasting.proofs.Frames.{busy, does_now, covers_same}
 use Rattle.fx_lasting.proofs.Keeping.{Turn, turn_of, After, word_at, slot_word, Made, by_turn, its_log, its_work, tells, w, end, find_pass}
 use Rattle.fx_lasting.proofs.NodeSteps.{after, node_kept, own_keeps, guards_else}
-use Rattle.fx_lasting.proofs.Places.{hold_words, hold_here, hold_node, hold_slot, hold_else, hold_control, hold_list, pass_back}
+use Rattle.fx_lasting.proofs.Groups.{CountAlike}
+use Rattle.fx_lasting.proofs.Places.{hold_words, hold_here, hold_node, hold_slot, hold_else, hold_alike, hold_list, pass_back}
 use Rattle.fx_lasting.proofs.Unheld.{NodeNow, in_phase}
 
 module _ (turn : Turn) (f : File) (n t : ℕ) (nx : Round) (m : ℕ) (works : turn.v.work ≡ Retiring f n t nx m) where
@@ -39,7 +40,7 @@ module _ (turn : Turn) (f : File) (n t : ℕ) (nx : Round) (m : ℕ) (works : tu
     pub record Visited : Type 0 where
       pub words : length words' ≡ length st.words
       pub slots : (s : ℕ) → s < slots_of v.start → slot_word words' s ≡ slot_word st.words s
-      pub control : word_at words' 0 ≡ word_at st.words 0
+      pub alike : CountAlike words' st.words
       pub lists : (p : ℕ) → p ≤ 1024 → word_at words' (list_place p) ≡ word_at st.words (list_place p)
       pub nodes : (k : ℕ) → word_at words' (word_of v.start k) ≡ word_at st.words (word_of v.start k)
       pub own : word_at words' (hold_word_of v.start x.number) ≡ word_at st.words (hold_word_of v.start x.number)
@@ -64,7 +65,7 @@ module _ (turn : Turn) (f : File) (n t : ℕ) (nx : Round) (m : ℕ) (works : tu
           removed = λ k. r.removed k ∙ sym (each_changed (λ i z. removed_in k z ≡ removed_in k (r.phase i)) r.phase
               (λ is. sym (ap (λ (i : ℕ). removed_in k (r.phase i)) is ∙ ap (removed_in k) its.1)) (λ _. refl));
           slot_words = s.slots;
-          control_word = s.control;
+          alike = s.alike;
           lists = s.lists;
           node_words = λ k l other. s.nodes k;
           home_else = λ k l other. refl;
@@ -161,7 +162,7 @@ module _ (turn : Turn) (f : File) (n t : ℕ) (nx : Round) (m : ℕ) (works : tu
         let a = node.few_marks in let b = r.shape.passes in record {
           words = refl;
           slots = λ s l. refl;
-          control = refl;
+          alike = (refl, λ g l. refl);
           lists = λ p few. refl;
           nodes = λ k. refl;
           own = refl;
@@ -251,7 +252,7 @@ module _ (turn : Turn) (f : File) (n t : ℕ) (nx : Round) (m : ℕ) (works : tu
           let a = node.few_marks in let b = r.shape.passes in let c = owes n in let d = bit_here (n + 1) (n + 1) refl in record {
             words = length-set st.words (hold_word_of v.start pass) (announced n + mark);
             slots = same;
-            control = hold_control turn pass more high (announced n + mark);
+            alike = hold_alike turn pass more high (announced n + mark);
             lists = hold_list turn pass more high (announced n + mark);
             nodes = hold_node turn pass more high (announced n + mark);
             own = hold_else turn pass more high (announced n + mark) x.number (λ e. other (sym e));
@@ -308,7 +309,7 @@ module _ (turn : Turn) (f : File) (n t : ℕ) (nx : Round) (m : ℕ) (works : tu
             (λ s l. refl) p e refl refl (λ may. subst (MayBeUnmarked (slot_word st.words) p) its.1 may) hold guard in record {
               words = refl;
               slots = λ s l. refl;
-              control = refl;
+              alike = (refl, λ g l. refl);
               lists = λ p few. refl;
               nodes = λ k. refl;
               own = refl;

@@ -1,6 +1,7 @@
 -- One history has what all passes did, and each removed file that is open has a user.
+use Rattle.fx_lasting.specs.Passes.{contents_of}
 use Rattle.fx_lasting.proofs.Words.{Contains, contains_head, ◌≡◌, ℕ, suc, ◌+◌, ◌<◌, ◌≤◌, List, [], ◌∷◌, length, sym, refl, ap, ◌∙◌, subst, arith}
-use Rattle.fx_lasting.proofs.Words.{Some, None, some, get_elem?, ⊎_elim, ◌⊎◌, dite, dec_le, eqb, Bool, true, false, cond, at_index, found_sum}
+use Rattle.fx_lasting.proofs.Words.{Some, None, some, get_elem?, ⊎_elim, dite, dec_le, eqb, Bool, true, false, cond, at_index, found_sum}
 use Rattle.fx_lasting.proofs.Words.{File, Agrees, NodeAgrees, WorkAgrees, HoldAgrees, HoldsAt, OwnerAgrees, Shared, Start, View, Work, Log, Phase}
 use Rattle.fx_lasting.proofs.Words.{Idle, Announced, Counted, Guarded, Owing, Yielding, Searching, Placing, Retiring, Emptying}
 use Rattle.fx_lasting.proofs.Words.{free, placed, seated, leaving, retired, emptied, file_in, removed_in, file_if_numbered, eq-eqb, taken_of, taking, owed, count_in, sum_by, bit_else}
@@ -21,7 +22,7 @@ use Rattle.fx_lasting.specs.WholeHistory.{IsPassAt, IsPartOf, IsOfAllPasses, Use
 
 -- the passes begin in a state from which the laws of histories speak
 start_is : (k : Start) → IsStart (state_at_start k)
-start_is k = let o = opening_is_start (state_of k.plain.value) 0 in record {
+start_is k = let o = opening_is_start (state_of (contents_of k)) 0 in record {
   settled = record { unheld = o.settled.unheld; closed = o.settled.closed };
   distinct = o.distinct;
   used = λ slot f l there. let e = numbered_anew _ slot f there in ap not (lt-ltb f.number (slots_of k) (omega arith));

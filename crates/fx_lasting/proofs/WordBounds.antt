@@ -1,9 +1,10 @@
 -- The bounds of the words.
-use Rattle.fx_lasting.proofs.Words.{◌≡◌, ℕ, ◌+◌, ◌<◌, ◌≤◌, Option, Some, None, subst, arith, File, sum_by, sum_le_at, get_elem?, Agrees, Names, IsSeated}
-use Rattle.fx_lasting.proofs.Words.{NodeAgrees, WorkAgrees, lengths, owing_of, slots_of, word_of, state_after_all, taken_of, owed, count_in, name_in}
-use Rattle.fx_lasting.proofs.Words.{Phase, Shared, Start, cold_takes, has_acted, has_heated}
+use Rattle.fx_lasting.proofs.Words.{◌≡◌, ℕ, ◌+◌, ◌<◌, ◌≤◌, Option, Some, None, subst, arith, File, sum_by, get_elem?, Agrees, Names, IsSeated}
+use Rattle.fx_lasting.proofs.Words.{NodeAgrees, WorkAgrees, slots_of, word_of, state_after_all, taken_of, owed, count_in, name_in}
+use Rattle.fx_lasting.proofs.Words.{Phase, Shared, Start, range_at_start, group_start, group_len, full_few, cold_takes, has_acted, has_heated}
 use Rattle.fx_lasting.specs.Bounds.{AreBounded, slot_word_in, node_word_in}
-use Rattle.fx_lasting.proofs.ControlSteps.{few_owing, few_full}
+use Rattle.fx_lasting.proofs.Groups.{few_slots}
+use Rattle.fx_lasting.proofs.GroupSteps.{owing_most}
 use Rattle.fx_lasting.proofs.Counts.{tally_few, few_cold}
 use Rattle.fx_lasting.proofs.Keeping.{word_at, slot_word}
 
@@ -23,9 +24,6 @@ module _ (k : Start) (s : Shared) (r : Agrees k s) where
       let c = o.counts in let t = few_takes slot inside in let p = r.shape.passes in
       let large : 2 < node_word_in k s (r.node_of f.number) = omega (arith, few_cold k.passes) in subst (λ (n : ℕ). 2 < node_word_in k s n) same large
 
-  owing_most : sum_by owing_of s.views ≤ 1024
-  owing_most = let a = sum_le_at owing_of lengths s.views (few_owing k s r) in let b = r.whole in let c = r.shape.passes in omega arith
-
   pub words_are_bounded : AreBounded k s
   words_are_bounded = record {
     takes = few_takes;
@@ -37,6 +35,6 @@ module _ (k : Start) (s : Shared) (r : Agrees k s) where
         let work = subst (WorkAgrees k r.phase seat) is (r.each_view seat v there).work in
         let o = subst (Node node) work.1 (r.each_node node work.0) in
         let a = o.counts in let b = o.few_takes in let c = o.few_marks in let d = o.few_visits in omega arith;
-    least = let a = r.control.counts in let b = owing_most in omega arith;
-    most = let a = r.control.counts in let b = few_full k s r in omega arith;
+    groups = λ g l. let a = (r.counts.groups g l).counts in let b = owing_most k s r g in let c = few_slots (range_at_start k).1 g in
+        let d = full_few (state_after_all k r.history).at (group_start (range_at_start k) g) (group_len (range_at_start k).1 g) in omega (arith, a, b, c, d);
   }

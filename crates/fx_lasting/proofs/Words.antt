@@ -7,15 +7,17 @@ pub use Rattle.fx_lasting.specs.Agrees.{HoldAgrees, MayBeUnmarked, GuardAgrees, 
 pub use Rattle.fx_lasting.specs.Agrees.{OwnerAgrees, HoldsAt, WorkAgrees, IsAllowed, IsIdleIn, IsToVisit, NamesNode, Nodes, Names, IsSeated}
 pub use Rattle.fx_lasting.specs.Agrees.{SlotAgrees, Home, IsFileOfNode, IsVacant}
 pub use Rattle.fx_lasting.specs.AtWork.{IsAtWork, IsReleasing, HasPlace}
-pub use Rattle.fx_lasting.specs.Control.{owing, owing_of, is_in, uncounted, account, ControlCounts}
+pub use Rattle.fx_lasting.specs.Groups.{owing, owing_of, is_in, uncounted, account, GroupCounts, AreFull, HasQuestionOf, HasVisitedFull, RangeCounts}
 pub use Rattle.fx_lasting.specs.Counts.{tally, owed}
 pub use Rattle.fx_lasting.specs.Ends.{LetsMarkGo, LetsFileGo, Guards, LooksByTake}
 pub use Rattle.fx_lasting.specs.Cuts.{new_logs, first_view, together, spent}
 pub use Rattle.fx_lasting.specs.Laws.{HasToLetGo, IsOffCount, ClearsKeep, TakesOutKeep, ExchangesKeep, HasPass, GlancesKeep, AnnouncesKeep}
 pub use Rattle.fx_lasting.specs.Laws.{ConfirmsKeep, WithdrawsKeep, TakesOnceKeep, HeatsKeep, SplitsKeep, JoinsKeep, LowersKeep, RaisesKeep, AsksKeep}
+pub use Rattle.fx_lasting.specs.Laws.{ChecksKeep, BreaksKeep, BeginsKeep, CountsKeep, DecidesKeep, IsGroup}
 pub use Rattle.fx_lasting.specs.Laws.{PeeksKeep, InstallsKeep, StepsDownKeep, LettingGoKeeps, SeeksKeep, BirthsKeep, RestsKeep, VisitsKeep, MarksKeep}
 pub use Rattle.fx_lasting.specs.Laws.{RetiresKeep, IsInRange, ListsKeep, SkimsKeep, IsPassed}
-pub use Rattle.fx_lasting.specs.Layout.{control_place, list_place, slot_place, hold_place, node_place, block_for, block_start}
+pub use Rattle.fx_lasting.specs.Layout.{question_place, group_place, list_place, slot_place, hold_place, node_place, block_for, block_start}
+pub use Rattle.fx_lasting.specs.Layout.{group_size, groups_in, group_of, group_start, group_len}
 pub use Rattle.fx_lasting.specs.Opens.{word_for, node_for, home_for, first_file, OpensWith}
 pub use Rattle.fx_lasting.specs.Deeds.{Deed, untouched, over, heated, has_acted, has_heated}
 pub use Rattle.fx_lasting.specs.Parts.{heat_unit, count_in, heat_in, IsHot, cold_takes, birth_word, closed_word, retirement_amount, announced, mark}
@@ -32,11 +34,14 @@ pub use Rattle.fx_lasting.specs.declared.table.LastingTable.{LastingTable}
 pub use Rattle.fx_lasting.specs.Tells.{LetsGo, At, rested, Lists, Skims, IsOnList, as_listed, round_at, round_from, new_round, Announces, Shows}
 pub use Rattle.fx_lasting.specs.Tells.{Confirms, Withdraws, glance_after, Takes, HeatTells, StepsDown, TakesOut, slot_of, pass_at, pass_event}
 pub use Rattle.fx_lasting.specs.Tells.{pass_in, IsInside, Stepped, Goes, Glances, Exchanges, LettingGo, Seeks, Births, Rests, Visits, Marks, Retires}
-pub use Rattle.fx_lasting.specs.Tells.{first_visit, retiring_work, Found, Installs, Removes, Turns, Asks, Peeks}
+pub use Rattle.fx_lasting.specs.Tells.{first_visit, retiring_work, Found, Installs, Removes, Turns, Asks, Peeks, as_asked, group_at}
+pub use Rattle.fx_lasting.specs.Tells.{Lowers, Checks, Breaks, Raises, Begins, Counts, Decides}
 pub use Rattle.fx_lasting.specs.Visits.{Visited, HasVisited, HasMarked, round_to}
 pub use Rattle.fx_lasting.specs.Searches.{next_of}
 pub use Rattle.fx_lasting.specs.declared.view.Change.{Change}
-pub use Rattle.fx_lasting.specs.declared.view.Change.TheVariants.{Outside, Inside}
+pub use Rattle.fx_lasting.specs.declared.view.Change.TheVariants.{Outside, Lowered, Inside}
+pub use Rattle.fx_lasting.specs.declared.view.Survey.{Survey}
+pub use Rattle.fx_lasting.specs.declared.view.Survey.TheVariants.{None as NotAsked, Covered}
 pub use Rattle.fx_lasting.specs.declared.view.Glance.{Glance}
 pub use Rattle.fx_lasting.specs.declared.view.Glance.TheVariants.{None as Nothing, Hot, Cold, Heating}
 pub use Rattle.fx_lasting.specs.declared.view.Log.{Log}
@@ -60,7 +65,7 @@ pub use Rattle.fx_table.proofs.SumLemmas.{contains_head, contains_map, contains_
 pub use Rattle.fx_table.proofs.SumLemmas.{one_less_at, counted_once, found_by, found_sum, sum_at, sum_two, sum_set, sum_le_at, sum_of, sum_zero_at}
 pub use Rattle.fx_table.proofs.SumLemmas.{sum_only}
 pub use Rattle.fx_words.proofs.Parts.{name_made, entry_made, takes_made}
-pub use Rattle.fx_words.specs.Words.{end_amount_of, node_in, name_in, entry_in, slot_word_of, one_change, bias}
+pub use Rattle.fx_words.specs.Words.{node_in, name_in, entry_in, slot_word_of}
 pub use Rattle.std.proofs.Common.{bit_or, eq-eqb, ne_eqb, length-append, true, map, get_or, IsSome, ◌*◌, get_or-set_other, get_or-set_same, ◌/◌}
 pub use Rattle.std.proofs.Common.{lt-ltb, le-ltb, Option, Some, None, slice_index, ◌+◌, ◌-◌, ◌%◌, ◌^◌, false, eqb, inl, ◌++◌, ◌⊎◌, inr, ⊎_elim}
 pub use Rattle.std.proofs.Common.{length-set, ◌≡◌, ◌≢◌, ℕ, zero, suc, ◌<◌, ◌≤◌, Bool, cond, nat_lt, List, [], ◌∷◌, length, set, sym, refl, ap, ◌∙◌}

@@ -11,13 +11,12 @@ use Rattle.fx_base.specs.Identity.{Identity}
 use Rattle.fx_plain.specs.History.{IsSeenBy, part_of_pass, held_by}
 use Rattle.fx_plain.specs.declared.event.Event.{Event}
 use Rattle.fx_plain.specs.declared.event.File.{File}
-use Rattle.fx_plain.specs.declared.table.TheConstants.{MOST_SLOTS}
 use Rattle.fx_table.specs.Numbers.{once}
 use Rattle.fx_words.specs.Words.{name_in, entry_in}
-use Rattle.fx_lasting.specs.Control.{ControlCounts}
+use Rattle.fx_lasting.specs.Groups.{RangeCounts}
 use Rattle.fx_lasting.specs.Counts.{tally, owed}
 use Rattle.fx_lasting.specs.Deeds.{Deed, untouched, over, heated, has_acted, has_heated}
-use Rattle.fx_lasting.specs.Layout.{control_place, list_place, slot_place, words_for}
+use Rattle.fx_lasting.specs.Layout.{list_place, slot_place, words_for}
 use Rattle.fx_lasting.specs.Parts.{IsHot, count_in, heat_in, cold_takes, birth_word, closed_word}
 use Rattle.fx_lasting.specs.Parts.{announced, mark, bit_of, IsListedIn}
 use Rattle.fx_lasting.specs.Passes.{Shared, slots_of, range_at_start, nodes_of, IsInBlock}
@@ -27,6 +26,7 @@ use Rattle.fx_lasting.specs.Passes.{taken_of}
 use Rattle.fx_lasting.specs.Passes.{logs_of, lengths, node_of_number}
 use Rattle.fx_lasting.specs.Phases.{Phase, free, placed, seated, leaving, retired, emptied, file_in}
 use Rattle.fx_lasting.specs.Phases.{removed_in}
+use Rattle.fx_lasting.specs.declared.layout.TheConstants.{MOST_SLOTS}
 use Rattle.fx_lasting.specs.declared.view.Change.TheVariants.{Outside}
 use Rattle.fx_lasting.specs.declared.view.Glance.{Glance}
 use Rattle.fx_lasting.specs.declared.view.Glance.TheVariants.{None as Nothing, Hot, Cold, Heating}
@@ -284,5 +284,4 @@ pub record Agrees (k : Start) (s : Shared) : Type 0 where
   -- the list has bits of the table's passes alone
   pub listed : (p : ℕ) → 0 < p → p ≤ 1024 → IsListedIn (slice_index s.words (list_place p)) p
       → p ≤ k.passes
-  pub control : ControlCounts (state_after_all k history).at (range_at_start k) s.views
-      (slice_index s.words control_place)
+  pub counts : RangeCounts (state_after_all k history).at (range_at_start k) s.views s.words

@@ -1,13 +1,13 @@
 -- The bounds of a lasting table's words.
-use Rattle.std.specs.Prelude.{◌≡◌, ℕ, ◌+◌, ◌^◌, ◌<◌, ◌≤◌, slice_index}
+use Rattle.std.specs.Prelude.{◌≡◌, ℕ, ◌+◌, ◌%◌, ◌^◌, ◌<◌, ◌≤◌, slice_index}
 use mathlib.Core.Option.{some}
 use lib.ListN.{get_elem?}
 use Rattle.fx_plain.specs.declared.event.File.{File}
 use Rattle.fx_words.specs.Words.{name_in}
 use Rattle.fx_lasting.specs.Agrees.{Agrees}
-use Rattle.fx_lasting.specs.Layout.{control_place, slot_place}
+use Rattle.fx_lasting.specs.Layout.{group_place, slot_place, groups_in}
 use Rattle.fx_lasting.specs.Parts.{count_in, heat_in, cold_takes}
-use Rattle.fx_lasting.specs.Passes.{Shared, slots_of, word_of}
+use Rattle.fx_lasting.specs.Passes.{Shared, slots_of, range_at_start, word_of}
 use Rattle.fx_lasting.specs.declared.view.Round.{Round}
 use Rattle.fx_lasting.specs.declared.view.Start.{Start}
 use Rattle.fx_lasting.specs.declared.view.View.{View}
@@ -21,9 +21,9 @@ slot_word_in s slot = slice_index s.words (slot_place slot)
 abbrev pub node_word_in : Start → Shared → ℕ → ℕ
 node_word_in k s node = slice_index s.words (word_of k node)
 
--- the control word
-abbrev pub control_word_in : Shared → ℕ
-control_word_in s = slice_index s.words control_place
+-- the word of a group
+abbrev pub group_word_in : Shared → ℕ → ℕ
+group_word_in s group = slice_index s.words (group_place group)
 
 -- the bounds of a table's words
 pub record AreBounded (k : Start) (s : Shared) : Type 0 where
@@ -41,9 +41,9 @@ pub record AreBounded (k : Start) (s : Shared) : Type 0 where
   pub leaving : (seat node takes marks : ℕ) (round : Round) (v : View) (f : File)
       → get_elem? s.views seat ≡ some v → v.work ≡ Retiring f node takes round marks
       → 2 < node_word_in k s node
-  -- of at most 256 full slots, the word counts at most one too few for each pass
-  pub least : 64512 ≤ control_word_in s
-  pub most : control_word_in s ≤ 65792
+  -- of at most 64 full slots, a group's word counts at most one too few for each pass
+  pub groups : (group : ℕ) → group < groups_in (range_at_start k).1
+      → (group_word_in s group + 1024) % 2 ^ 64 ≤ 1024 + 64
 
 -- the bounds hold between any two steps
 abbrev pub WordsAreBounded : Type 0

@@ -1,7 +1,6 @@
 -- Views cut in two, and two views made one.
-use Rattle.std.specs.Prelude.{ℕ, List, [], ◌++◌, map, take, drop}
+use Rattle.std.specs.Prelude.{ℕ, List, [], ◌++◌, map, take, drop, None}
 use Rattle.std.specs.List.{range_with_len}
-use Rattle.fx_plain.specs.Contents.{Contents}
 use Rattle.fx_plain.specs.declared.event.Event.{Event}
 use Rattle.fx_lasting.specs.Passes.{new_log}
 use Rattle.fx_lasting.specs.declared.view.Change.TheVariants.{Outside}
@@ -38,15 +37,14 @@ first_alone v = record v { logs = take 1 v.logs }
 abbrev pub together : View → View → View
 together v w = record v { logs = v.logs ++ w.logs; work = Idle }
 
--- a table of no slots
-abbrev pub empty_table : Contents
-empty_table = record { slots = []; range = (0, 0); nodes = []; holds = []; numbers = 0 }
-
 -- the view of a seat that was taken in
 abbrev pub spent : View
 spent = record {
   start = record {
-    plain = record { marker = record {}; value = empty_table };
+    plain = None;
+    size = 0;
+    range_start = 0;
+    range_len = 0;
     passes = 0;
     installing = 0;
   };

@@ -15,7 +15,7 @@ use Rattle.fx_lasting.specs.declared.view.Glance.TheVariants.{None as Nothing, C
 use Rattle.fx_lasting.specs.declared.view.Work.{Work}
 use Rattle.fx_lasting.specs.declared.view.Work.TheVariants.{Idle, Announced, Counted, Guarded}
 
--- some steps in a row, which leave its look-up and its account with the control word as they were
+-- some steps in a row, which leave its look-up and its account with the groups' words as they were
 abbrev pub Does : Sat → List Action → Work → ℕ → Sat → Type 0
 Does m actions w most m' = Runs m actions w m.0.glance m.0.change most m'
 

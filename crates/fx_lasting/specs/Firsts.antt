@@ -3,9 +3,9 @@ use Rattle.std.specs.Prelude.{◌≡◌, ℕ, ◌<◌, ◌≤◌, List, Some, le
 use Rattle.fx_plain.specs.State.{State}
 use Rattle.fx_plain.specs.declared.event.File.{File}
 use Rattle.fx_table.specs.FullSlots.{full_in, first_at}
-use Rattle.fx_words.specs.Words.{control_word_of}
-use Rattle.fx_lasting.specs.Layout.{control_place, list_place, slot_place, hold_place, node_place}
-use Rattle.fx_lasting.specs.Layout.{words_for}
+use Rattle.fx_lasting.specs.Layout.{question_place, group_place, list_place, slot_place}
+use Rattle.fx_lasting.specs.Layout.{hold_place, node_place, words_for, groups_in, group_start}
+use Rattle.fx_lasting.specs.Layout.{group_len}
 use Rattle.fx_lasting.specs.Opens.{word_for, node_for}
 
 -- the first words of a table with these passes and nodes: those of the slots and of their nodes,
@@ -14,8 +14,10 @@ pub record AreFirstWords (st : State) (passes nodes : ℕ) (words : List ℕ) : 
   pub count : length words ≡ words_for st.size passes nodes
   pub entries : (slot : ℕ) (f : File) → slot < st.size → first_at st slot ≡ Some f
       → f.identity.entry < 256
-  pub control : slice_index words control_place
-      ≡ control_word_of (full_in (first_at st) st.range.0 st.range.1)
+  pub question : slice_index words question_place ≡ 0
+  pub groups : (group : ℕ) → group < 64 → group < groups_in st.range.1
+      → slice_index words (group_place group)
+      ≡ full_in (first_at st) (group_start st.range group) (group_len st.range.1 group)
   pub slot_words : (slot : ℕ) → slot < st.size
       → slice_index words (slot_place slot) ≡ word_for (first_at st slot)
   pub node_words : (slot : ℕ) → slot < st.size

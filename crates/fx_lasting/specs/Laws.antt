@@ -9,15 +9,18 @@ use Rattle.fx_base.specs.Identity.{Identity}
 use Rattle.fx_plain.specs.declared.event.File.{File}
 use Rattle.fx_words.specs.Words.{name_in, slot_word_of}
 use Rattle.fx_lasting.specs.Agrees.{Agrees, IsIdleIn}
-use Rattle.fx_lasting.specs.Control.{is_in, uncounted}
-use Rattle.fx_lasting.specs.Layout.{control_place, list_place, slot_place}
+use Rattle.fx_lasting.specs.Groups.{is_in, uncounted}
+use Rattle.fx_lasting.specs.Layout.{question_place, group_place, list_place}
+use Rattle.fx_lasting.specs.Layout.{slot_place, groups_in, group_of}
 use Rattle.fx_lasting.specs.Parts.{heat_unit, birth_word, announced, mark, retirement_amount}
 use Rattle.fx_lasting.specs.Parts.{bit_of}
 use Rattle.fx_lasting.specs.Passes.{Sat, HasNoFile, slots_of, range_at_start, word_of}
 use Rattle.fx_lasting.specs.Passes.{hold_word_of, IsInBlock}
 use Rattle.fx_lasting.specs.Tells.{At}
+use Rattle.fx_lasting.specs.declared.layout.TheConstants.{MOST_INSTALLING}
+use Rattle.fx_lasting.specs.declared.view.Survey.TheVariants.{None as NotAsked, Covered}
 use Rattle.fx_lasting.specs.declared.view.Change.{Change}
-use Rattle.fx_lasting.specs.declared.view.Change.TheVariants.{Outside, Inside}
+use Rattle.fx_lasting.specs.declared.view.Change.TheVariants.{Outside, Lowered, Inside}
 use Rattle.fx_lasting.specs.declared.view.Glance.TheVariants.{None as Nothing, Hot, Cold, Heating}
 use Rattle.fx_lasting.specs.declared.view.Log.{Log}
 use Rattle.fx_lasting.specs.declared.view.Round.{Round}
@@ -169,7 +172,8 @@ IsInRange k slot = let range = range_at_start k in (range.0 ≤ slot) × (slot <
 
 -- the slot is off the count, if it is in the range
 abbrev pub IsOffCount : Start → ℕ → Change → Type 0
-IsOffCount k slot change = change ≡ uncounted (is_in (range_at_start k) slot) true
+IsOffCount k slot change = let range = range_at_start k in
+    change ≡ uncounted (is_in range slot) true (group_of range slot)
 
 -- the first pass of an idle seat goes to a seat of its own
 abbrev pub SplitsKeep : (View → View) → (View → View) → Type 0
@@ -184,23 +188,59 @@ JoinsKeep both spent = (k : Start) (id : ℕ) (v : View)
     → (other : ℕ) (w : View) → HasNoFile w.work → w.glance ≡ Nothing → w.change ≡ Outside
     → Joins (Agrees k) id v other w (both v w) spent
 
--- a pass subtracts 1 from the control word
+-- the group is one of the range
+abbrev pub IsGroup : Start → ℕ → Type 0
+IsGroup k group = group < groups_in (range_at_start k).1
+
+-- a pass subtracts 1 from a group's word
 abbrev pub LowersKeep : Kind → Type 0
-LowersKeep tells = (k : Start) (slots id i : ℕ) (m : Sat) (x : Log) → HasPass k m x
-    → m.0.change ≡ Outside → i ≡ control_place
+LowersKeep tells = (k : Start) (slots id i group : ℕ) (m : Sat) (x : Log) → HasPass k m x
+    → m.0.change ≡ Outside → IsGroup k group → i ≡ group_place group
     → Allows (Agrees k) slots id m i (λ word. (word + (2 ^ 64 - 1)) % 2 ^ 64)
     (tells (step slots i 1 0 none) m)
 
--- a pass adds the slot that the word counts too few on its account
+-- then it loads the question word
+abbrev pub ChecksKeep : Kind → Type 0
+ChecksKeep tells = (k : Start) (slots id i group : ℕ) (m : Sat) (x : Log) → HasPass k m x
+    → m.0.change ≡ Lowered group → i ≡ question_place
+    → Allows (Agrees k) slots id m i (λ word. word) (tells (step slots i 0 0 none) m)
+
+-- and swaps 0 into it
+abbrev pub BreaksKeep : Kind → Type 0
+BreaksKeep tells = (k : Start) (slots id i group : ℕ) (m : Sat) (x : Log) → HasPass k m x
+    → m.0.change ≡ Lowered group → i ≡ question_place
+    → Allows (Agrees k) slots id m i (λ _. 0) (tells (step slots i 0 0 none) m)
+
+-- a pass adds the slot that the group's word counts too few on its account
 abbrev pub RaisesKeep : Kind → Type 0
-RaisesKeep tells = (k : Start) (slots id i : ℕ) (m : Sat) (x : Log) → HasPass k m x
-    → m.0.change ≡ Inside → i ≡ control_place
+RaisesKeep tells = (k : Start) (slots id i group : ℕ) (m : Sat) (x : Log) → HasPass k m x
+    → m.0.change ≡ Inside group → IsGroup k group → i ≡ group_place group
     → Allows (Agrees k) slots id m i (λ word. (word + 1) % 2 ^ 64) (tells (step slots i 1 0 none) m)
 
--- a pass loads the control word, and reads whether every slot of the range is full
+-- a pass that installs files loads the question word, before it asks
+abbrev pub BeginsKeep : Kind → Type 0
+BeginsKeep tells = (k : Start) (slots id i : ℕ) (m : Sat) (x : Log) → HasPass k m x
+    → x.number ≤ MOST_INSTALLING → i ≡ question_place
+    → Allows (Agrees k) slots id m i (λ word. word) (tells (step slots i 0 0 none) m)
+
+-- it adds its bit to the question word, which doesn't have it
 abbrev pub AsksKeep : Kind → Type 0
 AsksKeep tells = (k : Start) (slots id i : ℕ) (m : Sat) (x : Log) → HasPass k m x
-    → i ≡ control_place
+    → x.number ≤ MOST_INSTALLING → x.asked ≡ NotAsked → i ≡ question_place
+    → Allows (Agrees k) slots id m i (λ question. (question + 2 ^ bit_of x.number) % 2 ^ 64)
+    (tells (step slots i (2 ^ bit_of x.number) 0 none) m)
+
+-- it loads the word of the next group
+abbrev pub CountsKeep : Kind → Type 0
+CountsKeep tells = (k : Start) (slots id i group : ℕ) (m : Sat) (x : Log) → HasPass k m x
+    → x.asked ≡ Covered group → IsGroup k group → i ≡ group_place group
+    → Allows (Agrees k) slots id m i (λ word. word) (tells (step slots i 0 0 none) m)
+
+-- it loads the question word, after it has visited all groups
+abbrev pub DecidesKeep : Kind → Type 0
+DecidesKeep tells = (k : Start) (slots id i : ℕ) (m : Sat) (x : Log) → HasPass k m x
+    → x.number ≤ MOST_INSTALLING → x.asked ≡ Covered (groups_in (range_at_start k).1)
+    → i ≡ question_place
     → Allows (Agrees k) slots id m i (λ word. word) (tells (step slots i 0 0 none) m)
 
 -- a pass loads a word, and learns nothing

@@ -1,13 +1,18 @@
 -- Where the words and the open files of a lasting table are.
-use Rattle.std.specs.Prelude.{◌≡◌, ◌≢◌, ℕ, ◌+◌, ◌-◌, ◌*◌, ◌/◌, ◌<◌, ◌≤◌}
+use Rattle.std.specs.Prelude.{◌≡◌, ◌≢◌, ℕ, ◌+◌, ◌-◌, ◌*◌, ◌/◌, ◌<◌, ◌≤◌, nat_lt}
+use Rattle.std.specs.Prelude.{if◌then◌else◌}
 use Rattle.fx_lasting.specs.Parts.{bit_of}
 
--- The control word, each slot and each pass have a cache line of their own. The list of passes
--- that ever looked a file up has a bit for each of 1,024 passes, 64 in a word.
+-- The question word, each group of slots, each slot and each pass have a cache line of their own.
+-- The list of passes that ever looked a file up has a bit for each of 1,024 passes, 64 in a word.
 
--- the control word
-abbrev pub control_place : ℕ
-control_place = 0
+-- the word with a bit for each pass that asks whether the allocation range is full
+abbrev pub question_place : ℕ
+question_place = 0
+
+-- the word of a group, which counts its full slots. There are at most 64 groups
+abbrev pub group_place : ℕ → ℕ
+group_place group = 24 + 8 * group
 
 -- the word of the list that has the bit of a pass, from 1
 abbrev pub list_place : ℕ → ℕ
@@ -15,19 +20,19 @@ list_place pass = 8 + (pass - 1) / 64
 
 -- the word of a slot
 abbrev pub slot_place : ℕ → ℕ
-slot_place slot = 24 + 8 * slot
+slot_place slot = 536 + 8 * slot
 
 -- the hold word of a pass, from 1
 abbrev pub hold_place : ℕ → ℕ → ℕ
-hold_place size pass = 16 + 8 * size + 8 * pass
+hold_place size pass = 528 + 8 * size + 8 * pass
 
 -- the word of a node: these follow all others, side by side
 abbrev pub node_place : ℕ → ℕ → ℕ → ℕ
-node_place size passes node = 24 + 8 * size + 8 * passes + node
+node_place size passes node = 536 + 8 * size + 8 * passes + node
 
 -- the number of words of a table with `nodes` nodes
 abbrev pub words_for : ℕ → ℕ → ℕ → ℕ
-words_for size passes nodes = 24 + 8 * size + 8 * passes + nodes
+words_for size passes nodes = 536 + 8 * size + 8 * passes + nodes
 
 -- the number of nodes in a pass's block: one of them is free whenever the pass does nothing
 abbrev pub block_for : ℕ → ℕ → ℕ
@@ -41,9 +46,30 @@ block_start size passes pass = size + (pass - 1) * block_for size passes
 abbrev pub nodes_for : ℕ → ℕ → ℕ → ℕ
 nodes_for size passes installing = size + installing * block_for size passes
 
+-- the number of slots of a group, in a range of `len` slots. The last group may have fewer
+abbrev pub group_size : ℕ → ℕ
+group_size len = if nat_lt 256 len then 64 else 4
+
+-- the number of groups
+abbrev pub groups_in : ℕ → ℕ
+groups_in len = (len + (group_size len - 1)) / group_size len
+
+-- the group of a slot of the range
+abbrev pub group_of : ℕ × ℕ → ℕ → ℕ
+group_of range slot = (slot - range.0) / group_size range.1
+
+-- the first slot of a group, and the number of its slots
+abbrev pub group_start : ℕ × ℕ → ℕ → ℕ
+group_start range group = range.0 + group * group_size range.1
+
+abbrev pub group_len : ℕ → ℕ → ℕ
+group_len len group = let left = len - group * group_size len in
+    if nat_lt left (group_size len) then left else group_size len
+
 -- the places of words are inside the table's memory
 pub record PlacesAreInside (size passes nodes : ℕ) : Type 0 where
-  pub control : control_place < words_for size passes nodes
+  pub question : question_place < words_for size passes nodes
+  pub group : (group : ℕ) → group < 64 → group_place group < words_for size passes nodes
   pub list : (pass : ℕ) → pass ≤ 1024 → list_place pass < words_for size passes nodes
   pub slot : (slot : ℕ) → slot < size → slot_place slot < words_for size passes nodes
   pub hold : (pass : ℕ) → pass ≤ passes → hold_place size pass < words_for size passes nodes
@@ -59,10 +85,18 @@ pub record PlacesAreApart (size passes : ℕ) : Type 0 where
   -- the bits of two passes in one word are apart
   pub bits : (pass other : ℕ) → 0 < pass → 0 < other → list_place pass ≡ list_place other
       → bit_of pass ≡ bit_of other → pass ≡ other
-  pub list_and_control : (pass : ℕ) → list_place pass ≢ control_place
-  pub slot_and_control : (slot : ℕ) → slot_place slot ≢ control_place
-  pub hold_and_control : (pass : ℕ) → 0 < pass → hold_place size pass ≢ control_place
-  pub node_and_control : (node : ℕ) → node_place size passes node ≢ control_place
+  pub groups : (group other : ℕ) → group_place group ≡ group_place other → group ≡ other
+  pub list_and_question : (pass : ℕ) → list_place pass ≢ question_place
+  pub group_and_question : (group : ℕ) → group_place group ≢ question_place
+  pub slot_and_question : (slot : ℕ) → slot_place slot ≢ question_place
+  pub hold_and_question : (pass : ℕ) → 0 < pass → hold_place size pass ≢ question_place
+  pub node_and_question : (node : ℕ) → node_place size passes node ≢ question_place
+  pub group_and_list : (group pass : ℕ) → pass ≤ 1024 → group_place group ≢ list_place pass
+  pub slot_and_group : (slot group : ℕ) → group < 64 → slot_place slot ≢ group_place group
+  pub hold_and_group : (pass group : ℕ) → 0 < pass → group < 64
+      → hold_place size pass ≢ group_place group
+  pub node_and_group : (node group : ℕ) → group < 64
+      → node_place size passes node ≢ group_place group
   pub slot_and_list : (slot pass : ℕ) → pass ≤ 1024 → slot_place slot ≢ list_place pass
   pub hold_and_list : (pass other : ℕ) → 0 < pass → other ≤ 1024
       → hold_place size pass ≢ list_place other

@@ -4,9 +4,10 @@ pub mod Counts
 pub mod Deeds
 pub mod Phases
 pub mod Passes
-pub mod Control
+pub mod Groups
 pub mod Tells
 pub mod Runs
+pub mod Questions
 pub mod Agrees
 pub mod Cuts
 pub mod Laws
@@ -18,6 +19,7 @@ pub mod Opens
 pub mod AtWork
 pub mod Ends
 pub mod Lives
+pub mod Closing
 pub mod Tables
 pub mod Searches
 pub mod Visits

@@ -8,6 +8,7 @@ use Rattle.fx_plain.specs.Contents.{Contents, state_of}
 use Rattle.fx_plain.specs.State.{IsSettled}
 use Rattle.fx_table.specs.Opening.{HasSameFiles}
 use Rattle.fx_lasting.specs.Agrees.{Agrees}
+use Rattle.fx_lasting.specs.Closing.{files_with_slots}
 use Rattle.fx_lasting.specs.Cuts.{new_logs, first_view}
 use Rattle.fx_lasting.specs.Passes.{Shared, HasNoFile, state_after_all}
 use Rattle.fx_lasting.specs.declared.pass.LastingPass.{LastingPass}
@@ -34,6 +35,7 @@ pub record IsNewPass (seat : Seat (Option Identity) View) (number node : ℕ)
   pub its_node : p.next_node ≡ node
   pub flag : p.idle ≡ true
   pub unlisted : p.listed ≡ false
+  pub unsure : p.sure ≡ false
 
 -- the seat of a table that was just opened
 pub record HasAllPasses (t : LastingTable) (seat : Seat (Option Identity) View) : Type 0 where
@@ -54,10 +56,12 @@ abbrev pub AllAreIdle : Start → ℕ → View → Type 0
 AllAreIdle k id v = (s : Shared) → Agrees k s → get_elem? s.views id ≡ some v
     → (seat : ℕ) (u : View) → get_elem? s.views seat ≡ some u → HasNoFile u.work
 
--- the files of the table are those of some last state
-pub record Leaves (k : Start) (id : ℕ) (v : View) (left : Contents) : Type 0 where
+-- the files are those of a settled table, which has the files of some last state
+pub record Leaves (k : Start) (id : ℕ) (v : View) (files : List (ℕ × Identity)) : Type 0 where
   pub last : Shared
   pub rule : Agrees k last
   pub view : get_elem? last.views id ≡ some v
-  pub files : HasSameFiles (state_after_all k rule.history) (state_of left)
+  pub left : Contents
+  pub same : HasSameFiles (state_after_all k rule.history) (state_of left)
   pub settled : IsSettled (state_of left)
+  pub files_are : files ≡ files_with_slots (state_of left)

@@ -6,14 +6,15 @@ use lib.ListN.{get_elem?}
 use Rattle.atomic_table.specs.Table.{opening}
 use Rattle.fx_base.specs.Identity.{Identity}
 use Rattle.fx_plain.specs.declared.event.File.{File}
-use Rattle.fx_plain.specs.declared.table.TheConstants.{MOST_SLOTS}
-use Rattle.fx_words.specs.Words.{slot_word_of, control_word_of}
+use Rattle.fx_words.specs.Words.{slot_word_of}
 use Rattle.fx_table.specs.FullSlots.{full_in}
-use Rattle.fx_lasting.specs.Layout.{control_place, list_place, slot_place, words_for}
+use Rattle.fx_lasting.specs.Layout.{question_place, group_place, list_place, slot_place}
+use Rattle.fx_lasting.specs.Layout.{words_for, groups_in, group_start, group_len}
 use Rattle.fx_lasting.specs.Parts.{birth_word}
 use Rattle.fx_lasting.specs.Passes.{Shared, slots_of, range_at_start, nodes_of}
 use Rattle.fx_lasting.specs.Passes.{word_of, hold_word_of}
 use Rattle.fx_lasting.specs.Passes.{state_after_all}
+use Rattle.fx_lasting.specs.declared.layout.TheConstants.{MOST_SLOTS}
 use Rattle.fx_lasting.specs.declared.view.Start.{Start}
 use Rattle.fx_lasting.specs.declared.view.View.{View}
 
@@ -37,7 +38,7 @@ abbrev pub first_file : Start → ℕ → Option File
 first_file k slot = (state_after_all k []).at slot
 
 -- Words and places of a table that begins so: no file has been looked up, no pass announces
--- anything, and the control word counts each full slot of the range
+-- anything or asks whether the range is full, and the groups' words count each full slot
 pub record OpensWith (k : Start) (words : List ℕ) (homes : List (Option Identity)) : Type 0 where
   pub slots : slots_of k ≤ MOST_SLOTS
   pub range : (range_at_start k).0 + (range_at_start k).1 ≤ slots_of k
@@ -46,8 +47,11 @@ pub record OpensWith (k : Start) (words : List ℕ) (homes : List (Option Identi
   pub entries : (slot : ℕ) (f : File) → first_file k slot ≡ Some f → f.identity.entry < 256
   pub words_length : length words ≡ words_for (slots_of k) k.passes (nodes_of k)
   pub homes_length : length homes ≡ nodes_of k
-  pub control : slice_index words control_place
-      ≡ control_word_of (full_in (first_file k) (range_at_start k).0 (range_at_start k).1)
+  pub question : slice_index words question_place ≡ 0
+  pub groups : (group : ℕ) → group < groups_in (range_at_start k).1
+      → slice_index words (group_place group)
+      ≡ full_in (first_file k) (group_start (range_at_start k) group)
+      (group_len (range_at_start k).1 group)
   pub slot_words : (slot : ℕ) → slot < slots_of k
       → slice_index words (slot_place slot) ≡ word_for (first_file k slot)
   pub node_words : (slot : ℕ) → slot < slots_of k

@@ -1,16 +1,17 @@
 -- Views of passes, and their sums.
 use Rattle.std.specs.Prelude.{◌≡◌, ℕ, ◌+◌, ◌%◌, ◌<◌, ◌≤◌, ◌⊎◌, ◌==◌, not, nat_lt, List}
-use Rattle.std.specs.Prelude.{[], ◌∷◌, map, Option}
+use Rattle.std.specs.Prelude.{[], ◌∷◌, map, Option, option_map, unwrap_or, replicate}
 use Rattle.std.specs.Prelude.{Some, None}
 use Rattle.std.specs.Prelude.{length, count_by, if◌then◌else◌, false}
 use Rattle.atomic_table.specs.Table.{State as TableState, Me}
 use Rattle.fx_base.specs.Identity.{Identity}
-use Rattle.fx_plain.specs.Contents.{state_of}
+use Rattle.fx_plain.specs.Contents.{Contents, state_of}
 use Rattle.fx_plain.specs.History.{state_after, action_of, IsLegal}
 use Rattle.fx_plain.specs.State.{State, opening}
 use Rattle.fx_plain.specs.declared.event.Event.{Event}
 use Rattle.fx_plain.specs.declared.event.File.{File}
 use Rattle.fx_lasting.specs.Layout.{block_for, block_start, nodes_for, hold_place, node_place}
+use Rattle.fx_lasting.specs.declared.view.Survey.TheVariants.{None as NotAsked}
 use Rattle.fx_lasting.specs.declared.view.Log.{Log}
 use Rattle.fx_lasting.specs.declared.view.Start.{Start}
 use Rattle.fx_lasting.specs.declared.view.View.{View}
@@ -26,18 +27,33 @@ Shared = TableState (Option Identity) View
 abbrev pub Sat : Type 0
 Sat = Me (Option Identity) View
 
+-- `size` empty slots with this allocation range, which have had no files
+abbrev pub empty_slots : (size : ℕ) (range : ℕ × ℕ) → Contents
+empty_slots size range = record {
+  slots = replicate size None;
+  range = range;
+  nodes = [];
+  holds = [];
+  numbers = 0;
+}
+
+-- the slots with which the table was opened
+abbrev pub contents_of : Start → Contents
+contents_of k = unwrap_or (option_map (λ plain. plain.value) k.plain)
+    (empty_slots k.size (k.range_start, k.range_len))
+
 -- the state that passes begin with: the file at a slot has the slot's number, and every number
 -- after those of the slots is fresh
 abbrev pub state_at_start : Start → State
-state_at_start k = record (opening (state_of k.plain.value) 0) {
-  fresh = λ number. not (nat_lt number (state_of k.plain.value).size);
+state_at_start k = record (opening (state_of (contents_of k)) 0) {
+  fresh = λ number. not (nat_lt number (state_of (contents_of k)).size);
 }
 
 abbrev pub slots_of : Start → ℕ
-slots_of k = (state_of k.plain.value).size
+slots_of k = (state_of (contents_of k)).size
 
 abbrev pub range_at_start : Start → ℕ × ℕ
-range_at_start k = (state_of k.plain.value).range
+range_at_start k = (state_of (contents_of k)).range
 
 -- how many nodes it has
 abbrev pub nodes_of : Start → ℕ
@@ -68,7 +84,8 @@ IsHistory k h = IsLegal (state_at_start k) h (state_after_all k h)
 
 -- a pass that has seen and done nothing
 abbrev pub new_log : ℕ → Log
-new_log p = record { number = p; front = []; steps = 0; listed = false }
+new_log p =
+    record { number = p; front = []; steps = 0; listed = false; asked = NotAsked }
 
 -- the one pass of a seat
 abbrev pub first_log : List Log → Log

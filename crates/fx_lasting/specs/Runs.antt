@@ -21,6 +21,7 @@ pub record Runs (m : Sat) (actions : List Action) (w : Work) (g : Glance) (c : C
       ≡ map (pass_event (pass_in m)) actions ++ part_of_pass (pass_in m).number (pass_in m).front
   pub steps : (pass_in m').steps ≤ (pass_in m).steps + most
   pub listed : (pass_in m').listed ≡ (pass_in m).listed
+  pub asked : (pass_in m').asked ≡ (pass_in m).asked
   pub work : m'.0.work ≡ w
   pub inside : IsInside m.0.start w
   pub glance : m'.0.glance ≡ g

@@ -13,8 +13,10 @@ use Rattle.fx_table.specs.declared.values.Doing.TheVariants.{Retiring as Retires
 use Rattle.fx_table.specs.declared.values.Hold.{Hold}
 use Rattle.fx_table.specs.declared.values.Retired.{Retired}
 use Rattle.fx_lasting.specs.AtWork.{IsAtWork}
-use Rattle.fx_lasting.specs.Passes.{first_log, IsInBlock}
+use Rattle.fx_lasting.specs.Layout.{groups_in}
+use Rattle.fx_lasting.specs.Passes.{contents_of, first_log, range_at_start, IsInBlock}
 use Rattle.fx_lasting.specs.Tells.{pass_in, new_round}
+use Rattle.fx_lasting.specs.declared.view.Survey.TheVariants.{Covered}
 use Rattle.fx_lasting.specs.declared.view.Change.TheVariants.{Outside}
 use Rattle.fx_lasting.specs.declared.view.Glance.TheVariants.{None as Nothing}
 use Rattle.fx_lasting.specs.declared.view.Start.{Start}
@@ -67,7 +69,7 @@ pass_of v = let x = first_log v.logs in record {
 }
 
 abbrev pub opening_of : Start → Opening
-opening_of k = lasting_opening k.plain.value k.passes
+opening_of k = lasting_opening (contents_of k) k.passes
 
 abbrev pub view_of : LastingPass → PassView
 view_of p = pass_of p.seat.me.0
@@ -88,8 +90,8 @@ IsBetweenCalls passes idle guarded visit next (Retiring f node takes round marks
     × ((visit ≡ 1) ⊎ (visit ≡ passes + 1))
 IsBetweenCalls passes idle guarded visit next _ = ⊥
 
--- a seat of the table, with one pass that has no place, and on whose account the control word
--- counts no slot too few
+-- a seat of the table, with one pass that has no place, and on whose account no group's word counts
+-- a slot too few
 pub record IsSeatOf (id : TableId) (k : Start) (p : LastingPass) : Type 0 where
   pub table : p.seat.table_id ≡ id
   pub places : p.seat.me.1 ≡ []
@@ -97,6 +99,8 @@ pub record IsSeatOf (id : TableId) (k : Start) (p : LastingPass) : Type 0 where
   pub change : p.seat.me.0.change ≡ Outside
   pub block : IsInBlock k p.number p.next_node
   pub listed : p.listed ≡ (pass_in p.seat.me).listed
+  -- a pass that is sure has visited all groups
+  pub sure : p.sure ≡ true → (pass_in p.seat.me).asked ≡ Covered (groups_in (range_at_start k).1)
 
 -- a pass of a table with this start
 pub record IsPassOf (id : TableId) (k : Start) (p : LastingPass) : Type 0 where

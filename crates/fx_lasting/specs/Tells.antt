@@ -12,15 +12,17 @@ use Rattle.fx_plain.specs.declared.event.Event.{Event}
 use Rattle.fx_plain.specs.declared.event.Action.{Action}
 use Rattle.fx_plain.specs.declared.event.Action.TheVariants.{Look, Release, Put, Allocate, Full}
 use Rattle.fx_plain.specs.declared.event.Action.TheVariants.{Close}
-use Rattle.fx_words.specs.Words.{name_in, entry_in, bias}
-use Rattle.fx_lasting.specs.Layout.{list_place}
+use Rattle.fx_words.specs.Words.{name_in, entry_in}
+use Rattle.fx_lasting.specs.Layout.{list_place, group_of, group_len}
 use Rattle.fx_lasting.specs.Parts.{heat_in, IsHot, count_in, cold_takes, announced, IsListedIn}
-use Rattle.fx_lasting.specs.Control.{account}
+use Rattle.fx_lasting.specs.Groups.{account, HasQuestionOf}
 use Rattle.fx_lasting.specs.Passes.{Sat, slots_of, nodes_of, range_at_start, IsInBlock, word_of}
 use Rattle.fx_lasting.specs.Passes.{IsHistory, node_of_number}
 use Rattle.fx_lasting.specs.Passes.{first_log, state_after_all}
+use Rattle.fx_lasting.specs.declared.view.Survey.{Survey}
+use Rattle.fx_lasting.specs.declared.view.Survey.TheVariants.{None as NotAsked, Covered}
 use Rattle.fx_lasting.specs.declared.view.Change.{Change}
-use Rattle.fx_lasting.specs.declared.view.Change.TheVariants.{Inside}
+use Rattle.fx_lasting.specs.declared.view.Change.TheVariants.{Outside, Lowered, Inside}
 use Rattle.fx_lasting.specs.declared.view.Glance.{Glance}
 use Rattle.fx_lasting.specs.declared.view.Glance.TheVariants.{None as Nothing, Hot, Cold, Heating}
 use Rattle.fx_lasting.specs.declared.view.Log.{Log}
@@ -38,11 +40,15 @@ At = Step (Option Identity)
 
 -- the slot whose word is there
 abbrev pub slot_of : ℕ → ℕ
-slot_of place = (place - 24) / 8
+slot_of place = (place - 536) / 8
+
+-- the group whose word is there
+abbrev pub group_at : ℕ → ℕ
+group_at place = (place - 24) / 8
 
 -- the pass whose hold word is there
 abbrev pub pass_at : Start → ℕ → ℕ
-pass_at k place = (place - (16 + 8 * slots_of k)) / 8
+pass_at k place = (place - (528 + 8 * slots_of k)) / 8
 
 -- an action of a pass: a lasting table knows no chains
 abbrev pub pass_event : Log → Action → Event
@@ -73,6 +79,10 @@ IsOnList m = (pass_in m).listed ≡ true
 abbrev pub as_listed : Sat → Sat
 as_listed m = (record m.0 { logs = record (pass_in m) { listed = true } ∷ [] }, m.1)
 
+-- a seat whose pass has set its bit in the question word and visited some groups, or hasn't
+abbrev pub as_asked : Survey → Sat → Sat
+as_asked asked m = (record m.0 { logs = record (pass_in m) { asked = asked } ∷ [] }, m.1)
+
 -- One step of a seat with one pass: it saw more of the history and took these actions, and now it
 -- does this work
 pub record Stepped (m : Sat) (actions : List Action) (w : Work) (g : Glance) (c : Change)
@@ -85,6 +95,7 @@ pub record Stepped (m : Sat) (actions : List Action) (w : Work) (g : Glance) (c 
       ≡ map (pass_event (pass_in m)) actions ++ part_of_pass (pass_in m).number (pass_in m).front
   pub steps : (pass_in m').steps ≡ (pass_in m).steps + 1
   pub listed : (pass_in m').listed ≡ (pass_in m).listed
+  pub asked : (pass_in m').asked ≡ (pass_in m).asked
   pub work : m'.0.work ≡ w
   pub inside : IsInside m.0.start w
   pub glance : m'.0.glance ≡ g
@@ -299,15 +310,53 @@ pub record Removes (action : ℕ → Option File → Action)
       m.0.glance (account (range_at_start m.0.start) (slot_of st.word) file) m'
   pub carried : m'.1 ≡ m.1
 
--- Lower and Raise
-pub record Turns (change : Change) (st : At) (m : Sat) (found : ℕ) (m' : Sat) : Type 0 where
+-- a step that changes the pass's account alone
+pub record Turns (change : Change) (m m' : Sat) : Type 0 where
   pub stepped : Stepped m [] m.0.work m.0.glance change m'
   pub carried : m'.1 ≡ m.1
 
--- Ask: where the word says so, every slot of the range is full
+-- Lower, of a group's word: the pass has to load the question word before it empties a slot
+pub record Lowers (st : At) (m : Sat) (found : ℕ) (m' : Sat) : Type 0 where
+  pub turns : Turns (Lowered (group_at st.word)) m m'
+
+-- Check, of the question word: where nobody asks, the pass may empty a slot of the group
+pub record Checks (st : At) (m : Sat) (found : ℕ) (m' : Sat) : Type 0 where
+  pub quiet : (group : ℕ) → m.0.change ≡ Lowered group → found ≡ 0 → Turns (Inside group) m m'
+  pub asked : found ≢ 0 → Goes m [] m.0.work m.0.glance m'
+
+-- Break: nobody's question is there any more, and the pass may empty a slot of the group
+pub record Breaks (st : At) (m : Sat) (found : ℕ) (m' : Sat) : Type 0 where
+  pub turns : (group : ℕ) → m.0.change ≡ Lowered group → Turns (Inside group) m m'
+
+-- Raise, of a group's word
+pub record Raises (st : At) (m : Sat) (found : ℕ) (m' : Sat) : Type 0 where
+  pub turns : Turns Outside m m'
+
+-- Begin, of the question word: the pass has visited no group yet, and has set its bit or hasn't
+pub record Begins (st : At) (m : Sat) (found : ℕ) (m' : Sat) : Type 0 where
+  pub there : HasQuestionOf found (pass_in m).number
+      → Goes (as_asked (Covered 0) m) [] m.0.work m.0.glance m'
+  pub gone : (HasQuestionOf found (pass_in m).number → ⊥)
+      → Goes (as_asked NotAsked m) [] m.0.work m.0.glance m'
+
+-- Ask: the question word has the pass's bit
 pub record Asks (st : At) (m : Sat) (found : ℕ) (m' : Sat) : Type 0 where
-  pub full : found ≡ bias + (range_at_start m.0.start).1 → Goes m ([] ▷ Full) m.0.work m.0.glance m'
-  pub not_full : found ≢ bias + (range_at_start m.0.start).1 → Goes m [] m.0.work m.0.glance m'
+  pub goes : Goes (as_asked (Covered 0) m) [] m.0.work m.0.glance m'
+
+-- Count, of the word of the next group: where it counts all slots of the group, one group more is
+-- visited
+pub record Counts (st : At) (m : Sat) (found : ℕ) (m' : Sat) : Type 0 where
+  pub full : found ≡ group_len (range_at_start m.0.start).1 (group_at st.word)
+      → Goes (as_asked (Covered (group_at st.word + 1)) m) [] m.0.work m.0.glance m'
+  pub less : found ≢ group_len (range_at_start m.0.start).1 (group_at st.word)
+      → Goes m [] m.0.work m.0.glance m'
+
+-- Decide, of the question word, by a pass that has visited all groups: where its bit is still
+-- there, every slot of the range is full
+pub record Decides (st : At) (m : Sat) (found : ℕ) (m' : Sat) : Type 0 where
+  pub full : HasQuestionOf found (pass_in m).number → Goes m ([] ▷ Full) m.0.work m.0.glance m'
+  pub broken : (HasQuestionOf found (pass_in m).number → ⊥)
+      → Goes (as_asked NotAsked m) [] m.0.work m.0.glance m'
 
 -- Peek: the pass learns nothing
 pub record Peeks (st : At) (m : Sat) (found : ℕ) (m' : Sat) : Type 0 where
@@ -318,6 +367,7 @@ pub record Exchanges (st : At) (m : Sat) (found : ℕ) (m' : Sat) : Type 0 where
   pub wins : (n : ℕ) (file : Identity) → m.0.work ≡ Placing n → m.1 ≡ (n, Some file) ∷ []
       → found ≡ st.first
       → (number : ℕ) × (node_of_number m.0.start number ≡ n)
-      × Stepped m ([] ▷ Allocate (slot_of st.word) (numbered number file)) Idle m.0.glance Inside m'
+      × Stepped m ([] ▷ Allocate (slot_of st.word) (numbered number file)) Idle m.0.glance
+      (Inside (group_of (range_at_start m.0.start) (slot_of st.word))) m'
       × (m'.1 ≡ rest m.1)
   pub loses : found ≢ st.first → Goes m [] m.0.work m.0.glance m'

@@ -1,5 +1,6 @@
 -- A pass that searches the allocation range for an empty slot.
-use Rattle.std.specs.Prelude.{◌≡◌, ℕ, ◌<◌, Bool, true, false, [], ◌∷◌, Some}
+use Rattle.std.specs.Prelude.{◌≡◌, ℕ, ◌+◌, ◌*◌, ◌<◌, Bool, true, false, [], ◌∷◌, Some, Result, Ok}
+use Rattle.std.specs.Prelude.{Err}
 use Rattle.fx_base.specs.Identity.{Identity}
 use Rattle.fx_plain.specs.History.{◌▷◌}
 use Rattle.fx_plain.specs.Table.{numbered}
@@ -10,6 +11,7 @@ use Rattle.fx_table.specs.Opening.{Opening, size_of}
 use Rattle.fx_table.specs.Pass.{PassView}
 use Rattle.fx_table.specs.declared.values.Doing.TheVariants.{Idle as DoesNothing}
 use Rattle.fx_lasting.specs.Ends.{Does}
+use Rattle.fx_lasting.specs.Layout.{group_size, groups_in}
 use Rattle.fx_lasting.specs.Passes.{Sat, node_of_number}
 use Rattle.fx_lasting.specs.declared.tried.TriedPut.{TriedPut}
 use Rattle.fx_lasting.specs.declared.tried.TriedPut.TheVariants.{At, Full as AllFull, Again}
@@ -29,10 +31,22 @@ HasAllocated node file slot most m m' = (number : ℕ) × (node_of_number m.0.st
 abbrev pub StillPlaces : ℕ → ℕ → Sat → Sat → Type 0
 StillPlaces node most m m' = Does m [] (Placing node) most m' × (m'.1 ≡ m.1)
 
+-- the steps of a try at each slot of a group, and of one at each slot of the range
+abbrev pub group_steps : ℕ → ℕ
+group_steps len = 3 * group_size len + 1
+
+abbrev pub scan_steps : ℕ → ℕ
+scan_steps len = groups_in len * group_steps len + 3
+
 -- a try at one slot
 abbrev pub Tries : ℕ → Identity → ℕ → Sat → Bool → Sat → Type 0
 Tries node file slot m true m' = HasAllocated node file slot 3 m m'
 Tries node file slot m false m' = StillPlaces node 3 m m'
+
+-- the result of a search that doesn't ask whether all is full
+abbrev pub without_asking : Result ℕ Identity → TriedPut
+without_asking (Ok slot) = At slot
+without_asking (Err back) = Again back
 
 -- the result of one try over the range
 abbrev pub TriedSo : Opening → PassView → Identity → TriedPut → PassView → Type 0

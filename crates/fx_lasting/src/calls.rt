@@ -182,14 +182,14 @@ impl LastingTable {
         let found = shared.swap::<Installing>(&mut pass.seat, slot_place(slot), word);
         let replaced = removed_in(found);
         let inside = self.is_in_range(slot);
-        self.raise(&mut pass.seat, inside, replaced.is_none());
+        self.raise(&mut pass.seat, slot, inside, replaced.is_none());
         pass.next_node = node;
         pass.next_visit = self.first_visit(found);
         pass.idle = replaced.is_none();
         replaced
     }
 
-    /// Empties a slot below `size` for an update, for an idle pass (`is_idle`), in at most three
+    /// Empties a slot below `size` for an update, for an idle pass (`is_idle`), in at most five
     /// atomic steps. Returns the file that was there, to be retired, or `None`
     /// (io_uring_register(2), "IORING_REGISTER_FILES_UPDATE", an entry of -1).
     #[inline(always)]
@@ -200,21 +200,21 @@ impl LastingTable {
         ensures fits { IsPassOfTable self.now pass.new }
         ensures cleared { Cleared (opening_of_table self.now) (view_of pass.old) slot result
             (view_of pass.new) }
-        ensures steps { steps_taken pass.new ≤ steps_taken pass.old + 3 }
+        ensures steps { steps_taken pass.new ≤ steps_taken pass.old + 5 }
     {
         let inside = self.is_in_range(slot);
-        self.lower(&mut pass.seat, inside);
+        self.lower(&mut pass.seat, slot, inside);
         let shared = &self.table.shared;
         let found = shared.swap::<Clearing>(&mut pass.seat, slot_place(slot), 0);
         let removed = removed_in(found);
-        self.raise(&mut pass.seat, inside, removed.is_none());
+        self.raise(&mut pass.seat, slot, inside, removed.is_none());
         pass.next_visit = self.first_visit(found);
         pass.idle = removed.is_none();
         pass.emptied.keep(slot, inside, pass.idle);
         removed
     }
 
-    /// Empties a slot below `size` for a close, for an idle pass (`is_idle`), in at most three
+    /// Empties a slot below `size` for a close, for an idle pass (`is_idle`), in at most five
     /// atomic steps. Returns the file that was there, to be retired (io_uring_prep_close(3),
     /// `io_uring_prep_close_direct`).
     ///
@@ -228,14 +228,14 @@ impl LastingTable {
         ensures fits { IsPassOfTable self.now pass.new }
         ensures taken { Taken (opening_of_table self.now) (view_of pass.old) slot result
             (view_of pass.new) }
-        ensures steps { steps_taken pass.new ≤ steps_taken pass.old + 3 }
+        ensures steps { steps_taken pass.new ≤ steps_taken pass.old + 5 }
     {
         let inside = self.is_in_range(slot);
-        self.lower(&mut pass.seat, inside);
+        self.lower(&mut pass.seat, slot, inside);
         let shared = &self.table.shared;
         let found = shared.swap::<TakingOut>(&mut pass.seat, slot_place(slot), 0);
         let removed = removed_in(found);
-        self.raise(&mut pass.seat, inside, removed.is_none());
+        self.raise(&mut pass.seat, slot, inside, removed.is_none());
         pass.next_visit = self.first_visit(found);
         pass.idle = removed.is_none();
         pass.emptied.keep(slot, inside, pass.idle);

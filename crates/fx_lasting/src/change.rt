@@ -1,16 +1,20 @@
-//! The count of full slots in the allocation range, in the control word. A pass takes a slot off
-//! the count before it empties the slot, and adds a slot after it has filled it, or if it emptied a
-//! slot that was empty. So the word never counts more full slots than there are, and a word that
-//! counts them all says that the range is full.
-ghost use Rattle.std.specs.Prelude.{◌≡◌, ℕ, [], true};
+//! The counts of full slots in the allocation range. The slots are in groups, and each group has a
+//! word. A pass takes a slot off its group's count before it empties the slot, and adds a slot
+//! after it has filled it, or if it emptied a slot that was empty. So a word never counts more full
+//! slots than its group has, and a word that counts them all says that the group is full. Between
+//! the two steps of a removal the pass clears the question word, if another pass asks whether all
+//! groups are full (`question.rt`).
+ghost use Rattle.std.specs.Prelude.{◌≡◌, ℕ, ◌<◌, [], true};
 ghost use Rattle.fx_lasting.specs.AtWork.{IsAtWork};
-ghost use Rattle.fx_lasting.specs.Control.{is_in, uncounted};
+ghost use Rattle.fx_lasting.specs.Groups.{is_in, uncounted};
+ghost use Rattle.fx_lasting.specs.Laws.{IsInRange};
+ghost use Rattle.fx_lasting.specs.Layout.{group_of, groups_in};
 ghost use Rattle.fx_lasting.specs.Passes.{range_at_start};
 ghost use Rattle.fx_lasting.specs.Runs.{Runs};
 ghost use Rattle.fx_lasting.specs.declared.view.Change.TheVariants.{Outside};
 
-use crate::kinds::{Lowering, Raising};
-use crate::layout::CONTROL;
+use crate::kinds::{Breaking, Checking, Lowering, Raising};
+use crate::layout::{QUESTION, group_place};
 use crate::table::LastingTable;
 use crate::view::View;
 use atomic_table::Seat;
@@ -25,35 +29,60 @@ impl LastingTable {
         self.range_start <= slot && slot < self.range_start + self.range_len
     }
 
-    // Takes a slot that is about to be emptied off the count, if it is in the range.
+    // Returns the group of a slot of the allocation range.
     #[inline(always)]
-    pub(crate) fn lower(&self, seat: &mut Seat<Option<OpenFile>, View>, inside: bool)
-        requires table { seat.old.table_id ≡ self.now.table.shared.table_id }
-        requires at { (number : ℕ) × IsAtWork self.now.table.shared.key number seat.old.me }
-        requires change { seat.old.me.0.change ≡ Outside }
-        ensures table { seat.new.table_id ≡ seat.old.table_id }
-        ensures places { seat.new.me.1 ≡ seat.old.me.1 }
-        ensures runs { Runs seat.old.me [] seat.old.me.0.work seat.old.me.0.glance
-            (uncounted inside true) 1 seat.new.me }
+    pub(crate) fn group_of(&self, slot: u32) -> u32
+        requires { IsInRange self.now.table.shared.key slot }
+        ensures group { result ≡ group_of (range_at_start self.now.table.shared.key) slot }
+        ensures few { result < groups_in self.now.range_len }
     {
-        if inside {
-            let shared = &self.table.shared;
-            shared.fetch_sub::<Lowering>(seat, CONTROL, 1);
+        let index = slot - self.range_start;
+        if self.range_len > 256 {
+            index / 64
+        } else {
+            index / 4
         }
     }
 
-    // Adds a slot that was empty to the count, if it is in the range: it is full now, or was taken
-    // off the count in vain.
+    // Takes a slot that is about to be emptied off its group's count, if it is in the range, and
+    // clears the questions of other passes, in at most three steps.
+    #[inline(always)]
+    pub(crate) fn lower(&self, seat: &mut Seat<Option<OpenFile>, View>, slot: u32, inside: bool)
+        requires table { seat.old.table_id ≡ self.now.table.shared.table_id }
+        requires at { (number : ℕ) × IsAtWork self.now.table.shared.key number seat.old.me }
+        requires change { seat.old.me.0.change ≡ Outside }
+        requires inside { inside ≡ is_in (range_at_start self.now.table.shared.key) slot }
+        ensures table { seat.new.table_id ≡ seat.old.table_id }
+        ensures places { seat.new.me.1 ≡ seat.old.me.1 }
+        ensures runs { let range = range_at_start self.now.table.shared.key in
+            Runs seat.old.me [] seat.old.me.0.work seat.old.me.0.glance
+            (uncounted inside true (group_of range slot)) 3 seat.new.me }
+    {
+        if inside {
+            let shared = &self.table.shared;
+            shared.fetch_sub::<Lowering>(seat, group_place(self.group_of(slot)), 1);
+            let question = shared.load::<Checking>(seat, QUESTION);
+            if question != 0 {
+                shared.swap::<Breaking>(seat, QUESTION, 0);
+            }
+        }
+    }
+
+    // Adds a slot that was empty to its group's count, if it is in the range: it is full now, or
+    // was taken off the count in vain.
     #[inline(always)]
     pub(crate) fn raise(
         &self,
         seat: &mut Seat<Option<OpenFile>, View>,
+        slot: u32,
         inside: bool,
         was_empty: bool,
     )
         requires table { seat.old.table_id ≡ self.now.table.shared.table_id }
         requires at { (number : ℕ) × IsAtWork self.now.table.shared.key number seat.old.me }
-        requires change { seat.old.me.0.change ≡ uncounted inside was_empty }
+        requires inside { inside ≡ is_in (range_at_start self.now.table.shared.key) slot }
+        requires change { let range = range_at_start self.now.table.shared.key in
+            seat.old.me.0.change ≡ uncounted inside was_empty (group_of range slot) }
         ensures table { seat.new.table_id ≡ seat.old.table_id }
         ensures places { seat.new.me.1 ≡ seat.old.me.1 }
         ensures runs { Runs seat.old.me [] seat.old.me.0.work seat.old.me.0.glance Outside 1
@@ -62,7 +91,7 @@ impl LastingTable {
         if inside {
             if was_empty {
                 let shared = &self.table.shared;
-                shared.fetch_add::<Raising>(seat, CONTROL, 1);
+                shared.fetch_add::<Raising>(seat, group_place(self.group_of(slot)), 1);
             }
         }
     }

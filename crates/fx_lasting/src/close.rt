@@ -1,10 +1,11 @@
 //! Closing a table, or letting it go.
-ghost use Rattle.std.specs.Prelude.{◌≡◌, ◌<◌, ◌++◌, length, map, reverse, slice_set, All, None};
+ghost use Rattle.std.specs.Prelude.{◌≡◌, ◌<◌, ◌≤◌, ◌++◌, [], length, map, reverse, slice_set, vec_len, vec_capacity, All, None};
 ghost use Rattle.std.specs.Mem.Slots.{slots_items, slots_len, IsFull};
 ghost use mathlib.Core.Option.{some};
 ghost use lib.ListN.{get_elem?};
-ghost use Rattle.fx_table.specs.Closing.{ClosesTable};
+ghost use Rattle.fx_table.specs.Opening.{size_of};
 ghost use Rattle.fx_table.specs.Pass.{IsIdle};
+ghost use Rattle.fx_lasting.specs.Closing.{ClosesInto};
 ghost use Rattle.fx_lasting.specs.Lives.{IsIdleSeatOf, logs_in, AllAreIdle, Leaves};
 ghost use Rattle.fx_lasting.specs.Tables.{view_of, opening_of_table, IsPassOfTable};
 
@@ -15,24 +16,33 @@ use crate::table::LastingTable;
 use crate::view::View;
 use atomic_table::{Closed, Seat};
 use fx_base::OpenFile;
-use fx_plain::PlainTable;
 use fx_words::node_of;
 use std::alloc::Global;
 
 impl LastingTable {
-    /// Turns the table back into a table of one thread, after all its passes have come back, idle
-    /// (`is_idle`). Requires as many passes as `open` returned, in any order. It can't run out of
-    /// memory.
-    pub fn close(self, mut passes: Vec<LastingPass>) -> PlainTable
+    /// Closes the table, after all its passes have come back, idle (`is_idle`), and returns its
+    /// files, each with its slot, in order of slot. Requires as many passes as the opening
+    /// returned, in any order, and an empty list that has room for a file of each slot
+    /// (`Vec::capacity`, `size`). The caller allocates that list, before the opening at best, and
+    /// gets it back with the files: the close allocates nothing, so it can't run out of memory.
+    pub fn close(
+        self,
+        mut passes: Vec<LastingPass>,
+        room: Vec<(u32, OpenFile)>,
+    ) -> Vec<(u32, OpenFile)>
         requires all { length passes.items ≡ (opening_of_table self).passes }
         requires ready { All (λ p. IsPassOfTable self p × IsIdle (view_of p)) passes.items }
-        ensures { ClosesTable (opening_of_table self) (map view_of passes.items) result }
+        requires empty { room.items ≡ [] }
+        requires room { size_of (opening_of_table self) ≤ vec_capacity room }
+        ensures closed { ClosesInto (opening_of_table self) (map view_of passes.items)
+            result.items }
+        ensures few { vec_len result ≤ size_of (opening_of_table self) }
     {
         let Some(first) = passes.pop() else {
             unreachable!()
         };
         let seat = self.gather(first.into_seat(), passes);
-        self.finish(seat)
+        self.finish(seat, room)
     }
 
     // Joins all passes in one seat.
@@ -54,16 +64,21 @@ impl LastingTable {
         seat
     }
 
-    // Takes the files out of their places and into the table of one thread, when all passes are in
-    // one seat.
-    fn finish(self, seat: Seat<Option<OpenFile>, View>) -> PlainTable
+    // Takes the files out of their places and into the list, when all passes are in one seat.
+    fn finish(
+        self,
+        seat: Seat<Option<OpenFile>, View>,
+        mut files: Vec<(u32, OpenFile)>,
+    ) -> Vec<(u32, OpenFile)>
         requires fits { seat.table_id ≡ self.table.shared.table_id }
         requires idle { AllAreIdle self.table.shared.key seat.id seat.me.0 }
-        ensures { Leaves self.table.shared.key seat.id seat.me.0 result }
+        requires empty { files.items ≡ [] }
+        requires room { self.size ≤ vec_capacity files }
+        ensures left { Leaves self.table.shared.key seat.id seat.me.0 result.items }
+        ensures few { vec_len result ≤ self.size }
     {
         let LastingTable {
             table,
-            mut shell,
             passes,
             installing,
             size,
@@ -75,7 +90,7 @@ impl LastingTable {
         for slot in 0..size {
             if let Some(node) = node_of(closed.word(slot_place(slot))) {
                 if let Some(file) = take_home(&mut closed, node as usize) {
-                    shell.put_back(slot, file);
+                    files.push_reserved((slot, file));
                 }
             }
         }
@@ -84,7 +99,7 @@ impl LastingTable {
             let None = home else { unreachable!() };
         }
         closed.free();
-        shell
+        files
     }
 
     /// Consumes the table without closing it, and lets its memory go. The passes need not have come
@@ -93,7 +108,6 @@ impl LastingTable {
     pub fn abandon(self) {
         let LastingTable {
             table,
-            shell,
             passes: _,
             installing: _,
             size: _,
@@ -108,7 +122,6 @@ impl LastingTable {
             }
         }
         closed.free();
-        shell.abandon();
     }
 }
 

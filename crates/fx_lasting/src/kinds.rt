@@ -205,16 +205,7 @@ impl Play<Option<OpenFile>, View> for Exchanging {
     ghost then = { Exchanges };
 }
 
-/// Ask: a pass reads whether every slot of the range is full.
-pub struct Asking;
-
-impl Play<Option<OpenFile>, View> for Asking {
-    ghost use Rattle.fx_lasting.specs.Tells.{Asks};
-
-    ghost then = { Asks };
-}
-
-/// Peek: a pass reads a slot's word, and learns nothing.
+/// Peek: a pass reads a word, and learns nothing.
 pub struct Peeking;
 
 impl Play<Option<OpenFile>, View> for Peeking {
@@ -243,25 +234,78 @@ impl Play<Option<OpenFile>, View> for TakingOut {
     ghost then = { Removes Take };
 }
 
-/// Lower: the control word counts one full slot less, before the pass empties that slot.
+/// Lower: a group's word counts one full slot less, before the pass empties that slot.
 pub struct Lowering;
 
 impl Play<Option<OpenFile>, View> for Lowering {
-    ghost use Rattle.fx_lasting.specs.declared.view.Change.TheVariants.{Inside};
-    ghost use Rattle.fx_lasting.specs.Tells.{Turns};
+    ghost use Rattle.fx_lasting.specs.Tells.{Lowers};
 
-    ghost then = { Turns Inside };
+    ghost then = { Lowers };
 }
 
-/// Raise: the control word counts one full slot more, after the pass filled that slot, or took it
-/// off the count in vain, since it was empty.
+/// Check: a pass that is about to empty a slot reads whether a pass asks if all slots are full.
+pub struct Checking;
+
+impl Play<Option<OpenFile>, View> for Checking {
+    ghost use Rattle.fx_lasting.specs.Tells.{Checks};
+
+    ghost then = { Checks };
+}
+
+/// Break: a pass that is about to empty a slot clears the questions of all passes.
+pub struct Breaking;
+
+impl Play<Option<OpenFile>, View> for Breaking {
+    ghost use Rattle.fx_lasting.specs.Tells.{Breaks};
+
+    ghost then = { Breaks };
+}
+
+/// Raise: a group's word counts one full slot more, after the pass filled that slot, or took it off
+/// the count in vain, since it was empty.
 pub struct Raising;
 
 impl Play<Option<OpenFile>, View> for Raising {
-    ghost use Rattle.fx_lasting.specs.declared.view.Change.TheVariants.{Outside};
-    ghost use Rattle.fx_lasting.specs.Tells.{Turns};
+    ghost use Rattle.fx_lasting.specs.Tells.{Raises};
 
-    ghost then = { Turns Outside };
+    ghost then = { Raises };
+}
+
+/// Begin: a pass reads whether the question word has its bit.
+pub struct Beginning;
+
+impl Play<Option<OpenFile>, View> for Beginning {
+    ghost use Rattle.fx_lasting.specs.Tells.{Begins};
+
+    ghost then = { Begins };
+}
+
+/// Ask: a pass sets its bit in the question word.
+pub struct Asking;
+
+impl Play<Option<OpenFile>, View> for Asking {
+    ghost use Rattle.fx_lasting.specs.Tells.{Asks};
+
+    ghost then = { Asks };
+}
+
+/// Count: a pass that asks reads whether the next group is full.
+pub struct Counting;
+
+impl Play<Option<OpenFile>, View> for Counting {
+    ghost use Rattle.fx_lasting.specs.Tells.{Counts};
+
+    ghost then = { Counts };
+}
+
+/// Decide: a pass that found each group full reads whether its bit is still in the question word:
+/// every slot of the range is full then.
+pub struct Deciding;
+
+impl Play<Option<OpenFile>, View> for Deciding {
+    ghost use Rattle.fx_lasting.specs.Tells.{Decides};
+
+    ghost then = { Decides };
 }
 
 /// Show: a seat shows all that its pass has seen.

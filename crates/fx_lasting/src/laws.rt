@@ -1,28 +1,33 @@
 //! The law of each kind of step: where the rule holds before the step, it holds after it, whatever
 //! the table and the other passes are.
-ghost use Rattle.std.specs.Prelude.{◌≡◌, ℕ};
+ghost use Rattle.std.specs.Prelude.{◌≡◌, ◌≤◌, ℕ};
+ghost use Rattle.fx_words.specs.Words.{last_node};
 ghost use Rattle.fx_lasting.specs.Bounds.{WordsAreBounded};
 ghost use Rattle.fx_lasting.specs.Choices.{ChosenNodesAreFree};
 ghost use Rattle.fx_lasting.specs.Holds.{NodesAreOfOneFile};
 ghost use Rattle.fx_lasting.specs.Layout.{PlacesAreInside, PlacesAreApart};
 ghost use Rattle.fx_lasting.specs.Opens.{OpeningKeeps};
 ghost use Rattle.fx_lasting.specs.WholeHistory.{HasOneHistory, RemovedFilesHaveUsers};
-ghost use Rattle.fx_lasting.specs.declared.layout.TheConstants.{MOST_PASSES, MOST_INSTALLING};
-ghost use Rattle.fx_lasting.specs.Laws.{GlancesKeep, ListsKeep, AnnouncesKeep, ConfirmsKeep, WithdrawsKeep, TakesOnceKeep, HeatsKeep, StepsDownKeep, LettingGoKeeps, SeeksKeep, BirthsKeep, RestsKeep, SkimsKeep, VisitsKeep, MarksKeep, RetiresKeep, LowersKeep, RaisesKeep, AsksKeep, PeeksKeep, SplitsKeep, JoinsKeep, ClearsKeep, TakesOutKeep, InstallsKeep, ExchangesKeep};
+ghost use Rattle.fx_lasting.specs.declared.layout.TheConstants.{MOST_SLOTS, MOST_NODES, MOST_PASSES, MOST_INSTALLING};
+ghost use Rattle.fx_lasting.specs.Laws.{GlancesKeep, ListsKeep, AnnouncesKeep, ConfirmsKeep, WithdrawsKeep, TakesOnceKeep, HeatsKeep, StepsDownKeep, LettingGoKeeps, SeeksKeep, BirthsKeep, RestsKeep, SkimsKeep, VisitsKeep, MarksKeep, RetiresKeep, LowersKeep, ChecksKeep, BreaksKeep, RaisesKeep, BeginsKeep, AsksKeep, CountsKeep, DecidesKeep, PeeksKeep, SplitsKeep, JoinsKeep, ClearsKeep, TakesOutKeep, InstallsKeep, ExchangesKeep};
 
 use crate::kinds::{
-    Announcing, Asking, Birth, Clearing, Confirming, Deal, Exchanging, Gather, Glancing, HeatingUp,
-    Installing, Letting, Listing, Lowering, Marking, OneHistory, Peeking, Raising, Resting, Retire,
-    Seeking, Skimming, SteppingDown, Taking, TakingOut, Visiting, Withdrawing,
+    Announcing, Asking, Beginning, Birth, Breaking, Checking, Clearing, Confirming, Counting, Deal,
+    Deciding, Exchanging, Gather, Glancing, HeatingUp, Installing, Letting, Listing, Lowering,
+    Marking, OneHistory, Peeking, Raising, Resting, Retire, Seeking, Skimming, SteppingDown,
+    Taking, TakingOut, Visiting, Withdrawing,
 };
 use crate::view::{Start, View};
 use atomic_table::{Join, Play, Split, TableRule};
 use fx_base::OpenFile;
 
-/// States that a table has at most 1,024 passes, of which at most 64 install files.
+/// States that a table has at most 4,096 slots and at most 1,024 passes, that at most 64 of these
+/// install files, and that a slot's word has room for the number of each node.
 pub fn limits_are_numbers()
+    ensures most_slots { MOST_SLOTS ≡ 4096 }
     ensures most_passes { MOST_PASSES ≡ 1024 }
     ensures most_installing { MOST_INSTALLING ≡ 64 }
+    ensures nodes_fit { MOST_NODES ≤ last_node }
 {}
 
 /// A table that begins with the words and places of its opening keeps the rule, with one seat that
@@ -119,22 +124,50 @@ pub fn retire_keeps_rule()
     ensures { RetiresKeep ⟦<Retire as Play<Option<OpenFile>, View>>⟧.then }
 {}
 
-/// A pass that subtracts 1 from the control word, before it empties a slot of the range, keeps the
+/// A pass that subtracts 1 from a group's word, before it empties a slot of the group, keeps the
 /// rule.
 pub fn lower_keeps_rule()
     ensures { LowersKeep ⟦<Lowering as Play<Option<OpenFile>, View>>⟧.then }
 {}
 
-/// A pass that adds the slot to the control word that the word counts too few on its account keeps
+/// A pass that lowered a group's word and loads the question word keeps the rule. Where the word is
+/// 0, it may empty a slot of the group.
+pub fn check_keeps_rule()
+    ensures { ChecksKeep ⟦<Checking as Play<Option<OpenFile>, View>>⟧.then }
+{}
+
+/// A pass that lowered a group's word and swaps 0 into the question word keeps the rule, and may
+/// empty a slot of the group.
+pub fn break_keeps_rule()
+    ensures { BreaksKeep ⟦<Breaking as Play<Option<OpenFile>, View>>⟧.then }
+{}
+
+/// A pass that adds the slot to a group's word that the word counts too few on its account keeps
 /// the rule.
 pub fn raise_keeps_rule()
     ensures { RaisesKeep ⟦<Raising as Play<Option<OpenFile>, View>>⟧.then }
 {}
 
-/// A pass that loads the control word keeps the rule. Where the word says so, every slot of the
-/// range is full.
+/// A pass that loads the question word before it asks keeps the rule.
+pub fn begin_keeps_rule()
+    ensures { BeginsKeep ⟦<Beginning as Play<Option<OpenFile>, View>>⟧.then }
+{}
+
+/// A pass that adds its bit to the question word keeps the rule.
 pub fn ask_keeps_rule()
     ensures { AsksKeep ⟦<Asking as Play<Option<OpenFile>, View>>⟧.then }
+{}
+
+/// A pass that asks and loads the word of the next group keeps the rule. Where the word counts all
+/// slots of the group, they are full until the pass's bit is cleared.
+pub fn count_keeps_rule()
+    ensures { CountsKeep ⟦<Counting as Play<Option<OpenFile>, View>>⟧.then }
+{}
+
+/// A pass that found each group full and loads the question word again keeps the rule. Where its
+/// bit is still there, every slot of the range is full.
+pub fn decide_keeps_rule()
+    ensures { DecidesKeep ⟦<Deciding as Play<Option<OpenFile>, View>>⟧.then }
 {}
 
 /// A pass that loads a word and learns nothing keeps the rule.
@@ -179,7 +212,7 @@ pub fn exchange_keeps_rule()
 /// While the rule holds, no word overflows, and no part of a slot's word carries into the next. A
 /// slot has at most the takes of a cold one, and one more for each pass, in 21 bits; its heat is at
 /// most the number of passes, in 11 bits. The word of a node is above 2 until its file is retired,
-/// so no drop finds 2 before that. The control word is between 64,512 and 65,792.
+/// so no drop finds 2 before that. A group's word is between -1,024 and 64, modulo 2^64.
 pub fn words_are_bounded()
     ensures { WordsAreBounded }
 {}

@@ -1,10 +1,11 @@
-//! The places of a table's words. The control word, each slot's word and each pass's hold word have
-//! a cache line of their own, and so has the list of passes that ever looked a file up, a bit for
-//! each. The nodes' words follow them, side by side
-//!.
+//! The places of a table's words. The question word, each group's word, each slot's word and each
+//! pass's hold word have a cache line of their own, and so has the list of passes that ever looked
+//! a file up, a bit for each. The nodes' words follow them, side by side.
 ghost use Rattle.std.specs.Prelude.{◌≡◌, ◌<◌, ◌≤◌};
-ghost use Rattle.fx_plain.specs.declared.table.TheConstants.{MOST_SLOTS};
-ghost use Rattle.fx_lasting.specs.Layout.{control_place, list_place, slot_place, hold_place, node_place, words_for, block_for, block_start, nodes_for};
+ghost use Rattle.fx_lasting.specs.Layout.{question_place, group_place, group_size, groups_in, group_len, list_place, slot_place, hold_place, node_place, words_for, block_for, block_start, nodes_for};
+
+/// The greatest number of slots of a table.
+pub const MOST_SLOTS: u32 = 4096;
 
 /// The greatest number of passes of a table.
 pub const MOST_PASSES: u32 = 1024;
@@ -13,10 +14,56 @@ pub const MOST_PASSES: u32 = 1024;
 pub const MOST_INSTALLING: u32 = 64;
 
 // The greatest number of nodes of a table, those of MOST_SLOTS slots and of MOST_INSTALLING blocks.
-pub(crate) const MOST_NODES: u32 = 164_096;
+pub(crate) const MOST_NODES: u32 = 659_456;
 
-// The place of the control word.
-pub(crate) const CONTROL: usize = 0;
+// The greatest number of groups.
+pub(crate) const MOST_GROUPS: u32 = 64;
+
+// The place of the question word.
+pub(crate) const QUESTION: usize = 0;
+
+// Returns the number of slots of a group, in a range of `len` slots. The last group may have fewer.
+// Passes that fill and empty a small table's last free slots meet less in small groups.
+#[inline(always)]
+pub(crate) fn group_size(len: u32) -> u32
+    ensures { result ≡ group_size len }
+{
+    if len > 256 { 64 } else { 4 }
+}
+
+// Returns the number of groups of a range of `len` slots.
+#[inline(always)]
+pub(crate) fn groups_in(len: u32) -> u32
+    requires { len ≤ MOST_SLOTS }
+    ensures { result ≡ groups_in len }
+{
+    if len > 256 {
+        (len + 63) / 64
+    } else {
+        (len + 3) / 4
+    }
+}
+
+// Returns the number of slots of a group of a range of `len` slots.
+#[inline(always)]
+pub(crate) fn group_len(len: u32, group: u32) -> u32
+    requires size { len ≤ MOST_SLOTS }
+    requires group { group < groups_in len }
+    ensures { result ≡ group_len len group }
+{
+    let each = group_size(len);
+    let left = len - group * each;
+    if left < each { left } else { each }
+}
+
+// Returns the place of a group's word.
+#[inline(always)]
+pub(crate) fn group_place(group: u32) -> usize
+    requires { group < MOST_GROUPS }
+    ensures { result ≡ group_place group }
+{
+    24 + 8 * group as usize
+}
 
 // Returns the place of the word of the list that has the bit of a pass.
 pub(crate) fn list_place(pass: u32) -> usize
@@ -31,7 +78,7 @@ pub(crate) fn slot_place(slot: u32) -> usize
     requires { slot < MOST_SLOTS }
     ensures { result ≡ slot_place slot }
 {
-    24 + 8 * slot as usize
+    536 + 8 * slot as usize
 }
 
 // Returns the place of a pass's hold word.
@@ -40,7 +87,7 @@ pub(crate) fn hold_place(size: u32, pass: u32) -> usize
     requires pass { pass ≤ MOST_PASSES }
     ensures { result ≡ hold_place size pass }
 {
-    (16 + 8 * size + 8 * pass) as usize
+    (528 + 8 * size + 8 * pass) as usize
 }
 
 // Returns the place of a node's word.
@@ -50,7 +97,7 @@ pub(crate) fn node_place(size: u32, passes: u32, node: u32) -> usize
     requires node { node < MOST_NODES }
     ensures { result ≡ node_place size passes node }
 {
-    (24 + 8 * size + 8 * passes + node) as usize
+    (536 + 8 * size + 8 * passes + node) as usize
 }
 
 // Returns the number of words of a table with `nodes` nodes.
@@ -60,7 +107,7 @@ pub(crate) fn words_for(size: u32, passes: u32, nodes: u32) -> usize
     requires nodes { nodes ≤ MOST_NODES }
     ensures { result ≡ words_for size passes nodes }
 {
-    (24 + 8 * size + 8 * passes + nodes) as usize
+    (536 + 8 * size + 8 * passes + nodes) as usize
 }
 
 // Returns the number of nodes in a pass's block.

@@ -21,6 +21,7 @@ mod parts;
 mod pass;
 mod put_any;
 mod queries;
+mod question;
 mod seek;
 mod shared_table;
 mod shown;
@@ -29,7 +30,7 @@ mod tried;
 mod view;
 mod visit;
 
-pub use layout::{MOST_INSTALLING, MOST_PASSES};
+pub use layout::{MOST_INSTALLING, MOST_PASSES, MOST_SLOTS};
 pub use pass::LastingPass;
 pub use shown::LastingSeen;
 pub use table::LastingTable;

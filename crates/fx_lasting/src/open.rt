@@ -1,22 +1,23 @@
 //! Opening a table.
 ghost use Rattle.std.specs.Prelude.{◌≡◌, ◌+◌, ◌*◌, ◌<◌, ◌≤◌, [], length, map, slice_set, All, IfOk, IfErr, OnOk, OnErr, vec_len, vec_capacity};
-ghost use Rattle.fx_plain.specs.State.{IsSettled};
+ghost use Rattle.fx_plain.specs.State.{IsSettled, vacant};
 ghost use Rattle.fx_plain.specs.Contents.{state_of, IsPrepared};
-ghost use Rattle.fx_plain.specs.declared.table.TheConstants.{MOST_SLOTS};
-ghost use Rattle.fx_table.specs.Opening.{IsGivenBack, lasting_opening};
+ghost use Rattle.fx_table.specs.FullSlots.{full_in, first_at};
+ghost use Rattle.fx_table.specs.Opening.{IsGivenBack, lasting_opening, size_of};
 ghost use Rattle.fx_table.specs.Pass.{IsIdle};
 ghost use Rattle.fx_words.specs.Words.{slot_word_of};
 ghost use Rattle.fx_lasting.specs.Firsts.{AreFirstWords};
 ghost use Rattle.fx_lasting.specs.Layout.{slot_place, node_place, block_start};
 ghost use Rattle.fx_lasting.specs.Lives.{HasAllPasses, IsNewPass};
 ghost use Rattle.fx_lasting.specs.Parts.{birth_word};
+ghost use Rattle.fx_lasting.specs.Passes.{empty_slots};
 ghost use Rattle.fx_lasting.specs.Tables.{view_of, opening_of_table, first_passes, IsPassOfTable};
-ghost use Rattle.fx_lasting.specs.declared.layout.TheConstants.{MOST_NODES, MOST_PASSES, MOST_INSTALLING};
+ghost use Rattle.fx_lasting.specs.declared.layout.TheConstants.{MOST_SLOTS, MOST_NODES, MOST_PASSES, MOST_INSTALLING};
 
 use crate::kinds::Deal;
 use crate::layout::{
-    CONTROL, MOST_INSTALLING, MOST_PASSES, block_start, node_place, nodes_for, slot_place,
-    words_for,
+    MOST_INSTALLING, MOST_PASSES, MOST_SLOTS, block_start, group_len, group_place, group_size,
+    groups_in, node_place, nodes_for, slot_place, words_for,
 };
 use crate::parts::BORN;
 use crate::pass::LastingPass;
@@ -25,8 +26,8 @@ use crate::view::{Start, View};
 use atomic_table::{Refused, Seat, Table};
 use fx_base::{NoMemory, OpenFile};
 use fx_plain::PlainTable;
-use fx_table::{full_in_range, move_out, put_all};
-use fx_words::{control_word, slot_word};
+use fx_table::{move_out, put_all};
+use fx_words::slot_word;
 use std::alloc::Global;
 use std::snapshot::Snapshot;
 
@@ -73,6 +74,89 @@ impl LastingTable {
         }
     }
 
+    /// Creates a table of `slots` empty slots, 1 to [`MOST_SLOTS`]. The allocation range is
+    /// `range`: its first slot and its number of slots. The passes are as [`LastingTable::open`]
+    /// returns them. All memory is allocated here.
+    ///
+    /// # Errors
+    /// `NoMemory` if an allocation fails.
+    pub fn open_sparse(
+        alloc: Global,
+        slots: u32,
+        range: (u32, u32),
+        passes: u32,
+        installing: u32,
+    ) -> Result<(LastingTable, Vec<LastingPass>), NoMemory>
+        requires slots { (1 ≤ slots) × (slots ≤ MOST_SLOTS) }
+        requires range { range.0 + range.1 ≤ slots }
+        requires passes { (1 ≤ passes) × (passes ≤ MOST_PASSES) }
+        requires installing { (1 ≤ installing) × (installing ≤ MOST_INSTALLING) }
+        requires of_all { installing ≤ passes }
+        ensures opened { IfOk result (λ (t, _).
+            opening_of_table t ≡ lasting_opening (empty_slots slots range) passes) }
+        ensures empty { state_of (empty_slots slots range)
+            ≡ record (vacant slots) { range = range } }
+        ensures size { IfOk result (λ (t, _). size_of (opening_of_table t) ≡ slots) }
+        ensures ready { IfOk result (λ (t, list).
+            All (λ p. IsPassOfTable t p × IsIdle (view_of p)) list.items) }
+        ensures count { IfOk result (λ (_, list). length list.items ≡ passes) }
+        ensures new { IfOk result (λ (_, list).
+            map view_of list.items ≡ first_passes installing passes) }
+    {
+        let mut list = Vec::with_capacity(alloc, passes as usize)?;
+        match LastingTable::start_sparse(alloc, slots, range, passes, installing) {
+            Ok((table, seat)) => {
+                table.deal(seat, &mut list);
+                Ok((table, list))
+            }
+            Err(refused) => {
+                list.destroy_empty();
+                Err(refused)
+            }
+        }
+    }
+
+    // Creates the shared table with empty slots, and a seat with all passes.
+    fn start_sparse(
+        alloc: Global,
+        size: u32,
+        range: (u32, u32),
+        passes: u32,
+        installing: u32,
+    ) -> Result<(LastingTable, Seat<Option<OpenFile>, View>), NoMemory>
+        requires size { size ≤ MOST_SLOTS }
+        requires range { range.0 + range.1 ≤ size }
+        requires passes { (1 ≤ passes) × (passes ≤ MOST_PASSES) }
+        requires installing { (1 ≤ installing) × (installing ≤ MOST_INSTALLING) }
+        requires of_all { installing ≤ passes }
+        ensures opened { IfOk result (λ (t, _).
+            opening_of_table t ≡ lasting_opening (empty_slots size range) passes) }
+        ensures installing { IfOk result (λ (t, _). t.table.shared.key.installing ≡ installing) }
+        ensures seat { IfOk result (λ (t, seat). HasAllPasses t seat) }
+    {
+        let (range_start, range_len) = range;
+        let key = Start {
+            plain: None,
+            size,
+            range_start,
+            range_len,
+            passes,
+            installing,
+        };
+        let nodes = nodes_for(size, passes, installing);
+        let words = vec![in alloc; 0; words_for(size, passes, nodes)]?;
+        let (table, seat) = Table::vacant(alloc, words.as_slice(), nodes as usize, &key)?;
+        let table = LastingTable {
+            table,
+            passes,
+            installing,
+            size,
+            range_start,
+            range_len,
+        };
+        Ok((table, seat))
+    }
+
     // Creates the shared table, and a seat with all passes.
     fn start(
         alloc: Global,
@@ -90,13 +174,16 @@ impl LastingTable {
         ensures seat { IfOk result (λ (t, seat). HasAllPasses t seat) }
         ensures refused { IfErr result (λ (back, _). IsGivenBack plain back) }
     {
+        let size = plain.size();
+        let (range_start, range_len) = plain.range();
         let key = Start {
-            plain: Snapshot::of(&plain),
+            plain: Some(Snapshot::of(&plain)),
+            size,
+            range_start,
+            range_len,
             passes,
             installing,
         };
-        let size = plain.size();
-        let (range_start, range_len) = plain.range();
         let nodes = nodes_for(size, passes, installing);
         let Ok(words) = first_words(alloc, &plain, passes, nodes) else {
             return Err((plain, NoMemory));
@@ -105,18 +192,20 @@ impl LastingTable {
             return Err((plain, NoMemory));
         };
         match Table::new(alloc, words.as_slice(), homes, &key) {
-            Ok((table, seat)) => Ok((
-                LastingTable {
-                    table,
-                    shell: plain,
-                    passes,
-                    installing,
-                    size,
-                    range_start,
-                    range_len,
-                },
-                seat,
-            )),
+            Ok((table, seat)) => {
+                plain.dismiss();
+                Ok((
+                    LastingTable {
+                        table,
+                        passes,
+                        installing,
+                        size,
+                        range_start,
+                        range_len,
+                    },
+                    seat,
+                ))
+            }
             Err(Refused { slots }) => {
                 put_all(&mut plain, slots);
                 Err((plain, NoMemory))
@@ -166,6 +255,22 @@ fn write_slot(words: &mut Vec<u64>, size: u32, passes: u32, slot: u32, entry: u8
     words[node_place(size, passes, slot)] = BORN;
 }
 
+// Returns the number of the `len` slots from `first` on that have a file.
+fn full_from(plain: &PlainTable, first: u32, len: u32) -> u32
+    requires inside { first + len ≤ (state_of plain.now).size }
+    requires small { first + len ≤ MOST_SLOTS }
+    ensures full { result ≡ full_in (first_at (state_of plain.now)) first len }
+    ensures few { result ≤ len }
+{
+    let mut full = 0;
+    for slot in first..first + len {
+        if plain.entry_at(slot).is_some() {
+            full += 1;
+        }
+    }
+    full
+}
+
 // Creates the words of a shared table with the files of this table.
 fn first_words(
     alloc: Global,
@@ -179,7 +284,12 @@ fn first_words(
 {
     let size = plain.size();
     let mut words = vec![in alloc; 0; words_for(size, passes, nodes)]?;
-    words[CONTROL] = control_word(full_in_range(plain));
+    let (start, len) = plain.range();
+    for group in 0..groups_in(len) {
+        let first = start + group * group_size(len);
+        let full = full_from(plain, first, group_len(len, group));
+        words[group_place(group)] = u64::from(full);
+    }
     for slot in 0..size {
         if let Some(entry) = plain.entry_at(slot) {
             write_slot(&mut words, size, passes, slot, entry);

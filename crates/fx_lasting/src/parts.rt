@@ -1,7 +1,8 @@
 //! The parts of words that `fx_words` doesn't have: a slot's heat and takes, and what a retirement
 //! subtracts.
 ghost use Rattle.std.specs.Prelude.{◌≡◌, ◌+◌, ◌≤◌, ◌^◌, ◌↔◌, IsTrue};
-ghost use Rattle.fx_words.specs.Words.{name_in, bias};
+ghost use Rattle.fx_words.specs.Words.{name_in};
+ghost use Rattle.fx_lasting.specs.Groups.{HasQuestionOf};
 ghost use Rattle.fx_lasting.specs.Parts.{count_in, IsHot, bit_of, announced, mark, retirement_amount, cold_takes};
 
 // The amount that a pass adds to a slot's word to heat the slot: its file is looked up by hold
@@ -48,6 +49,14 @@ pub(crate) fn list_bit(pass: u32) -> u64
     1 << ((pass - 1) % 64)
 }
 
+// Checks whether the question word has the bit of a pass.
+pub(crate) fn asks(question: u64, pass: u32) -> bool
+    requires { 1 ≤ pass }
+    ensures { IsTrue result ↔ HasQuestionOf question pass }
+{
+    question / list_bit(pass) % 2 == 1
+}
+
 // Returns the hold word of a pass that announces the node.
 pub(crate) fn announced(node: u32) -> u64
     ensures { result ≡ announced node }
@@ -69,12 +78,4 @@ pub(crate) fn retire_amount(takes: u32, marks: u32) -> u64
     ensures { result ≡ retirement_amount takes marks }
 {
     (1 << 32) - (u64::from(takes) + u64::from(marks))
-}
-
-// Checks whether the control word counts `len` full slots. It never counts too many, so all slots
-// of the range are full then.
-pub(crate) fn says_full(word: u64, len: u32) -> bool
-    ensures { IsTrue result ↔ (word ≡ bias + len) }
-{
-    word == 65_536 + u64::from(len)
 }

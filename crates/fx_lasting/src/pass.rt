@@ -23,6 +23,8 @@ pub struct LastingPass {
     pub(crate) guarded: bool,
     // The flag that the list has its bit.
     pub(crate) listed: bool,
+    // The flag that it found each group full after it had set its bit in the question word.
+    pub(crate) sure: bool,
     // The slots at which its next allocations begin to look.
     pub(crate) emptied: Emptied,
     pub(crate) spacing: Spacing,
@@ -51,6 +53,7 @@ impl LastingPass {
             idle: true,
             guarded: false,
             listed: false,
+            sure: false,
             emptied: Emptied::new(),
             spacing: Spacing { unused: [0; 9] },
         }
@@ -68,6 +71,7 @@ impl LastingPass {
             idle: _,
             guarded: _,
             listed: _,
+            sure: _,
             emptied: _,
             spacing: _,
         } = self;

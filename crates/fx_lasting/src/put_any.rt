@@ -5,14 +5,15 @@ ghost use Rattle.fx_table.specs.Pass.{IsIdle};
 ghost use Rattle.fx_lasting.specs.AtWork.{IsAtWork};
 ghost use Rattle.fx_lasting.specs.Choices.{AllocatesChoice, TriesChoice};
 ghost use Rattle.fx_lasting.specs.Laws.{IsInRange};
-ghost use Rattle.fx_lasting.specs.Layout.{block_for};
+ghost use Rattle.fx_lasting.specs.Layout.{block_for, groups_in};
+ghost use Rattle.fx_lasting.specs.Questions.{HasAsked};
+ghost use Rattle.fx_lasting.specs.declared.layout.TheConstants.{MOST_PASSES};
 ghost use Rattle.fx_lasting.specs.Tables.{view_of, steps_taken, opening_of_table, IsPassOfTable};
-ghost use Rattle.fx_lasting.specs.Tries.{IsPlacing, Tries, HasAllocated, StillPlaces, TriedSo};
+ghost use Rattle.fx_lasting.specs.Tries.{IsPlacing, Tries, HasAllocated, StillPlaces, TriedSo, without_asking, group_steps, scan_steps};
 ghost use Rattle.fx_lasting.specs.declared.view.Change.TheVariants.{Outside};
 
-use crate::kinds::{Asking, Exchanging, Peeking};
-use crate::layout::{CONTROL, slot_place};
-use crate::parts::says_full;
+use crate::kinds::{Exchanging, Peeking};
+use crate::layout::{group_len, group_place, group_size, groups_in, slot_place};
 use crate::pass::LastingPass;
 use crate::table::LastingTable;
 use crate::tried::TriedPut;
@@ -60,11 +61,11 @@ impl LastingTable {
 
     /// Tries once to install a file at an empty slot of the allocation range, under a number that
     /// no file has had, for an idle pass (`is_idle`) that installs files (`numbers_left`). It never
-    /// waits: it makes at most three atomic steps for each slot of the range, and three more than
-    /// the pass's block has nodes. It begins at the slot that the pass emptied last, or else after
-    /// the slot that it filled last, and goes once over the range. Returns the slot, or the file if
-    /// every slot of the range had a file at one moment (ENFILE), or if neither was found; then
-    /// nothing has changed.
+    /// waits: it makes at most three atomic steps for each slot of a group, two for each group, and
+    /// nine more than the pass's block has nodes. It tries the slot that the pass emptied last, or
+    /// else the one after the slot that it filled last, and then goes once over the groups that
+    /// aren't full. Returns the slot, or the file if every slot of the range had a file at one
+    /// moment (ENFILE), or if neither was found; then nothing has changed.
     pub fn try_put_any(&self, pass: &mut LastingPass, file: OpenFile) -> TriedPut
         requires fits { IsPassOfTable self.now pass.old }
         requires idle { IsIdle (view_of pass.old) }
@@ -74,81 +75,178 @@ impl LastingTable {
             (view_of pass.new) }
         ensures used { TriesChoice self.now.table.shared.key pass.old result pass.new }
         ensures steps { let block = block_for self.now.size self.now.passes in
-            steps_taken pass.new ≤ steps_taken pass.old + (block + 3 * self.now.range_len + 3) }
+            let len = self.now.range_len in
+            steps_taken pass.new ≤ steps_taken pass.old + (block + scan_steps len
+            + groups_in len + 6) }
     {
-        let word = self.table.shared.load::<Asking>(&mut pass.seat, CONTROL);
-        if says_full(word, self.range_len) {
+        if self.is_still_full(pass) {
             return TriedPut::Full(file);
         }
+        match self.try_slots(pass, file) {
+            Ok(slot) => TriedPut::At(slot),
+            Err(back) => {
+                if self.is_all_full(pass) {
+                    TriedPut::Full(back)
+                } else {
+                    TriedPut::Again(back)
+                }
+            }
+        }
+    }
+
+    // Installs the file at a slot of the range that is empty when the scan reaches it.
+    #[inline(always)]
+    fn try_slots(&self, pass: &mut LastingPass, file: OpenFile) -> Result<u32, OpenFile>
+        requires fits { IsPassOfTable self.now pass.old }
+        requires idle { IsIdle (view_of pass.old) }
+        requires numbers { 0 < (view_of pass.old).numbers_left }
+        ensures fits { IsPassOfTable self.now pass.new }
+        ensures tried { TriedSo (opening_of_table self.now) (view_of pass.old) file
+            (without_asking result) (view_of pass.new) }
+        ensures used { TriesChoice self.now.table.shared.key pass.old (without_asking result)
+            pass.new }
+        ensures steps { let block = block_for self.now.size self.now.passes in
+            let len = self.now.range_len in
+            steps_taken pass.new ≤ steps_taken pass.old + (block + scan_steps len + 2) }
+    {
         let node = self.seek(&mut pass.seat, pass.number, pass.next_node);
         let identity = file.identity();
         self.put_in(&mut pass.seat, node, file);
         pass.next_node = node;
         let from = pass.emptied.take_last();
-        match self.scan(&mut pass.seat, node, identity, from) {
+        match self.scan(&mut pass.seat, pass.number, node, identity, from) {
             Some(slot) => {
                 pass.emptied.fill(slot);
-                TriedPut::At(slot)
+                Ok(slot)
             }
-            None => TriedPut::Again(self.take_out(&mut pass.seat, node)),
+            None => Err(self.take_out(&mut pass.seat, node)),
         }
     }
 
+    // Checks whether the pass was sure that the range is full and nobody has cleared its bit since,
+    // in at most one step: the range is full now.
+    #[inline(always)]
+    fn is_still_full(&self, pass: &mut LastingPass) -> bool
+        requires fits { IsPassOfTable self.now pass.old }
+        requires numbers { 0 < (view_of pass.old).numbers_left }
+        ensures { HasAsked self.now 1 pass.old result pass.new }
+    {
+        if !pass.sure {
+            return false;
+        }
+        pass.sure = self.decide(&mut pass.seat, pass.number);
+        pass.sure
+    }
+
+    // Asks whether the range is full, in at most three steps more than it has groups.
+    #[inline(never)]
+    fn is_all_full(&self, pass: &mut LastingPass) -> bool
+        requires fits { IsPassOfTable self.now pass.old }
+        requires numbers { 0 < (view_of pass.old).numbers_left }
+        ensures { HasAsked self.now (groups_in self.now.range_len + 3) pass.old result
+            pass.new }
+    {
+        pass.sure = self.ask(&mut pass.seat, pass.number);
+        pass.sure
+    }
+
     // Installs the file at a slot of the range that is empty when the scan reaches it, and returns
-    // that slot. The scan begins at `from`, if that is in the range, and goes once over the range.
+    // that slot. The scan begins at `from`, if that is in the range, and goes once over the groups
+    // that aren't full.
     fn scan(
         &self,
         seat: &mut Seat<Option<OpenFile>, View>,
+        number: u32,
         node: u32,
         file: Closed,
         from: u32,
     ) -> Option<u32>
         requires table { seat.old.table_id ≡ self.now.table.shared.table_id }
-        requires at { (number : ℕ) × IsAtWork self.now.table.shared.key number seat.old.me }
+        requires at { IsAtWork self.now.table.shared.key number seat.old.me }
         requires placing { IsPlacing node file seat.old.me }
         requires change { seat.old.me.0.change ≡ Outside }
         ensures table { seat.new.table_id ≡ seat.old.table_id }
         ensures slot { IfSome result (λ slot. slot < self.now.size) }
-        ensures found { IfSome result
-            (λ slot. HasAllocated node file slot (3 * self.now.range_len) seat.old.me seat.new.me) }
+        ensures found { IfSome result (λ slot.
+            HasAllocated node file slot (scan_steps self.now.range_len) seat.old.me seat.new.me) }
         ensures none { result ≡ None
-            → StillPlaces node (3 * self.now.range_len) seat.old.me seat.new.me }
+            → StillPlaces node (scan_steps self.now.range_len) seat.old.me seat.new.me }
     {
-        let mut slot = self.first_slot(from);
-        for _ in 0..self.range_len {
-            if self.try_slot(seat, node, file, slot) {
-                return Some(slot);
+        if self.range_len == 0 {
+            return None;
+        }
+        let first = self.first_slot(from, number);
+        if self.try_slot(seat, node, file, first) {
+            return Some(first);
+        }
+        let mut group = self.group_of(first);
+        for _ in 0..groups_in(self.range_len) {
+            match self.try_group(seat, node, file, group) {
+                Some(slot) => return Some(slot),
+                None => group = self.group_after(group),
             }
-            slot = self.slot_after(slot);
         }
         None
     }
 
-    // Returns `from` if it is a slot of the range, and else the first slot of the range.
-    fn first_slot(&self, from: u32) -> u32
-        ensures low { self.now.range_start ≤ result }
-        ensures high { 0 < self.now.range_len
-            → result < self.now.range_start + self.now.range_len }
+    // Installs the file at an empty slot of the group, and returns that slot. A group that counts
+    // all its slots has none.
+    fn try_group(
+        &self,
+        seat: &mut Seat<Option<OpenFile>, View>,
+        node: u32,
+        file: Closed,
+        group: u32,
+    ) -> Option<u32>
+        requires table { seat.old.table_id ≡ self.now.table.shared.table_id }
+        requires at { (number : ℕ) × IsAtWork self.now.table.shared.key number seat.old.me }
+        requires placing { IsPlacing node file seat.old.me }
+        requires change { seat.old.me.0.change ≡ Outside }
+        requires group { group < groups_in self.now.range_len }
+        ensures table { seat.new.table_id ≡ seat.old.table_id }
+        ensures slot { IfSome result (λ slot. slot < self.now.size) }
+        ensures found { IfSome result (λ slot.
+            HasAllocated node file slot (group_steps self.now.range_len) seat.old.me seat.new.me) }
+        ensures none { result ≡ None
+            → StillPlaces node (group_steps self.now.range_len) seat.old.me seat.new.me }
+    {
+        let word = self.table.shared.load::<Peeking>(seat, group_place(group));
+        let len = group_len(self.range_len, group);
+        if word == u64::from(len) {
+            return None;
+        }
+        let first = self.range_start + group * group_size(self.range_len);
+        for slot in first..first + len {
+            if self.try_slot(seat, node, file, slot) {
+                return Some(slot);
+            }
+        }
+        None
+    }
+
+    // Returns the group after this one; the last one's is the first.
+    fn group_after(&self, group: u32) -> u32
+        requires { group < groups_in self.now.range_len }
+        ensures { result < groups_in self.now.range_len }
+    {
+        if group + 1 < groups_in(self.range_len) {
+            group + 1
+        } else {
+            0
+        }
+    }
+
+    // Returns `from` if it is a slot of the range. A pass that has filled no slot begins apart from
+    // others.
+    fn first_slot(&self, from: u32, number: u32) -> u32
+        requires some { 0 < self.now.range_len }
+        requires number { number ≤ MOST_PASSES }
+        ensures { IsInRange self.now.table.shared.key result }
     {
         if self.range_start <= from && from < self.range_start + self.range_len {
             from
         } else {
-            self.range_start
-        }
-    }
-
-    // Returns the slot of the range after this one; the last one's is the first.
-    fn slot_after(&self, slot: u32) -> u32
-        requires low { self.now.range_start ≤ slot }
-        requires high { slot < self.now.range_start + self.now.range_len }
-        ensures low { self.now.range_start ≤ result }
-        ensures high { result < self.now.range_start + self.now.range_len }
-    {
-        let end = self.range_start + self.range_len;
-        if slot == end - 1 {
-            self.range_start
-        } else {
-            slot + 1
+            self.range_start + 67 * number % self.range_len
         }
     }
 
@@ -180,7 +278,7 @@ impl LastingTable {
         if found != old {
             return false;
         }
-        self.raise(seat, true, true);
+        self.raise(seat, slot, true, true);
         true
     }
 }

@@ -1,18 +1,17 @@
 //! Queries of a table and its passes.
 ghost use Rattle.std.specs.Prelude.{◌≡◌, ◌<◌, ◌≤◌, ◌↔◌, IsTrue};
-ghost use Rattle.fx_plain.specs.declared.table.TheConstants.{MOST_SLOTS};
 ghost use Rattle.fx_table.specs.Opening.{size_of, range_of};
 ghost use Rattle.fx_table.specs.Pass.{IsIdle};
 ghost use Rattle.fx_lasting.specs.Passes.{nodes_of};
 ghost use Rattle.fx_lasting.specs.Tables.{view_of, opening_of_table, IsPassOfTable};
 
-use crate::layout::nodes_for;
+use crate::layout::{MOST_SLOTS, nodes_for};
 use crate::pass::LastingPass;
 use crate::table::LastingTable;
 use fx_table::{CHAIN_NUMBERS, PASS_LOOKS};
 
 impl LastingTable {
-    /// Returns the number of slots, at most [`fx_plain::MOST_SLOTS`].
+    /// Returns the number of slots, at most [`MOST_SLOTS`].
     pub fn size(&self) -> u32
         ensures value { result ≡ size_of (opening_of_table self.now) }
         ensures few { result ≤ MOST_SLOTS }

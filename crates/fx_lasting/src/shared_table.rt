@@ -7,7 +7,6 @@ ghost use Rattle.fx_lasting.specs.Tables.{view_of, opening_of_table, IsPassOfTab
 use crate::pass::LastingPass;
 use crate::table::LastingTable;
 use fx_base::OpenFile;
-use fx_plain::PlainTable;
 use fx_table::{Empty, Hold, LookUp, Retired, SharedTable};
 use std::sync::Wait;
 
@@ -21,14 +20,6 @@ impl SharedTable for LastingTable {
     ghost fits = { IsPassOfTable };
 
     ghost view = { view_of };
-
-    fn close(self, passes: Vec<LastingPass>) -> PlainTable
-        requires all { length passes.items ≡ (opening_of_table self).passes }
-        requires ready { All (λ p. IsPassOfTable self p × IsIdle (view_of p)) passes.items }
-        ensures { ClosesTable (opening_of_table self) (map view_of passes.items) result }
-    {
-        self.close(passes)
-    }
 
     fn size(&self) -> u32 {
         self.size()

@@ -1,17 +1,13 @@
 //! The table.
 ghost use Rattle.std.specs.Prelude.{◌≡◌, ◌≤◌, ◌+◌};
-ghost use Rattle.fx_plain.specs.Contents.{state_of, IsPrepared};
-ghost use Rattle.fx_plain.specs.declared.table.TheConstants.{MOST_SLOTS};
-ghost use Rattle.fx_lasting.specs.declared.layout.TheConstants.{MOST_PASSES, MOST_INSTALLING};
+ghost use Rattle.fx_lasting.specs.declared.layout.TheConstants.{MOST_SLOTS, MOST_PASSES, MOST_INSTALLING};
 ghost use Rattle.fx_lasting.specs.Layout.{words_for};
 ghost use Rattle.fx_lasting.specs.Passes.{slots_of, range_at_start, nodes_of};
-ghost use Rattle.fx_table.specs.Shells.{IsShellOf};
 
 use crate::kinds::OneHistory;
 use crate::view::{Start, View};
 use atomic_table::Table;
 use fx_base::OpenFile;
-use fx_plain::PlainTable;
 use std::alloc::Global;
 
 /// A file table that threads share without a lock, and that never has to be closed: look-ups and
@@ -22,9 +18,6 @@ use std::alloc::Global;
 /// [`LastingTable::abandon`].
 pub struct LastingTable {
     pub(crate) table: Table<Option<OpenFile>, View, Start, OneHistory, Global>,
-    // The table that was opened, without its files. They go back into it at the close, which
-    // therefore allocates nothing.
-    pub(crate) shell: PlainTable,
     pub(crate) passes: u32,
     pub(crate) installing: u32,
     pub(crate) size: u32,
@@ -39,8 +32,6 @@ pub struct LastingTable {
     pub ghost same_range: { (range_start, range_len) ≡ range_at_start table.shared.key },
     pub ghost few_slots: { size ≤ MOST_SLOTS },
     pub ghost range_inside: { range_start + range_len ≤ size },
-    pub ghost emptied: { IsShellOf (state_of table.shared.key.plain.value) (state_of shell) },
-    pub ghost room: { IsPrepared shell },
     pub ghost bounds: { (1 ≤ passes) × (passes ≤ MOST_PASSES) × (1 ≤ installing)
         × (installing ≤ MOST_INSTALLING) × (installing ≤ passes) },
 }

@@ -2,12 +2,18 @@ use fx_plain::{Event, File, PlainTable};
 use std::collections::LinkedList;
 use std::snapshot::Snapshot;
 
-/// The opening of a lasting table, for contracts alone: the table that was opened, the number of
-/// passes, and the number of those that install files.
+/// The opening of a lasting table, for contracts alone: the slots with which it was opened, the
+/// number of passes, and the number of those that install files.
 #[derive(Drop)]
 pub struct Start {
-    /// The table as it was opened.
-    pub plain: Snapshot<PlainTable>,
+    /// The table that was opened, or `None` if all slots were empty.
+    pub plain: Option<Snapshot<PlainTable>>,
+    /// The number of slots.
+    pub size: u32,
+    /// The first slot of the allocation range.
+    pub range_start: u32,
+    /// The number of slots of the allocation range.
+    pub range_len: u32,
     /// The passes are 1 to this number.
     pub passes: u32,
     /// Those from 1 to this number install files.
@@ -24,6 +30,18 @@ pub struct Log {
     pub steps: u64,
     /// The list of passes has the pass's bit.
     pub listed: bool,
+    /// Its question whether the allocation range is full.
+    pub asked: Survey,
+}
+
+/// The survey of the groups by a pass that asks whether the allocation range is full, as contracts
+/// see it. No value of it is made.
+pub enum Survey {
+    /// The question word doesn't have the pass's bit.
+    None,
+    /// The pass set its bit, and visited this many groups since. While the bit is there, they are
+    /// full.
+    Covered(u32),
 }
 
 /// The progress of a retirement's round through the other passes, as contracts see it. No value of
@@ -77,14 +95,17 @@ pub enum Glance {
     Heating(u32),
 }
 
-/// The account of a pass with the control word, which counts the full slots of the allocation
+/// The account of a pass with the groups' words, which count the full slots of the allocation
 /// range, as contracts see it. No value of it is made.
 pub enum Change {
-    /// The control word counts what the pass did.
+    /// The groups' words count what the pass did.
     Outside,
-    /// The control word counts one full slot too few: the pass is about to empty that slot, or has
-    /// still to add it.
-    Inside,
+    /// The word of this group counts one full slot too few. The pass has still to load the question
+    /// word, and to clear it, before it empties that slot.
+    Lowered(u32),
+    /// The word of this group counts one full slot too few. The pass is about to empty that slot,
+    /// or has still to add it.
+    Inside(u32),
 }
 
 /// The knowledge of a seat at the table, as contracts see it. No value of it is made.
@@ -97,7 +118,7 @@ pub struct View {
     pub work: Work,
     /// The progress of its look-up.
     pub glance: Glance,
-    /// Its account with the control word.
+    /// Its account with the groups' words.
     pub change: Change,
     /// The history that the seat shows, an initial part of the table's history.
     pub known: LinkedList<Event>,

@@ -30,6 +30,7 @@ pub enum ServerRefusal {
 
 impl ServerRefusal {
     /// Returns the number of the reason for C, which is negative.
+    #[inline(always)]
     pub fn code(self) -> i64
         ensures { result ≡ refusal_code self }
     {

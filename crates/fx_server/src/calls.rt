@@ -10,6 +10,7 @@ use crate::numbers::{
 use crate::worker::TableWorker;
 
 /// Counts the nodes of the table. The worker stays as it is.
+#[inline(always)]
 pub fn nodes(worker: &mut TableWorker) -> i64
     ensures same { worker.new ≡ worker.old }
     ensures nodes { result ≡ pos (nodes_of (its_table worker.old).table.shared.key) }
@@ -18,6 +19,7 @@ pub fn nodes(worker: &mut TableWorker) -> i64
 }
 
 /// Chooses the node of the worker's next file.
+#[inline(always)]
 pub fn next(worker: &mut TableWorker) -> i64
     requires good { IsGood worker.old }
     ensures chosen { ChoosesAs worker.old result worker.new }
@@ -26,6 +28,7 @@ pub fn next(worker: &mut TableWorker) -> i64
 }
 
 /// Looks a slot up.
+#[inline(always)]
 pub fn look(worker: &mut TableWorker, slot: u32, freed: &mut u64) -> i64
     requires good { IsGood worker.old }
     ensures looked { LooksAs worker.old slot result freed.new worker.new }
@@ -36,6 +39,7 @@ pub fn look(worker: &mut TableWorker, slot: u32, freed: &mut u64) -> i64
 }
 
 /// Releases the file that the worker holds.
+#[inline(always)]
 pub fn release(worker: &mut TableWorker, closed: &mut u64) -> i64
     requires good { IsGood worker.old }
     ensures released { ReleasesAs worker.old result closed.new worker.new }
@@ -46,6 +50,7 @@ pub fn release(worker: &mut TableWorker, closed: &mut u64) -> i64
 }
 
 /// Installs a file with this tag at a slot.
+#[inline(always)]
 pub fn put(worker: &mut TableWorker, slot: u32, tag: u64, closed: &mut u64) -> i64
     requires good { IsGood worker.old }
     ensures placed { PutsAs worker.old slot tag result closed.new worker.new }
@@ -56,6 +61,7 @@ pub fn put(worker: &mut TableWorker, slot: u32, tag: u64, closed: &mut u64) -> i
 }
 
 /// Makes one round to install a file with this tag at a free slot.
+#[inline(always)]
 pub fn put_any(worker: &mut TableWorker, tag: u64) -> i64
     requires good { IsGood worker.old }
     ensures allocated { PutsAnyAs worker.old tag result worker.new }
@@ -64,6 +70,7 @@ pub fn put_any(worker: &mut TableWorker, tag: u64) -> i64
 }
 
 /// Empties a slot.
+#[inline(always)]
 pub fn take(worker: &mut TableWorker, slot: u32, closed: &mut u64) -> i64
     requires good { IsGood worker.old }
     ensures removed { RemovesAs worker.old slot result closed.new worker.new }

@@ -6,6 +6,7 @@ use crate::answers::{Removal, ServerRefusal};
 use crate::codes::{CLOSED, DONE, IN_USE};
 
 /// Returns the number of a call that returns a node or a slot, or the refusal's.
+#[inline(always)]
 pub fn answer_number(answer: Result<u32, ServerRefusal>) -> i64
     ensures { result ≡ answer_number answer }
 {
@@ -16,6 +17,7 @@ pub fn answer_number(answer: Result<u32, ServerRefusal>) -> i64
 }
 
 /// Returns a tag, or 0 if there is none.
+#[inline(always)]
 pub fn tag_or_zero(tag: Option<u64>) -> u64
     ensures { result ≡ tag_or_zero tag }
 {
@@ -26,6 +28,7 @@ pub fn tag_or_zero(tag: Option<u64>) -> u64
 }
 
 /// Returns the number of a release.
+#[inline(always)]
 pub fn release_number(released: Result<Option<u64>, ServerRefusal>) -> i64
     ensures { result ≡ release_number released }
 {
@@ -37,6 +40,7 @@ pub fn release_number(released: Result<Option<u64>, ServerRefusal>) -> i64
 }
 
 /// Returns the tag that a release returned, or 0.
+#[inline(always)]
 pub fn released_tag(released: Result<Option<u64>, ServerRefusal>) -> u64
     ensures { result ≡ released_tag released }
 {
@@ -47,6 +51,7 @@ pub fn released_tag(released: Result<Option<u64>, ServerRefusal>) -> u64
 }
 
 /// Returns the number of a call that removes a file, or may do so.
+#[inline(always)]
 pub fn removal_number(removed: Result<Removal, ServerRefusal>) -> i64
     ensures { result ≡ removal_number removed }
 {
@@ -59,6 +64,7 @@ pub fn removal_number(removed: Result<Removal, ServerRefusal>) -> i64
 }
 
 /// Returns the tag of the file that was removed and is closed, or 0.
+#[inline(always)]
 pub fn removal_tag(removed: Result<Removal, ServerRefusal>) -> u64
     ensures { result ≡ removal_tag removed }
 {

@@ -8,14 +8,12 @@ ghost use Rattle.fx_server.specs.declared.answers.ServerRefusal.TheVariants.{Bad
 use crate::answers::ServerRefusal;
 use crate::shared::{Shared, one_file};
 use crate::worker::TableWorker;
-use fx_base::NoMemory;
-use fx_lasting::{LastingPass, LastingTable, MOST_INSTALLING, MOST_PASSES};
-use fx_plain::{MOST_SLOTS, PlainTable};
+use fx_lasting::{LastingPass, LastingTable, MOST_INSTALLING, MOST_PASSES, MOST_SLOTS};
 use std::alloc::{AllocError, Global};
 use std::sync::Arc;
 
-/// Opens a table of 1 to 256 empty slots, and returns its workers, 1 to 1,024, each in a box. They
-/// hold nothing. The first `installing`, 1 to 64, install files.
+/// Opens a table of 1 to 4,096 empty slots, and returns its workers, 1 to 1,024, each in a box.
+/// They hold nothing. The first `installing`, 1 to 64, install files.
 ///
 /// # Errors
 /// `Bad` if a number is out of its range, `NoMemory` if an allocation fails.
@@ -42,19 +40,12 @@ pub fn open(
     let Ok(catalogue) = one_file(alloc) else {
         return Err(ServerRefusal::NoMemory);
     };
-    let Ok(plain) = PlainTable::sparse(alloc, slots) else {
+    let opened = LastingTable::open_sparse(alloc, slots, (0, slots), workers, installing);
+    let Ok((table, passes)) = opened else {
         return Err(ServerRefusal::NoMemory);
     };
-    match LastingTable::open(alloc, plain, workers, installing) {
-        Ok((table, passes)) => {
-            let list = share(alloc, Shared { table, catalogue }, passes)?;
-            Ok(list)
-        }
-        Err((plain, NoMemory)) => {
-            plain.abandon();
-            Err(ServerRefusal::NoMemory)
-        }
-    }
+    let list = share(alloc, Shared { table, catalogue }, passes)?;
+    Ok(list)
 }
 
 // Hands each pass to a worker.

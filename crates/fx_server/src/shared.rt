@@ -23,6 +23,7 @@ impl Drop for Shared {
 
 impl Shared {
     /// Opens a file with this tag.
+    #[inline(always)]
     pub(crate) fn file(&self, tag: u64) -> OpenFile
         ensures { result ≡ file_with tag }
     {

@@ -47,6 +47,7 @@ impl Drop for TableWorker {
 
 impl TableWorker {
     /// Looks a slot up. The worker holds the file there until `release`.
+    #[inline(always)]
     pub fn look(&mut self, slot: u32) -> LookAnswer
         requires good { IsGood self.old }
         ensures good { IsGood self.new }
@@ -71,6 +72,7 @@ impl TableWorker {
     ///
     /// # Errors
     /// `Idle` if the worker holds no file.
+    #[inline(always)]
     pub fn release(&mut self) -> Result<Option<u64>, ServerRefusal>
         requires good { IsGood self.old }
         ensures good { IsGood self.new }
@@ -113,6 +115,7 @@ impl TableWorker {
     }
 
     /// Returns the number of nodes of the table. Each node is below it.
+    #[inline(always)]
     pub fn nodes(&self) -> u32
         ensures { result ≡ nodes_of (its_table self.now).table.shared.key }
     {
@@ -125,6 +128,7 @@ impl TableWorker {
     ///
     /// # Errors
     /// `Busy`, `NoBlock`, in this order.
+    #[inline(always)]
     pub fn next_node(&mut self) -> Result<u32, ServerRefusal>
         requires good { IsGood self.old }
         ensures good { IsGood self.new }
@@ -145,6 +149,7 @@ impl TableWorker {
     ///
     /// # Errors
     /// `Busy`, `NoSlot`, `NoBlock`, in this order.
+    #[inline(always)]
     pub fn put(&mut self, slot: u32, tag: u64) -> Result<Removal, ServerRefusal>
         requires good { IsGood self.old }
         ensures good { IsGood self.new }
@@ -174,6 +179,7 @@ impl TableWorker {
     /// # Errors
     /// `Busy`, `NoBlock`, in this order; `Full` if at one step every slot had a file; `Again` if
     /// the round installed nothing, and found no such step.
+    #[inline(always)]
     pub fn put_any(&mut self, tag: u64) -> Result<u32, ServerRefusal>
         requires good { IsGood self.old }
         ensures good { IsGood self.new }
@@ -206,6 +212,7 @@ impl TableWorker {
     ///
     /// # Errors
     /// `Busy`, `NoSlot`, or `Empty` if the slot has no file.
+    #[inline(always)]
     pub fn take(&mut self, slot: u32) -> Result<Removal, ServerRefusal>
         requires good { IsGood self.old }
         ensures good { IsGood self.new }
@@ -227,6 +234,7 @@ impl TableWorker {
 }
 
 // Notes the hold that a look-up returned, if it found a file, and returns its node.
+#[inline(always)]
 fn note(held: &mut Option<Held>, found: Result<Hold, Fault>) -> Result<u32, ServerRefusal>
     ensures { Notes found result held.new }
 {
@@ -244,6 +252,7 @@ fn note(held: &mut Option<Held>, found: Result<Hold, Fault>) -> Result<u32, Serv
 }
 
 // Returns the result of a look-up that was refused.
+#[inline(always)]
 fn refused(fault: ServerRefusal) -> LookAnswer
     ensures { (result.found ≡ Err fault) × (result.freed ≡ None) }
 {
@@ -254,6 +263,7 @@ fn refused(fault: ServerRefusal) -> LookAnswer
 }
 
 // Consumes a file that came out, and returns its tag.
+#[inline(always)]
 fn tag_of(out: Option<OpenFile>) -> Option<u64>
     ensures { result ≡ option_map (λ file. file.tag) out }
 {
@@ -264,6 +274,7 @@ fn tag_of(out: Option<OpenFile>) -> Option<u64>
 }
 
 // Retires a file that the pass removed.
+#[inline(always)]
 fn retire(table: &LastingTable, pass: &mut LastingPass, retired: Retired) -> Removal
     requires fits { IsPassOfTable table.now pass.old }
     requires removed { IsRetiredOf (view_of pass.old) retired }

@@ -2,9 +2,11 @@
 ghost use Rattle.std.specs.Prelude.{◌≡◌, ℕ, ◌<◌, ◌≤◌, false, map, length, All, IfOk, IfErr};
 ghost use Rattle.fx_plain.specs.State.{IsSettled};
 ghost use Rattle.fx_plain.specs.Contents.{state_of};
+ghost use Rattle.fx_plain.specs.declared.table.TheConstants.{MOST_SLOTS};
 ghost use Rattle.fx_table.specs.Opening.{opening_with, IsOpenedFor, size_of, IsGivenBack};
 ghost use Rattle.fx_table.specs.Pass.{IsIdle, new_passes};
 ghost use Rattle.fx_table.specs.Calls.{Draws, Looked};
+ghost use Rattle.fx_table.specs.Closing.{ClosesTable};
 ghost use Rattle.fx_table.specs.Settling.{DrawsNext, IsSettledSoFar};
 
 use crate::limits::{CHAIN_NUMBERS, MAX_CHAINS, MAX_PASSES};
@@ -76,6 +78,14 @@ pub trait FileTable: SharedTable + Sized {
         Self::open(alloc, plain, chains, passes)
     }
 
+    /// Turns the table back into a table of one thread, after all its passes have come back, idle
+    /// (`is_idle`). Requires as many passes as the opening returned, in any order. It can't run out
+    /// of memory.
+    fn close(self, passes: Vec<Self::Pass>) -> PlainTable
+        requires all { length passes.items ≡ (Self.opening self).passes }
+        requires ready { All (λ p. Self.fits self p × IsIdle (Self.view p)) passes.items }
+        ensures { ClosesTable (Self.opening self) (map (λ p. Self.view p) passes.items) result };
+
     /// Draws the next chain for an idle pass (`is_idle`), or returns `None` if there are no more.
     /// The chains of a pass rise, and no chain is drawn twice; a single pass draws 1, 2 and so on.
     /// After `None`, each draw of the pass returns `None`. A draw adds no event to the history.
@@ -114,6 +124,9 @@ pub trait FileTable: SharedTable + Sized {
         ensures fits { Self.fits self.now pass.new }
         ensures same { Self.view pass.new ≡ Self.view pass.old }
         ensures settled { IsSettledSoFar (Self.opening self.now) (Self.view pass.new) };
+
+    // Such a table has at most `MOST_SLOTS` slots, as a `PlainTable` has.
+    ghost few: { (table : Self) → size_of (Self.opening table) ≤ MOST_SLOTS };
 
     // The numbers and look-ups of such a table run out.
     ghost ends: { (table : Self) → (Self.opening table).lasts ≡ false };

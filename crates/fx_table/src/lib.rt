@@ -1,9 +1,9 @@
 //! The contract of a file table that threads share, each thread by a pass of its own.
 //!
 //! [`SharedTable`] is that contract: all that other crates know of a shared table. Each call's
-//! clause names the events that it adds to its pass, and [`SharedTable::close`] says that the
-//! events of all passes are one legal history. [`RealTime`] adds the order between the calls of two
-//! threads, and [`FileTable`] the calls that a submission needs. [`move_out`] and [`put_all`] move
+//! clause names the events that it adds to its pass. [`RealTime`] adds the order between the calls
+//! of two threads, and [`FileTable`] the calls that a submission needs; [`FileTable::close`] says
+//! that the events of all passes are one legal history. [`move_out`] and [`put_all`] move
 //! the files of a table of one thread to the places of a shared table and back. Begin reading at
 //! `specs/Pass.antt` and `shared_table.rt`.
 #![tactic(auto)]

@@ -1,14 +1,12 @@
 //! The trait that every shared table implements: the calls of its passes.
-ghost use Rattle.std.specs.Prelude.{◌≡◌, ◌≢◌, ℕ, ◌<◌, ◌≤◌, ◌↔◌, true, false, None, Err, map, length, All, IsTrue};
+ghost use Rattle.std.specs.Prelude.{◌≡◌, ◌≢◌, ◌<◌, ◌^◌, ◌↔◌, true, false, None, Err, IsTrue};
 ghost use Rattle.fx_table.specs.Opening.{Opening, size_of, range_of};
 ghost use Rattle.fx_table.specs.Pass.{PassView, IsIdle, IsFront, IsHoldOf, IsRetiredOf};
 ghost use Rattle.fx_table.specs.Calls.{LookedUp, Released, Placed, Allocated, Cleared, Taken, HasRetired};
-ghost use Rattle.fx_table.specs.Closing.{ClosesTable};
 ghost use Rattle.fx_table.specs.declared.values.LookFault.TheVariants.{Spent};
 
 use crate::values::{Empty, Hold, LookUp, Retired};
 use fx_base::OpenFile;
-use fx_plain::{MOST_SLOTS, PlainTable};
 use std::sync::Wait;
 
 /// A file table that threads share, each by a pass of its own.
@@ -38,18 +36,11 @@ pub trait SharedTable: Sync {
     // The events that the pass has seen and made, and its counters.
     ghost view: { Self.Pass → PassView };
 
-    /// Turns the table back into a table of one thread, after all its passes have come back, idle
-    /// (`is_idle`). Requires as many passes as the opening returned, in any order. It can't run out
-    /// of memory.
-    fn close(self, passes: Vec<Self::Pass>) -> PlainTable
-        requires all { length passes.items ≡ (opening self).passes }
-        requires ready { All (λ p. fits self p × IsIdle (view p)) passes.items }
-        ensures { ClosesTable (opening self) (map (λ p. view p) passes.items) result };
-
-    /// Returns the number of slots, at most [`fx_plain::MOST_SLOTS`].
+    /// Returns the number of slots. It is below 2^31, since a slot's number is the result of an
+    /// `IORING_FILE_INDEX_ALLOC` request.
     fn size(&self) -> u32
         ensures value { result ≡ size_of (opening self.now) }
-        ensures few { result ≤ MOST_SLOTS };
+        ensures few { result < 2 ^ 31 };
 
     /// Returns the allocation range: the first slot and the number of slots.
     fn range(&self) -> (u32, u32)

@@ -161,8 +161,7 @@ fn open_lasting<R: Abort>(rt: &R, alloc: Global) -> (LastingTable, Vec<LastingPa
     ensures count { length result.1.items ≡ 1 }
     ensures ready { All (λ p. IsPassOfTable result.0 p × IsIdle (view_of p)) result.1.items }
 {
-    let plain = PlainTable::sparse(alloc, 1).expect(rt, "a table");
-    match LastingTable::open(alloc, plain, 1, 1) {
+    match LastingTable::open_sparse(alloc, 1, (0, 1), 1, 1) {
         Ok(opened) => opened,
         Err(_refused) => panic!(rt; "memory for a shared table"),
     }
@@ -224,7 +223,11 @@ fn chain_on_a_table_that_lasts(rt: HostRuntime) -> Result<(), Fail> {
         &mut closes,
     );
     give_back(&rt, &table, &mut passes, pass);
-    table.close(passes).abandon();
+    let size = table.size() as usize;
+    let room = Vec::with_capacity(alloc, size).expect(&rt, "room for each file");
+    let left = table.close(passes, room);
+    assert!(rt; left.is_empty());
+    left.destroy_empty();
     assert!(rt; out[0].is_answer(first_chain(1), 0, &[]));
     assert!(rt; out[1].is_answer(first_chain(2), 5, &[7; 5]));
     assert!(rt; out[2].is_answer(first_chain(3), 0, &[]));

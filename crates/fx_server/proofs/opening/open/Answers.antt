@@ -1,11 +1,11 @@
+use Rattle.fx_lasting.specs.Passes.{empty_slots}
 use Rattle.fx_server.proofs.Dealing.{good_of, opened_of}
 use Rattle.fx_server.proofs.opening.open.Goals as goal
 
-pub returns-in_ok-list-in-Ok-open-clause-opened : goal.returns-in_ok-list-in-Ok-open-clause-opened
-returns-in_ok-list-in-Ok-open-clause-opened c =
-    opened_of _ c.in-Ok-sparse.plain _ _ c.args.slots c.args.workers c.args.installing c.in_ok-list-in-Ok-open.ensures.dealt
-    c.in-Ok-open.ensures.opened c.in-Ok-sparse.ensures.state c.in-Ok-open.ensures.new
+pub returns-clause-opened : goal.returns-clause-opened
+returns-clause-opened c =
+    opened_of _ (empty_slots c.args.slots (0, c.args.slots)) _ _ c.args.slots c.args.workers c.args.installing c.in_ok-list.ensures.dealt
+    c.in-Ok-opened.ensures.opened c.in-Ok-opened.ensures.empty c.in-Ok-opened.ensures.new
 
-pub returns-in_ok-list-in-Ok-open-clause-good : goal.returns-in_ok-list-in-Ok-open-clause-good
-returns-in_ok-list-in-Ok-open-clause-good c =
-    good_of _ _ _ c.in_ok-list-in-Ok-open.ensures.dealt c.in-Ok-open.ensures.ready
+pub returns-clause-good : goal.returns-clause-good
+returns-clause-good c = good_of _ _ _ c.in_ok-list.ensures.dealt c.in-Ok-opened.ensures.ready

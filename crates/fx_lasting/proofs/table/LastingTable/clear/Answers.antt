@@ -1,5 +1,5 @@
 use Rattle.fx_lasting.proofs.Words.{◌≡◌, ℕ, ◌<◌, refl, ap, ◌∙◌, subst, arith, Clear, ◌▷◌, [], slot_of, opening_of, view_of, pass_of, retiring_work, doing_in}
-use Rattle.fx_lasting.proofs.Words.{Start, Bool, true, uncounted, account, range_at_start}
+use Rattle.fx_lasting.proofs.Words.{Start, Bool, true, uncounted, account, group_of, range_at_start}
 use Rattle.fx_table.specs.Calls.{Adds, no_use}
 use Rattle.fx_lasting.proofs.Calling.{slot_inside, slot_low}
 use Rattle.fx_lasting.proofs.Places.{slot_back}
@@ -18,7 +18,8 @@ swap-found-requires c =
       began.table ∙ f.seated.table,
       slot_inside t inside c.slot_place.ensures,
       clears_keep _ _ _ _ c.args.slot c.lower.new.seat.me _ at.pass (rw began.runs.work (its_idle f c.requires.idle)) (slot_low t inside)
-          (began.runs.change ∙ ap (λ (b : Bool). uncounted b true) c.is_in_range-inside.ensures) c.slot_place.ensures,
+          (began.runs.change ∙ ap (λ (b : Bool). uncounted b true (group_of (range_at_start t.table.shared.key) c.args.slot)) c.is_in_range-inside.ensures)
+          c.slot_place.ensures,
     )
 
 pub raise-requires-clause-at : goal.raise-requires-clause-at

@@ -30,11 +30,15 @@ finish-requires-clause-idle c s r at =
     seat.result.id at (gathered (λ (p : LastingPass). p.seat.me.0.logs) _ _ _ _ _ c.in-Some.ensures.items (ap (λ z. z.me.0.logs) c.into_seat.ensures)
     seat.ensures.logs) seat.ensures.seat.work
 
-pub returns : goal.returns
-returns c =
+pub returns-clause-closed : goal.returns-clause-closed
+returns-clause-closed c =
     let t = c.args.self.table.shared in
     let seat = c.gather-seat in
-    let f = c.finish.ensures in
-    closes t.table_id t.key c.args.passes.items (fits (IsPassOfTable c.args.self) view_of c.args.passes.items c.requires.ready) c.requires.all f.rule
-    seat.result.id f.view (gathered (λ (p : LastingPass). p.seat.me.0.logs) _ _ _ _ _ c.in-Some.ensures.items
-    (ap (λ z. z.me.0.logs) c.into_seat.ensures) seat.ensures.logs) seat.ensures.seat.work c.finish.result f.files f.settled
+    let f = c.finish.ensures.left in
+    record {
+      left = f.left;
+      closing = closes t.table_id t.key c.args.passes.items (fits (IsPassOfTable c.args.self) view_of c.args.passes.items c.requires.ready)
+          c.requires.all f.rule seat.result.id f.view (gathered (λ (p : LastingPass). p.seat.me.0.logs) _ _ _ _ _ c.in-Some.ensures.items
+          (ap (λ z. z.me.0.logs) c.into_seat.ensures) seat.ensures.logs) seat.ensures.seat.work f.left f.same f.settled;
+      files_are = f.files_are;
+    }

@@ -1,8 +1,11 @@
-use Rattle.fx_lasting.proofs.Words.{◌≡◌, ℕ, List, sym, refl, ap, ◌∙◌, arith, rules, Option, None, some, get_elem?, slots_items, Closed, node_in}
+use Rattle.std.specs.Prelude.{vec_len, vec_capacity}
+use Rattle.fx_lasting.proofs.Words.{length, ◌+◌, ◌≤◌, ◌≡◌, ℕ, List, sym, refl, ap, ◌∙◌, arith, rules, Option, None, some, get_elem?, slots_items, Closed, node_in}
 use Rattle.fx_lasting.proofs.Words.{slot_place, false, get_or-set_other, slots_filled}
 use Rattle.fx_plain.proofs.Cells.{each_set}
 use Rattle.fx_table.proofs.SumLemmas.{read_at}
-use Rattle.fx_table.proofs.Shells.{file_put, none_came, all_came, none_left, none_named, some_came, none_there}
+use Rattle.fx_table.proofs.Shells.{none_left}
+use Rattle.fx_lasting.specs.Closing.{files_at_slots}
+use Rattle.fx_lasting.proofs.Listed.{none_listed, one_listed, none_is_there, none_named_here}
 use Rattle.fx_lasting.proofs.HomeComing.{node_at, home_at_end, leaves_at_end}
 use Rattle.fx_lasting.proofs.table.LastingTable.finish.Goals.{in-Some+in-Some-take_home, in-Some+in_default-take_home, in_default}
 use Rattle.fx_lasting.proofs.table.LastingTable.finish.Goals as goal
@@ -15,8 +18,10 @@ named_by slot {ws} {now} {place} same is there named =
 
 pub loop-slot-init : goal.loop-slot-init
 loop-slot-init c = record {
-  coming = none_came c.args.self.size _ c.args.self.emptied.shell (home_at_end c.args.self _ c.close_with-closed.ensures.values.2 c.requires.idle);
-  prepared = c.args.self.room;
+  listed = none_listed c.args.self.size _ (home_at_end c.args.self _ c.close_with-closed.ensures.values.2 c.requires.idle) c.requires.empty;
+  inside = omega arith;
+  room = let none = ap length c.requires.empty in omega (arith, none);
+  capacity = c.requires.room;
   count = refl;
   full = search rules;
   words = refl;
@@ -35,22 +40,33 @@ loop-slot-preserved c =
     let home = home_at_end t (slots_items c.close_with-closed.result.slots) c.close_with-closed.ensures.values.2 c.requires.idle in
     let named : (n : Option ℕ) → n ≡ node_in c.word.result → node_at ws c.loop-slot.slot ≡ n =
     λ n is. named_by c.loop-slot.slot (ap slots_items i.words) c.slot_place.ensures c.word.ensures is in
+    let inside : c.loop-slot.slot + 1 ≤ t.size = omega (arith, c.loop-slot-test.true) in
+    let more : vec_len c.loop-slot.files ≤ c.loop-slot.slot + 1 = omega (arith, i.room) in
+    let room_left : (n : ℕ) → n ≡ vec_len c.loop-slot.files + 1 → n ≤ c.loop-slot.slot + 1 = λ n is. omega (arith, i.room, is) in
+    let same_room : (n : ℕ) → n ≡ vec_capacity c.loop-slot.files → t.size ≤ n = λ n is. omega (arith, i.capacity, is) in
     elim c.match-node_of.branch [
-      | in-Some+in-Some-take_home w ↦ let took = w.take_home.ensures in rw (w.shell-is, w.closed-is) (assumption (
-        some_came t.size (node_at ws) i.coming home c.loop-slot-test.true (named _ w.in-Some.ensures) took.value took.items
-            w.in-Some-take_home.is (file_put i.coming.part.settled w.put_back.ensures.state),
+      | in-Some+in-Some-take_home w ↦ let took = w.take_home.ensures in rw (w.files-is, w.closed-is) (assumption (
+        one_listed t.size (node_at ws) i.listed home c.loop-slot-test.true (named _ w.in-Some.ensures) took.value took.items
+            w.in-Some-take_home.is w.push_reserved.ensures.items,
+        inside,
+        room_left _ w.push_reserved.ensures.len,
+        same_room _ w.push_reserved.ensures.capacity,
         took.count ∙ i.count,
         took.words ∙ i.words,
       ))
-      | in-Some+in_default-take_home w ↦ let took = w.take_home.ensures in rw (w.shell-is, w.closed-is) (assumption (
-        none_there t.size (node_at ws) i.coming home c.loop-slot-test.true (named _ w.in-Some.ensures) took.value took.items
+      | in-Some+in_default-take_home w ↦ let took = w.take_home.ensures in rw (w.files-is, w.closed-is) (assumption (
+        none_is_there t.size (node_at ws) i.listed home c.loop-slot-test.true (named _ w.in-Some.ensures) took.value took.items
             w.in_default-take_home.is,
+        inside,
+        more,
         took.count ∙ i.count,
         took.words ∙ i.words,
       ))
-      | in_default w ↦ rw (w.shell-is, w.closed-is) (assumption (
-          none_named t.size (node_at ws) i.coming home c.loop-slot-test.true (named None w.in_default.ensures)
-          ))
+      | in_default w ↦ rw (w.files-is, w.closed-is) (assumption (
+        none_named_here t.size (node_at ws) i.listed home c.loop-slot-test.true (named None w.in_default.ensures),
+        inside,
+        more,
+      ))
     ]
 
 pub loop-place-preserved : goal.loop-place-preserved
@@ -65,10 +81,11 @@ loop-place-preserved c = let i = c.loop-place.invariant in let o = c.in-None.ens
 
 pub unreachable-requires : goal.unreachable-requires
 unreachable-requires c =
-    absurd (none_left c.args.self.size _ c.loop-slot.invariant.coming (omega (arith, c.loop-slot-test.false)) _
+    absurd (none_left c.args.self.size _ c.loop-slot.invariant.listed.coming (omega (arith, c.loop-slot-test.false)) _
     (ap (λ (xs : List (Option Closed)). get_elem? xs c.loop-place.place) (sym c.loop-place.invariant.items) ∙ c.in_default-home.ensures.value))
 
-pub returns : goal.returns
-returns c =
+pub returns-clause-left : goal.returns-clause-left
+returns-clause-left c =
+    let whole : c.loop-slot.slot ≡ c.args.self.size = omega (arith, c.loop-slot-test.false, c.loop-slot.invariant.inside) in
     leaves_at_end c.args.self _ c.close_with-closed.ensures.values.2 c.requires.idle
-    (all_came c.args.self.size _ c.loop-slot.invariant.coming (omega (arith, c.loop-slot-test.false)))
+    (c.loop-slot.invariant.listed.listed ∙ ap (files_at_slots _) whole)

@@ -1,15 +1,18 @@
-use Rattle.fx_lasting.proofs.Words.{◌≡◌, ◌<◌, ℕ, false, get_or, slots_items, slots_len, IsFull, state_of, IsPrepared, slots_filled}
+use Rattle.fx_lasting.proofs.Words.{◌≡◌, ◌<◌, ℕ, false, get_or, slots_items, slots_len, IsFull, slots_filled, ◌≤◌, vec_capacity}
+use Rattle.std.specs.Prelude.{vec_len}
 use Rattle.std.specs.Mem.Slots.Ownership.{Filled}
-use Rattle.fx_table.proofs.Shells.{AreComing}
+use Rattle.fx_lasting.proofs.Listed.{AreListed}
 use Rattle.fx_lasting.proofs.HomeComing.{node_at}
 use Rattle.fx_lasting.proofs.table.LastingTable.finish.Given as goal
 
--- the files of the slots so far are back, and their places are empty
+-- the files of the slots so far are in the list, and their places are empty
 abbrev pub invariant-loop-slot : goal.invariant-loop-slot
 invariant-loop-slot l = record {
-  coming : AreComing l.size (node_at (slots_items l.initial.closed.words)) (state_of l.fn.self.shell) (slots_items l.initial.closed.slots)
-      l.slot (slots_items l.closed.slots) (state_of l.shell);
-  prepared : IsPrepared l.shell;
+  listed : AreListed l.size (node_at (slots_items l.initial.closed.words)) (slots_items l.initial.closed.slots)
+      l.slot (slots_items l.closed.slots) l.files.items;
+  inside : l.slot ≤ l.size;
+  room : vec_len l.files ≤ l.slot;
+  capacity : l.size ≤ vec_capacity l.files;
   count : slots_len l.closed.slots ≡ slots_len l.initial.closed.slots;
   full : IsFull l.closed.slots;
   words : l.closed.words ≡ l.initial.closed.words;

@@ -1,48 +1,51 @@
-use Rattle.fx_lasting.proofs.Words.{◌∙◌, arith, refl, ◌+◌}
+use Rattle.fx_lasting.proofs.Words.{◌∙◌, arith, refl, ◌+◌, groups_in}
+use Rattle.fx_lasting.specs.Tries.{StillPlaces, group_steps}
 use Rattle.fx_lasting.proofs.Running.{still_at_work, placed_none}
-use Rattle.fx_lasting.proofs.Trying.{in_range, still_then, allocated_then, still_within, allocated_within, still_placing}
+use Rattle.fx_lasting.proofs.Trying.{in_size, still_then, allocated_then, still_within, allocated_within, group_more, groups_most}
+use Rattle.fx_lasting.proofs.table.LastingTable.scan.Goals.{Else-try_slot}
 use Rattle.fx_lasting.proofs.table.LastingTable.scan.Goals as goal
 
-pub loop-init : goal.loop-init
-loop-init c = record {
-  table = refl;
-  low = c.first_slot-slot.ensures.low;
-  high = c.first_slot-slot.ensures.high;
-  still = (0, omega arith, (placed_none c.requires.at.1 c.requires.placing.work, refl));
-}
+-- the slot at which the scan begins was not empty
+first_still : (c : Else-try_slot) → StillPlaces c.args.node 3 c.args.seat.now.me c.try_slot.new.seat.me
+first_still c = rw c.if-try_slot.false at c.try_slot.ensures.tries
 
 pub try_slot-requires-clause-at : goal.try_slot-requires-clause-at
-try_slot-requires-clause-at c = (c.requires.at.0, still_at_work c.requires.at.1 c.loop.invariant.still.2.0)
-
-pub try_slot-requires-clause-placing : goal.try_slot-requires-clause-placing
-try_slot-requires-clause-placing c = still_placing c.requires.placing c.loop.invariant.still.2
-
-pub try_slot-requires-clause-change : goal.try_slot-requires-clause-change
-try_slot-requires-clause-change c = c.loop.invariant.still.2.0.change ∙ c.requires.change
-
-pub try_slot-requires-clause-range : goal.try_slot-requires-clause-range
-try_slot-requires-clause-range c = let i = c.loop.invariant in
-    in_range c.args.self.now c.loop.slot i.low (i.high (omega (arith, c.loop-test.true)))
+try_slot-requires-clause-at c = (c.args.number, c.requires.at)
 
 pub returns-then-try_slot-clause-slot : goal.returns-then-try_slot-clause-slot
-returns-then-try_slot-clause-slot c = let t = c.args.self.now in let low = c.loop.invariant.high (omega (arith, c.loop-test.true)) in
-    omega (arith, low, t.range_inside)
+returns-then-try_slot-clause-slot c = in_size c.args.self.now c.first_slot-first.result c.first_slot-first.ensures
 
 pub returns-then-try_slot-clause-found : goal.returns-then-try_slot-clause-found
-returns-then-try_slot-clause-found c = let s = c.loop.invariant.still in
-    allocated_within (omega (arith, s.1, c.loop-test.true)) (allocated_then s.2 (rw c.if-try_slot.true at c.try_slot.ensures.tries))
+returns-then-try_slot-clause-found c = allocated_within (omega arith) (rw c.if-try_slot.true at c.try_slot.ensures.tries)
 
-pub slot_after-slot-requires-clause-high : goal.slot_after-slot-requires-clause-high
-slot_after-slot-requires-clause-high c = c.loop.invariant.high (omega (arith, c.loop-test.true))
+pub loop-init : goal.loop-init
+loop-init c = let still = first_still (goal.at.loop-init c).Else-try_slot in record {
+  table = refl;
+  group = c.group_of-group.ensures.few;
+  still = (0, omega arith, (placed_none (still_at_work c.requires.at still.0) still.0.work, refl));
+}
+
+pub try_group-requires-clause-at : goal.try_group-requires-clause-at
+try_group-requires-clause-at c = let still = first_still (goal.at.try_group-requires-clause-at c).Else-try_slot in
+    (c.args.number, still_at_work (still_at_work c.requires.at still.0) c.loop.invariant.still.2.0)
+
+pub returns-in-Some-clause-found : goal.returns-in-Some-clause-found
+returns-in-Some-clause-found c = let s = c.loop.invariant.still in let len = c.args.self.now.range_len in
+    allocated_within (omega (
+      arith,
+      groups_most len (c.loop.counter + 1) (s.0 + group_steps len) (groups_in len)
+          (omega (arith, c.loop-test.true, c.groups_in-end.ensures)) (group_more len c.loop.counter s.0 s.1),
+    ))
+    (allocated_then (first_still (goal.at.returns-in-Some-clause-found c).Else-try_slot) (allocated_then s.2 c.in-Some.ensures.found))
 
 pub loop-preserved : goal.loop-preserved
-loop-preserved c = let s = c.loop.invariant.still in record {
-  table = c.try_slot.ensures.table ∙ c.loop.invariant.table;
-  low = c.slot_after-slot.ensures.low;
-  high = λ _. c.slot_after-slot.ensures.high;
-  still = (s.0 + 3, omega (arith, s.1), still_then s.2 (rw c.if-try_slot.false at c.try_slot.ensures.tries));
+loop-preserved c = let s = c.loop.invariant.still in let len = c.args.self.now.range_len in record {
+  table = c.try_group.ensures.table ∙ c.loop.invariant.table;
+  group = c.group_after-group.ensures;
+  still = (s.0 + group_steps len, group_more len c.loop.counter s.0 s.1, still_then s.2 (c.try_group.ensures.none c.in-None.is));
 }
 
 pub returns-clause-none : goal.returns-clause-none
-returns-clause-none c none = let s = c.loop.invariant.still in
-    still_within (omega (arith, s.1, c.loop.auto.counter-end)) s.2
+returns-clause-none c none = let s = c.loop.invariant.still in let len = c.args.self.now.range_len in
+    still_within (omega (arith, groups_most len c.loop.counter s.0 (groups_in len) (omega (arith, c.loop.auto.counter-end, c.groups_in-end.ensures)) s.1))
+    (still_then (first_still (goal.at.returns-clause-none c).Else-try_slot) s.2)

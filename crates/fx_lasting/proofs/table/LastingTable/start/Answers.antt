@@ -1,12 +1,19 @@
-use Rattle.fx_lasting.proofs.Words.{◌≡◌, ℕ, ap, ◌∙◌, subst, arith, Start, state_of, AreFirstWords, AreFirstHomes}
+use Rattle.fx_lasting.proofs.Words.{◌≡◌, ℕ, ap, ◌∙◌, subst, arith, Some, Start, state_of, AreFirstWords, AreFirstHomes}
 use Rattle.fx_lasting.specs.Layout.{nodes_for}
 use Rattle.fx_lasting.proofs.Openings.{opening_keeps}
-use Rattle.fx_lasting.proofs.Starting.{opens_with}
+use Rattle.fx_lasting.proofs.Starting.{opens_with, no_files}
 use Rattle.fx_lasting.proofs.table.LastingTable.start.Goals as goal
 
 pub new-requires : goal.new-requires
 new-requires c =
-    let k : Start = record { plain = c.of.result; passes = c.args.passes; installing = c.args.installing } in
+    let k : Start = record {
+      plain = Some c.of.result;
+      size = c.size-size.result;
+      range_start = c.range-range_start.result.0;
+      range_len = c.range-range_start.result.1;
+      passes = c.args.passes;
+      installing = c.args.installing;
+    } in
     let few = c.size-size.ensures in
     let nodes = c.nodes_for-nodes.ensures in
     let many : c.nodes_for-nodes.result ≡ nodes_for (state_of c.args.plain).size c.args.passes c.args.installing =
@@ -16,6 +23,9 @@ new-requires c =
     opening_keeps k _ _ (opens_with k c.as_slice.result.now c.in-Ok-move_out.homes.items (rw c.of.ensures (omega (arith, few.value, few.few)))
     (rw c.of.ensures c.range-range_start.ensures.inside) c.requires.passes.1 (rw c.of.ensures (omega (arith, many, nodes.few)))
     (rw (c.of.ensures, c.as_slice.ensures.value) words) (rw c.of.ensures homes))
+
+pub dismiss-requires-clause-empty : goal.dismiss-requires-clause-empty
+dismiss-requires-clause-empty c = no_files c.in-Ok-move_out.ensures.ok.shell.shell
 
 pub put_all-requires : goal.put_all-requires
 put_all-requires c = (c.args.plain, c.nodes_for-nodes.result, rw c.in-Err.ensures.err c.in-Ok-move_out.ensures.ok)

@@ -1,140 +1,90 @@
-use Rattle.fx_lasting.proofs.Words.{◌∷◌, Closed, inr, refl, ap, ◌∙◌, sym, subst, arith, HasPlace, Some, Work, numbered}
-use Rattle.fx_lasting.proofs.Words.{Runs, [], ◌▷◌, Full, rested, ℕ, ◌≡◌, node_of_number, Searching, Start, opening_of, view_of, pass_of}
-use Rattle.fx_table.specs.Calls.{Adds, no_use, one_number}
-use Rattle.fx_table.specs.declared.values.Doing.{Doing}
-use Rattle.fx_lasting.proofs.ControlSteps.{asks_keep}
-use Rattle.fx_lasting.proofs.Running.{still_at_work, runs_goes, does_then}
-use Rattle.fx_lasting.proofs.Passing.{adds_so, at_rest, still_pass, its_idle, its_flag, its_choice, may_install}
-use Rattle.fx_lasting.proofs.Trying.{full_of, asked_not, until_put}
+use Rattle.fx_lasting.proofs.Words.{◌∙◌, refl, arith, [], ◌▷◌, Allocate, Full, opening_of, view_of, true, false}
+use Rattle.fx_lasting.specs.Questions.{HasAsked}
+use Rattle.fx_table.proofs.Calls.{adds_then}
+use Rattle.fx_table.specs.Calls.{no_use, one_number}
+use Rattle.fx_table.specs.declared.values.Doing.TheVariants.{Idle as DoesNothing}
+use Rattle.fx_lasting.proofs.Passing.{new_file_so}
+use Rattle.fx_lasting.proofs.Questions.{asked_full, asked_nothing}
 use Rattle.fx_lasting.proofs.table.LastingTable.try_put_any.Goals as goal
 
-pub load-word-requires : goal.load-word-requires
-load-word-requires c = let s = c.requires.fits.seated in
-    (s.table, omega (arith, c.args.self.now.words), asks_keep _ _ _ _ c.args.pass.now.seat.me _ s.at.pass refl)
-
-pub returns-then-says_full : goal.returns-then-says_full
-returns-then-says_full c =
-    let t = c.args.self.now in
-    let fits = c.requires.fits in
-    let s = fits.seated in
-    let goes = c.load-word.ensures.2.full (c.says_full.ensures.0 c.if-says_full.true ∙ full_of t s.at.pass.0) in
-    let run = at_rest fits (runs_goes goes) in
-    record {
-      fits = still_pass s _ run (refl, refl) c.load-word.ensures.0 (goes.carried ∙ s.places) s.block fits.knows;
-      tried = (
-        refl,
-        subst (λ (d : Doing). Adds (opening_of t.table.shared.key) (view_of c.args.pass.now) ([] ▷ Full) d no_use
-            (pass_of c.load-word.new.seat.me.0)) c.requires.idle (adds_so s run no_use),
-      );
-      used = λ n chosen. goes.stepped.work ∙ chosen;
-      steps = let few = run.steps in omega arith;
+pub returns-then-is_still_full : goal.returns-then-is_still_full
+returns-then-is_still_full c =
+    let h : HasAsked c.args.self.now 1 c.args.pass.now true c.is_still_full.new.pass = rw c.if-is_still_full.true at c.is_still_full.ensures in record {
+      fits = h.fits;
+      tried = (refl, asked_full h c.requires.idle);
+      used = λ n chosen. h.work ∙ chosen;
+      steps = let few = h.steps in omega arith;
     }
 
-pub seek-node-requires-clause-at : goal.seek-node-requires-clause-at
-seek-node-requires-clause-at c =
-    let s = c.requires.fits.seated in
-    still_at_work s.at (runs_goes (asked_not c.args.self.now s.at.pass.0 c.load-word.ensures.2 c.says_full.ensures.1 c.if-says_full.false))
+pub try_slots-requires-clause-idle : goal.try_slots-requires-clause-idle
+try_slots-requires-clause-idle c =
+    let h : HasAsked c.args.self.now 1 c.args.pass.now false c.is_still_full.new.pass = rw c.if-is_still_full.false at c.is_still_full.ensures in
+    (asked_nothing h c.requires.idle).now
 
-pub seek-node-requires-clause-idle : goal.seek-node-requires-clause-idle
-seek-node-requires-clause-idle c =
-    let s = c.requires.fits.seated in
-    rw (asked_not c.args.self.now s.at.pass.0 c.load-word.ensures.2 c.says_full.ensures.1 c.if-says_full.false).stepped.work
-    (its_idle c.requires.fits c.requires.idle)
+pub try_slots-requires-clause-numbers : goal.try_slots-requires-clause-numbers
+try_slots-requires-clause-numbers c =
+    let h : HasAsked c.args.self.now 1 c.args.pass.now false c.is_still_full.new.pass = rw c.if-is_still_full.false at c.is_still_full.ensures in
+    rw h.adds.numbers_left c.requires.numbers
 
-pub seek-node-requires-clause-chosen : goal.seek-node-requires-clause-chosen
-seek-node-requires-clause-chosen c n chosen =
-    let s = c.requires.fits.seated in
-    let goes = asked_not c.args.self.now s.at.pass.0 c.load-word.ensures.2 c.says_full.ensures.1 c.if-says_full.false in
-    its_choice c.requires.fits n (sym goes.stepped.work ∙ chosen)
-
-pub seek-node-requires-clause-installs : goal.seek-node-requires-clause-installs
-seek-node-requires-clause-installs c = omega (arith, may_install c.requires.fits.seated c.requires.numbers, c.args.self.now.key.1)
-
-pub put_in-requires-clause-at : goal.put_in-requires-clause-at
-put_in-requires-clause-at c =
-    let s = c.requires.fits.seated in
-    let goes = asked_not c.args.self.now s.at.pass.0 c.load-word.ensures.2 c.says_full.ensures.1 c.if-says_full.false in
-    (c.args.pass.now.number, still_at_work s.at (does_then (runs_goes goes) c.seek-node.ensures.found))
-
-pub put_in-requires-clause-places : goal.put_in-requires-clause-places
-put_in-requires-clause-places c =
-    let s = c.requires.fits.seated in
-    let goes = asked_not c.args.self.now s.at.pass.0 c.load-word.ensures.2 c.says_full.ensures.1 c.if-says_full.false in
-    c.seek-node.ensures.places ∙ (goes.carried ∙ s.places)
-
-pub scan-requires-clause-at : goal.scan-requires-clause-at
-scan-requires-clause-at c =
-    let s = c.requires.fits.seated in
-    let goes = asked_not c.args.self.now s.at.pass.0 c.load-word.ensures.2 c.says_full.ensures.1 c.if-says_full.false in
-    (c.args.pass.now.number, still_at_work s.at (until_put goes c.seek-node.ensures.found c.put_in.ensures.born))
-
-pub scan-requires-clause-placing : goal.scan-requires-clause-placing
-scan-requires-clause-placing c = record {
-  work = c.put_in.ensures.born.work;
-  place = c.put_in.ensures.place ∙ ap (λ (f : Closed). (c.seek-node.result, Some f) ∷ []) (sym c.identity-identity.ensures);
-}
-
-pub scan-requires-clause-change : goal.scan-requires-clause-change
-scan-requires-clause-change c =
-    let s = c.requires.fits.seated in
-    let goes = asked_not c.args.self.now s.at.pass.0 c.load-word.ensures.2 c.says_full.ensures.1 c.if-says_full.false in
-    (until_put goes c.seek-node.ensures.found c.put_in.ensures.born).change ∙ s.change
-
-pub returns-in-Some : goal.returns-in-Some
-returns-in-Some c =
-    let t = c.args.self.now in
-    let fits = c.requires.fits in
-    let s = fits.seated in
-    let goes = asked_not t s.at.pass.0 c.load-word.ensures.2 c.says_full.ensures.1 c.if-says_full.false in
-    let found = c.in-Some.ensures.found in
-    let before = until_put goes c.seek-node.ensures.found c.put_in.ensures.born in
-    let run = at_rest fits (does_then before found.2) in
-    let adds = adds_so s run one_number in
+pub returns-in-Ok : goal.returns-in-Ok
+returns-in-Ok c =
+    let k = c.args.self.now.table.shared.key in
+    let h : HasAsked c.args.self.now 1 c.args.pass.now false c.is_still_full.new.pass = rw c.if-is_still_full.false at c.is_still_full.ensures in
+    let t = c.in-Ok.ensures.tried in
     record {
-      fits = still_pass s _ run (refl, refl) (c.scan.ensures.table ∙ (c.put_in.ensures.table ∙ (c.seek-node.ensures.table ∙ c.load-word.ensures.0))) found.3
-          c.seek-node.ensures.block (its_flag fits c.requires.idle);
+      fits = c.in-Ok.ensures.fits;
       tried = (
-        omega (arith, c.in-Some.ensures.slot, t.same_size),
+        t.0,
         (
-          numbered found.0 c.identity-identity.result,
-          record { identity = c.identity-identity.ensures; same = λ e. absurd (cc e) },
-          adds,
+          t.1.0,
+          new_file_so k t.1.1 refl,
+          adds_then (opening_of k) (view_of c.args.pass.now) (view_of c.is_still_full.new.pass) (view_of c.try_slots.new.pass) []
+              ([] ▷ Allocate c.in-Ok.slot t.1.0) DoesNothing DoesNothing no_use one_number (asked_nothing h c.requires.idle) t.1.2,
         ),
       );
-      used = λ n chosen. rw adds.own (subst (λ (k : Start). node_of_number k found.0 ≡ c.seek-node.result) (before.start ∙ s.at.pass.0) found.1
-          ∙ c.seek-node.ensures.kept n (goes.stepped.work ∙ chosen));
-      steps = let few = run.steps in omega arith;
+      used = λ n chosen. c.in-Ok.ensures.used n (h.work ∙ chosen);
+      steps = omega (arith, h.steps, c.in-Ok.ensures.steps);
     }
 
-pub take_out-requires-clause-at : goal.take_out-requires-clause-at
-take_out-requires-clause-at c =
-    let s = c.requires.fits.seated in
-    let goes = asked_not c.args.self.now s.at.pass.0 c.load-word.ensures.2 c.says_full.ensures.1 c.if-says_full.false in
-    let still = c.scan.ensures.none c.in-None.is in
-    (c.args.pass.now.number, still_at_work s.at (does_then (until_put goes c.seek-node.ensures.found c.put_in.ensures.born) still.0))
+pub is_all_full-requires-clause-numbers : goal.is_all_full-requires-clause-numbers
+is_all_full-requires-clause-numbers c =
+    let h : HasAsked c.args.self.now 1 c.args.pass.now false c.is_still_full.new.pass = rw c.if-is_still_full.false at c.is_still_full.ensures in
+    rw c.in-Err.ensures.tried.1.numbers_left (rw h.adds.numbers_left c.requires.numbers)
 
-pub take_out-requires-clause-place : goal.take_out-requires-clause-place
-take_out-requires-clause-place c = let still = c.scan.ensures.none c.in-None.is in
-    (c.args.file, record { work = inr still.0.work; place = still.1 ∙ c.put_in.ensures.place })
-
-pub returns-in-None : goal.returns-in-None
-returns-in-None c =
-    let t = c.args.self.now in
-    let fits = c.requires.fits in
-    let s = fits.seated in
-    let goes = asked_not t s.at.pass.0 c.load-word.ensures.2 c.says_full.ensures.1 c.if-says_full.false in
-    let still = c.scan.ensures.none c.in-None.is in
-    let before = does_then (until_put goes c.seek-node.ensures.found c.put_in.ensures.born) still.0 in
-    let m = c.scan.new.seat.me in
-    let run = at_rest fits (does_then before (subst (λ (w : Work). Runs m [] (rested w) m.0.glance m.0.change 1 c.take_out.new.seat.me)
-    still.0.work c.take_out.ensures.rests)) in
-    let place : HasPlace c.seek-node.result (Some c.args.file) c.scan.new.seat.me =
-    record { work = inr still.0.work; place = still.1 ∙ c.put_in.ensures.place } in
+pub returns-then-is_all_full : goal.returns-then-is_all_full
+returns-then-is_all_full c =
+    let k = c.args.self.now.table.shared.key in
+    let h : HasAsked c.args.self.now 1 c.args.pass.now false c.is_still_full.new.pass = rw c.if-is_still_full.false at c.is_still_full.ensures in
+    let t = c.in-Err.ensures.tried in
+    let before = adds_then (opening_of k) (view_of c.args.pass.now) (view_of c.is_still_full.new.pass) (view_of c.try_slots.new.pass) [] []
+    DoesNothing DoesNothing no_use no_use (asked_nothing h c.requires.idle) t.1 in
+    let sure = rw c.if-is_all_full.true at c.is_all_full.ensures in
     record {
-      fits = still_pass s _ run (refl, refl)
-          (c.take_out.ensures.table ∙ (c.scan.ensures.table ∙ (c.put_in.ensures.table ∙ (c.seek-node.ensures.table ∙ c.load-word.ensures.0))))
-          c.take_out.ensures.empty c.seek-node.ensures.block (its_flag fits c.requires.idle, refl);
-      tried = (c.take_out.ensures.file c.args.file place, adds_so s run no_use);
-      used = λ n chosen. run.work ∙ ap (λ (i : ℕ). Searching i) (c.seek-node.ensures.kept n (goes.stepped.work ∙ chosen));
-      steps = let few = run.steps in omega arith;
+      fits = sure.fits;
+      tried = (
+        t.0,
+        adds_then (opening_of k) (view_of c.args.pass.now) (view_of c.try_slots.new.pass) (view_of c.is_all_full.new.pass) [] ([] ▷ Full)
+            DoesNothing DoesNothing no_use no_use before (asked_full sure t.1.now),
+      );
+      used = λ n chosen. sure.work ∙ c.in-Err.ensures.used n (h.work ∙ chosen);
+      steps = omega (arith, h.steps, c.in-Err.ensures.steps, sure.steps);
+    }
+
+pub returns-else-is_all_full : goal.returns-else-is_all_full
+returns-else-is_all_full c =
+    let k = c.args.self.now.table.shared.key in
+    let h : HasAsked c.args.self.now 1 c.args.pass.now false c.is_still_full.new.pass = rw c.if-is_still_full.false at c.is_still_full.ensures in
+    let t = c.in-Err.ensures.tried in
+    let before = adds_then (opening_of k) (view_of c.args.pass.now) (view_of c.is_still_full.new.pass) (view_of c.try_slots.new.pass) [] []
+    DoesNothing DoesNothing no_use no_use (asked_nothing h c.requires.idle) t.1 in
+    let sure = rw c.if-is_all_full.false at c.is_all_full.ensures in
+    record {
+      fits = sure.fits;
+      tried = (
+        t.0,
+        adds_then (opening_of k) (view_of c.args.pass.now) (view_of c.try_slots.new.pass) (view_of c.is_all_full.new.pass) [] []
+            DoesNothing DoesNothing no_use no_use before (asked_nothing sure t.1.now),
+      );
+      used = λ n chosen. sure.work ∙ c.in-Err.ensures.used n (h.work ∙ chosen);
+      steps = omega (arith, h.steps, c.in-Err.ensures.steps, sure.steps);
     }

@@ -1,4 +1,5 @@
-use Rattle.fx_lasting.proofs.Words.{◌≡◌, ◌≢◌, ◌<◌, ◌^◌, ap, ◌∙◌, sym, arith, rules, None, node_in, slot_of, refl}
+use Rattle.fx_lasting.proofs.Words.{◌≡◌, ◌≢◌, ◌<◌, ◌^◌, ap, ◌∙◌, sym, arith, rules, None, node_in, slot_of, refl, Inside, group_of, range_at_start}
+use Rattle.fx_lasting.proofs.Groups.{in_range_so}
 use Rattle.fx_lasting.proofs.Calling.{slot_inside}
 use Rattle.fx_lasting.proofs.Peeking.{peeks_keep}
 use Rattle.fx_lasting.proofs.Places.{slot_back}
@@ -42,10 +43,15 @@ raise-requires-clause-at c =
     let run = won_run c.requires.placing c.requires.change c.load-old.ensures.2.goes c.compare_exchange-found.ensures.2 won refl in
     (c.requires.at.0, still_at_work c.requires.at.1 run)
 
+pub raise-requires-clause-inside : goal.raise-requires-clause-inside
+raise-requires-clause-inside c = sym (in_range_so (range_at_start c.args.self.now.table.shared.key) c.args.slot c.requires.range.0 c.requires.range.1)
+
 pub raise-requires-clause-change : goal.raise-requires-clause-change
 raise-requires-clause-change c =
     let won : c.compare_exchange-found.result ≡ c.load-old.result = omega (arith, c.if-found-old.false) in
-    (won_run c.requires.placing c.requires.change c.load-old.ensures.2.goes c.compare_exchange-found.ensures.2 won refl).change
+    (won_run c.requires.placing c.requires.change c.load-old.ensures.2.goes c.compare_exchange-found.ensures.2 won
+    (ap slot_of c.slot_place-place.ensures ∙ slot_back c.args.slot)).change
+    ∙ λ i. Inside (group_of (range_at_start (c.requires.at.1.pass.0 i)) c.args.slot)
 
 pub returns-clause-tries : goal.returns-clause-tries
 returns-clause-tries c =

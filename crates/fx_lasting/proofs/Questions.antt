@@ -1,0 +1,119 @@
+-- A pass that asks whether the range is full: what its steps leave, one after another.
+use Rattle.fx_lasting.proofs.Words.{◌≡◌, ℕ, ◌+◌, [], ◌▷◌, Full, subst, Bool, true, false, Sat, Work, Glance, Change, Runs, Survey, Covered, as_asked, sym, ◌∙◌, refl, ap}
+use Rattle.fx_lasting.proofs.Words.{IsAtWork, Start, LastingTable, LastingPass, IsPassOfTable, IsBetweenCalls, groups_in, range_at_start, opening_of}
+use Rattle.fx_lasting.proofs.Words.{view_of, Option, Closed, View, List, Action, arith, HasQuestionOf, pass_in}
+use Rattle.atomic_table.specs.declared.shared.Seat.{Seat}
+use Rattle.fx_table.proofs.Calls.{adds_nothing}
+use Rattle.fx_table.specs.Calls.{Adds, no_use}
+use Rattle.fx_table.specs.Pass.{IsIdle}
+use Rattle.fx_table.specs.declared.values.Doing.{Doing}
+use Rattle.fx_table.specs.declared.values.Doing.TheVariants.{Idle as DoesNothing}
+use Rattle.fx_lasting.specs.Questions.{AsksSo, DecidesIf, HasAsked}
+use Rattle.fx_lasting.proofs.Passing.{adds_run}
+use Rattle.fx_lasting.proofs.Running.{runs_then, runs_none, runs_asked, at_asked, still_at_work, number_is}
+
+-- the question word doesn't have the pass's bit
+pub is_gone : (found : ℕ) {k : Start} {p : ℕ} {m : Sat} {b : Bool} → IsAtWork k p m → (HasQuestionOf found p → b ≡ true) → b ≡ false
+    → HasQuestionOf found (pass_in m).number → ⊥
+is_gone found at says not_so there = let bad : true ≡ false = sym (says (subst (HasQuestionOf found) (number_is at) there)) ∙ not_so in cc bad
+
+-- a pass that has asked so, and makes no step
+pub learns_none : {k : Start} {p : ℕ} {m : Sat} {a : Survey} → IsAtWork k p m → (pass_in m).asked ≡ a → AsksSo a 0 m m
+learns_none at is = let r = runs_none at 0 in record {
+  one = r.one;
+  number = r.number;
+  seen = r.seen;
+  legal = r.legal;
+  own = r.own;
+  steps = r.steps;
+  listed = r.listed;
+  asked = is;
+  work = r.work;
+  inside = r.inside;
+  glance = r.glance;
+  change = r.change;
+  start = r.start;
+}
+
+-- a pass that has asked goes on
+pub learns_then : (m : Sat) {m' m'' : Sat} {a b : Survey} {n n' : ℕ} → AsksSo a n m m' → AsksSo b n' m' m'' → AsksSo b (n + n') m m''
+learns_then m {m' = m'} {m'' = m''} {b = b} {n' = n'} one two = runs_then (runs_asked b one)
+    (subst (λ (z : Work × Glance × Change). Runs (as_asked b m') [] z.0 z.1 z.2 n' m'') (λ i. (one.work i, one.glance i, one.change i)) two)
+
+-- until it decides
+pub tells_then : (m m'' : Sat) {m' : Sat} {a : Survey} {n : ℕ} (groups n' : ℕ) (sure : Bool) → AsksSo a n m m' → DecidesIf groups n' m' sure m''
+    → DecidesIf groups (n + n') m sure m''
+tells_then m m'' {m' = m'} groups n' true one two = runs_then (runs_asked (Covered groups) one)
+    (subst (λ (z : Work × Glance × Change). Runs (as_asked (Covered groups) m') ([] ▷ Full) z.0 z.1 z.2 n' m'')
+    (λ i. (one.work i, one.glance i, one.change i)) two)
+tells_then m m'' groups n' false one two = (two.0, learns_then m one two.1)
+
+-- its seat goes on
+pub learns_at_work : {k : Start} {p : ℕ} {m m' : Sat} {a : Survey} {n : ℕ} → IsAtWork k p m → AsksSo a n m m' → IsAtWork k p m'
+learns_at_work {a = a} at one = still_at_work (at_asked a at) one
+
+-- A pass between calls has asked
+module _ (t : LastingTable) {p : LastingPass} (fits : IsPassOfTable t p) (seat : Seat (Option Closed) View) (table : seat.table_id ≡ p.seat.table_id)
+    (places : seat.me.1 ≡ p.seat.me.1) where
+  abbrev k : Start
+  k = t.table.shared.key
+
+  abbrev q : Bool → LastingPass
+  q b = record p { seat = seat; sure = b }
+
+  module _ (a : Survey) {xs : List Action} {n : ℕ}
+      (run : Runs (as_asked a p.seat.me) xs p.seat.me.0.work p.seat.me.0.glance p.seat.me.0.change n seat.me) (b : Bool)
+      (its : b ≡ true → a ≡ Covered (groups_in (range_at_start k).1)) where
+    adds : Adds (opening_of k) (view_of p) xs (view_of p).doing no_use (view_of (q b))
+    adds = adds_run (as_asked a p.seat.me) fits.seated.at.pass.0 run no_use
+
+    still_fits : IsPassOfTable t (q b)
+    still_fits = record {
+      seated = record {
+        table = table ∙ fits.seated.table;
+        places = places ∙ fits.seated.places;
+        at = still_at_work (at_asked a fits.seated.at) run;
+        change = run.change ∙ fits.seated.change;
+        block = fits.seated.block;
+        listed = fits.seated.listed ∙ sym run.listed;
+        sure = λ is. run.asked ∙ its is;
+      };
+      calm = run.glance ∙ fits.calm;
+      knows = subst (IsBetweenCalls k.passes p.idle p.guarded p.next_visit p.next_node) (sym run.work) fits.knows;
+      front = adds.front;
+    }
+
+  pub has_asked : {n : ℕ} (b : Bool) → DecidesIf (groups_in t.range_len) n p.seat.me b seat.me → HasAsked t n p b (q b)
+  has_asked true tells = let same : groups_in t.range_len ≡ groups_in (range_at_start k).1 = ap (λ (z : ℕ × ℕ). groups_in z.1) t.same_range in record {
+    fits = still_fits (Covered (groups_in t.range_len)) tells true (λ _. ap Covered same);
+    adds = adds (Covered (groups_in t.range_len)) tells true (λ _. ap Covered same);
+    work = tells.work;
+    next = refl;
+    steps = tells.steps;
+  }
+  has_asked false tells = record {
+    fits = still_fits tells.0 tells.1 false (λ is. absurd (cc is));
+    adds = adds tells.0 tells.1 false (λ is. absurd (cc is));
+    work = tells.1.work;
+    next = refl;
+    steps = tells.1.steps;
+  }
+
+-- a pass that isn't sure has asked nothing
+pub has_not_asked : (t : LastingTable) {p : LastingPass} → IsPassOfTable t p → HasAsked t 1 p false p
+has_not_asked t {p} fits = record {
+  fits = fits;
+  adds = adds_nothing (opening_of t.table.shared.key) (view_of p) fits.front;
+  work = refl;
+  next = refl;
+  steps = omega arith;
+}
+
+-- what an idle pass has added
+pub asked_full : {t : LastingTable} {n : ℕ} {p p' : LastingPass} → HasAsked t n p true p' → IsIdle (view_of p)
+    → Adds (opening_of t.table.shared.key) (view_of p) ([] ▷ Full) DoesNothing no_use (view_of p')
+asked_full {t} {p = p} {p' = p'} h idle = subst (λ (d : Doing). Adds (opening_of t.table.shared.key) (view_of p) ([] ▷ Full) d no_use (view_of p')) idle h.adds
+
+pub asked_nothing : {t : LastingTable} {n : ℕ} {p p' : LastingPass} → HasAsked t n p false p' → IsIdle (view_of p)
+    → Adds (opening_of t.table.shared.key) (view_of p) [] DoesNothing no_use (view_of p')
+asked_nothing {t} {p = p} {p' = p'} h idle = subst (λ (d : Doing). Adds (opening_of t.table.shared.key) (view_of p) [] d no_use (view_of p')) idle h.adds

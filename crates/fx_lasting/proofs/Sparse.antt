@@ -1,0 +1,66 @@
+-- A table that is opened with empty slots: its contents, and its first words and places.
+use Rattle.fx_lasting.proofs.Words.{◌≡◌, ℕ, zero, suc, ◌+◌, ◌<◌, ◌≤◌, List, length, sym, refl, ap, ◌∙◌, arith, Option, Some, None, slice_index}
+use Rattle.fx_lasting.proofs.Words.{State, state_of}
+use Rattle.fx_lasting.proofs.Words.{[], false, File, word_for, node_for}
+use Rattle.fx_plain.specs.State.{file_numbered}
+use Rattle.fx_plain.specs.Table.{identity_of}
+use Rattle.fx_lasting.proofs.Words.{full_in, if_full, first_at, AreFirstWords, AreFirstHomes}
+use Rattle.fx_lasting.specs.Layout.{question_place, group_place, group_start, group_len, slot_place, hold_place, node_place, list_place, words_for}
+use Rattle.fx_lasting.specs.Passes.{empty_slots}
+use Rattle.fx_plain.specs.Contents.{file_at}
+use Rattle.fx_plain.specs.State.{vacant}
+use Rattle.fx_plain.proofs.Cells.{read_default}
+use Rattle.std.proofs.lemmas.List.{length-replicate}
+use Rattle.std.proofs.Math.ListN.{replicate}
+
+module _ (size : ℕ) (range : ℕ × ℕ) where
+  abbrev st : State
+  st = state_of (empty_slots size range)
+
+  pub same_size : st.size ≡ size
+  same_size = length-replicate {A = Option ℕ} size None
+
+  none_at : (slot : ℕ) → st.at slot ≡ None
+  none_at slot = ap (λ (x : Option ℕ). file_at [] x) (read_default size slot None)
+
+  pub is_vacant : st ≡ record (vacant size) { range = range }
+  is_vacant = λ i. record {
+    size = same_size i;
+    range = range;
+    at = λ slot. none_at slot i;
+    removed = λ number. None;
+    holds = λ number. 0;
+    fresh = λ number. false;
+  }
+
+  none_first : (slot : ℕ) → first_at st slot ≡ None
+  none_first slot = ap (λ (x : Option File). file_numbered x slot) (none_at slot)
+
+  none_full : (off len : ℕ) → full_in (first_at st) off len ≡ 0
+  none_full off zero = refl
+  none_full off (suc len) = let rest = none_full off len in let here = ap if_full (none_first (off + len)) in omega (arith, rest, here)
+
+  -- all words are 0
+  module _ (passes nodes : ℕ) {words : List ℕ} (are : words ≡ replicate (words_for size passes nodes) 0) where
+    all_zero : (place : ℕ) → slice_index words place ≡ 0
+    all_zero place = ap (λ (l : List ℕ). slice_index l place) are ∙ read_default (words_for size passes nodes) place 0
+
+    pub first_words : AreFirstWords st passes nodes words
+    first_words = record {
+      count = ap (length {A = ℕ}) are
+          ∙ (length-replicate {A = ℕ} (words_for size passes nodes) 0 ∙ ap (λ (n : ℕ). words_for n passes nodes) (sym same_size));
+      entries = λ slot f l there. absurd (let bad : None ≡ Some f = sym (none_first slot) ∙ there in cc bad);
+      question = all_zero question_place;
+      groups = λ group low l. all_zero (group_place group) ∙ sym (none_full (group_start range group) (group_len range.1 group));
+      slot_words = λ slot l. all_zero (slot_place slot) ∙ sym (ap word_for (none_first slot));
+      node_words = λ slot l. all_zero (node_place st.size passes slot) ∙ sym (ap node_for (none_first slot));
+      free = λ node g. all_zero (node_place st.size passes node);
+      lists = λ pass high. all_zero (list_place pass);
+      holds = λ pass low high. all_zero (hold_place st.size pass);
+    }
+
+  pub first_homes : (nodes : ℕ) → AreFirstHomes (empty_slots size range) nodes (replicate nodes None)
+  first_homes nodes = record {
+    count = length-replicate nodes None;
+    files = λ place. read_default nodes place None ∙ sym (ap identity_of (none_at place));
+  }

@@ -1,0 +1,5 @@
+use Rattle.fx_lasting.proofs.QuestionSteps.{begins_keep}
+use Rattle.fx_lasting.proofs.laws.begin_keeps_rule.Goals as goal
+
+pub returns : goal.returns
+returns c = begins_keep

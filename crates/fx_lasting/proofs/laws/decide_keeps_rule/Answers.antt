@@ -1,0 +1,5 @@
+use Rattle.fx_lasting.proofs.QuestionSteps.{decides_keep}
+use Rattle.fx_lasting.proofs.laws.decide_keeps_rule.Goals as goal
+
+pub returns : goal.returns
+returns c = decides_keep

@@ -1,0 +1,38 @@
+use Rattle.fx_lasting.proofs.Words.{◌≡◌, ℕ, ◌+◌, refl, ◌∙◌, subst, arith, Covered, groups_in}
+use Rattle.fx_lasting.specs.Questions.{DecidesIf}
+use Rattle.fx_lasting.proofs.Questions.{learns_none, learns_at_work, learns_then, tells_then}
+use Rattle.fx_lasting.proofs.Running.{runs_within}
+use Rattle.fx_lasting.proofs.table.LastingTable.ask.Goals as goal
+
+pub loop-group-init : goal.loop-group-init
+loop-group-init c = record {
+  table = refl;
+  places = refl;
+  asked = learns_none (learns_at_work c.requires.at c.begin.ensures.asked) c.begin.ensures.asked.asked;
+}
+
+pub is_full-requires-clause-at : goal.is_full-requires-clause-at
+is_full-requires-clause-at c = (c.args.number, learns_at_work (learns_at_work c.requires.at c.begin.ensures.asked) c.loop-group.invariant.asked)
+
+pub is_full-requires-clause-asked : goal.is_full-requires-clause-asked
+is_full-requires-clause-asked c = c.loop-group.invariant.asked.asked
+
+pub loop-group-preserved : goal.loop-group-preserved
+loop-group-preserved c = let i = c.loop-group.invariant in record {
+  table = c.is_full.ensures.table ∙ i.table;
+  places = c.is_full.ensures.places ∙ i.places;
+  asked = learns_then c.begin.new.seat.me i.asked (rw c.if-not-is_full.false at c.is_full.ensures.visits);
+}
+
+pub returns-then-not-is_full-clause-sure : goal.returns-then-not-is_full-clause-sure
+returns-then-not-is_full-clause-sure c = (
+  Covered c.loop-group.group,
+  runs_within (omega (arith, c.loop-group-test.true)) (learns_then c.args.seat.now.me c.begin.ensures.asked
+      (learns_then c.begin.new.seat.me c.loop-group.invariant.asked (rw c.if-not-is_full.true at c.is_full.ensures.visits))),
+)
+
+pub returns-clause-sure : goal.returns-clause-sure
+returns-clause-sure c = let groups = groups_in c.args.self.now.range_len in let m = c.args.seat.now.me in
+    let few : 2 + c.loop-group.group + 1 ≡ groups + 3 = omega (arith, c.loop-group-test.false, c.loop-group.auto.group-end, c.groups_in-group-end.ensures) in
+    subst (λ (n : ℕ). DecidesIf groups n m c.decide.result c.decide.new.seat.me) few
+    (tells_then m c.decide.new.seat.me groups 1 c.decide.result (learns_then m c.begin.ensures.asked c.loop-group.invariant.asked) c.decide.ensures.sure)

@@ -1,0 +1,11 @@
+use Rattle.fx_lasting.proofs.Words.{◌≡◌, Covered}
+use Rattle.fx_lasting.specs.Questions.{AsksSo}
+use Rattle.fx_lasting.proofs.table.LastingTable.ask.Given as goal
+
+-- the groups before this one are visited
+abbrev pub invariant-loop-group : goal.invariant-loop-group
+invariant-loop-group l = record {
+  table : l.seat.table_id ≡ l.initial.seat.table_id;
+  places : l.seat.me.1 ≡ l.initial.seat.me.1;
+  asked : AsksSo (Covered l.group) l.group l.initial.seat.me l.seat.me;
+}

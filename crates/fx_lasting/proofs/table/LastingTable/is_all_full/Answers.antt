@@ -1,0 +1,12 @@
+use Rattle.fx_lasting.proofs.Words.{arith}
+use Rattle.fx_lasting.proofs.Passing.{may_install}
+use Rattle.fx_lasting.proofs.Questions.{has_asked}
+use Rattle.fx_lasting.proofs.table.LastingTable.is_all_full.Goals as goal
+
+pub ask-pass-requires-clause-number : goal.ask-pass-requires-clause-number
+ask-pass-requires-clause-number c = let t = c.args.self.now in
+    omega (arith, may_install c.requires.fits.seated c.requires.numbers, t.key.1, t.bounds.3)
+
+pub returns : goal.returns
+returns c = has_asked c.args.self.now c.requires.fits c.ask-pass.new.seat c.ask-pass.ensures.table c.ask-pass.ensures.places
+    c.ask-pass.result c.ask-pass.ensures.sure

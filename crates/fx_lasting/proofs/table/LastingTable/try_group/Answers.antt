@@ -1,0 +1,37 @@
+use Rattle.fx_lasting.proofs.Words.{◌∙◌, arith, refl, ◌+◌}
+use Rattle.fx_lasting.specs.Tries.{StillPlaces}
+use Rattle.fx_lasting.proofs.Calling.{group_word}
+use Rattle.fx_lasting.proofs.Groups.{group_short}
+use Rattle.fx_lasting.proofs.Peeking.{peeks_keep}
+use Rattle.fx_lasting.proofs.Running.{still_at_work, placed_none}
+use Rattle.fx_lasting.proofs.Trying.{peeked, still_then, allocated_then, still_within, allocated_within}
+use Rattle.fx_lasting.proofs.table.LastingTable.try_group.Goals as goal
+
+pub load-word-requires : goal.load-word-requires
+load-word-requires c = (
+  c.requires.table,
+  group_word c.args.self.now c.requires.group c.group_place.ensures,
+  peeks_keep _ _ _ _ c.args.seat.now.me _ c.requires.at.1.pass,
+)
+
+pub loop-slot-init : goal.loop-slot-init
+loop-slot-init c = let run = peeked c.requires.placing c.load-word.ensures.2.goes in
+    record { table = refl; still = (0, omega arith, (placed_none (still_at_work c.requires.at.1 run) run.work, refl)) }
+
+pub returns-then-try_slot-clause-found : goal.returns-then-try_slot-clause-found
+returns-then-try_slot-clause-found c = let s = c.loop-slot.invariant.still in let goes = c.load-word.ensures.2.goes in
+    let before : StillPlaces c.args.node 1 c.args.seat.now.me c.load-word.new.seat.me = (peeked c.requires.placing goes, goes.carried) in
+    allocated_within (omega (arith, s.1, c.loop-slot-test.true, c.group_len-len.ensures, group_short c.args.self.now.range_len c.args.group))
+    (allocated_then before (allocated_then s.2 (rw c.if-try_slot.true at c.try_slot.ensures.tries)))
+
+pub loop-slot-preserved : goal.loop-slot-preserved
+loop-slot-preserved c = let s = c.loop-slot.invariant.still in record {
+  table = c.try_slot.ensures.table ∙ c.loop-slot.invariant.table;
+  still = (s.0 + 3, omega (arith, s.1, c.loop-slot.auto.slot), still_then s.2 (rw c.if-try_slot.false at c.try_slot.ensures.tries));
+}
+
+pub returns-clause-none : goal.returns-clause-none
+returns-clause-none c none = let s = c.loop-slot.invariant.still in let goes = c.load-word.ensures.2.goes in
+    let before : StillPlaces c.args.node 1 c.args.seat.now.me c.load-word.new.seat.me = (peeked c.requires.placing goes, goes.carried) in
+    still_within (omega (arith, s.1, c.loop-slot.auto.slot, c.loop-slot.auto.slot-end, c.group_len-len.ensures, group_short c.args.self.now.range_len c.args.group))
+    (still_then before s.2)
