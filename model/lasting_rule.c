@@ -9,16 +9,22 @@
 
 #include "lasting_table.h"
 
-enum { REQUESTS = LOOK | PUT | REMOVE };
+enum { CHANGES = PUT | REMOVE | PUT_ANY, REQUESTS = LOOK | PUT | REMOVE };
 
 static const struct family families[] = {
-    {"two passes, one slot, hot after 1 take", 2, 1, 1, false, {REQUESTS, REQUESTS}},
-    {"two passes, one slot, hot after 2 takes", 2, 1, 2, false, {REQUESTS, REQUESTS}},
-    {"two passes, one slot, hot after 3 takes", 2, 1, 3, false, {REQUESTS, REQUESTS}},
-    {"two passes, one slot in the range", 2, 1, 1, true, {REQUESTS | PUT_ANY, REQUESTS | PUT_ANY}},
-    {"two passes, two slots in the range, one allocates", 2, 2, 1, true, {PUT_ANY, PUT | REMOVE}},
-    {"three passes, one slot in the range, that allocate and remove", 3, 1, 1, true, {PUT_ANY, PUT_ANY, REMOVE}},
-    {"three passes, one slot, hot after 1 take", 3, 1, 1, false, {LOOK | PUT, REMOVE, LOOK}},
+    {"two passes, files without nodes, two groups of a slot", 2, 2, 1, 1, {CHANGES, CHANGES}, true},
+    {"two passes, files without nodes, a group of two slots", 2, 2, 1, 2, {CHANGES, CHANGES}, true},
+    {"two passes, one slot, hot after 1 take", 2, 1, 1, 0, {REQUESTS, REQUESTS}, false},
+    {"two passes, one slot, hot after 2 takes", 2, 1, 2, 0, {REQUESTS, REQUESTS}, false},
+    {"two passes, one slot, hot after 3 takes", 2, 1, 3, 0, {REQUESTS, REQUESTS}, false},
+    {"two passes, one slot in the range", 2, 1, 1, 1, {REQUESTS | PUT_ANY, REQUESTS}, false},
+    {"two passes, two slots in the range, one allocates", 2, 2, 1, 1, {PUT_ANY, PUT | REMOVE}, false},
+    {"three passes, one slot in the range, that allocate and remove", 3, 1, 1, 1, {PUT_ANY, PUT_ANY, REMOVE}, false},
+    {"three passes, one slot, hot after 1 take", 3, 1, 1, 0, {LOOK | PUT, REMOVE, LOOK}, false},
+    {"two passes, files without nodes, a group of two slots and one of one", 2, 3, 1, 2, {CHANGES, CHANGES}, true},
+    {"two passes, files without nodes, two groups of two slots", 2, 4, 1, 2, {CHANGES, CHANGES}, true},
+    {"two passes, files without nodes, three groups of a slot", 2, 3, 1, 1, {CHANGES, CHANGES}, true},
+    {"three passes, files without nodes, two groups of a slot", 3, 2, 1, 1, {CHANGES, CHANGES, CHANGES}, true},
 };
 
 static const char *const wrong_names[] = { TABLES(AS_NAME) };
@@ -102,7 +108,7 @@ static void check_pass(const struct state *s, int who) {
     const struct pass *it = &s->pass[who];
     bool is_look = it->call == LOOK, is_put = it->call == PUT && it->step != SEEK;
     int words = (family->passes + PER_WORD - 1) / PER_WORD;
-    int most = is_look ? 8 : it->call == RELEASE ? 3 : it->call == REMOVE ? 3 : is_put ? 3 : 2 * family->passes + words;
+    int most = is_look ? 8 : it->call == RELEASE ? 3 : it->call == REMOVE ? 5 : is_put ? 3 : 2 * family->passes + words;
     want(it->call == PUT_ANY || it->step == SEEK || it->steps + (is_look ? 1 : 0) < most || it->step == IDLE, "a call has too many steps");
     int hold = s->hold[who] & ~MARK;
     bool has_bit = s->list[who / PER_WORD] >> who % PER_WORD & 1;
@@ -111,28 +117,62 @@ static void check_pass(const struct state *s, int who) {
          "a hold word names what its pass doesn't announce");
 }
 
+/* Checks the words of the range. A wrong table of them is judged by its answers, and at rest. */
+static void check_range(const struct state *s, int group) {
+    int from = group * family->group_len, full = 0, uncounted = 0;
+    bool is_idle = true;
+    for (int slot = from; slot < from + family->group_len && slot < family->slots; slot++) {
+        full += s->named[slot] != 0;
+    }
+    for (int who = 0; who < family->passes; who++) {
+        const struct pass *it = &s->pass[who];
+        uncounted += is_uncounted(it) && group_of(it->slot) == group;
+        is_idle &= it->step == IDLE;
+    }
+    want(!is_idle || s->count[group] == full, "all passes are idle, and the word of a group is wrong");
+    want(s->count[group] + uncounted == full || wrong >= WRONG_RANGES, "the word of a group is wrong");
+}
+
+/* Checks a question whose bit is there: the groups that its pass has visited are full, and no
+ * removal in them is past its own load. */
+static void check_question(const struct state *s, int who) {
+    const struct pass *it = &s->pass[who];
+    bool asks = it->step == COUNT || it->step == DECIDE, holds = true;
+    int end = it->is_sure ? family->slots : asks ? it->next * family->group_len : 0;
+    if (!(s->question & bit_of(who)) || wrong >= WRONG_RANGES) {
+        return;
+    }
+    for (int slot = 0; slot < end && slot < family->slots; slot++) {
+        holds &= s->named[slot] != 0;
+    }
+    for (int other = 0; other < family->passes; other++) {
+        const struct pass *its = &s->pass[other];
+        holds &= its->call != REMOVE || its->step != SWAP || its->slot >= end;
+    }
+    want(holds, "a bit is there, and a slot that its pass found full is empty or may become so");
+}
+
 static void check_state(const void *state) {
     const struct state *s = state;
-    int uncounted = 0, full = 0;
     for (int node = 0; node < family->passes * block; node++) {
         check_node(s, node);
     }
     for (int who = 0; who < family->passes; who++) {
-        const struct pass *it = &s->pass[who];
         check_pass(s, who);
-        uncounted += is_uncounted(it);
+        check_question(s, who);
     }
     for (int slot = 0; slot < family->slots; slot++) {
-        full += family->in_range && s->named[slot] != 0;
         want(s->heat[slot] <= family->passes, "a pass heats a slot twice");
     }
-    want((int8_t)s->full + uncounted == full, "the control word is wrong");
+    for (int group = 0; family->group_len && group <= group_of(family->slots - 1); group++) {
+        check_range(s, group);
+    }
 }
 
 static const char *begin_family(int which, int table, void *state) {
     family = &families[which];
     wrong = table;
-    block = family->slots + family->passes - (table == block_one_node_too_small);
+    block = family->without_nodes ? 0 : family->slots + family->passes - (table == block_one_node_too_small);
     memset(state, 0, sizeof(struct state));
     return family->name;
 }

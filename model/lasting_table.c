@@ -30,25 +30,18 @@ static void close_file(struct state *s, int node) {
 static void install(struct state *s, const struct pass *it) {
     s->named[it->slot] = it->node + 1;
     s->takes[it->slot] = s->heat[it->slot] = 0;
-    s->file[it->node] = AT_SLOT;
-    s->place[it->node] = OPEN_FILE;
-}
-
-static bool has_full_range(const struct state *s) {
-    for (int slot = 0; slot < family->slots; slot++) {
-        if (family->in_range && s->named[slot] == 0) {
-            return false;
-        }
+    if (block) {
+        s->file[it->node] = AT_SLOT;
+        s->place[it->node] = OPEN_FILE;
     }
-    return true;
 }
 
 /* Calls */
 
-/* Begins a call of the pass, or ends one (`call` 0). What it holds stays. */
-static void begin_call(struct pass *it, int call, enum step step) {
+void begin_call(struct pass *it, int call, enum step step) {
     struct pass next = {
-        .step = step, .call = call, .slot = it->slot, .node = it->node, .holds = it->holds, .is_listed = it->is_listed
+        .step = step, .call = call, .slot = it->slot, .node = it->node, .holds = it->holds,
+        .is_listed = it->is_listed, .is_sure = it->is_sure
     };
     if (call == 0) {
         next.slot = next.node = 0;
@@ -200,7 +193,7 @@ static void go_on(struct pass *it, int who) {
 static void skim(struct state *s, struct pass *it, int who) {
     it->last = s->list[it->words++];
     if (it->call != RETIREMENT && wrong == skimmed_before_the_swap) {
-        it->step = family->in_range ? LOWER : SWAP;
+        it->step = first_of_removal();
     } else {
         go_on(it, who);
     }
@@ -211,10 +204,10 @@ static void visit_next(struct pass *it, int who) {
     go_on(it, who);
 }
 
-/* A swap, with the count of its slot, is over: its pass retires what it found. */
-static void retire_found(struct pass *it, int who) {
+/* After a swap the pass retires what it found. */
+void end_change(struct pass *it, int who) {
     struct pass found = *it;
-    if (found.takes == UINT8_MAX) {
+    if (found.call == PUT_ANY || found.takes == UINT8_MAX) {
         begin_call(it, 0, IDLE);
         return;
     }
@@ -235,26 +228,15 @@ static void swap(struct state *s, struct pass *it, int who) {
     } else {
         s->named[it->slot] = s->takes[it->slot] = s->heat[it->slot] = 0;
     }
-    if (found) {
+    if (found && block) {
         s->file[found - 1] = REMOVED;
         it->node = found - 1;
     }
-    it->takes = found ? takes : UINT8_MAX;
+    it->takes = found && block ? takes : UINT8_MAX;
     it->heat = heat > 0;
-    bool is_late = it->call == PUT ? wrong == counted_before_it_is_full : wrong == counted_until_it_is_empty;
-    it->step = is_late ? LOWER_LATE : RAISE;
-    if (!family->in_range || is_late == (found == 0)) {
-        retire_found(it, who);
-    }
-}
-
-/* Adds a slot to the count of full slots: it was empty when a swap or an exchange wrote it. */
-static void raise_count(struct state *s, struct pass *it, int who) {
-    s->full++;
-    if (it->call == PUT_ANY) {
-        begin_call(it, 0, IDLE);
-    } else {
-        retire_found(it, who);
+    it->step = after_swap(it, found == 0);
+    if (it->step == IDLE) {
+        end_change(it, who);
     }
 }
 
@@ -308,41 +290,30 @@ static void seek(struct state *s, struct pass *it, int who) {
     want(++it->tried < block, "no node of a block is free");
 }
 
+static enum step after_birth(const struct pass *it) {
+    bool is_early = wrong == raise_before_the_fill && family->group_len;
+    return it->call == PUT_ANY ? PEEK : is_early ? RAISE_EARLY : SWAP;
+}
+
 static void birth(struct state *s, struct pass *it) {
     want(s->file[it->node] == NO_FILE && s->place[it->node] == NOTHING, "a pass gets the place of a node that isn't free");
     s->word[it->node] = BORN;
     s->file[it->node] = PLACED;
     s->place[it->node] = WITH_PASS;
-    bool is_early = wrong == counted_before_it_is_full && family->in_range;
-    it->step = it->call == PUT_ANY ? PEEK : is_early ? RAISE_EARLY : SWAP;
+    it->step = after_birth(it);
 }
 
-/* An allocation: it asks whether the range is full, goes over the range from any slot on, gives its
- * node back, and asks again. */
-
-static void ask(struct state *s, struct pass *it) {
-    bool is_full = s->full == (family->in_range ? family->slots : 0);
-    bool is_changed = false;
-    for (int who = 0; who < family->passes; who++) {
-        is_changed |= is_uncounted(&s->pass[who]);
-    }
-    want(!is_full || has_full_range(s), "an allocation returns that the range is full, and a slot is empty");
-    want(is_full || is_changed || !has_full_range(s), "the range is full, nobody changes it, and an allocation doesn't return so");
-    if (is_full) {
-        begin_call(it, 0, IDLE);
-    } else {
-        it->step = SEEK;
-    }
+void begin_installation(struct pass *it) {
+    it->step = block ? SEEK : after_birth(it);
 }
 
-static void peek_next(struct pass *it) {
-    it->slot = (it->slot + 1) % family->slots;
-    it->step = it->slot == it->from ? REST_UNUSED : PEEK;
+enum step after_scan(void) {
+    return block ? REST_UNUSED : BEGIN;
 }
 
 static void peek(struct state *s, struct pass *it) {
     if (s->named[it->slot]) {
-        peek_next(it);
+        it->step = next_of_scan(it);
         return;
     }
     it->takes = s->takes[it->slot];
@@ -355,56 +326,43 @@ static void exchange(struct state *s, struct pass *it) {
     it->takes = it->heat = 0;
     if (wins) {
         install(s, it);
+        it->next = 0;
         it->step = RAISE;
     } else {
-        peek_next(it);
+        it->step = next_of_scan(it);
     }
 }
 
 /* Steps */
 
-bool is_uncounted(const struct pass *it) {
-    return it->step == RAISE || (it->step == SWAP && it->call == REMOVE && family->in_range);
+/* Begins a call at a slot, and makes the first step of all but a removal. */
+static void begin_at(struct state *s, struct pass *it, int who, int call, int slot) {
+    begin_call(it, call, call == REMOVE ? first_of_removal() : DECIDE_FIRST);
+    it->slot = it->from = slot;
+    it->is_alone = call == PUT_ANY;
+    if (call == LOOK) {
+        glance(s, it);
+    } else if (call == REMOVE && wrong == scan_before_the_swap && s->named[slot] && s->heat[slot]) {
+        it->node = s->named[slot] - 1;
+        go_on(it, who);
+    } else if (call == REMOVE && wrong == skimmed_before_the_swap && s->heat[slot]) {
+        it->step = SKIM;
+    } else if (call == PUT || (call == PUT_ANY && !it->is_sure)) {
+        begin_installation(it);
+    }
 }
 
-/* The first step of a call on a slot; a search may begin at each node of the pass's block. */
+/* Begins a call in the `nth` way: a search may begin at each node of the pass's block. */
 static bool begin_nth(struct state *s, struct pass *it, int who, int nth) {
-    int calls = family->calls[who];
-    if ((calls & LOOK) && nth < family->slots) {
-        it->slot = nth;
-        begin_call(it, LOOK, IDLE);
-        glance(s, it);
-        return true;
-    }
-    nth -= calls & LOOK ? family->slots : 0;
-    if ((calls & REMOVE) && nth < family->slots) {
-        it->slot = nth;
-        begin_call(it, REMOVE, family->in_range && wrong != counted_until_it_is_empty ? LOWER : SWAP);
-        if (wrong == scan_before_the_swap && s->named[nth] && s->heat[nth]) {
-            it->node = s->named[nth] - 1;
-            go_on(it, who);
+    for (int call = LOOK; call <= PUT_ANY; call *= 2) {
+        bool searches = block && (call == PUT || call == PUT_ANY);
+        int ways = family->calls[who] & call ? family->slots * (searches ? block : 1) : 0;
+        if (nth < ways) {
+            begin_at(s, it, who, call, nth % family->slots);
+            it->nth = nth / family->slots;
+            return call == LOOK || call == REMOVE || take_step(s, who, 0);
         }
-        if (wrong == skimmed_before_the_swap && s->heat[nth]) {
-            it->step = SKIM;
-        }
-        return true;
-    }
-    nth -= calls & REMOVE ? family->slots : 0;
-    if ((calls & PUT) && nth < family->slots * block) {
-        it->slot = nth % family->slots;
-        begin_call(it, PUT, SEEK);
-        it->nth = nth / family->slots;
-        seek(s, it, who);
-        return true;
-    }
-    nth -= calls & PUT ? family->slots * block : 0;
-    if ((calls & PUT_ANY) && nth < family->slots * block) {
-        it->slot = nth % family->slots;
-        begin_call(it, PUT_ANY, ASK);
-        it->from = it->slot;
-        it->nth = nth / family->slots;
-        ask(s, it);
-        return true;
+        nth -= ways;
     }
     return false;
 }
@@ -454,22 +412,19 @@ bool take_step(void *state, int who, int nth) {
         s->file[it->node] = NO_FILE;
         rest(s, it);
         it->node = 0;
-        it->step = ASK;
+        it->step = BEGIN;
         break;
     case SEEK: seek(s, it, who); break;
     case BIRTH: birth(s, it); break;
-    case LOWER: s->full--; it->step = SWAP; break;
-    case RAISE_EARLY: s->full++; it->step = SWAP; break;
     case SWAP: swap(s, it, who); break;
-    case RAISE: raise_count(s, it, who); break;
-    case LOWER_LATE: s->full--; retire_found(it, who); break;
     case SKIM: skim(s, it, who); break;
     case VISIT: visit(s, it, who); break;
     case MARK_HOLD: mark_hold(s, it, who); break;
     case RETIRE: retire(s, it); break;
     case PEEK: peek(s, it); break;
     case EXCHANGE: exchange(s, it); break;
-    case ASK: ask(s, it); break;
+    default: take_step_of_range(s, it, who); break;
     }
+    note_changes(s);
     return true;
 }

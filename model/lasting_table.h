@@ -1,10 +1,10 @@
-/* The lasting table's words and passes as lasting_table.c changes them and lasting_rule.c checks
- * them. */
+/* The lasting table's words and passes, as lasting_table.c and lasting_range.c change them and
+ * lasting_rule.c checks them. */
 #include "step_table.h"
 
 /* A word of the list has the bits of PER_WORD passes, and not of 64, so that a round loads two
  * words. */
-enum { MOST_SLOTS = 2, MOST_NODES = 12, PER_WORD = 2, MOST_WORDS = (MOST_PASSES + PER_WORD - 1) / PER_WORD };
+enum { MOST_SLOTS = 4, MOST_GROUPS = 3, MOST_NODES = 12, PER_WORD = 2, MOST_WORDS = (MOST_PASSES + PER_WORD - 1) / PER_WORD };
 
 /* The words of a node, where 64 is 2^32 + 1, and the mark of a hold word. */
 enum { FREE = 0, CLOSED = 1, LAST = 2, BORN = 64, MARK = 128 };
@@ -14,12 +14,13 @@ enum { NOTHING, OPEN_FILE, WITH_PASS };
 enum { NO_FILE, PLACED, AT_SLOT, REMOVED };
 
 /* The calls of a pass. A family names by a sum the calls that an idle pass may make. */
-enum { LOOK = 1, PUT = 2, REMOVE = 4, PUT_ANY = 8, RELEASE = 16, RETIREMENT = 32 };
+enum { LOOK = 1, REMOVE = 2, PUT = 4, PUT_ANY = 8, RELEASE = 16, RETIREMENT = 32 };
 
 /* The next step of a pass. */
 enum step {
     IDLE, LIST, ANNOUNCE, CONFIRM, WITHDRAW, DROP_OWED, REST_OF_LOOK, TAKE, HEAT, GUARDED, COUNTED, DROP_YIELDED, REST,
-    SEEK, BIRTH, LOWER, SWAP, RAISE, SKIM, VISIT, MARK_HOLD, RETIRE, PEEK, EXCHANGE, ASK, REST_UNUSED, RAISE_EARLY, LOWER_LATE
+    SEEK, BIRTH, LOWER, CHECK, BREAK, SWAP, RAISE, SKIM, VISIT, MARK_HOLD, RETIRE, PEEK, EXCHANGE, PEEK_GROUP, REST_UNUSED,
+    DECIDE_FIRST, BEGIN, ASK, COUNT, DECIDE, RAISE_EARLY, LOWER_LATE
 };
 
 /* The right table and wrong ones: each is the right one with one change. */
@@ -28,33 +29,42 @@ enum step {
     X(birth_in_another_block) X(scan_before_the_swap) X(mark_by_a_store) X(no_second_look) \
     X(announced_after_the_second_look) X(withdrawal_by_a_store) X(release_by_a_store) X(failed_marks_counted) \
     X(hot_not_asked_at_the_second_look) X(takes_left_out_of_a_retirement) X(last_pass_not_visited) X(no_visits) \
-    X(closed_one_too_early) X(closed_one_too_late) X(slot_never_heated) X(counted_before_it_is_full) \
-    X(counted_until_it_is_empty) X(listed_after_the_second_look) X(skimmed_before_the_swap) X(listed_by_a_store) \
-    X(listed_at_each_look) X(heat_counts_two)
-enum wrong { TABLES(AS_MEMBER) WRONG_TABLES };
+    X(closed_one_too_early) X(closed_one_too_late) X(slot_never_heated) X(listed_after_the_second_look) \
+    X(skimmed_before_the_swap) X(listed_by_a_store) X(listed_at_each_look) X(heat_counts_two) \
+    X(question_is_loaded_once) X(question_is_loaded_before_the_lower) X(question_is_not_cleared) \
+    X(question_is_cleared_after_the_swap) X(cleared_only_at_a_full_group) X(cleared_by_one_exchange) \
+    X(one_bit_is_cleared_alone) X(raise_before_the_fill) X(lower_after_the_swap) X(no_lower) X(raise_in_another_group) \
+    X(empty_removal_is_not_raised) X(replaced_slot_is_counted) X(old_full_is_kept) X(bit_is_set_after_the_visits) \
+    X(one_bit_for_all_askers) X(last_group_is_not_visited) X(group_is_skipped_too_early)
+enum wrong { TABLES(AS_MEMBER) WRONG_TABLES, WRONG_RANGES = question_is_loaded_once };
 
 struct family {
     const char *name;
     int passes, slots;
     /* After so many takes a file's slot is made hot. */
     int cold_takes;
-    /* The slots are the allocation range; otherwise no slot is in it. */
-    bool in_range;
+    /* The slots are the range, in groups of this length; 0 if no slot is in the range. */
+    int group_len;
     int calls[MOST_PASSES];
+    /* A file needs no node, so that the words of the range alone change. */
+    bool without_nodes;
 };
 
 struct pass {
     uint8_t step, call, slot, node, takes, next, marks;
-    /* The words of the list that a round has loaded, and the last of them. */
+    /* The words of the list that a round has loaded, and the last word of them or the question. */
     uint8_t words, last;
     /* The pass is listed. */
     uint8_t is_listed;
+    /* The last question found the range full. In the model: since the call began, no other pass has
+     * changed the range. */
+    uint8_t is_sure, is_alone;
     /* The place of a search in the pass's block, and the nodes that it found taken; the slot at
      * which a scan began. */
     uint8_t nth, tried, from;
     /* The heat that a look at an empty slot found; after a swap 1 if the slot was hot. */
     uint8_t heat;
-    /* The atomic steps of the call so far; 0 in an allocation, which may go on without end. */
+    /* The atomic steps of the call so far; 0 in an allocation. */
     uint8_t steps;
     /* In the model: the node of the file that the pass holds, plus 1, or 0. */
     uint8_t holds;
@@ -68,8 +78,9 @@ struct state {
     /* The bits of the passes that ever looked a file up. */
     uint8_t list[MOST_WORDS];
     uint8_t word[MOST_NODES], place[MOST_NODES], file[MOST_NODES];
-    /* The control word: the full slots that are counted, as a signed byte. */
-    uint8_t full;
+    /* The full slots of each group that are counted, and the question word: the bits of passes. */
+    int8_t count[MOST_GROUPS];
+    uint8_t question;
     struct pass pass[MOST_PASSES];
 };
 
@@ -80,5 +91,25 @@ extern int block;
 /* Makes one step of a pass, as a `step_table` says. */
 bool take_step(void *state, int who, int nth);
 
-/* Returns whether the control word counts one full slot too few, on the account of the pass. */
+/* Begins a call of the pass, or ends one (`call` 0). What it holds stays. */
+void begin_call(struct pass *it, int call, enum step step);
+/* Goes on with an installation at its first step that isn't a question, or ends a scan. */
+void begin_installation(struct pass *it);
+enum step after_scan(void);
+/* Ends a swap or an exchange, once its slot is counted. */
+void end_change(struct pass *it, int who);
+
+/* Makes a step of lasting_range.c. */
+void take_step_of_range(struct state *s, struct pass *it, int who);
+/* Notes for each pass whether it meets a change of the range. */
+void note_changes(struct state *s);
+/* The step of a scan after a slot or a group that is full. */
+enum step next_of_scan(struct pass *it);
+/* The first step of a removal, and the step after its swap or that of an installation, or IDLE. */
+enum step first_of_removal(void);
+enum step after_swap(const struct pass *it, bool was_empty);
+/* Returns whether the words count one full slot too few, on the account of the pass. */
 bool is_uncounted(const struct pass *it);
+/* Returns the bit of a pass in the question word, and the group of a slot. */
+int bit_of(int who);
+int group_of(int slot);

@@ -24,7 +24,7 @@ void want(bool holds, const char *otherwise) {
  * list. */
 
 struct state {
-    unsigned char bytes[MOST_STATE];
+    uint64_t words[MOST_STATE / sizeof(uint64_t)];
 };
 
 static struct { uint64_t *prints; size_t room, used; } seen;
@@ -32,8 +32,8 @@ static struct { struct state *states; size_t room, next, count; } queue;
 
 static uint64_t print_of(const struct state *s, size_t size) {
     uint64_t print = 0x9E3779B97F4A7C15u;
-    for (size_t at = 0; at < size; at++) {
-        print = (print ^ s->bytes[at]) * 0x100000001B3u;
+    for (size_t at = 0; at * sizeof *s->words < size; at++) {
+        print = (print ^ s->words[at]) * 0x9E3779B97F4A7C15u;
         print ^= print >> 29;
     }
     return print ? print : 1;
@@ -101,9 +101,9 @@ static long go_on(const struct step_table *table, const struct state *s) {
     long steps = 0;
     for (int who = 0; who < MOST_PASSES; who++) {
         struct state next = *s;
-        for (int nth = 0; fault == NULL && table->take_step(next.bytes, who, nth); nth++) {
+        for (int nth = 0; fault == NULL && table->take_step(next.words, who, nth); nth++) {
             if (fault == NULL) {
-                table->check(next.bytes);
+                table->check(next.words);
             }
             push(&next, table->state_size);
             next = *s;
@@ -117,16 +117,21 @@ static long go_on(const struct step_table *table, const struct state *s) {
  * the family if it is the right table's. */
 static bool explore(const struct step_table *table, int family, int wrong) {
     struct state first = {{0}};
-    long steps = 0;
+    long steps = 0, done = 0, nearer = 0, depth = 0;
     fault = NULL;
-    const char *name = table->begin(family, wrong, first.bytes);
+    const char *name = table->begin(family, wrong, first.words);
     push(&first, table->state_size);
-    while (queue.next < queue.count && fault == NULL) {
+    for (; queue.next < queue.count && fault == NULL; done++) {
+        if (done == nearer) {
+            /* all states of so many steps were gone on from */
+            nearer = seen.used;
+            depth++;
+        }
         struct state s = queue.states[queue.next++];
         steps += go_on(table, &s);
     }
     if (wrong && fault != NULL) {
-        printf("%s, %s: %s\n", table->name, table->wrong_names[wrong], fault);
+        printf("%s, %s, in %ld steps: %s\n", table->name, table->wrong_names[wrong], depth, fault);
     } else if (!wrong) {
         printf("%s, %s: %zu states, %ld steps%s%s\n", table->name, name, seen.used, steps, fault ? ": " : "", fault ? fault : "");
     }

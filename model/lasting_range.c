@@ -1,0 +1,186 @@
+/* The steps on the lasting table's allocation range, by docs/INTERNALS.md.
+ *
+ * A word for each group of slots counts its full slots. The question word has a bit for each pass
+ * that asked whether the range is full, until a removal breaks the questions: each removal checks
+ * the word before it empties its slot, and clears it unless it is 0. So the range is full at a step
+ * at which a pass finds its bit there, if it found each group full after it had set the bit. */
+#include "lasting_table.h"
+
+int group_of(int slot) {
+    return slot / family->group_len;
+}
+
+/* The number of groups; the last one may have fewer slots than the others. */
+static int groups(void) {
+    return group_of(family->slots - 1) + 1;
+}
+
+static bool is_full(const struct state *s, int group) {
+    int left = family->slots - group * family->group_len;
+    return s->count[group] == (left < family->group_len ? left : family->group_len);
+}
+
+int bit_of(int who) {
+    return wrong == one_bit_for_all_askers ? 1 : 1 << who;
+}
+
+bool is_uncounted(const struct pass *it) {
+    bool is_lowered = it->step == CHECK || it->step == BREAK || it->step == SWAP;
+    return it->step == RAISE || (is_lowered && it->call == REMOVE && family->group_len);
+}
+
+/* Returns whether the pass is in a change of the range, after which the words are exact. */
+static bool is_changing(const struct pass *it) {
+    return is_uncounted(it) || it->step == LOWER_LATE || (it->step == SWAP && wrong == raise_before_the_fill);
+}
+
+void note_changes(struct state *s) {
+    int changing = 0;
+    for (int who = 0; who < family->passes; who++) {
+        changing += is_changing(&s->pass[who]);
+    }
+    for (int who = 0; who < family->passes; who++) {
+        s->pass[who].is_alone &= changing == is_changing(&s->pass[who]);
+    }
+}
+
+/* Changes of the range */
+
+enum step first_of_removal(void) {
+    bool loads = wrong == question_is_loaded_before_the_lower || wrong == lower_after_the_swap || wrong == no_lower;
+    return !family->group_len ? SWAP : loads ? CHECK : LOWER;
+}
+
+enum step after_swap(const struct pass *it, bool was_empty) {
+    bool installs = it->call == PUT;
+    if (!family->group_len) {
+        return IDLE;
+    }
+    if (installs ? wrong == raise_before_the_fill : wrong == lower_after_the_swap) {
+        return was_empty ? IDLE : LOWER_LATE;
+    }
+    if (!installs && !was_empty && wrong == question_is_cleared_after_the_swap) {
+        return CHECK;
+    }
+    bool raises = installs ? was_empty || wrong == replaced_slot_is_counted
+        : was_empty && wrong != empty_removal_is_not_raised && wrong != no_lower;
+    return raises ? RAISE : IDLE;
+}
+
+static void lower(struct state *s, struct pass *it) {
+    bool was_full = is_full(s, group_of(it->slot));
+    s->count[group_of(it->slot)]--;
+    bool loads = wrong != question_is_loaded_before_the_lower && wrong != question_is_cleared_after_the_swap
+        && (wrong != cleared_only_at_a_full_group || was_full);
+    it->step = loads ? CHECK : SWAP;
+}
+
+static void raise(struct state *s, struct pass *it, int who) {
+    s->count[(group_of(it->slot) + (wrong == raise_in_another_group)) % groups()]++;
+    end_change(it, who);
+}
+
+static void go_on(struct pass *it, int who) {
+    it->last = 0;
+    if (wrong == question_is_cleared_after_the_swap) {
+        end_change(it, who);
+    } else {
+        it->step = wrong == question_is_loaded_before_the_lower ? LOWER : SWAP;
+    }
+}
+
+static void check(const struct state *s, struct pass *it, int who) {
+    it->last = wrong == cleared_by_one_exchange ? s->question : 0;
+    if (s->question && wrong != question_is_not_cleared) {
+        it->step = BREAK;
+    } else {
+        go_on(it, who);
+    }
+}
+
+static void break_question(struct state *s, struct pass *it, int who) {
+    if (wrong == one_bit_is_cleared_alone) {
+        s->question &= s->question - 1;
+    } else if (wrong != cleared_by_one_exchange || s->question == it->last) {
+        s->question = 0;
+    }
+    go_on(it, who);
+}
+
+/* An allocation: a pass that found the range full first decides whether it still is. Else it tries
+ * one slot, and then each slot of each group that isn't full, from that slot's group on. If none is
+ * empty, the pass returns its node and asks. */
+
+enum step next_of_scan(struct pass *it) {
+    bool is_begun = it->next > 0, is_over = it->next == groups();
+    int from = group_of(it->from) + it->next;
+    if (is_begun && it->step != PEEK_GROUP && it->slot + 1 < family->slots && group_of(it->slot + 1) == group_of(it->slot)) {
+        it->slot++;
+        return PEEK;
+    }
+    it->slot = is_over ? it->from : from % groups() * family->group_len;
+    it->next = is_over ? 0 : it->next + 1;
+    return is_over ? after_scan() : PEEK_GROUP;
+}
+
+static void peek_group(const struct state *s, struct pass *it) {
+    bool skips = is_full(s, group_of(it->slot)) || (wrong == group_is_skipped_too_early && s->count[group_of(it->slot)] > 0);
+    it->step = skips ? next_of_scan(it) : PEEK;
+}
+
+static void answer(const struct state *s, struct pass *it, bool is_full) {
+    for (int slot = 0; slot < family->slots; slot++) {
+        want(!is_full || s->named[slot], "an allocation returns that the range is full, and a slot is empty");
+    }
+    want(is_full || !it->is_alone, "nobody else changes the range, and an allocation finds no slot and doesn't return that it is full");
+    it->is_sure = is_full || (wrong == old_full_is_kept && it->is_sure);
+    begin_call(it, 0, IDLE);
+}
+
+static void decide_first(const struct state *s, struct pass *it, int who) {
+    if (s->question & bit_of(who)) {
+        answer(s, it, true);
+    } else {
+        it->is_sure = wrong == old_full_is_kept;
+        begin_installation(it);
+    }
+}
+
+static void begin_question(const struct state *s, struct pass *it, int who) {
+    it->step = (s->question & bit_of(who)) || wrong == bit_is_set_after_the_visits ? COUNT : ASK;
+}
+
+static void ask(struct state *s, struct pass *it, int who) {
+    s->question += bit_of(who);
+    it->step = wrong == bit_is_set_after_the_visits ? DECIDE : COUNT;
+}
+
+static void count_group(const struct state *s, struct pass *it, int who) {
+    bool has_bit = s->question & bit_of(who);
+    if (!is_full(s, it->next)) {
+        answer(s, it, false);
+    } else if (++it->next == groups() - (wrong == last_group_is_not_visited)) {
+        it->step = wrong == bit_is_set_after_the_visits && !has_bit ? ASK : DECIDE;
+        if (wrong == question_is_loaded_once) {
+            answer(s, it, true);
+        }
+    }
+}
+
+void take_step_of_range(struct state *s, struct pass *it, int who) {
+    switch ((enum step)it->step) {
+    case LOWER: lower(s, it); break;
+    case CHECK: check(s, it, who); break;
+    case BREAK: break_question(s, it, who); break;
+    case RAISE: raise(s, it, who); break;
+    case RAISE_EARLY: s->count[group_of(it->slot)]++; it->step = SWAP; break;
+    case LOWER_LATE: s->count[group_of(it->slot)]--; end_change(it, who); break;
+    case PEEK_GROUP: peek_group(s, it); break;
+    case DECIDE_FIRST: decide_first(s, it, who); break;
+    case BEGIN: begin_question(s, it, who); break;
+    case ASK: ask(s, it, who); break;
+    case COUNT: count_group(s, it, who); break;
+    case DECIDE: answer(s, it, s->question & bit_of(who)); break;
+    default: break;
+    }
+}
