@@ -1,0 +1,148 @@
+-- All states that flights reach, from event to event.
+use Rattle.check_flight.proofs.Words.{◌≡◌, ◌⊎◌, ℕ, ◌+◌, List, [], ◌∷◌, ◌++◌, length, refl, sym, ap, ◌∙◌, arith, ⊎_elim, Asked}
+use Rattle.check_flight.proofs.Words.{◌-◌, subst, Contains-append_cases, get_or_append_left, get_or_at, run_at}
+use Rattle.check_flight.proofs.Words.{Completed, Contains, RingState, length-append, rules_of}
+use Rattle.check_flight.proofs.Steps.{access_leads, answered_in, event_leads, followed_on, not_stopped, only_one, was_logged}
+use Rattle.check_flight.specs.States.{IsNumbered, runs_with}
+use Rattle.check_flight.specs.States.{AreReached, AreAnswers, AreCalls, AreFollowed, ArePassed, HasNoFlight, IsStopped, GoesOnTo, FlightView}
+use Rattle.check_flight.specs.States.{setting_of}
+use Rattle.fx_flight.specs.Events.{Happening, Called, Answered, LookCalled, LookAnswered, Freed, FileClosed, AllSettled}
+use Rattle.check_flight.specs.Refutations.{IsRefutation, IsRefutedFrom}
+use Rattle.check_flight.proofs.Words.{append-nil, append_assoc}
+use Rattle.fx_flight.specs.Flight.{Accesses, IsFlight, Logged, MayFollow, Moment, log_of}
+
+-- both lists end with one event
+last_event : (xs ys : List Happening) (x y : Happening) → xs ++ x ∷ [] ≡ ys ++ y ∷ [] → (xs ≡ ys) × (x ≡ y)
+last_event [] [] x y is = (refl, cc)
+last_event [] (b ∷ ys) x y is = absurd (let long = ap length is in omega (arith, length-append ys (y ∷ [])))
+last_event (a ∷ xs) [] x y is = absurd (let long = ap length is in omega (arith, length-append xs (x ∷ [])))
+last_event (a ∷ xs) (b ∷ ys) x y is =
+    let first : a ≡ b = cc in
+    let rest : xs ++ x ∷ [] ≡ ys ++ y ∷ [] = cc in
+    let (same, last) = last_event xs ys x y rest in
+    ((λ i. first i ∷ same i), last)
+
+never_empty : (xs : List Happening) (x : Happening) → xs ++ x ∷ [] ≡ [] → ⊥
+never_empty xs x is = let long = ap length is in omega (arith, length-append xs (x ∷ []))
+
+no_calls : AreCalls [] []
+no_calls = record {
+  chain = λ id requests inside. absurd (let few = inside.1 in omega arith);
+  look = λ id slot inside. let few = inside.1 in omega arith;
+}
+
+module _ (old : RingState) (log : List Happening) where
+  -- where a flight's last moment is an access
+  module _ (answers : ℕ → List Completed) (fits : AreAnswers log answers) (runs : List (List Asked)) (read : List Happening)
+      (calls : AreCalls runs read) (fronts : List FlightView) (closed : AreFollowed old.catalogue old.size log (length runs) fronts) where
+    abbrev Comes : List Moment → Type 0
+    Comes flight = (state : FlightView) × Contains fronts state × GoesOnTo old runs flight state
+
+    goes_on : (flight : List Moment)
+        → ((e : Happening) (before : List Moment) → IsFlight (setting_of old answers) (Logged e ∷ before) → log_of before ++ e ∷ [] ≡ read
+        → Comes (Logged e ∷ before))
+        → ([] ≡ read → Comes [])
+        → IsFlight (setting_of old answers) flight → log_of flight ≡ read → Comes flight
+    goes_on [] event start is whole = start whole
+    goes_on (Logged e ∷ flight) event start is whole = event e flight is whole
+    goes_on (Accesses x ∷ flight) event start is whole =
+        let (state, inside, to) = goes_on flight event start is.0 whole in
+        let (bounds, follows) = followed_on old log answers fits (rw (← whole) at calls) to x is.1 in
+        let (next, there, lead) = follows fronts (closed state inside) in
+        (next, there, access_leads old x to bounds lead)
+
+  -- the first state
+  pub from_start : (fronts : List FlightView) (start : FlightView) → Contains fronts start → GoesOnTo old [] [] start
+      → AreFollowed old.catalogue old.size log 0 fronts → AreReached old log [] [] fronts
+  from_start fronts start inside leads closed answers fits flight is whole =
+      goes_on answers fits [] [] no_calls fronts closed flight
+      (λ e before of whole. absurd (never_empty (log_of before) e whole)) (λ _. (start, inside, leads)) is whole
+
+  -- one event more
+  pub all_next : {runs : List (List Asked)} {read : List Happening} (e : Happening) (states nexts fronts : List FlightView)
+      → AreReached old log runs read states → AreCalls runs read → IsNumbered (length runs) e
+      → AreCalls (runs_with runs e) (read ++ e ∷ [])
+      → ArePassed (rules_of old.catalogue old.size) log runs read states nexts e
+      → ((state : FlightView) → Contains nexts state → Contains fronts state)
+      → AreFollowed old.catalogue old.size log (length (runs_with runs e)) fronts
+      → AreReached old log (runs_with runs e) (read ++ e ∷ []) fronts
+  all_next {runs} {read} e states nexts fronts all calls numbered more passed within closed answers fits flight is whole =
+      goes_on answers fits (runs_with runs e) (read ++ e ∷ []) more fronts closed flight
+      (λ f before of same.
+      let (read_same, event_same) = last_event (log_of before) read f e same in
+      let (state, inside, to) = all answers fits before of.0 read_same in
+      let may = subst (λ (g : Happening). MayFollow (setting_of old answers) before g) event_same of.1 in
+      ⊎_elim
+      (λ stopped. absurd (not_stopped old log answers fits (subst (λ (xs : List Happening). AreCalls runs xs) (sym read_same) calls) to e may
+      (subst (λ (xs : List Happening). IsStopped (rules_of old.catalogue old.size) log runs xs state e) (sym read_same) stopped)))
+      (λ led.
+      let lead = event_leads old e to numbered led.2 in
+      (led.0, within led.0 led.1, subst (λ (g : Happening). GoesOnTo old (runs_with runs e) (Logged g ∷ before) led.0) (sym event_same) lead))
+      (passed state inside))
+      (λ empty. absurd (never_empty read e (sym empty))) is whole
+
+  -- where no state is left
+  pub none_left : {runs : List (List Asked)} → AreReached old log runs log [] → HasNoFlight old log
+  none_left all is memory =
+      let fits : AreAnswers log is.answers = record {
+        seen = λ id c inside. answered_in old is.answers is.flight is.is id c (was_logged is.flight (Answered id c) (rw is.same inside));
+        memory = memory;
+      } in
+      let (state, (k, few, at), to) = all is.answers fits is.flight is.is is.same in
+      absurd (omega arith)
+
+-- the calls with one event more
+module _ {runs : List (List Asked)} {read : List Happening} (calls : AreCalls runs read) where
+  -- an event other than a call
+  no_call : (e : Happening) → ((id : ℕ) (requests : List Asked) → e ≡ Called id requests → ⊥)
+      → ((id slot : ℕ) → e ≡ LookCalled id slot → ⊥) → AreCalls runs (read ++ e ∷ [])
+  no_call e chain look = record {
+    chain = λ id requests inside. ⊎_elim (λ before. calls.chain id requests before)
+        (λ last. absurd (chain id requests (only_one e (Called id requests) last)))
+        (Contains-append_cases read (e ∷ []) (Called id requests) inside);
+    look = λ id slot inside. ⊎_elim (λ before. calls.look id slot before)
+        (λ last. look id slot (only_one e (LookCalled id slot) last))
+        (Contains-append_cases read (e ∷ []) (LookCalled id slot) inside);
+  }
+
+  pub calls_with : (e : Happening) → IsNumbered (length runs) e → AreCalls (runs_with runs e) (read ++ e ∷ [])
+  calls_with (Called id requests) numbered = record {
+    chain = λ other own inside. ⊎_elim
+        (λ before.
+        let (low, high, same) = calls.chain other own before in
+        let at : run_at (runs ++ requests ∷ []) other ≡ run_at runs other = get_or_append_left runs (requests ∷ []) [] (other - 1) (omega arith) in
+        (low, omega (arith, length-append runs (requests ∷ [])), rw at same))
+        (λ last.
+        let is : Called id requests ≡ Called other own = only_one (Called id requests) (Called other own) last in
+        let number : id ≡ other = cc in
+        let own_is : requests ≡ own = cc in
+        let at : run_at (runs ++ requests ∷ []) other ≡ requests = get_or_at runs requests [] [] (other - 1) (omega arith) in
+        (omega arith, omega (arith, length-append runs (requests ∷ [])), rw at (sym own_is)))
+        (Contains-append_cases read (Called id requests ∷ []) (Called other own) inside);
+    look = λ other slot inside. ⊎_elim (λ before. calls.look other slot before)
+        (λ last. let is : Called id requests ≡ LookCalled other slot = only_one (Called id requests) (LookCalled other slot) last in cc)
+        (Contains-append_cases read (Called id requests ∷ []) (LookCalled other slot) inside);
+  }
+  calls_with (Answered id c) numbered = no_call (Answered id c) (λ _ _ is. cc) (λ _ _ is. cc)
+  calls_with (LookCalled id slot) numbered = absurd numbered
+  calls_with (LookAnswered id found) numbered = absurd numbered
+  calls_with (Freed id) numbered = absurd numbered
+  calls_with (FileClosed file) numbered = no_call (FileClosed file) (λ _ _ is. cc) (λ _ _ is. cc)
+  calls_with AllSettled numbered = no_call AllSettled (λ _ _ is. cc) (λ _ _ is. cc)
+
+-- from the states of what was read on
+module _ (old : RingState) (log : List Happening) where
+  refuted_from : (rest read : List Happening) (runs : List (List Asked)) (states : List FlightView) → read ++ rest ≡ log
+      → AreReached old log runs read states → AreCalls runs read → IsRefutedFrom old log runs read states rest → HasNoFlight old log
+  refuted_from [] read runs states whole all calls none =
+      let same : read ≡ log = sym (append-nil read) ∙ whole in
+      none_left old log {runs = runs} (subst (λ (l : List Happening). AreReached old log runs l []) same
+      (subst (λ (l : List FlightView). AreReached old log runs read l) none all))
+  refuted_from (event ∷ rest) read runs states whole all calls (nexts, next, refuted) =
+      let more = calls_with calls event next.numbered in
+      let together : (read ++ event ∷ []) ++ rest ≡ log = append_assoc read (event ∷ []) rest ∙ whole in
+      refuted_from rest (read ++ event ∷ []) (runs_with runs event) nexts together
+      (all_next old log event states nexts nexts all calls next.numbered more next.passed (λ state inside. inside) next.closed) more refuted
+
+  pub refuted : (states : List FlightView) → IsRefutation old log states → HasNoFlight old log
+  refuted states is = refuted_from log [] [] states refl (from_start old log states is.start is.inside is.leads is.closed) no_calls is.refuted

@@ -1,0 +1,5 @@
+pub mod Words
+pub mod Places
+pub mod Runs
+pub mod Steps
+pub mod Fronts

@@ -1,0 +1,2 @@
+pub mod Refutations
+pub mod States

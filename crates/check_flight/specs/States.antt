@@ -1,0 +1,188 @@
+-- The states that a flight can reach: the table, where each call is, and the files that were
+-- removed.
+use Rattle.std.specs.Prelude.{◌≡◌, ◌⊎◌, ◌↔◌, ℕ, ◌+◌, ◌<◌, ◌≤◌, List, []}
+use Rattle.std.specs.Prelude.{◌∷◌, ◌++◌, length, Contains, Option, Some}
+use Rattle.std.specs.List.{AllByRecursion}
+use Rattle.fx_base.specs.Catalogue.{FileEntry}
+use Rattle.fx_base.specs.Identity.{Identity}
+use Rattle.fx_chain.specs.Completed.{Completed}
+use Rattle.fx_chain.specs.Operation.{Asked}
+use Rattle.fx_order.specs.Access.{Table, Permits, file_removed_by, table_with}
+use Rattle.fx_order.specs.Order.{table_of}
+use Rattle.fx_order.specs.declared.access.Access.{Access}
+use Rattle.fx_ring.specs.Ring.{RingState}
+use Rattle.check_outcomes.specs.Rests.{HasMemory, IsNext, Rest, Rules, rules_of, settled_at, step}
+use Rattle.check_outcomes.specs.Views.{run_at}
+use Rattle.fx_flight.specs.Events.{Happening, Called, Answered, LookCalled, LookAnswered, Freed}
+use Rattle.fx_flight.specs.Events.{FileClosed, AllSettled, first_of_call}
+use Rattle.fx_flight.specs.Flight.{FlightSetting, HasFlight, IsFlight, Moment, WasLogged, log_of}
+use Rattle.fx_flight.specs.Flight.{made_by}
+use Rattle.fx_flight.specs.Flight.{taken_in, table_behind}
+
+pub record FlightView : Type 0 where
+  pub table : Table
+  -- of each call that is a chain, by its number
+  pub rests : ℕ → Rest
+  -- the files that were taken from their slots and aren't known to be closed
+  pub removed : List Identity
+
+-- the log has another answer at the place of this one
+abbrev pub IsDenied : List Happening → Completed → Type 0
+IsDenied log c =
+    (seen : Completed) × Contains log (Answered c.place.submission seen)
+    × (seen.place ≡ c.place) × (seen ≡ c → ⊥)
+
+abbrev pub IsOneDenied : List Happening → List Completed → Type 0
+IsOneDenied log told = (c : Completed) × Contains told c × IsDenied log c
+
+-- the files, and one more if there is one
+abbrev pub AreWith : List Identity → Option Identity → List Identity → Type 0
+AreWith before file after =
+    (other : Identity) → Contains after other ↔ (Contains before other ⊎ (file ≡ Some other))
+
+-- the files without this one
+abbrev pub AreWithout : List Identity → Identity → List Identity → Type 0
+AreWithout before file after = (other : Identity)
+    → (Contains after other → Contains before other)
+    × ((other ≡ file → ⊥) → Contains before other → Contains after other)
+
+-- an access of a call leads from one state to the other
+pub record StepsByAccess (rules : Rules) (state : FlightView) (id : ℕ) (a : Access)
+    (next : FlightView) : Type 0 where
+  pub table : next.table ≡ table_with state.table a
+  pub own : next.rests id ≡ (step rules (state.rests id) a).1
+  pub others : (other : ℕ) → 1 ≤ other → (other ≡ id → ⊥)
+      → next.rests other ≡ state.rests other
+  pub removed : AreWith state.removed (file_removed_by a) next.removed
+
+-- an access answers what the log denies, or leads to one of the states
+abbrev pub IsFollowed : Rules → List Happening → List FlightView → FlightView → ℕ → Access → Type 0
+IsFollowed rules log states state id a =
+    IsOneDenied log (step rules (state.rests id) a).0
+    ⊎ ((next : FlightView) × Contains states next × StepsByAccess rules state id a next)
+
+-- each access that a call may make next, up to this number, is followed
+abbrev pub IsStateFollowed : List FileEntry → ℕ → List Happening → ℕ → List FlightView → FlightView
+    → Type 0
+IsStateFollowed catalogue size log calls states state =
+    (id : ℕ) → 1 ≤ id → id ≤ calls → (a : Access) → IsNext catalogue size (state.rests id) a
+    → Permits state.table a
+    → IsFollowed (rules_of catalogue size) log states state id a
+
+abbrev pub AreFollowed : List FileEntry → ℕ → List Happening → ℕ → List FlightView → Type 0
+AreFollowed catalogue size log calls states =
+    (state : FlightView) → Contains states state
+    → IsStateFollowed catalogue size log calls states state
+
+-- a call of a chain leads from one state to the other
+pub record LeadsByCall (rules : Rules) (state : FlightView) (id : ℕ) (requests : List Asked)
+    (next : FlightView) : Type 0 where
+  pub table : next.table ≡ state.table
+  pub own : next.rests id ≡ (settled_at rules (first_of_call id) requests).1
+  pub others : (other : ℕ) → 1 ≤ other → other < id → next.rests other ≡ state.rests other
+  pub removed : next.removed ≡ state.removed
+
+-- the close of a file does
+pub record LeadsByClose (state : FlightView) (file : Identity) (next : FlightView) : Type 0 where
+  pub table : next.table ≡ state.table
+  pub rests : next.rests ≡ state.rests
+  pub removed : AreWithout state.removed file next.removed
+
+-- the event can't follow in a state, by what was read
+abbrev pub IsStopped : Rules → List Happening → List (List Asked) → List Happening → FlightView
+    → Happening → Type 0
+IsStopped rules log runs read state (Called id requests) =
+    IsOneDenied log (settled_at rules (first_of_call id) requests).0
+IsStopped rules log runs read state (Answered id c) =
+    length (run_at runs id) < length (state.rests id).requests + c.place.member
+IsStopped rules log runs read state (LookCalled id slot) = ⊥
+IsStopped rules log runs read state (LookAnswered id found) = ⊥
+IsStopped rules log runs read state (Freed id) = ⊥
+IsStopped rules log runs read state (FileClosed file) = Contains state.removed file → ⊥
+IsStopped rules log runs read state AllSettled =
+    (file : Identity) × Contains state.removed file × (Contains read (FileClosed file) → ⊥)
+
+-- it leads from one state to the other
+abbrev pub IsLed : Rules → FlightView → FlightView → Happening → Type 0
+IsLed rules state next (Called id requests) = LeadsByCall rules state id requests next
+IsLed rules state next (Answered id c) = next ≡ state
+IsLed rules state next (LookCalled id slot) = ⊥
+IsLed rules state next (LookAnswered id found) = ⊥
+IsLed rules state next (Freed id) = ⊥
+IsLed rules state next (FileClosed file) = LeadsByClose state file next
+IsLed rules state next AllSettled = next ≡ state
+
+-- each state is stopped, or led to one of the others
+abbrev pub ArePassed : Rules → List Happening → List (List Asked) → List Happening
+    → List FlightView → List FlightView → Happening → Type 0
+ArePassed rules log runs read states nexts event =
+    (state : FlightView) → Contains states state
+    → IsStopped rules log runs read state event
+    ⊎ ((next : FlightView) × Contains nexts next × IsLed rules state next event)
+
+-- where a chain is after these accesses
+abbrev pub rest_after : Rules → Rest → List Access → Rest
+rest_after rules rest [] = rest
+rest_after rules rest (a ∷ accesses) = rest_after rules (step rules rest a).1 accesses
+
+abbrev pub origin_of : Rules → ℕ → List Asked → Rest
+origin_of rules id requests = (settled_at rules (first_of_call id) requests).1
+
+-- a flight leads to a state
+pub record GoesOnTo (old : RingState) (runs : List (List Asked)) (flight : List Moment)
+    (state : FlightView) : Type 0 where
+  pub table : state.table ≡ table_behind (table_of old) flight
+  pub rests : (id : ℕ) → 1 ≤ id → id ≤ length runs → state.rests id
+      ≡ rest_after (rules_of old.catalogue old.size)
+      (origin_of (rules_of old.catalogue old.size) id (run_at runs id)) (made_by id flight)
+  pub unmade : (id : ℕ) → length runs < id → made_by id flight ≡ []
+  pub has : (file : Identity) → Contains (taken_in flight) file
+      → (WasLogged flight (FileClosed file) → ⊥) → Contains state.removed file
+  pub only : (file : Identity) → Contains state.removed file → Contains (taken_in flight) file
+
+-- the answers of calls are those of the log, where it has them, and no request lacks memory
+pub record AreAnswers (log : List Happening) (answers : ℕ → List Completed) : Type 0 where
+  pub seen : (id : ℕ) (c : Completed) → Contains log (Answered id c) → Contains (answers id) c
+  pub memory : (id : ℕ) → AllByRecursion HasMemory (answers id)
+
+abbrev pub setting_of : RingState → (ℕ → List Completed) → FlightSetting
+setting_of old answers = record { old = old; first = first_of_call; answers = answers }
+
+-- each flight of what was read leads to one of the states, if its answers are those of the log
+abbrev pub AreReached : RingState → List Happening → List (List Asked) → List Happening
+    → List FlightView → Type 0
+AreReached old log runs read states =
+    (answers : ℕ → List Completed) → AreAnswers log answers → (flight : List Moment)
+    → IsFlight (setting_of old answers) flight → log_of flight ≡ read
+    → (state : FlightView) × Contains states state × GoesOnTo old runs flight state
+
+-- the calls that were read are these chains, numbered from 1, and none is a look
+pub record AreCalls (runs : List (List Asked)) (read : List Happening) : Type 0 where
+  pub chain : (id : ℕ) (requests : List Asked) → Contains read (Called id requests)
+      → (1 ≤ id) × (id ≤ length runs) × (requests ≡ run_at runs id)
+  pub look : (id slot : ℕ) → Contains read (LookCalled id slot) → ⊥
+
+-- the log has no flight in which each request finds memory
+abbrev pub HasNoFlight : RingState → List Happening → Type 0
+HasNoFlight old log = (is : HasFlight first_of_call old log)
+    → ((id : ℕ) → AllByRecursion HasMemory (is.answers id)) → ⊥
+
+-- the chains that are called after an event
+abbrev pub runs_with : List (List Asked) → Happening → List (List Asked)
+runs_with runs (Called id requests) = runs ++ requests ∷ []
+runs_with runs (Answered id c) = runs
+runs_with runs (LookCalled id slot) = runs
+runs_with runs (LookAnswered id found) = runs
+runs_with runs (Freed id) = runs
+runs_with runs (FileClosed file) = runs
+runs_with runs AllSettled = runs
+
+-- a call has the next number, and is not a look
+abbrev pub IsNumbered : ℕ → Happening → Type 0
+IsNumbered calls (Called id requests) = id ≡ calls + 1
+IsNumbered calls (Answered id c) = Unit {0}
+IsNumbered calls (LookCalled id slot) = ⊥
+IsNumbered calls (LookAnswered id found) = ⊥
+IsNumbered calls (Freed id) = ⊥
+IsNumbered calls (FileClosed file) = Unit {0}
+IsNumbered calls AllSettled = Unit {0}

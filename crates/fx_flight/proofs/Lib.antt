@@ -1,0 +1,7 @@
+pub mod Words
+pub mod Beginnings
+pub mod Chains
+pub mod Numbers
+pub mod Faults
+pub mod InTime
+pub mod Submission
