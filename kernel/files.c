@@ -1,6 +1,7 @@
 #define _GNU_SOURCE
 #include "files.h"
 
+#include "events.h"
 #include "tags.h"
 
 #include <fcntl.h>
@@ -8,7 +9,6 @@
 #include <stdio.h>
 #include <stdlib.h>
 #include <string.h>
-#include <sys/inotify.h>
 #include <sys/stat.h>
 #include <unistd.h>
 
@@ -147,28 +147,13 @@ void close_descriptor(size_t installation, int is_installed)
 	it->is_installed = is_installed;
 }
 
-static void note_event(size_t installation, unsigned mask)
+static void note_event(const struct inotify_event *event)
 {
+	size_t installation = strtoul(event->name, NULL, 10);
 	if (installation >= count)
 		return;
-	installations[installation].was_opened |= (mask & IN_OPEN) != 0;
-	installations[installation].was_closed |= (mask & IN_CLOSE) != 0;
-}
-
-static void read_events(void)
-{
-	char buffer[16384] __attribute__((aligned(__alignof__(struct inotify_event))));
-	ssize_t size;
-	while ((size = read(events, buffer, sizeof buffer)) > 0) {
-		for (char *at = buffer; at < buffer + size;) {
-			const struct inotify_event *event = (void *)at;
-			at += sizeof *event + event->len;
-			if (event->mask & IN_Q_OVERFLOW)
-				die_of("more events than fs.inotify.max_queued_events");
-			if (event->len && !(event->mask & IN_ISDIR))
-				note_event(strtoul(event->name, NULL, 10), event->mask);
-		}
-	}
+	installations[installation].was_opened |= (event->mask & IN_OPEN) != 0;
+	installations[installation].was_closed |= (event->mask & IN_CLOSE) != 0;
 }
 
 static FILE *ring_information(int ring)
@@ -224,7 +209,7 @@ int is_any_open(void)
 
 static int is_settled(int ring)
 {
-	read_events();
+	read_events(events, note_event);
 	if (!is_any_open())
 		return 1;
 	if (!read_table(ring))

@@ -13,13 +13,13 @@ enum { LONGEST_SCRIPT = 4194304, LONGEST_LINE = 10000, LONGEST_NAME = 32, MOST_W
 
 void die(const char *what)
 {
-	fprintf(stderr, "play-on-kernel: %s: %s\n", what, strerror(errno));
+	fprintf(stderr, "%s: %s: %s\n", program_invocation_short_name, what, strerror(errno));
 	exit(4);
 }
 
 void die_of(const char *what)
 {
-	fprintf(stderr, "play-on-kernel: %s\n", what);
+	fprintf(stderr, "%s: %s\n", program_invocation_short_name, what);
 	exit(4);
 }
 

@@ -1,0 +1,59 @@
+//! Records what threads call on a table of slots, and prints it as a log (docs/FLIGHT.md). The
+//! Python module `yachtlog`, which isn't proved, judges whether the rules of the table allow it.
+//!
+//! To record a table of your own, implement [`Table`] and [`Handle`] for it: four calls.
+//! `src/tables.rs` has a table of std in 60 lines, and `examples/sharded_slab` one that chooses
+//! its slots by itself.
+//!
+//! A ticket of one shared counter orders the lines of all threads. A call's ticket is taken before
+//! it begins, and its answer's after it returned, so a call whose answer is before another call in
+//! the log had returned when that one began.
+#[cfg(not(yachtbanyan_stand_in))]
+pub mod c;
+mod log;
+mod play;
+pub mod tables;
+
+pub use log::{Log, Value};
+pub use play::{record, Plan};
+use std::ops::Deref;
+
+/// A table of slots that threads share.
+pub trait Table: Sync {
+    /// A thread's access to the table.
+    type Handle<'a>: Handle
+    where
+        Self: 'a;
+
+    /// Returns an access for the calling thread.
+    fn handle(&self) -> Self::Handle<'_>;
+}
+
+/// The calls of a thread on a table.
+pub trait Handle {
+    /// A hold, which keeps its value alive.
+    type Guard<'a>: Deref<Target = Value>
+    where
+        Self: 'a;
+
+    /// The table chooses the slot, or key, of each value itself: `put` is never called.
+    const CHOOSES: bool = false;
+
+    /// Returns a hold of the value at a slot, or `None` if the slot is empty.
+    fn get(&self, slot: usize) -> Option<Self::Guard<'_>>;
+
+    /// Puts a value at a slot. A value that was there is dropped by its last user.
+    fn put(&self, slot: usize, value: Value);
+
+    /// Puts a value at an empty slot and returns the slot.
+    ///
+    /// # Errors
+    /// Returns the value if each slot has a value.
+    fn put_any(&self, value: Value) -> Result<usize, Value>;
+
+    /// Empties a slot, and returns whether it had a value, which its last user drops.
+    fn take(&self, slot: usize) -> bool;
+
+    /// Drops what the handle keeps for later calls. Called when no thread is in a call.
+    fn rest(&self) {}
+}

@@ -1,0 +1,197 @@
+#define _GNU_SOURCE
+#include "links.h"
+
+#include <fcntl.h>
+#include <pthread.h>
+#include <stdio.h>
+#include <stdlib.h>
+#include <string.h>
+#include <sys/ioctl.h>
+#include <sys/stat.h>
+#include <unistd.h>
+
+#include "../events.h"
+#include "../script.h"
+
+enum { NAME_BYTES = 16, MOST_FED = 255 };
+
+static char folder[] = "/tmp/record-in-flight-XXXXXX";
+static int entries = -1, links = -1, events = -1;
+static int with_pipes;
+static pthread_mutex_t lock = PTHREAD_MUTEX_INITIALIZER;	/* of the pipes */
+static int pipe_count, pipes[MOST_PIPES];
+static unsigned fed;
+static int opened, closed;
+static struct { char name[PATH_BYTES]; } *seen;	/* the links whose closes have no line yet */
+static size_t seen_count, seen_room;
+static const char *contents[FILES] = { "a", "bb", "ccc", "dddd" };
+static _Thread_local unsigned long long state;
+
+void seed_random(unsigned long long seed)
+{
+	state = seed * 2654435761u + 1;
+}
+
+unsigned below(unsigned most)
+{
+	state = state * 6364136223846793005u + 1442695040888963407u;
+	return (unsigned)(state >> 33) % most;
+}
+
+const char *name_of(int entry)
+{
+	static _Thread_local char name[NAME_BYTES];
+	if (with_pipes)
+		snprintf(name, sizeof name, "p%d", entry);
+	else
+		snprintf(name, sizeof name, "%c", 'a' + entry);
+	return name;
+}
+
+static int new_folder(const char *name)
+{
+	char path[PATH_BYTES];
+	snprintf(path, sizeof path, "%s/%s", folder, name);
+	if (mkdir(path, 0700))
+		die(path);
+	int made = open(path, O_PATH | O_DIRECTORY);
+	if (made < 0)
+		die(path);
+	return made;
+}
+
+static void write_entry(int entry)
+{
+	int made = openat(entries, name_of(entry), O_WRONLY | O_CREAT | O_EXCL, 0600);
+	ssize_t size = strlen(contents[entry]);
+	if (made < 0 || write(made, contents[entry], size) != size || close(made))
+		die("a file of the catalogue");
+}
+
+int make_catalogue(int pipes)
+{
+	char path[PATH_BYTES];
+	with_pipes = pipes;
+	events = inotify_init1(IN_NONBLOCK | IN_CLOEXEC);
+	if (events < 0)
+		return 0;
+	if (!mkdtemp(folder))
+		die(folder);
+	atexit(remove_catalogue);
+	entries = new_folder("entries");
+	links = new_folder("links");
+	snprintf(path, sizeof path, "%s/links", folder);
+	if (inotify_add_watch(events, path, IN_OPEN | IN_CLOSE | IN_ONLYDIR) < 0)
+		die("no watch on the folder");
+	for (int entry = 0; !pipes && entry < FILES; entry++)
+		write_entry(entry);
+	return 1;
+}
+
+void remove_catalogue(void)
+{
+	char command[2 * PATH_BYTES];
+	snprintf(command, sizeof command, "rm -rf '%s'", folder);
+	if (system(command))
+		fprintf(stderr, "record: %s could not be removed\n", folder);
+}
+
+/* Opens its pipe for reading too, so that no open and no write waits. */
+static int new_pipe(void)
+{
+	if (pipe_count == MOST_PIPES)
+		return -1;
+	const char *name = name_of(pipe_count);
+	if (mkfifoat(entries, name, 0600))
+		die("a pipe");
+	pipes[pipe_count] = openat(entries, name, O_RDWR | O_CLOEXEC);
+	if (pipes[pipe_count] < 0)
+		die("a pipe");
+	return pipe_count++;
+}
+
+int pick_entry(void)
+{
+	if (!with_pipes)
+		return (int)below(FILES);
+	pthread_mutex_lock(&lock);
+	int entry = new_pipe();
+	pthread_mutex_unlock(&lock);
+	return entry;
+}
+
+int links_folder(void)
+{
+	return links;
+}
+
+void make_link(char path[PATH_BYTES], struct member_name of, int in_list, int entry)
+{
+	snprintf(path, PATH_BYTES, "%d.%d.%d_%s", of.call, of.member, in_list, name_of(entry));
+	if (linkat(entries, name_of(entry), links, path, 0))
+		die("a link for an installation");
+}
+
+/* Keeps the name of a close until its line is appended. */
+static void note_event(const struct inotify_event *event)
+{
+	if (!strchr(event->name, '_'))
+		return;
+	opened += (event->mask & IN_OPEN) != 0;
+	if (!(event->mask & IN_CLOSE))
+		return;
+	closed++;
+	seen = with_room(seen, seen_count, &seen_room, sizeof *seen);
+	snprintf(seen[seen_count++].name, PATH_BYTES, "%s", event->name);
+}
+
+void read_closes(void (*reap)(void))
+{
+	read_events(events, note_event);
+	reap();
+	for (size_t at = 0; at < seen_count; at++) {
+		struct member_name of;
+		const char *link = seen[at].name, *name = strchr(link, '_');
+		if (sscanf(link, "%d.%d", &of.call, &of.member) != 2)
+			die_of("a link that was not made here");
+		append_close(of, "closed %.*s %s", (int)(name - link), link, name + 1);
+		unlinkat(links, link, 0);
+	}
+	seen_count = 0;
+}
+
+int open_count(void)
+{
+	return opened - closed;
+}
+
+void feed_a_pipe(void)
+{
+	pthread_mutex_lock(&lock);
+	int entry = pipe_count ? (int)below(pipe_count) : 0, unread = 1;
+	/* a byte that nobody has read yet is enough: so as many bytes are fed as are read, and one more
+	 * for each pipe */
+	if (pipe_count && ioctl(pipes[entry], FIONREAD, &unread))
+		die("the size of a pipe");
+	if (!unread) {
+		unsigned char byte = (unsigned char)++fed;
+		if (fed > MOST_FED)
+			die_of("more than 255 bytes for pipes");
+		append("fed %s %02x", name_of(entry), byte);
+		if (write(pipes[entry], &byte, 1) != 1)
+			die("a byte for a pipe");
+	}
+	pthread_mutex_unlock(&lock);
+}
+
+void write_catalogue(void)
+{
+	for (int entry = 0; !with_pipes && entry < FILES; entry++) {
+		printf("file %s ", name_of(entry));
+		for (const char *at = contents[entry]; *at; at++)
+			printf("%02x", *at);
+		putchar('\n');
+	}
+	for (int entry = 0; entry < pipe_count; entry++)
+		printf("pipe %s\n", name_of(entry));
+}

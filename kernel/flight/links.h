@@ -1,0 +1,52 @@
+/*
+ * The catalogue as real files or named pipes in a new folder, with a hard link for each
+ * installation. inotify(7) watches the links, so that a close names a single installation.
+ */
+#ifndef LINKS_H
+#define LINKS_H
+
+#include "log.h"
+
+enum { FILES = 4, MOST_PIPES = 64, PATH_BYTES = 64 };
+
+/* Makes the folder, and the files of the catalogue, or with `pipes` none yet. Returns 0 if this
+ * system has no inotify. */
+int make_catalogue(int pipes);
+
+/* Removes the folder. */
+void remove_catalogue(void);
+
+/* Returns a random entry of the catalogue; of pipes a new one, or -1 if there are MOST_PIPES. */
+int pick_entry(void);
+
+/* Returns the name of an entry. The next call may overwrite it. */
+const char *name_of(int entry);
+
+/* Makes the link for entry `in_list` of what a member installs, and writes its path. */
+void make_link(char path[PATH_BYTES], struct member_name of, int in_list, int entry);
+
+/* Returns the descriptor of the links' folder. */
+int links_folder(void);
+
+/*
+ * Reads the closes that inotify has seen, then calls `reap`, and then appends a line for each
+ * close. The kernel posts a completion before it releases the request's file. So the line of an
+ * answer is before that of a close which had to wait for it, if `reap` appends the answers that are
+ * there.
+ */
+void read_closes(void (*reap)(void));
+
+/* Returns the number of files that were opened by links and are not closed. */
+int open_count(void);
+
+/* Writes a byte that no pipe before had to a random pipe, and appends its line first. */
+void feed_a_pipe(void);
+
+/* Appends the lines of the catalogue: they are written before all others. */
+void write_catalogue(void);
+
+/* Returns a random number below `most`. Each thread has its own sequence, from its seed on. */
+unsigned below(unsigned most);
+void seed_random(unsigned long long seed);
+
+#endif

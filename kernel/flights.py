@@ -1,0 +1,59 @@
+"""Records calls in flight on this machine's kernel (kernel/flight), and judges the logs (bindings/python/yachtlog.py), for kernel/conform."""
+import glob
+import os
+import subprocess
+import sys
+from typing import NamedTuple
+
+from programs import given_time, run
+from repository import BUILD, ROOT
+
+# where the reader of logs is: in the repository, in the archive, and once installed
+PYTHON = ("bindings/python", "python", "../../share/yachtbanyan/python")
+RECORDER = os.path.join(BUILD, "record-in-flight")
+
+
+class Flights(NamedTuple):
+    """The logs of a rule: arguments of the recorder, and their number for each random script."""
+
+    words: list
+    share: float
+
+
+# the rules of docs/FLIGHT.md that a kernel must keep
+RULES = {
+    "chains_in_flight_are_requests_one_at_a_time": Flights([], 0.2),
+    "waiting_reads_hold_their_file": Flights(["--pipes", "--chains", "20"], 0.1),
+}
+
+
+def judge():
+    """Returns the reader of logs, or what is missing for it."""
+    sys.path += [os.path.join(ROOT, it) for it in PYTHON]
+    try:
+        import yachtlog
+    except ImportError as missing:
+        return None, str(missing)
+    return yachtlog, ""
+
+
+def built_recorder(sources=f"{ROOT}/kernel", program=RECORDER):
+    """Builds the recorder."""
+    files = [*glob.glob(f"{sources}/flight/*.c"), f"{sources}/events.c", f"{sources}/script.c"]
+    subprocess.run(["cc", "-O1", "-Wall", "-Wextra", "-o", program, *files, "-luring", "-lpthread"], check=True)
+    return program
+
+
+def recorded(program, words, seed):
+    """Returns a log, and why there is none."""
+    status, log, complaint = run([program, str(seed), *words], seconds=given_time(60))
+    return log, "" if status == 0 else f"the recorder ended with status {status}: {complaint}"
+
+
+def complaint_of(yachtlog, log):
+    """Returns what the judge says of a log that is not legal, and whether it is undecided."""
+    verdict = yachtlog.Log(log).judge()
+    if verdict.word == "not legal":
+        line = log.splitlines()[verdict.line - 1]
+        return f"not legal: line {verdict.line} of the log: {line}", False
+    return "", verdict.word == "undecided"
