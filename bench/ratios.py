@@ -18,7 +18,7 @@ def title(name, threads):
 def tell(who, what, rounds, most):
     """Prints a line for each of the first `most` tables: its times by those of each table after it."""
     tables = list(rounds[0])
-    for at, own in enumerate(tables[:most]):
+    for at, own in enumerate(tables[:-1][:most]):
         ratios = (f"{it} {statistics.median(times[own] / times[it] for times in rounds):.2f}" for it in tables[at + 1 :])
         print(f"{who}: {what}: {own} / {', '.join(ratios)}", flush=True)
 

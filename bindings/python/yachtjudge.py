@@ -1,7 +1,7 @@
 """The verified judge of io_uring's registered file table: judge(script, text) and outcomes(script).
 
 A script is what fixfiles plays. A text is what fixfiles, or a kernel, prints for it. Both are str or bytes. The library
-libyachtjudge.so.3 is looked for in the folder YACHTBANYAN_LIB_DIR if that is set, else beside this file and in the folders lib above it;
+libyachtjudge.so.4 is looked for in the folder YACHTBANYAN_LIB_DIR if that is set, else beside this file and in the folders lib above it;
 and at last where the system finds libraries.
 
     >>> import yachtjudge
@@ -21,7 +21,7 @@ from pathlib import Path
 from typing import Any, Literal, Union
 
 __all__ = ["BadScript", "NoMemory", "Outcomes", "Verdict", "judge", "outcomes"]
-__version__ = "3.0.0"
+__version__ = "4.0.0"
 
 # what a script or a text may be
 Words = Union[str, bytes, bytearray, memoryview]
@@ -99,7 +99,7 @@ class _Texts(ctypes.Structure):
 
 def _paths() -> Iterator[Path]:
     """Yields where the library may be, but for the folders of the system."""
-    name = "libyachtjudge.so.3"
+    name = "libyachtjudge.so.4"
     given = os.environ.get("YACHTBANYAN_LIB_DIR")
     if given:
         yield Path(given) / name

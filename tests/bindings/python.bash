@@ -42,9 +42,9 @@ wrong_module() {
 in_python() {
     want 'the judge from Python is wrong over the examples' judges_examples
     want 'the judge from Python is wrong' judges_rows 41
-    want 'a missing library is not explained' without_library "$room" 'libyachtjudge.so.3 was not found.'
-    echo > "$room/libyachtjudge.so.3"
-    want 'a library that does not load is not explained' without_library "$room" "$room/libyachtjudge.so.3 can't be loaded: "
+    want 'a missing library is not explained' without_library "$room" 'libyachtjudge.so.4 was not found.'
+    echo > "$room/libyachtjudge.so.4"
+    want 'a library that does not load is not explained' without_library "$room" "$room/libyachtjudge.so.4 can't be loaded: "
 }
 
 wrong_python() {
@@ -73,6 +73,6 @@ s/        raise TypeError(f"{name} must/        of = bytes(of)\n    if not isins
 s/    numbers = operator.index(states), operator.index(memory)/    numbers = int(states), int(memory)/
 s/        if not 0 <= number <= MOST:/        if number > MOST:/
 s/        if not 0 <= number <= MOST:/        if number < 0:/
-s/__version__ = "3/__version__ = "2/
+s/__version__ = "4/__version__ = "3/
 END
 }

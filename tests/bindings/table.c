@@ -80,7 +80,7 @@ static void each_answer(void) {
     WANT(yacht_open(&table, 2, 2, 1, drop, &drops) == YACHT_DONE);
     yacht_handle *a = yacht_handle_of(table, 0), *b = yacht_handle_of(table, 1), *reader = yacht_reader_of(table, 0);
     errors(a, reader);
-    WANT(yacht_insert(a, &dropped[0]) == 0);
+    WANT(yacht_replace_at(a, 0, &dropped[0]) == YACHT_DONE);
     WANT(yacht_try_insert(a, &dropped[1]) == 1);
     WANT(yacht_insert(a, &dropped[2]) == YACHT_FULL);
     WANT(yacht_try_insert(a, &dropped[2]) == YACHT_FULL);

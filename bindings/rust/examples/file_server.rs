@@ -76,11 +76,11 @@ fn main() -> std::result::Result<(), Box<dyn std::error::Error>> {
     std::fs::create_dir_all(&folder)?;
     let table = Table::<Text>::with_slots(8)?;
     let files = table.handle()?;
-    for (name, text) in [("one", "the first text"), ("two", "the second text")] {
+    let texts = [("one", "the first text"), ("two", "the second text")];
+    for (slot, (name, text)) in (0..).zip(texts) {
         std::fs::write(folder.join(name), text)?;
-        files
-            .insert(load(folder.join(name))?)
-            .map_err(|it| it.to_string())?;
+        let replaced = files.replace_at(slot, load(folder.join(name))?);
+        replaced.map_err(|it| it.to_string())?;
     }
     let listener = TcpListener::bind("127.0.0.1:0")?;
     let address = listener.local_addr()?;

@@ -24,6 +24,7 @@ mod reader;
 mod seats;
 #[cfg(yachtbanyan_stand_in)]
 mod stand_in;
+mod storage;
 mod table;
 #[cfg(test)]
 mod tests;

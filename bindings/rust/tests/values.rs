@@ -42,6 +42,30 @@ impl Notes {
 }
 
 #[test]
+fn a_handle_uses_the_storage_of_a_removed_value_again() {
+    let notes = Notes::default();
+    let table = Options::new(4).handles(1).open().unwrap();
+    let handle = table.handle().unwrap();
+    let insert = |number| {
+        let slot = handle.insert(notes.value(number)).unwrap();
+        let guard = handle.get_at(slot).unwrap();
+        assert_eq!(guard.number, number);
+        (slot, &raw const *guard)
+    };
+    let (slot, storage) = insert(1);
+    let removed = handle.remove_at(slot).unwrap().unused().unwrap();
+    let (slot, again) = insert(2);
+    assert!(storage == again && removed.number == 1 && notes.drops() == 0);
+    // so does one that replaces a value, or whose value comes back
+    let replaced = handle.replace_at(slot, notes.value(3)).unwrap().unused();
+    assert!(handle.replace_at(4, notes.value(4)).is_err() && notes.drops() == 1);
+    assert_eq!(replaced.map(|it| it.number), Some(2));
+    assert_eq!(insert(5).1, storage);
+    drop((removed, handle, table));
+    assert_eq!(notes.drops(), 5);
+}
+
+#[test]
 fn a_replaced_value_is_dropped_by_its_last_guard() {
     let notes = Notes::default();
     let table = Options::new(4).handles(2).guards(2).open().unwrap();
@@ -81,9 +105,10 @@ fn the_last_guard_drops_it_on_its_own_thread() {
 fn each_empty_slot_is_found() {
     let table = Options::new(8).handles(2).open().unwrap();
     let (one, other) = (table.handle().unwrap(), table.handle().unwrap());
-    for slot in 0..8 {
-        assert_eq!(one.insert(slot), Ok(slot));
-    }
+    let mut filled: Vec<u32> = (0..8).map(|it| one.insert(it).unwrap()).collect();
+    filled.sort_unstable();
+    assert!(filled.into_iter().eq(0..8));
+    assert!((0..8).all(|slot| one.replace_at(slot, slot).is_ok()));
     // whichever slot a handle filled last, before or after the only empty one
     for slot in [7, 3, 1, 6, 0, 4] {
         assert_eq!(one.remove_at(slot), Ok(Old::Unused(slot)));
@@ -102,7 +127,7 @@ fn one_handle_has_several_guards() {
     let table = Options::new(8).handles(1).guards(2).open().unwrap();
     let handle = table.handle().unwrap();
     for slot in 0..8 {
-        assert_eq!(handle.insert(slot * 10).unwrap(), slot);
+        assert_eq!(handle.replace_at(slot, slot * 10), Ok(Old::None));
     }
     let guards: Vec<Guard<'_, u32>> = (2..5).map(|slot| handle.get_at(slot).unwrap()).collect();
     assert_eq!(
@@ -136,7 +161,7 @@ fn each_error_has_its_numbers_and_gives_the_value_back() {
         (refused.value, refused.reason),
         ("a", Reason::NoSlot(no_slot))
     );
-    assert_eq!(handle.insert("b"), Ok(0));
+    assert_eq!(handle.replace_at(0, "b"), Ok(Old::None));
     assert_eq!(handle.try_insert("c"), Ok(1));
     let full = Reason::Full { slots: 2 };
     let refused = [handle.insert("d"), handle.try_insert("d")].map(Result::unwrap_err);
@@ -183,6 +208,21 @@ fn the_table_lends_a_seat_for_a_call() {
 }
 
 #[test]
+fn each_slot_of_the_largest_table_is_filled_and_emptied() {
+    let table = Table::with_slots(MOST_SLOTS).unwrap();
+    let handle = table.handle().unwrap();
+    let mut filled: Vec<u32> = (0..4_096).map(|it| handle.insert(it).unwrap()).collect();
+    let refused = handle.insert(4_096).unwrap_err();
+    assert_eq!(refused.reason, Reason::Full { slots: 4_096 });
+    for (number, &slot) in filled.iter().enumerate() {
+        assert_eq!(handle.remove_at(slot), Ok(Old::Unused(number as u32)));
+    }
+    assert!(handle.is_empty());
+    filled.sort_unstable();
+    assert!(filled.into_iter().eq(0..4_096));
+}
+
+#[test]
 fn a_table_that_is_too_large_or_too_small_is_refused() {
     let refused = |options: Options| options.open::<u8>().unwrap_err();
     for slots in [0, MOST_SLOTS + 1, u32::MAX] {
@@ -202,7 +242,7 @@ fn a_table_that_is_too_large_or_too_small_is_refused() {
     );
     let largest = most.guards(496).open::<u8>().unwrap();
     let (handle, reader) = (largest.handle().unwrap(), largest.reader().unwrap());
-    assert_eq!(handle.insert(1), Ok(0));
+    assert_eq!(handle.replace_at(0, 1), Ok(Old::None));
     let handles: Vec<Handle<u8>> = (1..64).map(|_| largest.handle().unwrap()).collect();
     let error = largest.handle().unwrap_err().to_string();
     assert_eq!(
@@ -427,9 +467,9 @@ fn what_is_left_is_dropped_with_the_last_handle() {
 fn an_owned_guard_keeps_the_table() {
     let notes = Notes::default();
     let table = Table::with_slots(2).unwrap();
-    table.insert(notes.value(7)).unwrap();
+    let slot = table.insert(notes.value(7)).unwrap();
     table.insert(notes.value(8)).unwrap();
-    let own = table.get_owned(0).unwrap();
+    let own = table.get_owned(slot).unwrap();
     drop(table);
     assert_eq!((own.number, notes.drops()), (7, 0));
     drop(own);

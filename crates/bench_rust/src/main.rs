@@ -1,7 +1,7 @@
 //! Times the two proved lock-free tables, one of them also by the Rust crate in bindings/, next to
 //! plain, unproved Rust tables of the same words, and all next to arc-swap, crossbeam-epoch,
 //! sharded-slab and a lock of std, in turn in one process. Each line has the times of one round,
-//! for `bench/ratios.py`.
+//! for `bench/ratios.py`. With the argument `tails` it prints how long single calls take instead.
 mod bindings;
 mod lasting_words;
 mod locked;
@@ -9,6 +9,7 @@ mod others;
 mod proved;
 mod slabs;
 mod table;
+mod tails;
 mod timing;
 mod words;
 mod work;
@@ -17,51 +18,80 @@ use bindings::Lasting;
 use lasting_words::LastingWords;
 use locked::Locked;
 use others::{Epochs, Swaps};
-use slabs::Slabs;
+use slabs::{Keys, Slabs};
 use timing::time;
 use words::Words;
-use work::Work;
+use work::{Row, Work};
 
 const ROWS: &str = include_str!("../../../bench/rows.txt");
 
-/// Prints the seconds that each of the tables needs for a row.
-fn round(name: &str, words: &str, what: Work, slots: usize, threads: usize) {
-    let times = [
-        ("lasting", proved::time("lasting", words, threads)),
-        ("Rust crate", time::<Lasting>(what, slots, threads)),
-        ("lasting words", time::<LastingWords>(what, slots, threads)),
-        ("counted", proved::time("counted", words, threads)),
-        ("counted words", time::<Words>(what, slots, threads)),
-        ("arc-swap load", time::<Swaps<false>>(what, slots, threads)),
-        (
-            "arc-swap load_full",
-            time::<Swaps<true>>(what, slots, threads),
-        ),
-        ("crossbeam-epoch", time::<Epochs>(what, slots, threads)),
-        ("sharded-slab", time::<Slabs>(what, slots, threads)),
-        ("std's Mutex", time::<Locked>(what, slots, threads)),
-    ];
-    let cells: String = times.map(|(table, it)| format!("\t{table} {it}")).concat();
-    println!("{name}\t{threads}{cells}");
+const LARGE_ROWS: &str = include_str!("../../../bench/large_rows.txt");
+
+/// The function that measures and prints one round of a row, by its name, its words, the row and
+/// the number of threads.
+type Round = fn(&str, &str, Row, usize);
+
+/// Prints the seconds that each table needs for a row.
+fn print(name: &str, threads: usize, times: &[(&str, f64)]) {
+    let cells: Vec<String> = times
+        .iter()
+        .map(|(table, it)| format!("\t{table} {it}"))
+        .collect();
+    println!("{name}\t{threads}{}", cells.concat());
 }
 
-/// Returns the name of a row, its words, and the work and the number of slots that they name.
-fn row(line: &str) -> Option<(&str, &str, Work, usize)> {
-    let (name, words) = line.split_once(": ")?;
-    let (work, slots) = words.split_once(' ')?;
-    Some((name, words, Work::named(work)?, slots.parse().ok()?))
+/// Measures each of the tables at a row of `bench/rows.txt`.
+fn round(name: &str, words: &str, row: Row, threads: usize) {
+    let times = [
+        ("lasting", proved::time("lasting", words, threads)),
+        ("Rust crate", time::<Lasting>(row, threads)),
+        ("lasting words", time::<LastingWords>(row, threads)),
+        ("counted", proved::time("counted", words, threads)),
+        ("counted words", time::<Words>(row, threads)),
+        ("arc-swap load", time::<Swaps<false>>(row, threads)),
+        ("arc-swap load_full", time::<Swaps<true>>(row, threads)),
+        ("crossbeam-epoch", time::<Epochs>(row, threads)),
+        ("sharded-slab", time::<Slabs>(row, threads)),
+        ("std's Mutex", time::<Locked>(row, threads)),
+    ];
+    print(name, threads, &times);
+}
+
+/// Measures the crate and its peers at a row of `bench/large_rows.txt`, unless that has too few
+/// slots for the threads.
+fn large_round(name: &str, _: &str, row: Row, threads: usize) {
+    if matches!(row.work, Work::Chain { .. }) && row.own_slots(threads) == 0 {
+        return;
+    }
+    let times = [
+        ("Rust crate", time::<Lasting>(row, threads)),
+        ("sharded-slab keys", time::<Keys>(row, threads)),
+        ("sharded-slab", time::<Slabs>(row, threads)),
+    ];
+    print(name, threads, &times);
+}
+
+/// Measures `rounds` rounds of each row whose name contains a text.
+fn measure(rows: &str, round: Round, threads: usize, rounds: usize, wanted: &str) {
+    for (name, words) in rows.lines().filter_map(|it| it.split_once(": ")) {
+        let Some(row) = Row::of(words).filter(|_| name.contains(wanted)) else {
+            continue;
+        };
+        (0..rounds).for_each(|_| round(name, words, row, threads));
+    }
 }
 
 fn main() {
     let mut words = std::env::args().skip(1);
-    let rounds = words.next().and_then(|it| it.parse().ok()).unwrap_or(7);
+    let first = words.next().unwrap_or_default();
+    if first == "tails" {
+        return tails::print_all();
+    }
+    let rounds = first.parse().unwrap_or(7);
     let wanted = words.next().unwrap_or_default();
     // arc-swap visits every thread that it has seen, so the rows with few threads come first
     for threads in [1, 2, 4] {
-        for (name, words, what, slots) in ROWS.lines().filter_map(row) {
-            if name.contains(&wanted) {
-                (0..rounds).for_each(|_| round(name, words, what, slots, threads));
-            }
-        }
+        measure(ROWS, round, threads, rounds, &wanted);
+        measure(LARGE_ROWS, large_round, threads, rounds, &wanted);
     }
 }

@@ -1,6 +1,6 @@
 //! The time for which threads work on a table.
 use crate::table::{Shape, Table};
-use crate::work::{work, Work, INSTALLS};
+use crate::work::{work, Row, Work, INSTALLS};
 use std::sync::Barrier;
 
 #[repr(C)]
@@ -31,24 +31,20 @@ fn now(threads: usize) -> f64 {
     time.seconds as f64 + time.nanoseconds as f64 / 1e9
 }
 
-fn shape(what: Work, slots: usize, threads: usize) -> Shape {
-    let (full, in_range) = match what {
-        Work::Chain { in_range } => (0, in_range),
-        Work::Allocate => (240, true),
-        Work::Look | Work::Mixed => (slots, true),
-    };
+fn shape(row: Row, threads: usize) -> Shape {
+    let Row { work, slots, full } = row;
     Shape {
         slots,
         full,
-        in_range,
+        in_range: !matches!(work, Work::Chain { in_range: false }),
         threads,
         installs: INSTALLS,
     }
 }
 
 /// Returns the seconds from the moment when all threads are there to the end of the last one.
-pub fn time<T: Table>(what: Work, slots: usize, threads: usize) -> f64 {
-    let table = T::open(shape(what, slots, threads));
+pub fn time<T: Table>(row: Row, threads: usize) -> f64 {
+    let table = T::open(shape(row, threads));
     let barrier = Barrier::new(threads);
     let spans: Vec<(f64, f64)> = std::thread::scope(|scope| {
         let one = |thread| {
@@ -56,7 +52,7 @@ pub fn time<T: Table>(what: Work, slots: usize, threads: usize) -> f64 {
             scope.spawn(move || {
                 barrier.wait();
                 let begun = now(threads);
-                work(table, what, slots, thread);
+                work(table, row, threads, thread);
                 (begun, now(threads))
             })
         };

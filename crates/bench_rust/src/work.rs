@@ -3,6 +3,43 @@
 use crate::table::{File, Table, READ_LEN};
 use std::hint::black_box;
 
+/// A row of `bench/rows.txt` or `bench/large_rows.txt`: the work, the number of slots, and the
+/// number of slots, from the first one on, that have a file when the work begins.
+#[derive(Clone, Copy)]
+pub struct Row {
+    pub work: Work,
+    pub slots: usize,
+    pub full: usize,
+}
+
+impl Row {
+    /// Returns the row of these words: a kind of work, a number of slots, and in
+    /// `bench/large_rows.txt` the number of full slots.
+    pub fn of(words: &str) -> Option<Row> {
+        let mut words = words.split(' ');
+        let work = Work::named(words.next()?)?;
+        let slots = words.next()?.parse().ok()?;
+        let full = match (words.next(), work) {
+            (Some(word), _) => word.parse().ok()?,
+            (None, Work::Chain { .. }) => 0,
+            (None, Work::Allocate | Work::Serve) => slots - 16,
+            (None, Work::Look | Work::Mixed) => slots,
+        };
+        Some(Row { work, slots, full })
+    }
+
+    /// Returns the number of slots of a thread's own: free ones, 64 at most.
+    pub fn own_slots(self, threads: usize) -> usize {
+        ((self.slots - self.full) / threads).min(64)
+    }
+
+    /// Returns the own slot of a thread, from 0, for the repetition `i`.
+    fn own_slot(self, threads: usize, thread: usize, i: usize) -> usize {
+        let own = self.own_slots(threads);
+        self.full + own * thread + i % own
+    }
+}
+
 /// The operation that is repeated.
 #[derive(Clone, Copy)]
 pub enum Work {
@@ -14,9 +51,11 @@ pub enum Work {
     /// Installs a file at a slot that only this thread uses, looks it up, reads and releases it,
     /// and takes and retires it.
     Chain { in_range: bool },
-    /// Installs a file at an empty slot of a range with 240 of 256 slots full, and takes and
-    /// retires it.
+    /// Installs a file at an empty slot of the range, and takes and retires it.
     Allocate,
+    /// Installs a file at an empty slot, looks it up, reads and releases it, and takes and retires
+    /// it.
+    Serve,
 }
 
 impl Work {
@@ -29,6 +68,7 @@ impl Work {
             "outside" => Some(Work::Chain { in_range: false }),
             "inside" => Some(Work::Chain { in_range: true }),
             "allocate" => Some(Work::Allocate),
+            "serve" => Some(Work::Serve),
             _ => None,
         }
     }
@@ -37,7 +77,7 @@ impl Work {
         match self {
             Work::Look => 200_000,
             Work::Mixed => 10 * INSTALLS,
-            Work::Chain { .. } | Work::Allocate => INSTALLS,
+            Work::Chain { .. } | Work::Allocate | Work::Serve => INSTALLS,
         }
     }
 }
@@ -45,11 +85,11 @@ impl Work {
 /// The number of files that a thread installs.
 pub const INSTALLS: usize = 15_000;
 
-fn next(random: u32) -> u32 {
+pub fn next(random: u32) -> u32 {
     random.wrapping_mul(1_664_525).wrapping_add(1_013_904_223)
 }
 
-fn file() -> File {
+pub fn file() -> File {
     File {
         entry: 0,
         mark: black_box(0),
@@ -57,7 +97,8 @@ fn file() -> File {
 }
 
 /// Does the work of the thread with this number.
-pub fn work<T: Table>(table: &T, work: Work, slots: usize, thread: usize) {
+pub fn work<T: Table>(table: &T, row: Row, threads: usize, thread: usize) {
+    let Row { work, slots, .. } = row;
     let pass = &mut table.pass(thread);
     let catalogue = black_box(vec![vec![7; READ_LEN]]);
     let mut into = Vec::with_capacity(READ_LEN);
@@ -71,7 +112,7 @@ pub fn work<T: Table>(table: &T, work: Work, slots: usize, thread: usize) {
                 black_box(table.look(pass, slot));
             }
             Work::Chain { .. } => {
-                let slot = (64 * thread + i % 64) & (slots - 1);
+                let slot = row.own_slot(threads, thread, i);
                 table.put(pass, slot, file());
                 table.read(pass, slot, &catalogue, &mut into);
                 black_box(&into);
@@ -79,6 +120,13 @@ pub fn work<T: Table>(table: &T, work: Work, slots: usize, thread: usize) {
             }
             Work::Allocate => {
                 if let Some(slot) = table.put_any(pass, file()) {
+                    table.take(pass, slot);
+                }
+            }
+            Work::Serve => {
+                if let Some(slot) = table.put_any(pass, file()) {
+                    table.read(pass, slot, &catalogue, &mut into);
+                    black_box(&into);
                     table.take(pass, slot);
                 }
             }

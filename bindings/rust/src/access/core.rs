@@ -36,7 +36,7 @@ pub(crate) const BAD: i64 = -8;
 pub(crate) const NO_MEMORY: i64 = -9;
 
 /// The largest number of slots.
-pub(crate) const MOST_SLOTS: u32 = 256;
+pub(crate) const MOST_SLOTS: u32 = 4096;
 /// The largest number of workers.
 pub(crate) const MOST_WORKERS: u32 = 1024;
 /// The largest number of workers that install values.

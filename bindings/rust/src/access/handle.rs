@@ -3,6 +3,7 @@ use super::core::Core;
 use super::guard::Guard;
 use super::reader::Reader;
 use super::seats::Place;
+use super::storage::{self, Spare};
 use super::table::Table;
 use super::values::{Round, Values};
 use crate::errors::{GetError, NoSeat, NoSlot, Reason, Refused};
@@ -55,6 +56,7 @@ pub struct Handle<T> {
     /// Its own seat has the number of the handle's installing seat as well.
     reader: Reader<T>,
     installer: Place,
+    spare: Spare<T>,
 }
 
 impl<T> Handle<T> {
@@ -62,7 +64,11 @@ impl<T> Handle<T> {
     pub(super) fn new(reader: Reader<T>) -> Handle<T> {
         let seats = &reader.table().values().seats;
         let installer = seats.installing_place(reader.number());
-        Handle { reader, installer }
+        Handle {
+            reader,
+            installer,
+            spare: Spare::default(),
+        }
     }
 
     #[inline]
@@ -114,8 +120,8 @@ impl<T> Handle<T> {
     pub fn insert(&self, value: T) -> Result<u32, Refused<T>> {
         let (values, core) = self.parts();
         // SAFETY: the seat is this handle's (one user), and holds nothing between two calls.
-        unsafe { values.insert(core, Box::new(value)) }.map_err(|value| Refused {
-            value: *value,
+        unsafe { values.insert(core, storage::put(&self.spare, value)) }.map_err(|value| Refused {
+            value: storage::take(&self.spare, value),
             reason: Reason::Full {
                 slots: values.slots(),
             },
@@ -145,9 +151,9 @@ impl<T> Handle<T> {
     pub fn try_insert(&self, value: T) -> Result<u32, Refused<T>> {
         let (values, core) = self.parts();
         // SAFETY: the seat is this handle's (one user), and holds nothing between two calls.
-        let answer = unsafe { values.try_insert(core, Box::new(value)) };
+        let answer = unsafe { values.try_insert(core, storage::put(&self.spare, value)) };
         answer.map_err(|(value, round)| Refused {
-            value: *value,
+            value: storage::take(&self.spare, value),
             reason: match round {
                 Round::Again => Reason::Again,
                 Round::Full => Reason::Full {
@@ -179,10 +185,10 @@ impl<T> Handle<T> {
     pub fn replace_at(&self, slot: u32, value: T) -> Result<Old<T>, Refused<T>> {
         let (values, core) = self.parts();
         // SAFETY: the seat is this handle's (one user), and holds nothing between two calls.
-        match unsafe { values.replace_at(core, slot, Box::new(value)) } {
-            Ok(old) => Ok(old.map(|it| *it)),
+        match unsafe { values.replace_at(core, slot, storage::put(&self.spare, value)) } {
+            Ok(old) => Ok(old.map(|it| storage::take(&self.spare, it))),
             Err(value) => Err(Refused {
-                value: *value,
+                value: storage::take(&self.spare, value),
                 reason: Reason::NoSlot(values.no_slot(slot)),
             }),
         }
@@ -210,7 +216,7 @@ impl<T> Handle<T> {
         let (values, core) = self.parts();
         // SAFETY: the seat is this handle's (one user), and holds nothing between two calls.
         let old = unsafe { values.remove_at(core, slot) };
-        Ok(old?.map(|it| *it))
+        Ok(old?.map(|it| storage::take(&self.spare, it)))
     }
 
     /// Checks whether a slot has a value. A slot that the table hasn't has none. It is a look-up,

@@ -86,23 +86,49 @@ impl<T> Reader<T> {
     /// ```
     #[inline]
     pub fn get_at(&self, slot: u32) -> Result<Guard<'_, T>, GetError> {
-        let values = self.table.values();
-        let place = self.begin().map_err(GetError::NoSeat)?;
+        if self.is_busy.get() {
+            return self.get_by_another(slot);
+        }
         // SAFETY: the seat is this reader's (one user), and no guard uses it.
-        let Looked { found, freed } = unsafe { values.look(place.core, slot) };
-        match found {
+        match unsafe { self.table.values().look(self.own.core, slot) } {
+            Looked {
+                found: Ok(value),
+                freed: None,
+            } => {
+                self.is_busy.set(true);
+                Ok(Guard::new(self, value, self.own, slot))
+            }
+            looked => self.finish(self.own, slot, looked),
+        }
+    }
+
+    // Looks a slot up by a seat of the table. This and `finish` aren't inlined, so that a look-up
+    // that needs neither is small enough to be inlined.
+    #[inline(never)]
+    fn get_by_another(&self, slot: u32) -> Result<Guard<'_, T>, GetError> {
+        let values = self.table.values();
+        let place = values.seats.claim_guard().map_err(GetError::NoSeat)?;
+        // SAFETY: the seat is this call's (one user).
+        let looked = unsafe { values.look(place.core, slot) };
+        self.finish(place, slot, looked)
+    }
+
+    // Turns the result of a look-up into a guard, which has the look-up's seat, or into an error.
+    #[inline(never)]
+    fn finish(&self, place: Place, slot: u32, looked: Looked<T>) -> Result<Guard<'_, T>, GetError> {
+        let Looked { found, freed } = looked;
+        let guard = match found {
             Ok(value) => {
                 self.note(place.number);
-                let guard = Guard::new(self, value, place, slot);
-                drop_last(freed);
-                Ok(guard)
+                Ok(Guard::new(self, value, place, slot))
             }
-            Err(error) => {
+            Err(number) => {
                 self.end(place.number);
-                drop_last(freed);
-                Err(error)
+                Err(self.table.values().get_error(number, slot))
             }
-        }
+        };
+        drop_last(freed);
+        guard
     }
 
     /// Returns an iterator over guards of the values: what each slot had when it was looked at.
@@ -141,18 +167,7 @@ impl<T> Reader<T> {
         &self.table
     }
 
-    /// Returns a seat for one look-up.
-    #[inline]
-    fn begin(&self) -> Result<Place, NoSeat> {
-        if self.is_busy.get() {
-            self.table.values().seats.claim_guard()
-        } else {
-            Ok(self.own)
-        }
-    }
-
-    /// Notes that a guard has a seat from `begin`.
-    #[inline]
+    /// Notes that a guard has a seat.
     fn note(&self, number: u32) {
         if number == self.own.number {
             self.is_busy.set(true);
@@ -166,8 +181,7 @@ impl<T> Reader<T> {
         }
     }
 
-    /// Gives a seat from `begin` back that no guard has got.
-    #[inline]
+    /// Gives a seat back that no guard has got.
     fn end(&self, number: u32) {
         if number != self.own.number {
             self.table.values().seats.give_back(number);
@@ -179,8 +193,14 @@ impl<T> Reader<T> {
     pub(super) fn give_back(&self, number: u32) {
         if number == self.own.number {
             self.is_busy.set(false);
-            return;
+        } else {
+            self.give_other_back(number);
         }
+    }
+
+    // Gives the seat of a guard back, which isn't the reader's own.
+    #[inline(never)]
+    fn give_other_back(&self, number: u32) {
         let seats = &self.table.values().seats;
         let looking = &seats.looking;
         let seat = &looking[number as usize];

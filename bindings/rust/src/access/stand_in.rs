@@ -175,7 +175,8 @@ pub(crate) unsafe fn yacht_core_open(
             next: None,
             held: None,
             emptied: VecDeque::new(),
-            after_filled: 0,
+            // apart from the other workers, as in the core
+            after_filled: 67 * (at + 1) % slots as usize,
         };
         // SAFETY: there is room for `count` handles.
         unsafe { *out.add(at) = Box::into_raw(Box::new(it)).cast() };

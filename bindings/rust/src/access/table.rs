@@ -149,10 +149,10 @@ impl<T> Table<T> {
                 drop_last(freed);
                 Ok(guard)
             }
-            Err(error) => {
+            Err(number) => {
                 seats.give_back(place.number);
                 drop_last(freed);
-                Err(error)
+                Err(self.values.get_error(number, slot))
             }
         }
     }
@@ -168,7 +168,7 @@ impl<T> Table<T> {
     /// ```
     /// let table = yachtbanyan::Table::<String>::with_slots(4)?;
     /// let slot = table.insert("value".to_string())?;
-    /// assert_eq!(slot, 0);
+    /// assert!(slot < 4);
     /// # Ok::<(), Box<dyn std::error::Error>>(())
     /// ```
     pub fn insert(&self, value: T) -> Result<u32, Refused<T>> {

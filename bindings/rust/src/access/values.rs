@@ -15,10 +15,10 @@ pub(super) struct Values<T> {
     _owns: PhantomData<T>,
 }
 
-/// The result of a look-up: the address of the value, which the seat holds now, and a value that
-/// this look-up was the last to use.
+/// The result of a look-up: the address of the value, which the seat holds now, or the core's
+/// number of the reason why there is none; and a value that this look-up was the last to use.
 pub(super) struct Looked<T> {
-    pub(super) found: Result<*const T, GetError>,
+    pub(super) found: Result<*const T, i64>,
     pub(super) freed: Option<Box<T>>,
 }
 
@@ -97,14 +97,21 @@ impl<T> Values<T> {
             let value = self.by_node[answer as usize].load(Ordering::Relaxed);
             order::acquire(value as usize as u64);
             Ok(value.cast_const())
-        } else if answer == core::EMPTY {
-            Err(GetError::Empty { slot })
         } else {
-            Err(GetError::NoSlot(self.no_slot(slot)))
+            Err(answer)
         };
         // SAFETY: this look-up was overtaken, and the core closed this file in it (`looked`).
         let freed = (freed != 0).then(|| unsafe { value_of(freed) });
         Looked { found, freed }
+    }
+
+    /// Returns the error of a look-up that has this number of the core.
+    pub(super) fn get_error(&self, number: i64, slot: u32) -> GetError {
+        if number == core::EMPTY {
+            GetError::Empty { slot }
+        } else {
+            GetError::NoSlot(self.no_slot(slot))
+        }
     }
 
     /// Ends the hold of a seat. Returns its value if this call closed it. `value` is its address,
@@ -213,14 +220,20 @@ impl<T> Values<T> {
     ///
     /// # Safety
     /// As of `replace_at`.
+    #[inline]
     pub(super) unsafe fn insert(&self, core: *mut Core, value: Box<T>) -> Result<u32, Box<T>> {
-        let mut value = value;
+        // SAFETY: as the caller ensures.
+        let tag = unsafe { self.prepare(core, value) };
         loop {
-            // SAFETY: as the caller ensures.
-            match unsafe { self.try_insert(core, value) } {
-                Ok(slot) => return Ok(slot),
-                Err((value, Round::Full)) => return Err(value),
-                Err((again, Round::Again)) => value = again,
+            // SAFETY: no other call uses the core's worker meanwhile.
+            let answer = unsafe { core::yacht_core_put_any(core, tag) };
+            if answer >= 0 {
+                return Ok(answer as u32);
+            }
+            if answer != core::AGAIN {
+                // SAFETY: the core installed nothing, so the value is still this call's
+                // (`allocated`).
+                return Err(unsafe { value_of(tag) });
             }
             std::thread::yield_now();
         }
