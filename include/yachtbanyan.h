@@ -32,14 +32,14 @@ extern "C" {
 
 /* The version of this header. The shared library of the same major version has the name
  * libyachtbanyan.so.MAJOR. */
-#define YACHT_VERSION "3.0.0"
-#define YACHT_VERSION_MAJOR 3
+#define YACHT_VERSION "4.0.0"
+#define YACHT_VERSION_MAJOR 4
 #define YACHT_VERSION_MINOR 0
 #define YACHT_VERSION_PATCH 0
 
 /* The largest numbers of slots, of handles that install values, and of handles and readers
  * together. */
-enum { YACHT_MOST_SLOTS = 256, YACHT_MOST_HANDLES = 64, YACHT_MOST_IN_ALL = 1024 };
+enum { YACHT_MOST_SLOTS = 4096, YACHT_MOST_HANDLES = 64, YACHT_MOST_IN_ALL = 1024 };
 
 /* What a function returns. A negative number is an error: the call has changed no slot. */
 enum {

@@ -8,7 +8,7 @@ from pages import anchors
 from repository import ROOT, read, write
 
 PAGES = {"docs/ARCHIVE.md": "README.md"} | {
-    it: it for it in (*(f"docs/{name}.md" for name in ("BINDINGS", "CHECKING", "LIMITS", "LINUX", "LITMUS", "MODEL", "SCRIPT")), "examples/README.md")}
+    it: it for it in (*(f"docs/{name}.md" for name in ("BINDINGS", "CHECKING", "FLIGHT", "LIMITS", "LINUX", "LITMUS", "MODEL", "SCRIPT")), "examples/README.md")}
 ARM_PAGES = {"docs/ARCHIVE_ARM64.md": "README.md", "docs/BINDINGS.md": "docs/BINDINGS.md"}
 # what the archives have beside pages and scripts
 FOLDERS = ("LICENSE", "c", "completions", "docs/pictures", "examples", "kernel", "man")
@@ -86,7 +86,10 @@ def with_links(text, source, page, is_arm=False):
 
 def main(folder, is_arm):
     for source, page in (ARM_PAGES if is_arm else PAGES).items():
-        write(os.path.join(os.path.abspath(folder), page), with_links(with_commands(read(source)), source, page, is_arm))
+        text = with_links(with_commands(read(source)), source, page, is_arm)
+        # the archive has these folders at its top, and its crate has the library inside
+        text = re.sub(r"\bbindings/(?=(recorder|python)\b)|YACHTBANYAN_LIB_DIR=\.\./\.\./lib ", "", text)
+        write(os.path.join(os.path.abspath(folder), page), text)
     return 0
 
 
