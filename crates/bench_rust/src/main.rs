@@ -3,6 +3,7 @@
 //! sharded-slab and a lock of std, in turn in one process. Each line has the times of one round,
 //! for `bench/ratios.py`. With the argument `tails` it prints how long single calls take instead.
 mod bindings;
+mod exports;
 mod lasting_words;
 mod locked;
 mod others;
@@ -15,6 +16,7 @@ mod words;
 mod work;
 
 use bindings::Lasting;
+use exports::Core;
 use lasting_words::LastingWords;
 use locked::Locked;
 use others::{Epochs, Swaps};
@@ -57,13 +59,14 @@ fn round(name: &str, words: &str, row: Row, threads: usize) {
     print(name, threads, &times);
 }
 
-/// Measures the crate and its peers at a row of `bench/large_rows.txt`, unless that has too few
-/// slots for the threads.
+/// Measures the table, by the calls that the crate makes and by the crate itself, and its peers at a
+/// row of `bench/large_rows.txt`, unless that has too few slots for the threads.
 fn large_round(name: &str, _: &str, row: Row, threads: usize) {
     if matches!(row.work, Work::Chain { .. }) && row.own_slots(threads) == 0 {
         return;
     }
     let times = [
+        ("lasting", time::<Core>(row, threads)),
         ("Rust crate", time::<Lasting>(row, threads)),
         ("sharded-slab keys", time::<Keys>(row, threads)),
         ("sharded-slab", time::<Slabs>(row, threads)),

@@ -21,7 +21,7 @@ impl Row {
         let slots = words.next()?.parse().ok()?;
         let full = match (words.next(), work) {
             (Some(word), _) => word.parse().ok()?,
-            (None, Work::Chain { .. }) => 0,
+            (None, Work::Chain { .. } | Work::Opening) => 0,
             (None, Work::Allocate | Work::Serve) => slots - 16,
             (None, Work::Look | Work::Mixed) => slots,
         };
@@ -56,6 +56,8 @@ pub enum Work {
     /// Installs a file at an empty slot, looks it up, reads and releases it, and takes and retires
     /// it.
     Serve,
+    /// Opens a table and closes it, on one thread.
+    Opening,
 }
 
 impl Work {
@@ -69,15 +71,18 @@ impl Work {
             "inside" => Some(Work::Chain { in_range: true }),
             "allocate" => Some(Work::Allocate),
             "serve" => Some(Work::Serve),
+            "opening" => Some(Work::Opening),
             _ => None,
         }
     }
 
-    fn times(self) -> usize {
+    /// Returns how often a thread repeats the operation.
+    pub fn times(self) -> usize {
         match self {
             Work::Look => 200_000,
             Work::Mixed => 10 * INSTALLS,
             Work::Chain { .. } | Work::Allocate | Work::Serve => INSTALLS,
+            Work::Opening => 50,
         }
     }
 }
@@ -130,6 +135,7 @@ pub fn work<T: Table>(table: &T, row: Row, threads: usize, thread: usize) {
                     table.take(pass, slot);
                 }
             }
+            Work::Opening => unreachable!("no thread shares a table that is only opened"),
         }
     }
 }

@@ -1,0 +1,113 @@
+//! The proved table that never has to be closed, by the exports for C that the Rust crate calls.
+//! A file is known to it by its tag.
+use crate::table::{read_entry, File, Shape, Table, FILE};
+use std::sync::atomic::{AtomicPtr, Ordering::Relaxed};
+
+/// A worker, which is one pass of the table.
+#[repr(C)]
+pub struct Worker {
+    _private: [u8; 0],
+}
+
+const AGAIN: i64 = -7;
+
+extern "C" {
+    fn yacht_core_open(slots: u32, installing: u32, workers: *mut *mut Worker, count: usize)
+        -> i64;
+    fn yacht_core_close(worker: *mut Worker);
+    fn yacht_core_look(worker: *mut Worker, slot: u32, freed: *mut u64) -> i64;
+    fn yacht_core_release(worker: *mut Worker, closed: *mut u64) -> i64;
+    fn yacht_core_put(worker: *mut Worker, slot: u32, tag: u64, closed: *mut u64) -> i64;
+    fn yacht_core_put_any(worker: *mut Worker, tag: u64) -> i64;
+    fn yacht_core_take(worker: *mut Worker, slot: u32, closed: *mut u64) -> i64;
+}
+
+/// A table with a worker for each thread. Its allocation range is all its slots.
+pub struct Core(Vec<AtomicPtr<Worker>>);
+
+fn tag_of(file: File) -> u64 {
+    file.mark + 1
+}
+
+impl Core {
+    // Looks a slot up and releases its file. Returns the node of the file, if there is one.
+    fn see(&self, worker: *mut Worker, slot: usize) -> Option<u64> {
+        let mut closed = 0;
+        // SAFETY: one thread uses this worker.
+        let node = unsafe { yacht_core_look(worker, slot as u32, &mut closed) };
+        (node >= 0).then(|| {
+            // SAFETY: as above.
+            unsafe { yacht_core_release(worker, &mut closed) };
+            node as u64
+        })
+    }
+}
+
+impl Table for Core {
+    type Pass = *mut Worker;
+
+    fn open(shape: Shape) -> Core {
+        let mut workers = vec![std::ptr::null_mut(); shape.threads];
+        let (slots, count) = (shape.slots as u32, workers.len());
+        // SAFETY: there are `count` places.
+        let answer = unsafe { yacht_core_open(slots, count as u32, workers.as_mut_ptr(), count) };
+        assert_eq!(answer, 0, "memory");
+        let table = Core(workers.into_iter().map(AtomicPtr::new).collect());
+        for slot in 0..shape.full {
+            table.put(&mut table.pass(0), slot, FILE);
+        }
+        table
+    }
+
+    fn pass(&self, thread: usize) -> *mut Worker {
+        self.0[thread].load(Relaxed)
+    }
+
+    fn look(&self, worker: &mut *mut Worker, slot: usize) -> u64 {
+        self.see(*worker, slot).unwrap_or(0)
+    }
+
+    fn read(
+        &self,
+        worker: &mut *mut Worker,
+        slot: usize,
+        catalogue: &[Vec<u8>],
+        into: &mut Vec<u8>,
+    ) {
+        if self.see(*worker, slot).is_some() {
+            read_entry(catalogue, 0, into);
+        }
+    }
+
+    fn put(&self, worker: &mut *mut Worker, slot: usize, file: File) {
+        let mut closed = 0;
+        // SAFETY: one thread uses this worker.
+        unsafe { yacht_core_put(*worker, slot as u32, tag_of(file), &mut closed) };
+    }
+
+    fn put_any(&self, worker: &mut *mut Worker, file: File) -> Option<usize> {
+        let tag = tag_of(file);
+        loop {
+            // SAFETY: one thread uses this worker.
+            let slot = unsafe { yacht_core_put_any(*worker, tag) };
+            if slot != AGAIN {
+                return usize::try_from(slot).ok();
+            }
+        }
+    }
+
+    fn take(&self, worker: &mut *mut Worker, slot: usize) {
+        let mut closed = 0;
+        // SAFETY: one thread uses this worker.
+        unsafe { yacht_core_take(*worker, slot as u32, &mut closed) };
+    }
+}
+
+impl Drop for Core {
+    fn drop(&mut self) {
+        for worker in &self.0 {
+            // SAFETY: no thread uses the workers any more.
+            unsafe { yacht_core_close(worker.load(Relaxed)) };
+        }
+    }
+}
