@@ -59,8 +59,8 @@ fn round(name: &str, words: &str, row: Row, threads: usize) {
     print(name, threads, &times);
 }
 
-/// Measures the table, by the calls that the crate makes and by the crate itself, and its peers at a
-/// row of `bench/large_rows.txt`, unless that has too few slots for the threads.
+/// Measures the table, by the calls that the crate makes and by the crate itself, and its peers at
+/// a row of `bench/large_rows.txt`, unless that has too few slots for the threads.
 fn large_round(name: &str, _: &str, row: Row, threads: usize) {
     if matches!(row.work, Work::Chain { .. }) && row.own_slots(threads) == 0 {
         return;
