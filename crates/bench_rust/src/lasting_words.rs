@@ -1,7 +1,8 @@
 //! The words of the lasting table, in plain, unproved Rust: the proved table is measured against
 //! it. A cold file is looked up by an addition to its slot's word, a hot one by its node in the
 //! pass's own hold word. The first look-up of a pass puts it into the list of passes that ever
-//! looked a file up.
+//! looked a file up. A word for each group counts its full slots, and the question word has a bit
+//! for each pass that asks whether all are full.
 use crate::table::{read_entry, File, Shape, Table};
 use std::cell::UnsafeCell;
 use std::hint::black_box;
@@ -20,9 +21,6 @@ const COLD_TAKES: u64 = 16;
 
 // A marked hold word.
 const MARK: u64 = 1 << 32;
-
-// The bias that is added to the full slots in the control word.
-const BIAS: u64 = 65_536;
 
 /// A word on a cache line of its own.
 #[repr(align(64))]
@@ -44,7 +42,10 @@ pub struct LastingWords {
     holds: Vec<Line>,
     nodes: Vec<AtomicU64>,
     places: Vec<UnsafeCell<Option<File>>>,
-    control: Line,
+    groups: Vec<Line>,
+    question: Line,
+    /// The number of slots of a group.
+    group_size: usize,
     /// The number of nodes of each pass.
     block: usize,
     in_range: bool,
@@ -55,11 +56,12 @@ pub struct LastingWords {
 unsafe impl Sync for LastingWords {}
 
 /// A pass: its number, the node of its block at which its next search begins, whether it is in the
-/// list, and the slots that it emptied last.
+/// list, whether it was sure that the table is full, and the slots that it emptied last.
 pub struct Pass {
     number: usize,
     next: usize,
     listed: bool,
+    sure: bool,
     emptied: Emptied,
 }
 
@@ -73,11 +75,11 @@ struct Emptied {
 }
 
 impl Emptied {
-    fn new() -> Emptied {
+    fn new(next: usize) -> Emptied {
         Emptied {
             slots: [NO_SLOT; 8],
             top: 0,
-            next: 0,
+            next,
         }
     }
 
@@ -234,15 +236,30 @@ impl LastingWords {
         word
     }
 
-    // Writes a slot's word. A slot of the range is taken off the count before it is emptied, and
-    // one that was empty is added to it afterwards.
+    // The word that counts the full slots of a slot's group.
+    fn count_of(&self, slot: usize) -> &AtomicU64 {
+        &self.groups[slot / self.group_size].0
+    }
+
+    // The number of slots of a group.
+    fn len_of(&self, group: usize) -> usize {
+        self.group_size
+            .min(self.slots.len() - group * self.group_size)
+    }
+
+    // Writes a slot's word. A slot of the range is taken off its group's count before it is
+    // emptied, and then the questions of other passes are cleared; one that was empty is added to
+    // the count afterwards.
     fn change(&self, slot: usize, word: u64) -> u64 {
         if self.in_range && word == 0 {
-            self.control.0.fetch_sub(1, SeqCst);
+            self.count_of(slot).fetch_sub(1, SeqCst);
+            if self.question.0.load(SeqCst) != 0 {
+                self.question.0.swap(0, SeqCst);
+            }
         }
         let found = self.slots[slot].0.swap(word, SeqCst);
         if self.in_range && node_in(found).is_none() {
-            self.control.0.fetch_add(1, SeqCst);
+            self.count_of(slot).fetch_add(1, SeqCst);
         }
         found
     }
@@ -257,13 +274,47 @@ impl LastingWords {
             .compare_exchange(found, word, SeqCst, SeqCst)
             .is_ok();
         if is_mine {
-            self.control.0.fetch_add(1, SeqCst);
+            self.count_of(slot).fetch_add(1, SeqCst);
         }
         is_mine
     }
 
-    fn is_full(&self) -> bool {
-        self.control.0.load(SeqCst) == BIAS + self.slots.len() as u64
+    fn is_full_group(&self, group: usize) -> bool {
+        self.groups[group].0.load(SeqCst) == self.len_of(group) as u64
+    }
+
+    // Tries the slots of a group, unless that counts all its slots.
+    fn try_group(&self, group: usize, word: u64) -> Option<usize> {
+        if self.is_full_group(group) {
+            return None;
+        }
+        let first = group * self.group_size;
+        (first..first + self.len_of(group)).find(|it| self.try_slot(*it, word))
+    }
+
+    // Tries the slot at which the pass begins, and then each group once.
+    fn scan(&self, pass: &mut Pass, word: u64) -> Option<usize> {
+        let first = pass.emptied.take_last() % self.slots.len();
+        if self.try_slot(first, word) {
+            return Some(first);
+        }
+        let (group, groups) = (first / self.group_size, self.groups.len());
+        (group..groups)
+            .chain(0..group)
+            .find_map(|it| self.try_group(it, word))
+    }
+
+    // Checks whether the pass's question is still there.
+    fn decide(&self, pass: &Pass) -> bool {
+        self.question.0.load(SeqCst) & (1 << pass.number) != 0
+    }
+
+    // Asks whether every slot is full.
+    fn ask(&self, pass: &Pass) -> bool {
+        if !self.decide(pass) {
+            self.question.0.fetch_add(1 << pass.number, SeqCst);
+        }
+        (0..self.groups.len()).all(|it| self.is_full_group(it)) && self.decide(pass)
     }
 }
 
@@ -283,13 +334,20 @@ impl Table for LastingWords {
         let slot = |n| line(if n < full { (n as u64 + 1) << 40 } else { 0 });
         let node = |n| AtomicU64::new(if n < full { BORN } else { FREE });
         let place = |n| UnsafeCell::new((n < full).then_some(File { entry: 0, mark: 0 }));
+        let group_size = if slots > 256 { 64 } else { 4 };
+        let counted = |first| match full.saturating_sub(first) {
+            rest if in_range => line(rest.min(group_size) as u64),
+            _ => line(0),
+        };
         LastingWords {
             list: List::default(),
             slots: (0..slots).map(slot).collect(),
             holds: (0..threads).map(|_| line(0)).collect(),
             nodes: (0..nodes).map(node).collect(),
             places: (0..nodes).map(place).collect(),
-            control: line(BIAS + if in_range { full as u64 } else { 0 }),
+            groups: (0..slots).step_by(group_size).map(counted).collect(),
+            question: line(0),
+            group_size,
             block,
             in_range,
         }
@@ -300,7 +358,8 @@ impl Table for LastingWords {
             number: thread,
             next: 0,
             listed: false,
-            emptied: Emptied::new(),
+            sure: false,
+            emptied: Emptied::new(67 * (thread + 1) % self.slots.len()),
         }
     }
 
@@ -325,20 +384,19 @@ impl Table for LastingWords {
         self.retire(pass, self.change(slot, word));
     }
 
-    // Asks before each round whether every slot is full.
     fn put_any(&self, pass: &mut Pass, file: File) -> Option<usize> {
-        if self.is_full() {
+        pass.sure = pass.sure && self.decide(pass);
+        if pass.sure {
             return None;
         }
         let word = self.install(pass, file);
-        let len = self.slots.len();
         loop {
-            let from = pass.emptied.take_last() % len;
-            if let Some(slot) = (from..len).chain(0..from).find(|it| self.try_slot(*it, word)) {
+            if let Some(slot) = self.scan(pass, word) {
                 pass.emptied.next = slot + 1;
                 return Some(slot);
             }
-            if self.is_full() {
+            pass.sure = self.ask(pass);
+            if pass.sure {
                 node_in(word).map(|it| self.come_out(it));
                 return None;
             }

@@ -1,5 +1,5 @@
-//! How long single calls take while three threads look up and one installs and removes: the median,
-//! and the times that 1 of 100 and 1 of 10,000 calls exceed.
+//! How long single calls take while three threads look up, and one or 58 install and remove: the
+//! median, and the times that 1 of 100 and 1 of 10,000 calls exceed.
 use crate::bindings::Lasting;
 use crate::others::Swaps;
 use crate::slabs::Slabs;
@@ -15,15 +15,16 @@ const READERS: usize = 3;
 /// The number of slots, half of which are full at first.
 const SLOTS: usize = 256;
 
-/// The number of files that the writer installs and removes.
+/// The number of files that the writers install and remove.
 const INSTALLS: usize = 300_000;
 
 /// The times of many calls of one kind, in nanoseconds.
 struct Times(Vec<u32>);
 
 impl Times {
-    fn new() -> Times {
-        Times(Vec::with_capacity(1 << 20))
+    /// Returns no times, with room for this number of calls.
+    fn new(calls: usize) -> Times {
+        Times(Vec::with_capacity(calls))
     }
 
     fn add(&mut self, call: impl FnOnce()) {
@@ -37,16 +38,19 @@ impl Times {
         self.0[(self.0.len() - 1) * most / 10_000]
     }
 
-    fn print(mut self, table: &str, call: &str) {
+    fn print(mut self, table: &str, writers: usize, call: &str) {
         self.0.sort_unstable();
         let [half, p99, p9999] = [5_000, 9_900, 9_999].map(|it| self.at(it));
         let calls = self.0.len();
-        println!("tails: {table}: {call}: p50 {half} p99 {p99} p99.99 {p9999} ns of {calls} calls");
+        println!(
+            "tails: {table}, {writers} writing: {call}: p50 {half} p99 {p99} p99.99 {p9999} ns of \
+             {calls} calls"
+        );
     }
 }
 
 fn read<T: Table>(table: &T, thread: usize, ends: &AtomicBool) -> Times {
-    let (mut pass, mut times) = (table.pass(thread), Times::new());
+    let (mut pass, mut times) = (table.pass(thread), Times::new(1 << 20));
     let mut random = thread as u32;
     while !ends.load(Relaxed) {
         random = next(random);
@@ -58,10 +62,10 @@ fn read<T: Table>(table: &T, thread: usize, ends: &AtomicBool) -> Times {
     times
 }
 
-fn write<T: Table>(table: &T) -> [Times; 2] {
-    let mut pass = table.pass(0);
-    let (mut inserts, mut removals) = (Times::new(), Times::new());
-    for _ in 0..INSTALLS {
+fn write<T: Table>(table: &T, thread: usize, installs: usize) -> [Times; 2] {
+    let mut pass = table.pass(thread);
+    let (mut inserts, mut removals) = (Times::new(installs), Times::new(installs));
+    for _ in 0..installs {
         let (mut slot, file) = (None, file());
         inserts.add(|| slot = table.put_any(&mut pass, file));
         if let Some(slot) = slot {
@@ -71,41 +75,56 @@ fn write<T: Table>(table: &T) -> [Times; 2] {
     [inserts, removals]
 }
 
-fn print<T: Table>(name: &str) {
+/// Returns the times of all threads.
+fn together(times: impl Iterator<Item = Times>) -> Times {
+    Times(times.flat_map(|it| it.0).collect())
+}
+
+fn print<T: Table>(name: &str, writers: usize) {
+    let (threads, installs) = (READERS + writers, INSTALLS / writers);
     let table = T::open(Shape {
         slots: SLOTS,
         full: SLOTS / 2,
         in_range: true,
-        threads: READERS + 1,
-        installs: INSTALLS,
+        threads,
+        installs,
     });
-    let (barrier, ends) = (Barrier::new(READERS + 1), AtomicBool::new(false));
-    let (looks, [inserts, removals]) = std::thread::scope(|scope| {
+    let (barrier, ends) = (Barrier::new(threads), AtomicBool::new(false));
+    let (looks, written) = std::thread::scope(|scope| {
+        let (table, barrier, ends) = (&table, &barrier, &ends);
         let reader = |thread| {
-            let (table, barrier, ends) = (&table, &barrier, &ends);
             scope.spawn(move || {
                 barrier.wait();
                 read(table, thread, ends)
             })
         };
-        let readers: Vec<_> = (1..=READERS).map(reader).collect();
-        barrier.wait();
-        let written = write(&table);
+        let writer = |thread| {
+            scope.spawn(move || {
+                barrier.wait();
+                write(table, thread, installs)
+            })
+        };
+        let writers: Vec<_> = (0..writers).map(writer).collect();
+        let readers: Vec<_> = (writers.len()..threads).map(reader).collect();
+        let written: Vec<_> = writers.into_iter().map(|it| it.join().unwrap()).collect();
         ends.store(true, Relaxed);
-        let each = readers.into_iter().map(|it| it.join().unwrap().0);
-        (Times(each.flatten().collect()), written)
+        let looks = together(readers.into_iter().map(|it| it.join().unwrap()));
+        (looks, written)
     });
-    looks.print(name, "look and release");
-    inserts.print(name, "insert");
-    removals.print(name, "remove");
+    let (inserts, removals): (Vec<_>, Vec<_>) = written.into_iter().map(<(_, _)>::from).unzip();
+    looks.print(name, writers, "look and release");
+    together(inserts.into_iter()).print(name, writers, "insert");
+    together(removals.into_iter()).print(name, writers, "remove");
 }
 
 /// Prints the times of each table. Each has that of reading the clock, which comes first.
 pub fn print_all() {
-    let mut times = Times::new();
+    let mut times = Times::new(1 << 20);
     (0..1_000_000).for_each(|_| times.add(|| ()));
-    times.print("no table", "nothing");
-    print::<Lasting>("Rust crate");
-    print::<Swaps<false>>("arc-swap load");
-    print::<Slabs>("sharded-slab");
+    times.print("no table", 0, "nothing");
+    for writers in [1, 58] {
+        print::<Lasting>("Rust crate", writers);
+        print::<Swaps<false>>("arc-swap load", writers);
+        print::<Slabs>("sharded-slab", writers);
+    }
 }
