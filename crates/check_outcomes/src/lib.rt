@@ -22,3 +22,4 @@ pub use found::push_file;
 pub use outcomes::{
     PossibleAnswer, PossibleAnswers, PossibleReport, PossibleReports, may_answer, may_report,
 };
+pub use submission::{Progress, chain_accesses, settle, step};

@@ -14,7 +14,7 @@ use crate::submission::{PlayedSubmission, Progress, chain_accesses, left, settle
 use crate::telling::{WayReport, are_all_same, push_lists};
 use fx_base::NoMemory;
 use fx_chain::{Completion, Request};
-use fx_order::{Access, Slots};
+use fx_order::{Access, OrderSetting, Slots};
 
 /// The files at the slots, and how far each chain has come, the first one first.
 #[derive(Debug, Drop)]
@@ -108,11 +108,16 @@ pub(crate) fn start(
     ensures { IfOk result (IsFirstState submission.now slots.now told.new.items) }
 {
     let alloc = submission.alloc;
+    let setting = OrderSetting {
+        alloc,
+        catalogue: submission.catalogue,
+        size: submission.size,
+    };
     let mut chains = Vec::new(alloc);
     for i in 0..submission.chains.len() {
         let own = submission.members(i);
         let mut answers = Vec::new(alloc);
-        let done = settle(submission, submission.first(i), own, &mut answers)?;
+        let done = settle(&setting, submission.first(i), own, &mut answers)?;
         chains.push(Progress { done, made: 0 })?;
         told.push(answers)?;
     }
@@ -179,7 +184,12 @@ pub(crate) fn next_state(
     }
     let own = submission.members(i);
     let place = submission.first(i);
-    let after = step(submission, place, own, *progress, *access, told)?;
+    let setting = OrderSetting {
+        alloc,
+        catalogue: submission.catalogue,
+        size: submission.size,
+    };
+    let after = step(&setting, place, own, *progress, *access, told)?;
     let mut chains = Vec::from_slice(alloc, &state.chains)?;
     chains[i] = after;
     let mut slots = state.slots.copy(alloc)?;
@@ -207,6 +217,11 @@ pub(crate) fn accesses_of(
         return Ok(None);
     }
     let (first, own) = (submission.first(i), submission.members(i));
-    let accesses = chain_accesses(submission, &state.slots, first, own, state.progress(i))?;
+    let setting = OrderSetting {
+        alloc: submission.alloc,
+        catalogue: submission.catalogue,
+        size: submission.size,
+    };
+    let accesses = chain_accesses(&setting, &state.slots, first, own, state.progress(i))?;
     Ok(Some(accesses))
 }

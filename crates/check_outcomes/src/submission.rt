@@ -21,7 +21,7 @@ ghost use Rattle.check_outcomes.specs.Stands.{moved, rest_in};
 use crate::answering::next_accesses;
 use fx_base::{Catalogue, Errno, NoMemory};
 use fx_chain::{Chain, Completion, Finding, MOST_MEMBERS, Place, Request, answer_of, count_of};
-use fx_order::{Access, Slots, members};
+use fx_order::{Access, OrderSetting, Slots, members};
 use std::alloc::Global;
 
 /// A submission that is played: its number, its requests, the chains into which they were cut,
@@ -129,10 +129,13 @@ fn cancel(
 }
 
 /// Answers the requests of a chain from this place on that don't use the table, up to the first one
-/// that does. Returns the number of members that are done then.
+/// that does, and appends their answers. Returns the number of members that are done then.
+///
+/// # Errors
+/// `NoMemory` if an allocation fails.
 #[cycle(settling)]
-pub(crate) fn settle(
-    submission: &PlayedSubmission<'_>,
+pub fn settle(
+    setting: &OrderSetting<'_>,
     place: Place,
     requests: &[Request],
     told: &mut Vec<Completion>,
@@ -140,17 +143,17 @@ pub(crate) fn settle(
     requires limits { All (λ r. IsWithinLimits (asked_of r)) requests.now }
     requires members { place.member + length requests.now < 2 ^ 32 }
     ensures { IfOk result (Settles
-        (settled_at (rules_of submission.now.catalogue.now submission.now.size) place
+        (settled_at (rules_of setting.now.catalogue.now setting.now.size) place
         (all_asked requests.now)) place (all_asked requests.now)
         (all_completed told.old.items) (all_completed told.new.items)) }
 {
     let [request, behind @ ..] = requests else {
         return Ok(0);
     };
-    if count_of(submission.catalogue, submission.size, request) != 0 {
+    if count_of(setting.catalogue, setting.size, request) != 0 {
         return Ok(0);
     }
-    Ok(1 + go_on(submission, place, request, behind, None, told)?)
+    Ok(1 + go_on(setting, place, request, behind, None, told)?)
 }
 
 // Returns what the last access found, if there is one.
@@ -167,7 +170,7 @@ fn finding_in(last: Option<Access>) -> Option<Finding>
 // these that are done then.
 #[cycle(settling)]
 fn go_on(
-    submission: &PlayedSubmission<'_>,
+    setting: &OrderSetting<'_>,
     place: Place,
     request: &Request,
     behind: &[Request],
@@ -179,14 +182,14 @@ fn go_on(
     requires members { place.member + 1 + length behind.now < 2 ^ 32 }
     requires slot { (slot : ℕ) (file : File) → last ≡ Some (Allocates slot file) → slot < 2 ^ 31 }
     ensures { IfOk result (Settles
-        (gone_on (rules_of submission.now.catalogue.now submission.now.size) place
+        (gone_on (rules_of setting.now.catalogue.now setting.now.size) place
         (asked_of request.now) (all_asked behind.now) last) (next_member place)
         (all_asked behind.now)
         (all_completed told.old.items) (all_completed told.new.items)) }
 {
-    let (alloc, catalogue) = (submission.alloc, submission.catalogue);
+    let (alloc, catalogue) = (setting.alloc, setting.catalogue);
     let found = finding_in(last);
-    let c = answer_of(alloc, catalogue, submission.size, place, request, found)?;
+    let c = answer_of(alloc, catalogue, setting.size, place, request, found)?;
     let severs = request.severs(&c);
     told.push(c)?;
     let next = moved(place, 1);
@@ -194,7 +197,7 @@ fn go_on(
         cancel(alloc, next, behind, told)?;
         return Ok(behind.len());
     }
-    settle(submission, next, behind, told)
+    settle(setting, next, behind, told)
 }
 
 /// Returns the members of a chain after its first `done` members.
@@ -210,10 +213,13 @@ pub(crate) fn left(members: &[Request], done: usize) -> &[Request]
     &members[done..]
 }
 
-/// Returns where an access leads a chain that has its first member at this place, and what is
-/// answered on the way.
-pub(crate) fn step(
-    submission: &PlayedSubmission<'_>,
+/// Returns where an access leads a chain that has its first member at this place, and appends what
+/// is answered on the way.
+///
+/// # Errors
+/// `NoMemory` if an allocation fails.
+pub fn step(
+    setting: &OrderSetting<'_>,
     place: Place,
     members: &[Request],
     progress: Progress,
@@ -225,7 +231,7 @@ pub(crate) fn step(
     requires slot { (slot : ℕ) (file : File) → access ≡ Allocates slot file → slot < 2 ^ 31 }
     requires made { progress.made < 2 ^ 32 }
     ensures { IfOk result (StepsChain
-        (rules_of submission.now.catalogue.now submission.now.size) place
+        (rules_of setting.now.catalogue.now setting.now.size) place
         (all_asked members.now) progress access
         (all_completed told.old.items) (all_completed told.new.items)) }
 {
@@ -233,14 +239,14 @@ pub(crate) fn step(
     let [request, behind @ ..] = left(members, done) else {
         return Ok(progress);
     };
-    if count_of(submission.catalogue, submission.size, request) != made + 1 {
+    if count_of(setting.catalogue, setting.size, request) != made + 1 {
         return Ok(Progress {
             done,
             made: made + 1,
         });
     }
     let here = moved(place, done as u32);
-    let passed = go_on(submission, here, request, behind, Some(access), told)?;
+    let passed = go_on(setting, here, request, behind, Some(access), told)?;
     Ok(Progress {
         done: done + 1 + passed,
         made: 0,
@@ -248,23 +254,27 @@ pub(crate) fn step(
 }
 
 /// Returns what a chain may do next that has its first member at this place, and perhaps more.
-pub(crate) fn chain_accesses(
-    submission: &PlayedSubmission<'_>,
+///
+/// # Errors
+/// `NoMemory` if an allocation fails.
+pub fn chain_accesses(
+    setting: &OrderSetting<'_>,
     slots: &Slots,
     place: Place,
     members: &[Request],
     progress: Progress,
 ) -> Result<Vec<Access>, NoMemory>
+    requires catalogue { IsCatalogue setting.now.catalogue.now }
     requires slots { length slots.now.at.items < 2 ^ 32 }
     requires limits { All (λ r. IsWithinLimits (asked_of r)) members.now }
     requires members { place.member + length members.now < 2 ^ 32 }
-    ensures { IfOk result (λ choices. HasEachNext submission.now.catalogue.now
+    ensures { IfOk result (λ choices. HasEachNext setting.now.catalogue.now
         (table_of_slots slots.now) (rest_in place (all_asked members.now) progress) choices.items) }
 {
     let Some(request) = left(members, progress.done).first() else {
-        return Ok(Vec::new(submission.alloc));
+        return Ok(Vec::new(setting.alloc));
     };
     let here = moved(place, progress.done as u32);
-    let (alloc, catalogue) = (submission.alloc, submission.catalogue);
+    let (alloc, catalogue) = (setting.alloc, setting.catalogue);
     next_accesses(alloc, catalogue, slots, here, request, progress.made)
 }
