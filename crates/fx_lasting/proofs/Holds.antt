@@ -1,11 +1,12 @@
 -- A node is that of one file while the file is held.
 use Rattle.fx_lasting.proofs.Words.{◌≡◌, ◌≢◌, ℕ, ◌+◌, Option, Some, None, ap, sym, ◌∙◌, subst, arith, File, node_of_number, sum_by, get_elem?, Agrees, Names, IsSeated}
 use Rattle.fx_lasting.proofs.Words.{NodeAgrees, WorkAgrees, HoldsAt, slots_of, word_of, state_after_all, taken_of, owed, count_in, name_in}
-use Rattle.fx_lasting.proofs.Words.{Phase, Shared, Start, Work, Counted, Guarded, seated, leaving, retired, file_in}
-use Rattle.fx_table.specs.declared.values.Doing.TheVariants.{Holding}
+use Rattle.fx_lasting.proofs.Words.{Phase, Shared, Start, Work, Counted, Guarded, Retiring, seated, leaving, retired, file_in}
+use Rattle.fx_table.specs.declared.values.Doing.TheVariants.{Holding, Retiring as Retires}
 use Rattle.fx_table.specs.declared.values.Hold.{Hold}
+use Rattle.fx_table.specs.declared.values.Retired.{Retired}
 use Rattle.fx_lasting.specs.Bounds.{slot_word_in, node_word_in}
-use Rattle.fx_lasting.specs.Holds.{IsHeldBy, HoldsNameFiles}
+use Rattle.fx_lasting.specs.Holds.{IsHeldBy, HoldsNameFiles, HoldKeepsNode}
 use Rattle.fx_lasting.specs.Tables.{doing_in}
 use Rattle.fx_lasting.proofs.Counts.{few_cold}
 use Rattle.fx_lasting.proofs.Keeping.{word_at, slot_word}
@@ -63,4 +64,20 @@ module _ (k : Start) (s : Shared) (r : Agrees k s) where
     its_number = λ f hold held. let its = holds_at held in sym (on_node hold.node f _ its.1 (r.each_node hold.node its.0));
     there = λ f g hold slot held inside is at. let a = r.each_slot slot inside in of_slot f g hold slot _ held a.names a.seat is at;
     none = λ f hold held. let its = holds_at held in of_phase hold.node f _ its.1 (r.each_node hold.node its.0);
+  }
+
+  -- the file that a pass has to retire is open, on its node
+  is_removed : {f : File} {x : Retired} (seat : ℕ) (d : Work) → doing_in d ≡ Retires f x → WorkAgrees k r.phase seat d
+      → file_in (r.phase x.node) ≡ Some f
+  is_removed {f} {x} seat (Retiring g n takes round marks) e w = let same : g ≡ f = cc e in let its : n ≡ x.node = cc e in
+      rw (← its, ← same) (ap file_in w.1)
+  is_removed seat _ e w = absurd (cc e)
+
+  pub held_nodes_name_files : HoldKeepsNode k s r
+  held_nodes_name_files = record {
+    at_slot = λ f g hold slot held inside is on. let names = subst (Names r.node_of (slot_word_in s slot)) is (r.each_slot slot inside).names in
+        nodes_are_of_one_file.there f g hold slot held inside (names.0 ∙ ap (λ (n : ℕ). n + 1) (r.numbering g.number ∙ on)) is;
+    removed = λ f g hold x held by same. let here = (holds_at held).1 in
+        let there = is_removed by.0 by.1.work by.3 (r.each_view by.0 by.1 by.2).work in
+        let e : file_in (r.phase hold.node) ≡ file_in (r.phase x.node) = ap (λ n. file_in (r.phase n)) same in cc (here, there, e);
   }

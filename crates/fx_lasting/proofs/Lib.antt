@@ -23,6 +23,7 @@ pub mod QuestionSteps
 pub mod Peeking
 pub mod Swaps
 pub mod SlotLaws
+pub mod Seeing
 pub mod Seats
 pub mod Openings
 pub mod Ending
@@ -37,6 +38,7 @@ pub mod Sought
 pub mod Passing
 pub mod Questions
 pub mod Trying
+pub mod ByNode
 pub mod Taking
 pub mod Retiring
 pub mod Visiting

@@ -51,7 +51,7 @@ module _ (act : ℕ → Option File → Action) (does : IsRemoval act) (turn : T
     (free_of : HasNoFile turn.v.work) (off : IsOffCount turn.v.start s turn.v.change) where
   open turn use {st, v, r, id, x, here, one}
 
-  abbrev old : Option File
+  abbrev pub old : Option File
   old = (state_after_all v.start r.history).at s
 
   abbrev h₁ : List Event
@@ -60,7 +60,7 @@ module _ (act : ℕ → Option File → Action) (does : IsRemoval act) (turn : T
   abbrev c₁ : Change
   c₁ = account (range_at_start v.start) s old
 
-  abbrev removal : After turn
+  abbrev pub removal : After turn
   removal = swap_after turn s inside old refl h₁ 0 None st.homes r.phase r.next_number c₁
 
   removes : Swap turn s inside old refl h₁ 0 None st.homes r.phase r.next_number c₁
@@ -100,26 +100,33 @@ module _ (act : ℕ → Option File → Action) (does : IsRemoval act) (turn : T
           go None = refl
           go (Some f) = refl
 
-  pub removal_made : (slots : ℕ) (carried : List (ℕ × Option Closed))
-      → Made turn carried (slot_place s) (λ _. 0) (Removes act (step slots (slot_place s) 0 0 none) (v, carried))
-  removal_made slots carried = let e = does turn s inside in let kept = swap_kept turn s inside old refl h₁ 0 None st.homes r.phase r.next_number c₁ removes in (
-    w turn removal,
-    keeps,
-    tt,
-    kept,
-    record {
-      file = old;
-      names = found_so turn s inside old refl;
-      stepped = rw (slot_back s) (tells turn removal refl carried carried ([] ▷ act s old) (grows_one x.number r.history _ refl) e.0 (part_mine r.history refl)
-          (knows old refl));
-      carried = refl;
-    },
-  )
+  pub removal_agrees : Agrees v.start (end turn removal)
+  removal_agrees = swap_kept turn s inside old refl h₁ 0 None st.homes r.phase r.next_number c₁ removes
+
+  pub removal_tells : (carried : List (ℕ × Option Closed))
+      → Stepped (v, carried) ([] ▷ act s old) (retiring_work v.start (found turn s inside) old) v.glance c₁ (w turn removal, carried)
+  removal_tells carried = tells turn removal refl carried carried ([] ▷ act s old) (grows_one x.number r.history _ refl) (does turn s inside).0
+      (part_mine r.history refl) (knows old refl)
     where
       knows : (o : Option File) → old ≡ o → IsInside v.start (retiring_work v.start (found turn s inside) old)
       knows None is = subst (λ (o : Option File). IsInside v.start (retiring_work v.start (found turn s inside) o)) (sym is) tt
       knows (Some f) is = subst (λ (o : Option File). IsInside v.start (retiring_work v.start (found turn s inside) o)) (sym is)
           (let n = (old_at turn s inside old refl is).0 in let e = old_named turn s inside old refl is in omega arith)
+
+  pub removal_made : (slots : ℕ) (carried : List (ℕ × Option Closed))
+      → Made turn carried (slot_place s) (λ _. 0) (Removes act (step slots (slot_place s) 0 0 none) (v, carried))
+  removal_made slots carried = (
+    w turn removal,
+    keeps,
+    tt,
+    removal_agrees,
+    record {
+      file = old;
+      names = found_so turn s inside old refl;
+      stepped = rw (slot_back s) (removal_tells carried);
+      carried = refl;
+    },
+  )
 
 pub clears_keep : ClearsKeep (Removes Clear)
 clears_keep k slots id i s m x has works inside off place = by_turn slots (λ k. (s < slots_of k) × IsOffCount k s m.0.change)
@@ -132,7 +139,7 @@ takes_out_keep k slots id i s m x has works inside off place = by_turn slots (λ
     (λ st r here is fits. removal_made Take taken (turn_of m x has.1 id st r here) s is.0 works is.1 slots m.1)
 
 -- a number that none had before, and which says the node
-new_number : (turn : Turn) {n : ℕ} → turn.v.work ≡ Placing n → (m : ℕ) × (turn.r.next_number ≤ m) × (turn.r.node_of m ≡ n)
+pub new_number : (turn : Turn) {n : ℕ} → turn.v.work ≡ Placing n → (m : ℕ) × (turn.r.next_number ≤ m) × (turn.r.node_of m ≡ n)
 new_number turn {n} works = let r = turn.r in let nodes = nodes_of turn.v.start in
     let l = (subst (WorkAgrees turn.v.start r.phase turn.id) works (its_work turn)).0 in (
       r.next_number * nodes + n,
@@ -273,7 +280,7 @@ module _ (turn : Turn) (s : ℕ) (inside : s < slots_of turn.v.start) (old : Opt
         knows (Some f) is = subst (λ (o : Option File). IsInside v.start (retiring_work v.start (found turn s inside) o)) (sym is)
             (let n = (old_at turn s inside old was is).0 in let e = old_named turn s inside old was is in omega arith)
 
-abbrev file_carried : List (ℕ × Option Closed) → Option Closed
+abbrev pub file_carried : List (ℕ × Option Closed) → Option Closed
 file_carried [] = None
 file_carried (c ∷ cs) = c.1
 
@@ -282,13 +289,13 @@ module _ (turn : Turn) (s : ℕ) (inside : s < slots_of turn.v.start) (n : ℕ) 
     (carries : carried ≡ (n, Some file) ∷ []) (number : ℕ) (late : turn.r.next_number ≤ number) (on_n : turn.r.node_of number ≡ n) where
   open turn use {st, v, r, id, x, here, one}
 
-  abbrev put_old : Option File
+  abbrev pub put_old : Option File
   put_old = (state_after_all v.start r.history).at s
 
-  abbrev put_action : Action
+  abbrev pub put_action : Action
   put_action = Put s (numbered number file) put_old
 
-  putting : Effect turn s inside put_old refl n file works small out number late on_n put_action
+  pub putting : Effect turn s inside put_old refl n file works small out number late on_n put_action
   putting = record {
     legal = legal_more v.start r.legal (let z = (same_shape v.start r.history).0 in (omega arith, r.fresh number late, refl)) tt;
     state = refl;

@@ -15,7 +15,7 @@ pub use Rattle.fx_lasting.specs.Laws.{HasToLetGo, IsOffCount, ClearsKeep, TakesO
 pub use Rattle.fx_lasting.specs.Laws.{ConfirmsKeep, WithdrawsKeep, TakesOnceKeep, HeatsKeep, SplitsKeep, JoinsKeep, LowersKeep, RaisesKeep, AsksKeep}
 pub use Rattle.fx_lasting.specs.Laws.{ChecksKeep, BreaksKeep, BeginsKeep, CountsKeep, DecidesKeep, IsGroup}
 pub use Rattle.fx_lasting.specs.Laws.{PeeksKeep, InstallsKeep, StepsDownKeep, LettingGoKeeps, SeeksKeep, BirthsKeep, RestsKeep, VisitsKeep, MarksKeep}
-pub use Rattle.fx_lasting.specs.Laws.{RetiresKeep, IsInRange, ListsKeep, SkimsKeep, IsPassed}
+pub use Rattle.fx_lasting.specs.Laws.{RetiresKeep, IsInRange, ListsKeep, SkimsKeep, IsPassed, SeesKeep, TakesIfKeep, ReplacesKeep}
 pub use Rattle.fx_lasting.specs.Layout.{question_place, group_place, list_place, slot_place, hold_place, node_place, block_for, block_start}
 pub use Rattle.fx_lasting.specs.Layout.{group_size, groups_in, group_of, group_start, group_len}
 pub use Rattle.fx_lasting.specs.Opens.{word_for, node_for, home_for, first_file, OpensWith}
@@ -35,7 +35,7 @@ pub use Rattle.fx_lasting.specs.Tells.{LetsGo, At, rested, Lists, Skims, IsOnLis
 pub use Rattle.fx_lasting.specs.Tells.{Confirms, Withdraws, glance_after, Takes, HeatTells, StepsDown, TakesOut, slot_of, pass_at, pass_event}
 pub use Rattle.fx_lasting.specs.Tells.{pass_in, IsInside, Stepped, Goes, Glances, Exchanges, LettingGo, Seeks, Births, Rests, Visits, Marks, Retires}
 pub use Rattle.fx_lasting.specs.Tells.{first_visit, retiring_work, Found, Installs, Removes, Turns, Asks, Peeks, as_asked, group_at}
-pub use Rattle.fx_lasting.specs.Tells.{Lowers, Checks, Breaks, Raises, Begins, Counts, Decides}
+pub use Rattle.fx_lasting.specs.Tells.{Lowers, Checks, Breaks, Raises, Begins, Counts, Decides, Sees, TakesIf, Replaces}
 pub use Rattle.fx_lasting.specs.Visits.{Visited, HasVisited, HasMarked, round_to}
 pub use Rattle.fx_lasting.specs.Searches.{next_of}
 pub use Rattle.fx_lasting.specs.declared.view.Change.{Change}

@@ -3,8 +3,9 @@ use Rattle.std.specs.Prelude.{◌≡◌, ◌≢◌, ℕ, ◌+◌, ◌<◌, Some}
 use mathlib.Core.Option.{some}
 use lib.ListN.{get_elem?}
 use Rattle.fx_plain.specs.declared.event.File.{File}
-use Rattle.fx_table.specs.declared.values.Doing.TheVariants.{Holding}
+use Rattle.fx_table.specs.declared.values.Doing.TheVariants.{Holding, Retiring}
 use Rattle.fx_table.specs.declared.values.Hold.{Hold}
+use Rattle.fx_table.specs.declared.values.Retired.{Retired}
 use Rattle.fx_words.specs.Words.{name_in}
 use Rattle.fx_lasting.specs.Agrees.{Agrees}
 use Rattle.fx_lasting.specs.Bounds.{slot_word_in, node_word_in}
@@ -34,3 +35,21 @@ pub record HoldsNameFiles (k : Start) (s : Shared) (r : Agrees k s) : Type 0 whe
 
 abbrev pub NodesAreOfOneFile : Type 0
 NodesAreOfOneFile = (k : Start) (s : Shared) (r : Agrees k s) → HoldsNameFiles k s r
+
+-- a pass has the file to retire, by this value
+abbrev pub HasToRetire : Shared → File → Retired → Type 0
+HasToRetire s f retired = (seat : ℕ) × (v : View) × (get_elem? s.views seat ≡ some v)
+    × (doing_in v.work ≡ Retiring f retired)
+
+-- while a pass holds a file, no other file is on its node
+pub record HoldKeepsNode (k : Start) (s : Shared) (r : Agrees k s) : Type 0 where
+  -- none at a slot
+  pub at_slot : (f g : File) (hold : Hold) (slot : ℕ) → IsHeldBy s f hold → slot < slots_of k
+      → (state_after_all k r.history).at slot ≡ Some g → node_of_number k g.number ≡ hold.node
+      → f ≡ g
+  -- none that another pass has to retire
+  pub removed : (f g : File) (hold : Hold) (retired : Retired) → IsHeldBy s f hold
+      → HasToRetire s g retired → hold.node ≡ retired.node → f ≡ g
+
+abbrev pub HeldNodesNameFiles : Type 0
+HeldNodesNameFiles = (k : Start) (s : Shared) (r : Agrees k s) → HoldKeepsNode k s r

@@ -277,3 +277,25 @@ ExchangesKeep tells = (k : Start) (slots id i slot n old new : ℕ) (file : Iden
     → name_in old ≡ 0 → new ≡ slot_word_of n file.entry
     → Allows (Agrees k) slots id m i (λ word. either (word == old) new word)
     (tells (step slots i old new none) m)
+
+-- a pass loads a slot's word, and learns what is at the slot
+abbrev pub SeesKeep : Kind → Type 0
+SeesKeep tells = (k : Start) (slots id i slot : ℕ) (m : Sat) (x : Log) → HasPass k m x
+    → slot < slots_of k → i ≡ slot_place slot
+    → Allows (Agrees k) slots id m i (λ word. word) (tells (step slots i 0 0 none) m)
+
+-- an idle pass exchanges the word of a slot that it saw for 0
+abbrev pub TakesIfKeep : Kind → Type 0
+TakesIfKeep tells = (k : Start) (slots id i slot old : ℕ) (m : Sat) (x : Log) → HasPass k m x
+    → HasNoFile m.0.work → slot < slots_of k → IsOffCount k slot m.0.change → i ≡ slot_place slot
+    → Allows (Agrees k) slots id m i (λ word. either (word == old) 0 word)
+    (tells (step slots i old 0 none) m)
+
+-- a pass exchanges the word of a slot that it saw for the word of the file that it places
+abbrev pub ReplacesKeep : Kind → Type 0
+ReplacesKeep tells = (k : Start) (slots id i slot n old new : ℕ) (file : Identity) (m : Sat)
+    (x : Log) → HasPass k m x → m.0.work ≡ Placing n → m.1 ≡ (n, Some file) ∷ []
+    → file.entry < 2 ^ 8 → slot < slots_of k → m.0.change ≡ Outside → i ≡ slot_place slot
+    → new ≡ slot_word_of n file.entry
+    → Allows (Agrees k) slots id m i (λ word. either (word == old) new word)
+    (tells (step slots i old new none) m)

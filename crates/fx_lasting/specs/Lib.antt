@@ -25,4 +25,5 @@ pub mod Searches
 pub mod Visits
 pub mod Firsts
 pub mod Tries
+pub mod Keyed
 pub mod Showing

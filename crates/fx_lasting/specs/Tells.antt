@@ -11,8 +11,9 @@ use Rattle.fx_plain.specs.declared.event.File.{File}
 use Rattle.fx_plain.specs.declared.event.Event.{Event}
 use Rattle.fx_plain.specs.declared.event.Action.{Action}
 use Rattle.fx_plain.specs.declared.event.Action.TheVariants.{Look, Release, Put, Allocate, Full}
-use Rattle.fx_plain.specs.declared.event.Action.TheVariants.{Close}
+use Rattle.fx_plain.specs.declared.event.Action.TheVariants.{Close, Take}
 use Rattle.fx_words.specs.Words.{name_in, entry_in}
+use Rattle.fx_lasting.specs.Agrees.{Names}
 use Rattle.fx_lasting.specs.Layout.{list_place, group_of, group_len}
 use Rattle.fx_lasting.specs.Parts.{heat_in, IsHot, count_in, cold_takes, announced, IsListedIn}
 use Rattle.fx_lasting.specs.Groups.{account, HasQuestionOf}
@@ -371,3 +372,29 @@ pub record Exchanges (st : At) (m : Sat) (found : ℕ) (m' : Sat) : Type 0 where
       (Inside (group_of (range_at_start m.0.start) (slot_of st.word))) m'
       × (m'.1 ≡ rest m.1)
   pub loses : found ≢ st.first → Goes m [] m.0.work m.0.glance m'
+
+-- See, of a slot's word: the pass has seen what is at the slot
+pub record Sees (st : At) (m : Sat) (found : ℕ) (m' : Sat) : Type 0 where
+  pub goes : Goes m [] m.0.work m.0.glance m'
+  pub names : Names (node_of_number m.0.start) found
+      ((state_after_all m.0.start (pass_in m').front).at (slot_of st.word))
+
+-- Take, if the slot's word is the one that the pass saw: the slot is empty then; or nothing changed
+pub record TakesIf (st : At) (m : Sat) (found : ℕ) (m' : Sat) : Type 0 where
+  pub wins : found ≡ st.first
+      → (file : Option File) × Names (node_of_number m.0.start) found file
+      × Stepped m ([] ▷ Take (slot_of st.word) file) (retiring_work m.0.start found file)
+      m.0.glance (account (range_at_start m.0.start) (slot_of st.word) file) m' × (m'.1 ≡ m.1)
+  pub loses : found ≢ st.first → Sees st m found m'
+
+-- Replace, if the slot's word is the one that the pass saw: the file that the pass places is at the
+-- slot then; or nothing changed
+pub record Replaces (st : At) (m : Sat) (found : ℕ) (m' : Sat) : Type 0 where
+  pub wins : (n : ℕ) (file : Identity) → m.0.work ≡ Placing n → m.1 ≡ (n, Some file) ∷ []
+      → found ≡ st.first
+      → (replaced : Option File) × (number : ℕ) × Names (node_of_number m.0.start) found replaced
+      × (node_of_number m.0.start number ≡ n)
+      × Stepped m ([] ▷ Put (slot_of st.word) (numbered number file) replaced)
+      (retiring_work m.0.start found replaced) m.0.glance
+      (account (range_at_start m.0.start) (slot_of st.word) replaced) m' × (m'.1 ≡ rest m.1)
+  pub loses : found ≢ st.first → Sees st m found m'

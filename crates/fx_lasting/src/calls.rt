@@ -275,7 +275,7 @@ impl LastingTable {
 
     // Returns the first pass that the retirement of a removed file may visit, from the word that
     // named the file: a file of a slot that wasn't hot is held by takes alone.
-    fn first_visit(&self, word: u64) -> u32
+    pub(crate) fn first_visit(&self, word: u64) -> u32
         ensures { result ≡ first_visit self.now.passes word }
     {
         if is_hot(word) { 1 } else { self.passes + 1 }

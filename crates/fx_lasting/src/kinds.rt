@@ -214,6 +214,34 @@ impl Play<Option<OpenFile>, View> for Peeking {
     ghost then = { Peeks };
 }
 
+/// See: a pass reads which file is at a slot.
+pub struct Seeing;
+
+impl Play<Option<OpenFile>, View> for Seeing {
+    ghost use Rattle.fx_lasting.specs.Tells.{Sees};
+
+    ghost then = { Sees };
+}
+
+/// Take, if the slot still has the word that the pass saw: the slot is emptied for a close.
+pub struct TakingIf;
+
+impl Play<Option<OpenFile>, View> for TakingIf {
+    ghost use Rattle.fx_lasting.specs.Tells.{TakesIf};
+
+    ghost then = { TakesIf };
+}
+
+/// Replace, if the slot still has the word that the pass saw: the file that the pass places goes to
+/// the slot.
+pub struct Replacing;
+
+impl Play<Option<OpenFile>, View> for Replacing {
+    ghost use Rattle.fx_lasting.specs.Tells.{Replaces};
+
+    ghost then = { Replaces };
+}
+
 /// Swap: a slot is emptied for an update.
 pub struct Clearing;
 

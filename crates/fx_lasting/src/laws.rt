@@ -4,18 +4,18 @@ ghost use Rattle.std.specs.Prelude.{◌≡◌, ◌≤◌, ℕ};
 ghost use Rattle.fx_words.specs.Words.{last_node};
 ghost use Rattle.fx_lasting.specs.Bounds.{WordsAreBounded};
 ghost use Rattle.fx_lasting.specs.Choices.{ChosenNodesAreFree};
-ghost use Rattle.fx_lasting.specs.Holds.{NodesAreOfOneFile};
+ghost use Rattle.fx_lasting.specs.Holds.{NodesAreOfOneFile, HeldNodesNameFiles};
 ghost use Rattle.fx_lasting.specs.Layout.{PlacesAreInside, PlacesAreApart};
 ghost use Rattle.fx_lasting.specs.Opens.{OpeningKeeps};
 ghost use Rattle.fx_lasting.specs.WholeHistory.{HasOneHistory, RemovedFilesHaveUsers};
 ghost use Rattle.fx_lasting.specs.declared.layout.TheConstants.{MOST_SLOTS, MOST_NODES, MOST_PASSES, MOST_INSTALLING};
-ghost use Rattle.fx_lasting.specs.Laws.{GlancesKeep, ListsKeep, AnnouncesKeep, ConfirmsKeep, WithdrawsKeep, TakesOnceKeep, HeatsKeep, StepsDownKeep, LettingGoKeeps, SeeksKeep, BirthsKeep, RestsKeep, SkimsKeep, VisitsKeep, MarksKeep, RetiresKeep, LowersKeep, ChecksKeep, BreaksKeep, RaisesKeep, BeginsKeep, AsksKeep, CountsKeep, DecidesKeep, PeeksKeep, SplitsKeep, JoinsKeep, ClearsKeep, TakesOutKeep, InstallsKeep, ExchangesKeep};
+ghost use Rattle.fx_lasting.specs.Laws.{GlancesKeep, ListsKeep, AnnouncesKeep, ConfirmsKeep, WithdrawsKeep, TakesOnceKeep, HeatsKeep, StepsDownKeep, LettingGoKeeps, SeeksKeep, BirthsKeep, RestsKeep, SkimsKeep, VisitsKeep, MarksKeep, RetiresKeep, LowersKeep, ChecksKeep, BreaksKeep, RaisesKeep, BeginsKeep, AsksKeep, CountsKeep, DecidesKeep, PeeksKeep, SplitsKeep, JoinsKeep, ClearsKeep, TakesOutKeep, InstallsKeep, ExchangesKeep, SeesKeep, TakesIfKeep, ReplacesKeep};
 
 use crate::kinds::{
     Announcing, Asking, Beginning, Birth, Breaking, Checking, Clearing, Confirming, Counting, Deal,
     Deciding, Exchanging, Gather, Glancing, HeatingUp, Installing, Letting, Listing, Lowering,
-    Marking, OneHistory, Peeking, Raising, Resting, Retire, Seeking, Skimming, SteppingDown,
-    Taking, TakingOut, Visiting, Withdrawing,
+    Marking, OneHistory, Peeking, Raising, Replacing, Resting, Retire, Seeing, Seeking, Skimming,
+    SteppingDown, Taking, TakingIf, TakingOut, Visiting, Withdrawing,
 };
 use crate::view::{Start, View};
 use atomic_table::{Join, Play, Split, TableRule};
@@ -209,6 +209,23 @@ pub fn exchange_keeps_rule()
     ensures { ExchangesKeep ⟦<Exchanging as Play<Option<OpenFile>, View>>⟧.then }
 {}
 
+/// A pass that loads a slot's word and learns what is at the slot keeps the rule.
+pub fn see_keeps_rule()
+    ensures { SeesKeep ⟦<Seeing as Play<Option<OpenFile>, View>>⟧.then }
+{}
+
+/// An idle pass that exchanges the word of a slot that it saw for 0 keeps the rule, and has the
+/// file that was there to retire.
+pub fn take_if_keeps_rule()
+    ensures { TakesIfKeep ⟦<TakingIf as Play<Option<OpenFile>, View>>⟧.then }
+{}
+
+/// A pass that exchanges the word of a slot that it saw for that of the file that it places keeps
+/// the rule, and has the file that was there to retire.
+pub fn replace_keeps_rule()
+    ensures { ReplacesKeep ⟦<Replacing as Play<Option<OpenFile>, View>>⟧.then }
+{}
+
 /// While the rule holds, no word overflows, and no part of a slot's word carries into the next. A
 /// slot has at most the takes of a cold one, and one more for each pass, in 21 bits; its heat is at
 /// most the number of passes, in 11 bits. The word of a node is above 2 until its file is retired,
@@ -223,6 +240,14 @@ pub fn words_are_bounded()
 /// finds, is that of no file which is held.
 pub fn nodes_are_of_one_file()
     ensures { NodesAreOfOneFile }
+{}
+
+/// While the rule holds and a pass holds a file, no other file is on the hold's node: the file of a
+/// slot that is on the node is the held one, and so is a file of the node that another pass has to
+/// retire. So `LastingTable::take_if` and `put_if` with that node, while the file is held, remove
+/// the held file or nothing.
+pub fn held_nodes_name_files()
+    ensures { HeldNodesNameFiles }
 {}
 
 /// While the rule holds, the node that a pass has chosen for its next file

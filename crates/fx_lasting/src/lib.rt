@@ -6,10 +6,12 @@
 //! `layout.rt` (the places of the words).
 #![tactic(auto)]
 
+mod answers;
 mod calls;
 mod change;
 mod close;
 mod emptied;
+mod keyed;
 mod kinds;
 pub mod laws;
 mod layout;
@@ -30,6 +32,7 @@ mod tried;
 mod view;
 mod visit;
 
+pub use answers::{Miss, PutIf, TakenIf};
 pub use layout::{MOST_INSTALLING, MOST_PASSES, MOST_SLOTS};
 pub use pass::LastingPass;
 pub use shown::LastingSeen;

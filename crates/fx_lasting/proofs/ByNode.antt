@@ -1,0 +1,173 @@
+-- The calls that name a node: what their steps leave, one after another.
+use Rattle.fx_lasting.proofs.Words.{◌≡◌, ℕ, ◌+◌, ◌-◌, ◌≤◌, List, [], sym, refl, ap, ◌∙◌, subst, arith, Option, Some, None, Bool, true, false}
+use Rattle.fx_lasting.proofs.Words.{File, Event, IsSeenBy, Closed, Action, ◌▷◌, ◌▷▷◌, Take, Put, numbered, name_in, entry_in, count_in, Names}
+use Rattle.fx_lasting.proofs.Words.{Start, Sat, At, Work, Glance, Change, Outside, Runs, Stepped, Sees, retiring_work, retired_at, slot_of}
+use Rattle.fx_lasting.proofs.Words.{pass_in, state_after_all, node_of_number, account, uncounted, range_at_start, is_in, group_of, TableId, LastingPass}
+use Rattle.fx_lasting.proofs.Words.{IsPassOf, opening_of, view_of, pass_of}
+use Rattle.std.specs.Prelude.{Result, Ok, Err}
+use Rattle.fx_table.proofs.Calls.{seen_further}
+use Rattle.fx_table.specs.Calls.{Adds, no_use}
+use Rattle.fx_table.specs.Pass.{IsIdle, IsFileRemoval}
+use Rattle.fx_table.specs.declared.values.Doing.{Doing}
+use Rattle.fx_table.specs.declared.values.Doing.TheVariants.{Idle as DoesNothing}
+use Rattle.fx_table.specs.declared.values.Retired.{Retired}
+use Rattle.fx_lasting.specs.Ends.{Does}
+use Rattle.fx_lasting.specs.Keyed.{IsOn, FitsMiss, WasSo, WasIn, SaysIf, SawIf, FailedIf, TriedTake, TriedReplace}
+use Rattle.fx_lasting.specs.declared.answers.Miss.{Miss}
+use Rattle.fx_lasting.specs.declared.answers.Miss.TheVariants.{Empty, Other, Again}
+use Rattle.fx_lasting.proofs.Passing.{adds_so}
+use Rattle.fx_lasting.proofs.Running.{runs_one, runs_then, runs_goes, runs_within, does_then}
+
+same_node : (a b : ℕ) → a + 1 ≡ b + 1 → a ≡ b
+same_node a b e = omega (arith, e)
+
+not_named : (a b : ℕ) → a ≡ b + 1 → a ≡ 0 → ⊥
+not_named a b e zero = omega (arith, e, zero)
+
+-- What the name in a slot's word says of the file at the slot
+module _ (k : Start) (node word : ℕ) where
+  fits_on : (there : Option File) → Names (node_of_number k) word there → name_in word ≡ node + 1 → FitsMiss k node Again there
+  fits_on None names is = absurd (not_named _ _ is names)
+  fits_on (Some f) names is = (f, refl, same_node _ _ (sym names.0 ∙ is))
+
+  fits_not : (there : Option File) → Names (node_of_number k) word there → (miss : Miss) → SaysIf word node (Err miss) → FitsMiss k node miss there
+  fits_not None names Empty says = refl
+  fits_not (Some f) names Empty says = absurd (not_named _ _ names.0 says)
+  fits_not None names Other says = absurd (says.0 names)
+  fits_not (Some f) names Other says = (f, refl, λ on. says.1 (names.0 ∙ ap (λ (n : ℕ). n + 1) on))
+  fits_not there names Again says = absurd says
+
+-- what was so before more was seen, or after more was seen
+pub was_further : {k : Start} {slot : ℕ} {is : Option File → Type 0} {a b : List Event} (c : List Event) → WasSo k slot is a b → IsSeenBy b c
+    → WasSo k slot is a c
+was_further {b = b} c was more =
+    record { history = was.history; later = was.later; seen = seen_further was.history b c was.seen more; there = was.there }
+
+pub was_before : {k : Start} {slot : ℕ} {is : Option File → Type 0} (a : List Event) {b c : List Event} → IsSeenBy a b → WasSo k slot is b c
+    → WasSo k slot is a c
+was_before a {b} more was =
+    record { history = was.history; later = seen_further a b was.history more was.later; seen = was.seen; there = was.there }
+
+-- A pass that has seen what is at a slot
+module _ {k : Start} {slot : ℕ} (node : ℕ) {st : At} {m m' : Sat} {found : ℕ} (start : m.0.start ≡ k) (here : slot_of st.word ≡ slot)
+    (saw : Sees st m found m') where
+  names_there : Names (node_of_number k) found ((state_after_all k (pass_in m').front).at slot)
+  names_there = subst (λ (z : Start × ℕ). Names (node_of_number z.0) found ((state_after_all z.0 (pass_in m').front).at z.1))
+      (λ i. (start i, here i)) saw.names
+
+  pub was_on : name_in found ≡ node + 1 → WasIn k slot node Again m m'
+  was_on is = record {
+    history = (pass_in m').front;
+    later = saw.goes.stepped.seen;
+    seen = ([], refl);
+    there = fits_on k node found ((state_after_all k (pass_in m').front).at slot) names_there is;
+  }
+
+  pub was_not : (miss : Miss) → SaysIf found node (Err miss) → WasIn k slot node miss m m'
+  was_not miss says = record {
+    history = (pass_in m').front;
+    later = saw.goes.stepped.seen;
+    seen = ([], refl);
+    there = fits_not k node found ((state_after_all k (pass_in m').front).at slot) names_there miss says;
+  }
+
+  pub saw_if : (r : Result ℕ Miss) → SaysIf found node r → SawIf k slot node m r m'
+  saw_if (Ok word) says = (ap name_in says.0 ∙ says.1, was_on says.1, runs_goes saw.goes)
+  saw_if (Err miss) says = (was_not miss says, runs_goes saw.goes)
+
+-- a pass goes on with the same work
+pub stands_then : {m m' m'' : Sat} {xs ys : List Action} {w : Work} {g : Glance} {c : Change} {n n' : ℕ} → Runs m xs w g c n m'
+    → Runs m' ys m'.0.work m'.0.glance m'.0.change n' m'' → Runs m (xs ▷▷ ys) w g c (n + n') m''
+stands_then {m' = m'} {m'' = m''} {ys = ys} {n' = n'} a b =
+    does_then a (subst (λ (z : Work). Runs m' ys z m'.0.glance m'.0.change n' m'') a.work b)
+
+-- it acts, and ends its change
+pub acts_then : {m m' m'' : Sat} {xs ys : List Action} {w w' : Work} {g : Glance} {c c' : Change} {n n' : ℕ} → Runs m xs w g c n m'
+    → Runs m' ys w' m'.0.glance c' n' m'' → Runs m (xs ▷▷ ys) w' g c' (n + n') m''
+acts_then {m' = m'} {m'' = m''} {ys = ys} {w' = w'} {c' = c'} {n' = n'} a b =
+    runs_then a (subst (λ (z : Glance). Runs m' ys w' z c' n' m'') a.glance b)
+
+-- a slot that had a file leaves the groups' words as they were
+off_none : (b : Bool) (g : ℕ) → uncounted b false g ≡ Outside
+off_none true g = refl
+off_none false g = refl
+
+at_once : {m m' : Sat} (range : ℕ × ℕ) (slot : ℕ) (f : File) {action : Action} {w : Work} {g : Glance}
+    → Stepped m ([] ▷ action) w g (account range slot (Some f)) m' → Runs m ([] ▷ action) w g Outside 1 m'
+at_once {m} {m'} range slot f {action} {w} {g} s =
+    subst (λ (z : Change). Runs m ([] ▷ action) w g z 1 m') (off_none (is_in range slot) (group_of range slot)) (runs_one s)
+
+failed_so : (k : Start) (slot node : ℕ) (m m' : Sat) (miss : Miss) → WasIn k slot node miss m m' → FailedIf k slot node miss m m'
+failed_so k slot node m m' Again was = tt
+failed_so k slot node m m' Empty was = was
+failed_so k slot node m m' Other was = was
+
+-- The last of some tries
+module _ {k : Start} {slot at : ℕ} (node found : ℕ) {m m₁ m₂ : Sat} {n : ℕ} (start : m₁.0.start ≡ k) (here : at ≡ slot)
+    (still : Does m [] m.0.work n m₁) (few : n + 1 ≤ 4) where
+  module _ (is : name_in found ≡ node + 1) where
+    pub won_take : (file : Option File) → Names (node_of_number m₁.0.start) found file
+        → Stepped m₁ ([] ▷ Take at file) (retiring_work m₁.0.start found file) m₁.0.glance (account (range_at_start m₁.0.start) at file) m₂
+        → TriedTake k slot node m (Ok found) m₂
+    won_take None names s = absurd (not_named _ _ is names)
+    won_take (Some f) names s = (
+      f,
+      is,
+      subst (λ (z : Start). Names (node_of_number z) found (Some f)) start names,
+      runs_within few (acts_then still (subst (λ (z : Start × ℕ). Runs m₁ ([] ▷ Take z.1 (Some f)) (retiring_work z.0 found (Some f))
+          m₁.0.glance Outside 1 m₂) (λ i. (start i, here i)) (at_once (range_at_start m₁.0.start) at f s))),
+    )
+
+    pub won_replace : {own number : ℕ} {file : Closed} (old : Option File) → node_of_number m₁.0.start number ≡ own
+        → Names (node_of_number m₁.0.start) found old
+        → Stepped m₁ ([] ▷ Put at (numbered number file) old) (retiring_work m₁.0.start found old) m₁.0.glance
+        (account (range_at_start m₁.0.start) at old) m₂ → m₂.1 ≡ [] → TriedReplace k slot node own file m (Ok found) m₂
+    won_replace None on names s empty = absurd (not_named _ _ is names)
+    won_replace {own} {number} {file} (Some f) on names s empty = (
+      number,
+      f,
+      subst (λ (z : Start). node_of_number z number ≡ own) start on,
+      is,
+      subst (λ (z : Start). Names (node_of_number z) found (Some f)) start names,
+      runs_within few (acts_then still (subst (λ (z : Start × ℕ). Runs m₁ ([] ▷ Put z.1 (numbered number file) (Some f))
+          (retiring_work z.0 found (Some f)) m₁.0.glance Outside 1 m₂) (λ i. (start i, here i)) (at_once (range_at_start m₁.0.start) at f s))),
+      empty,
+    )
+
+module _ {st : At} {m m₁ m₂ : Sat} {found n : ℕ} (still : Does m [] m.0.work n m₁) (few : n + 1 ≤ 4) (saw : Sees st m₁ found m₂) where
+  pub lost_run : Does m [] m.0.work 4 m₂
+  lost_run = runs_within few (stands_then still (runs_goes saw.goes))
+
+  pub lost_so : {k : Start} {slot : ℕ} (node : ℕ) → m₁.0.start ≡ k → slot_of st.word ≡ slot → (miss : Miss) → SaysIf found node (Err miss)
+      → FailedIf k slot node miss m m₂
+  lost_so {k} {slot} node start here miss says =
+      failed_so k slot node m m₂ miss (was_before (pass_in m).front still.seen (was_not node start here saw miss says))
+
+-- why a call did nothing: the word was seen to name the node first
+pub missed_so : (k : Start) (slot node : ℕ) (m m₁ m₂ m₃ m₄ : Sat) (miss : Miss) → WasIn k slot node Again m m₁ → FailedIf k slot node miss m₂ m₃
+    → IsSeenBy (pass_in m).front (pass_in m₂).front → IsSeenBy (pass_in m₁).front (pass_in m₄).front
+    → IsSeenBy (pass_in m₃).front (pass_in m₄).front → WasIn k slot node miss m m₄
+missed_so k slot node m m₁ m₂ m₃ m₄ Again first failed before all after = was_further (pass_in m₄).front first all
+missed_so k slot node m m₁ m₂ m₃ m₄ Empty first failed before all after =
+    was_before (pass_in m).front before (was_further (pass_in m₄).front failed after)
+missed_so k slot node m m₁ m₂ m₃ m₄ Other first failed before all after =
+    was_before (pass_in m).front before (was_further (pass_in m₄).front failed after)
+
+-- The value of a removed file
+module _ {node : ℕ} (found : ℕ) (x : Retired) (at : x.node ≡ node) (entry : x.entry ≡ entry_in found) (takes : x.takes ≡ count_in found)
+    (is : name_in found ≡ node + 1) (f : File) where
+  pub value_so : entry_in found ≡ f.identity.entry → retired_at f (name_in found - 1) (count_in found) ≡ x
+  value_so same = let n : name_in found - 1 ≡ x.node = omega arith in
+      λ i. record { node = n i; entry = (sym same ∙ sym entry) i; takes = sym takes i }
+
+  pub removal_so : (k : Start) → entry_in found ≡ f.identity.entry → IsFileRemoval (opening_of k) f x
+  removal_so k same = record { entry = entry ∙ same; same = λ e. absurd (cc e) }
+
+  pub is_on : (k : Start) → name_in found ≡ node_of_number k f.number + 1 → IsOn k node f
+  is_on k names = same_node _ _ (sym names ∙ is)
+
+-- an idle pass that has done nothing but look
+pub adds_none : {id : TableId} {k : Start} {p : LastingPass} → IsPassOf id k p → IsIdle (view_of p) → {m' : Sat} {g : Glance} {c : Change} {n : ℕ}
+    → Runs p.seat.me [] p.seat.me.0.work g c n m' → Adds (opening_of k) (view_of p) [] DoesNothing no_use (pass_of m'.0)
+adds_none {k = k} {p = p} fits idle {m'} r =
+    subst (λ (d : Doing). Adds (opening_of k) (view_of p) [] d no_use (pass_of m'.0)) idle (adds_so fits.seated r no_use)

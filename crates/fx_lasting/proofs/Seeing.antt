@@ -1,0 +1,125 @@
+-- A load of a slot's word from which the pass learns what is there, and the exchanges of a word
+-- that it saw, keep the rule.
+use Rattle.fx_lasting.proofs.Words.{◌≡◌, ◌≢◌, ℕ, ◌+◌, ◌^◌, ◌<◌, ◌≤◌, List, [], ◌∷◌, sym, refl, ap, ◌∙◌, Option, Some, None, none}
+use Rattle.fx_lasting.proofs.Words.{keeps, gives, rest, eqb, Closed, File, Take, Names, slots_of, slot_place, slot_word_of, state_after_all}
+use Rattle.fx_lasting.proofs.Words.{node_of_number, HasNoFile, IsOffCount, Placing, Outside, Sees, TakesIf, Replaces, SeesKeep, TakesIfKeep, ReplacesKeep}
+use Rattle.fx_lasting.proofs.Words.{step, exchanged}
+use prog.Atomic.{either}
+use Rattle.fx_lasting.proofs.Keeping.{Turn, turn_of, Made, by_turn, word_at, slot_word, w}
+use Rattle.fx_lasting.proofs.Calm.{read_after, read_kept}
+use Rattle.fx_lasting.proofs.Peeking.{goes_still, still}
+use Rattle.fx_lasting.proofs.Places.{slot_back}
+use Rattle.fx_lasting.proofs.SlotLaws.{taken, removal, removal_agrees, removal_tells, put_action, putting, installed, installation_agrees}
+use Rattle.fx_lasting.proofs.SlotLaws.{installation_tells, new_number, file_carried}
+
+module _ (turn : Turn) (s : ℕ) (inside : s < slots_of turn.v.start) (carried : List (ℕ × Option Closed)) where
+  open turn use {st, v, r, id, x, here, one}
+
+  abbrev there : Option File
+  there = (state_after_all v.start r.history).at s
+
+  -- a name of a node is one of a file whose number says the node
+  by_number : (o : Option File) → Names r.node_of (slot_word st.words s) o → Names (node_of_number v.start) (slot_word st.words s) o
+  by_number None names = names
+  by_number (Some f) names = (names.0 ∙ ap (λ (n : ℕ). n + 1) (r.numbering f.number), names.1)
+
+  named : Names (node_of_number v.start) (slot_word st.words s) there
+  named = by_number there (r.each_slot s inside).names
+
+  sees_slot : (slots first second : ℕ) → Sees (step slots (slot_place s) first second none) (v, carried) (slot_word st.words s)
+      (w turn (read_after turn v.work v.glance r.history), carried)
+  sees_slot slots first second = record { goes = goes_still turn carried; names = rw (slot_back s) named }
+
+  see : (slots : ℕ) → Made turn carried (slot_place s) (λ word. word) (Sees (step slots (slot_place s) 0 0 none) (v, carried))
+  see slots = (
+    w turn (read_after turn v.work v.glance r.history),
+    keeps,
+    tt,
+    read_kept turn v.work v.glance (slot_place s) (still turn),
+    sees_slot slots 0 0,
+  )
+
+  -- The word that the pass saw is exchanged for 0
+  module _ (free_of : HasNoFile turn.v.work) (off : IsOffCount turn.v.start s turn.v.change) (slots old_word : ℕ) where
+    abbrev Takes : ℕ → Type 0
+    Takes y = Made turn carried (slot_place s) (λ _. y) (TakesIf (step slots (slot_place s) old_word 0 none) (v, carried))
+
+    takes_not : slot_word st.words s ≢ old_word → Takes (slot_word st.words s)
+    takes_not other = (
+      w turn (read_after turn v.work v.glance r.history),
+      keeps,
+      tt,
+      read_kept turn v.work v.glance (slot_place s) (still turn),
+      record { wins = λ is. absurd (other is); loses = λ _. sees_slot slots old_word 0 },
+    )
+
+    takes : slot_word st.words s ≡ old_word → Takes 0
+    takes is = (
+      w turn (removal Take taken turn s inside free_of off),
+      keeps,
+      tt,
+      removal_agrees Take taken turn s inside free_of off,
+      record {
+        wins = λ _. (there, named, rw (slot_back s) (removal_tells Take taken turn s inside free_of off carried), refl);
+        loses = λ other. absurd (other is);
+      },
+    )
+
+  -- It is exchanged for the word of the file that the pass places
+  module _ (n : ℕ) (file : Closed) (works : turn.v.work ≡ Placing n) (small : file.entry < 2 ^ 8) (out : turn.v.change ≡ Outside)
+      (carries : carried ≡ (n, Some file) ∷ []) (number : ℕ) (late : turn.r.next_number ≤ number) (on_n : turn.r.node_of number ≡ n)
+      (slots old_word : ℕ) where
+    abbrev Puts : ℕ → Type 0
+    Puts y = Made turn carried (slot_place s) (λ _. y) (Replaces (step slots (slot_place s) old_word (slot_word_of n file.entry) none) (v, carried))
+
+    puts_not : slot_word st.words s ≢ old_word → Puts (slot_word st.words s)
+    puts_not other = (
+      w turn (read_after turn v.work v.glance r.history),
+      keeps,
+      tt,
+      read_kept turn v.work v.glance (slot_place s) (still turn),
+      record { wins = λ m f w' c' is. absurd (other is); loses = λ _. sees_slot slots old_word (slot_word_of n file.entry) },
+    )
+
+    puts : slot_word st.words s ≡ old_word → Puts (slot_word_of n file.entry)
+    puts is = let does = putting turn s inside n file works small out slots carried carries number late on_n in (
+      w turn (installed turn s inside there refl n file works small out number late on_n
+          (put_action turn s inside n file works small out slots carried carries number late on_n)),
+      gives,
+      tt,
+      rw carries (installation_agrees turn s inside there refl n file works small out number late on_n
+          (put_action turn s inside n file works small out slots carried carries number late on_n) does),
+      record {
+        wins = λ m other works' carries' _. let same_f : file ≡ other = cc (ap file_carried (sym carries ∙ carries')) in rw (← same_f, slot_back s) (
+          there,
+          number,
+          named,
+          sym (r.numbering number) ∙ (on_n ∙ (let same : n ≡ m = cc (sym works ∙ works') in same)),
+          installation_tells turn s inside there refl n file works small out number late on_n
+              (put_action turn s inside n file works small out slots carried carries number late on_n) does carried (rest carried),
+          refl,
+        );
+        loses = λ other. absurd (other is);
+      },
+    )
+
+pub sees_keep : SeesKeep Sees
+sees_keep k slots id i s m x has inside place = by_turn slots (λ k. s < slots_of k) (λ _. slot_place s) (λ word. word)
+    (λ i. Sees (step slots i 0 0 none) m) has inside place (λ st r here is fits. see (turn_of m x has.1 id st r here) s is m.1 slots)
+
+pub takes_if_keep : TakesIfKeep TakesIf
+takes_if_keep k slots id i s old m x has works inside off place = by_turn slots (λ k. (s < slots_of k) × IsOffCount k s m.0.change)
+    (λ _. slot_place s) (λ word. either (eqb word old) 0 word) (λ i. TakesIf (step slots i old 0 none) m) has (inside, off) place
+    (λ st r here is fits. let turn = turn_of m x has.1 id st r here in
+    exchanged (word_at st.words (slot_place s)) old 0 (Takes turn s is.0 m.1 works is.1 slots old)
+    (takes turn s is.0 m.1 works is.1 slots old) (takes_not turn s is.0 m.1 works is.1 slots old))
+
+pub replaces_keep : ReplacesKeep Replaces
+replaces_keep k slots id i s n old new file m x has works carries small inside out place made = rw made (by_turn slots
+    (λ k. s < slots_of k) (λ _. slot_place s) (λ word. either (eqb word old) (slot_word_of n file.entry) word)
+    (λ i. Replaces (step slots i old (slot_word_of n file.entry) none) m) has inside place
+    (λ st r here is fits. let turn = turn_of m x has.1 id st r here in let new = new_number turn works in
+    exchanged (word_at st.words (slot_place s)) old (slot_word_of n file.entry)
+    (Puts turn s is m.1 n file works small out carries new.0 new.1 new.2 slots old)
+    (puts turn s is m.1 n file works small out carries new.0 new.1 new.2 slots old)
+    (puts_not turn s is m.1 n file works small out carries new.0 new.1 new.2 slots old)))

@@ -1,0 +1,5 @@
+use Rattle.fx_lasting.proofs.Seeing.{replaces_keep}
+use Rattle.fx_lasting.proofs.laws.replace_keeps_rule.Goals as goal
+
+pub returns : goal.returns
+returns c = replaces_keep

@@ -1,0 +1,5 @@
+use Rattle.fx_lasting.proofs.Seeing.{takes_if_keep}
+use Rattle.fx_lasting.proofs.laws.take_if_keeps_rule.Goals as goal
+
+pub returns : goal.returns
+returns c = takes_if_keep

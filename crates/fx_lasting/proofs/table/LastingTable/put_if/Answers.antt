@@ -1,0 +1,155 @@
+use Rattle.fx_lasting.proofs.Words.{ℕ, ◌-◌, ◌∷◌, inr, refl, sym, ap, ◌∙◌, subst, arith, [], ◌▷◌, Put, numbered, Some, Closed, HasPlace, false}
+use Rattle.fx_lasting.proofs.Words.{Start, Work, Searching, Runs, rested, name_in, count_in, retired_at, opening_of, view_of, pass_of}
+use Rattle.fx_table.specs.Calls.{Adds, no_use, one_number}
+use Rattle.fx_table.specs.declared.values.Doing.TheVariants.{Retiring as Retires}
+use Rattle.fx_table.specs.declared.values.Retired.{Retired}
+use Rattle.fx_lasting.proofs.ByNode.{acts_then, stands_then, missed_so, value_so, removal_so, is_on, adds_none}
+use Rattle.fx_lasting.proofs.Passing.{adds_so, at_rest, still_pass, its_idle, its_flag, its_choice, may_install, knows_removed, at_ease_looking, first_by}
+use Rattle.fx_lasting.proofs.Running.{still_at_work, does_then}
+use Rattle.fx_lasting.proofs.Trying.{until_put}
+use Rattle.fx_lasting.proofs.table.LastingTable.put_if.Goals as goal
+
+pub see-requires-clause-slot : goal.see-requires-clause-slot
+see-requires-clause-slot c = omega (arith, c.requires.slot, c.args.self.now.same_size)
+
+pub returns-in-Err : goal.returns-in-Err
+returns-in-Err c =
+    let fits = c.requires.fits in
+    let s = fits.seated in
+    let saw = c.in-Err.ensures.saw in
+    let run = at_rest fits saw.1 in
+    record {
+      fits = still_pass s _ run (refl, refl) c.see.ensures.table (c.see.ensures.places ∙ s.places) s.block fits.knows;
+      placed = (refl, record { was = saw.0; adds = adds_none fits c.requires.idle saw.1 });
+      used = λ n chosen. saw.1.work ∙ chosen;
+      steps = let few = run.steps in omega arith;
+    }
+
+pub seek-own-requires : goal.seek-own-requires
+seek-own-requires c =
+    let t = c.args.self.now in
+    let f = c.requires.fits in
+    let saw = c.in-Ok.ensures.saw in
+    record {
+      table = c.see.ensures.table ∙ f.seated.table;
+      at = still_at_work f.seated.at saw.2;
+      idle = rw saw.2.work (its_idle f c.requires.idle);
+      chosen = λ n chosen. its_choice f n (sym saw.2.work ∙ chosen);
+      block = f.seated.block;
+      installs = omega (arith, may_install f.seated c.requires.numbers, t.key.1);
+    }
+
+pub put_in-requires : goal.put_in-requires
+put_in-requires c =
+    let f = c.requires.fits in
+    let saw = c.in-Ok.ensures.saw in
+    let sought = c.seek-own.ensures in
+    record {
+      table = sought.table ∙ (c.see.ensures.table ∙ f.seated.table);
+      at = (c.args.pass.now.number, still_at_work (still_at_work f.seated.at saw.2) sought.found);
+      found = sought.found.work;
+      places = sought.places ∙ (c.see.ensures.places ∙ f.seated.places);
+    }
+
+pub try_replace-requires : goal.try_replace-requires
+try_replace-requires c =
+    let f = c.requires.fits in
+    let saw = c.in-Ok.ensures.saw in
+    let placed = does_then saw.2 (until_put c.seek-own.ensures.found c.put_in.ensures.born) in
+    record {
+      table = c.put_in.ensures.table ∙ (c.seek-own.ensures.table ∙ (c.see.ensures.table ∙ f.seated.table));
+      at = (c.args.pass.now.number, still_at_work f.seated.at placed);
+      placing = record {
+        work = placed.work;
+        place = c.put_in.ensures.place ∙ ap (λ (z : Closed). (c.seek-own.result, Some z) ∷ []) (sym c.identity-identity.ensures);
+      };
+      slot = omega (arith, c.requires.slot, c.args.self.now.same_size);
+      change = placed.change ∙ f.seated.change;
+      named = saw.0;
+    }
+
+pub returns-in-Ok-try_replace : goal.returns-in-Ok-try_replace
+returns-in-Ok-try_replace c =
+    let t = c.args.self.now in
+    let k : Start = t.table.shared.key in
+    let fits = c.requires.fits in
+    let s = fits.seated in
+    let saw = c.in-Ok.ensures.saw in
+    let sought = c.seek-own.ensures in
+    let did = c.in-Ok-try_replace.ensures.tried in
+    let found = c.in-Ok-try_replace.found in
+    let f = did.1 in
+    let x = c.removed_by.result in
+    let its = c.removed_by.ensures in
+    let placed = does_then saw.2 (until_put sought.found c.put_in.ensures.born) in
+    let run = at_ease_looking fits found (Some f) (acts_then placed did.5) refl in
+    let v = view_of c.args.pass.now in
+    let w = pass_of c.try_replace.new.seat.me.0 in
+    let new = numbered did.0 c.identity-identity.result in
+    let adds = adds_so s run one_number in
+    record {
+      fits = still_pass s _ run (refl, refl)
+          (c.try_replace.ensures.table ∙ (c.put_in.ensures.table ∙ (sought.table ∙ c.see.ensures.table))) did.6 sought.block
+          (knows_removed k found (Some f) (Some (retired_at f (name_in found - 1) (count_in found))) _ false _ 0 refl refl
+          (c.first_visit-pass.ensures ∙ first_by t found));
+      placed = (
+        new,
+        f,
+        its.node,
+        is_on found x its.node its.entry its.takes did.3 f k did.4.0,
+        record { identity = c.identity-identity.ensures; same = λ e. absurd (cc e) },
+        removal_so found x its.node its.entry its.takes did.3 f k did.4.1,
+        subst (λ (z : Retired). Adds (opening_of k) v ([] ▷ Put c.args.slot new (Some f)) (Retires f z) one_number w)
+            (value_so found x its.node its.entry its.takes did.3 f did.4.1) adds,
+      );
+      used = λ n chosen. rw adds.own (did.2 ∙ sought.kept n (saw.2.work ∙ chosen));
+      steps = let few = run.steps in omega arith;
+    }
+
+pub take_out-requires : goal.take_out-requires
+take_out-requires c =
+    let f = c.requires.fits in
+    let saw = c.in-Ok.ensures.saw in
+    let failed = c.in-Err-try_replace.ensures.tried in
+    let placed = does_then saw.2 (until_put c.seek-own.ensures.found c.put_in.ensures.born) in
+    let run = stands_then placed failed.1 in
+    record {
+      table = c.try_replace.ensures.table ∙ (c.put_in.ensures.table ∙ (c.seek-own.ensures.table ∙ (c.see.ensures.table ∙ f.seated.table)));
+      at = (c.args.pass.now.number, still_at_work f.seated.at run);
+      place = (c.args.file, record { work = inr run.work; place = failed.2 ∙ c.put_in.ensures.place });
+    }
+
+pub returns-in-Err-try_replace : goal.returns-in-Err-try_replace
+returns-in-Err-try_replace c =
+    let k : Start = c.args.self.now.table.shared.key in
+    let fits = c.requires.fits in
+    let s = fits.seated in
+    let saw = c.in-Ok.ensures.saw in
+    let sought = c.seek-own.ensures in
+    let failed = c.in-Err-try_replace.ensures.tried in
+    let end = c.take_out.ensures in
+    let m = c.args.pass.now.seat.me in
+    let m₁ = c.see.new.seat.me in
+    let m₂ = c.put_in.new.seat.me in
+    let m₃ = c.try_replace.new.seat.me in
+    let m₄ = c.take_out.new.seat.me in
+    let placed = does_then saw.2 (until_put sought.found c.put_in.ensures.born) in
+    let tried = stands_then placed failed.1 in
+    let rests = subst (λ (z : Work). Runs m₃ [] (rested z) m₃.0.glance m₃.0.change 1 m₄) tried.work end.rests in
+    let run = at_rest fits (does_then tried rests) in
+    let since = does_then (stands_then (until_put sought.found c.put_in.ensures.born) failed.1) rests in
+    let place : HasPlace c.seek-own.result (Some c.args.file) m₃ = record { work = inr tried.work; place = failed.2 ∙ c.put_in.ensures.place } in
+    record {
+      fits = still_pass s _ run (refl, refl)
+          (end.table ∙ (c.try_replace.ensures.table ∙ (c.put_in.ensures.table ∙ (sought.table ∙ c.see.ensures.table)))) end.empty sought.block
+          (its_flag fits c.requires.idle, refl);
+      placed = (
+        end.file c.args.file place,
+        record {
+          was = missed_so k c.args.slot c.args.node m m₁ m₂ m₃ m₄ c.in-Err-try_replace.miss saw.1 failed.0 placed.seen since.seen rests.seen;
+          adds = adds_so s run no_use;
+        },
+      );
+      used = λ n chosen. run.work ∙ ap (λ (i : ℕ). Searching i) (sought.kept n (saw.2.work ∙ chosen));
+      steps = let few = run.steps in omega arith;
+    }

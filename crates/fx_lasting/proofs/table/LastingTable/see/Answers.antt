@@ -1,0 +1,23 @@
+use Rattle.fx_lasting.proofs.Words.{ap, ◌∙◌, slot_of}
+use Rattle.fx_lasting.proofs.Calling.{slot_inside, slot_low}
+use Rattle.fx_lasting.proofs.ByNode.{saw_if}
+use Rattle.fx_lasting.proofs.Places.{slot_back}
+use Rattle.fx_lasting.proofs.Seeing.{sees_keep}
+use Rattle.fx_lasting.proofs.table.LastingTable.see.Goals as goal
+
+pub load-word-requires : goal.load-word-requires
+load-word-requires c =
+    let t = c.args.self.now in (
+      c.requires.table,
+      slot_inside t c.requires.slot c.slot_place.ensures,
+      sees_keep _ _ _ _ c.args.slot c.args.seat.now.me _ c.requires.at.1.pass (slot_low t c.requires.slot) c.slot_place.ensures,
+    )
+
+pub returns : goal.returns
+returns c =
+    let saw = c.load-word.ensures.2 in
+    record {
+      table = c.load-word.ensures.0;
+      places = saw.goes.carried;
+      saw = saw_if c.args.node c.requires.at.1.pass.0 (ap slot_of c.slot_place.ensures ∙ slot_back c.args.slot) saw c.named_by.result c.named_by.ensures;
+    }

@@ -1,0 +1,69 @@
+use Rattle.fx_lasting.proofs.Words.{◌≤◌, ◌<◌, ◌^◌, ◌+◌, ℕ, refl, ap, ◌∙◌, arith, slot_of, name_in, rest}
+use Rattle.fx_lasting.proofs.Calling.{slot_inside, slot_low}
+use Rattle.fx_lasting.proofs.ByNode.{won_replace, lost_run, lost_so, stands_then}
+use Rattle.fx_lasting.proofs.Places.{slot_back}
+use Rattle.fx_lasting.proofs.Running.{placed_none, still_at_work, runs_goes, runs_within}
+use Rattle.fx_lasting.proofs.Seeing.{replaces_keep}
+use Rattle.fx_lasting.proofs.table.LastingTable.try_replace.Goals as goal
+
+pub loop-init : goal.loop-init
+loop-init c = record { table = refl; places = refl; named = c.requires.named; still = placed_none c.requires.at.1 refl }
+
+pub compare_exchange-seen-requires : goal.compare_exchange-seen-requires
+compare_exchange-seen-requires c =
+    let t = c.args.self.now in
+    let i = c.loop.invariant in
+    let at = still_at_work c.requires.at.1 i.still in
+    let small : c.args.file.entry < 2 ^ 8 = omega arith in (
+      i.table ∙ c.requires.table,
+      slot_inside t c.requires.slot c.slot_place-place.ensures,
+      replaces_keep _ _ _ _ c.args.slot c.args.own _ _ c.args.file c.loop.seat.me _ at.pass (i.still.work ∙ c.requires.placing.work)
+          (i.places ∙ c.requires.placing.place) small (slot_low t c.requires.slot) (i.still.change ∙ c.requires.change) c.slot_place-place.ensures
+          c.slot_word-new.ensures,
+    )
+
+pub returns-then-seen-expected : goal.returns-then-seen-expected
+returns-then-seen-expected c =
+    let i = c.loop.invariant in
+    let start = (still_at_work c.requires.at.1 i.still).pass.0 in
+    let won = c.compare_exchange-seen.ensures.2.wins c.args.own c.args.file (i.still.work ∙ c.requires.placing.work)
+    (i.places ∙ c.requires.placing.place) c.if-seen-expected.true in
+    record {
+      table = c.compare_exchange-seen.ensures.0 ∙ i.table;
+      tried = won_replace c.args.node c.compare_exchange-seen.result start (ap slot_of c.slot_place-place.ensures ∙ slot_back c.args.slot) i.still
+          (omega (arith, c.loop-test.true)) (ap (λ (z : ℕ). name_in z) c.if-seen-expected.true ∙ i.named) won.0 won.3 won.2 won.4
+          (won.5 ∙ ap rest (i.places ∙ c.requires.placing.place));
+    }
+
+pub loop-preserved : goal.loop-preserved
+loop-preserved c =
+    let i = c.loop.invariant in
+    let saw = c.compare_exchange-seen.ensures.2.loses c.if-seen-expected.false in
+    let says = c.in-Ok.ensures in
+    record {
+      table = c.compare_exchange-seen.ensures.0 ∙ i.table;
+      places = saw.goes.carried ∙ i.places;
+      named = ap (λ (z : ℕ). name_in z) says.0 ∙ says.1;
+      still = stands_then i.still (runs_goes saw.goes);
+    }
+
+pub returns-in-Err : goal.returns-in-Err
+returns-in-Err c =
+    let i = c.loop.invariant in
+    let saw = c.compare_exchange-seen.ensures.2.loses c.if-seen-expected.false in
+    let start = (still_at_work c.requires.at.1 i.still).pass.0 in
+    let few : c.loop.counter + 1 ≤ 4 = omega (arith, c.loop-test.true) in
+    record {
+      table = c.compare_exchange-seen.ensures.0 ∙ i.table;
+      tried = (
+        lost_so i.still few saw c.args.node start (ap slot_of c.slot_place-place.ensures ∙ slot_back c.args.slot) c.in-Err.miss c.in-Err.ensures,
+        lost_run i.still few saw,
+        saw.goes.carried ∙ i.places,
+      );
+    }
+
+pub returns : goal.returns
+returns c = let i = c.loop.invariant in record {
+  table = i.table;
+  tried = (tt, runs_within (omega (arith, c.loop.auto.counter-end)) i.still, i.places);
+}

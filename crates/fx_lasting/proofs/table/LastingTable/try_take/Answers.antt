@@ -1,0 +1,67 @@
+use Rattle.fx_lasting.proofs.Words.{◌≤◌, ◌+◌, ℕ, refl, ap, ◌∙◌, arith, slot_of, name_in}
+use Rattle.fx_lasting.proofs.Calling.{slot_inside, slot_low}
+use Rattle.fx_lasting.proofs.ByNode.{won_take, lost_run, lost_so, stands_then}
+use Rattle.fx_lasting.proofs.Places.{slot_back}
+use Rattle.fx_lasting.proofs.Running.{placed_none, still_at_work, runs_goes, runs_within}
+use Rattle.fx_lasting.proofs.Seeing.{takes_if_keep}
+use Rattle.fx_lasting.proofs.table.LastingTable.try_take.Goals as goal
+
+pub loop-init : goal.loop-init
+loop-init c = record { table = refl; places = refl; named = c.requires.named; still = placed_none c.requires.at.1 refl }
+
+pub compare_exchange-found-requires : goal.compare_exchange-found-requires
+compare_exchange-found-requires c =
+    let t = c.args.self.now in
+    let i = c.loop.invariant in
+    let at = still_at_work c.requires.at.1 i.still in (
+      i.table ∙ c.requires.table,
+      slot_inside t c.requires.slot c.slot_place-place.ensures,
+      takes_if_keep _ _ _ _ c.args.slot _ c.loop.seat.me _ at.pass (rw i.still.work c.requires.idle) (slot_low t c.requires.slot)
+          (i.still.change ∙ c.requires.off) c.slot_place-place.ensures,
+    )
+
+pub returns-then-found-expected : goal.returns-then-found-expected
+returns-then-found-expected c =
+    let i = c.loop.invariant in
+    let start = (still_at_work c.requires.at.1 i.still).pass.0 in
+    let won = c.compare_exchange-found.ensures.2.wins c.if-found-expected.true in
+    record {
+      table = c.compare_exchange-found.ensures.0 ∙ i.table;
+      places = won.3 ∙ i.places;
+      tried = won_take c.args.node c.compare_exchange-found.result start (ap slot_of c.slot_place-place.ensures ∙ slot_back c.args.slot) i.still
+          (omega (arith, c.loop-test.true)) (ap (λ (z : ℕ). name_in z) c.if-found-expected.true ∙ i.named) won.0 won.1 won.2;
+    }
+
+pub loop-preserved : goal.loop-preserved
+loop-preserved c =
+    let i = c.loop.invariant in
+    let saw = c.compare_exchange-found.ensures.2.loses c.if-found-expected.false in
+    let says = c.in-Ok.ensures in
+    record {
+      table = c.compare_exchange-found.ensures.0 ∙ i.table;
+      places = saw.goes.carried ∙ i.places;
+      named = ap (λ (z : ℕ). name_in z) says.0 ∙ says.1;
+      still = stands_then i.still (runs_goes saw.goes);
+    }
+
+pub returns-in-Err : goal.returns-in-Err
+returns-in-Err c =
+    let i = c.loop.invariant in
+    let saw = c.compare_exchange-found.ensures.2.loses c.if-found-expected.false in
+    let start = (still_at_work c.requires.at.1 i.still).pass.0 in
+    let few : c.loop.counter + 1 ≤ 4 = omega (arith, c.loop-test.true) in
+    record {
+      table = c.compare_exchange-found.ensures.0 ∙ i.table;
+      places = saw.goes.carried ∙ i.places;
+      tried = (
+        lost_so i.still few saw c.args.node start (ap slot_of c.slot_place-place.ensures ∙ slot_back c.args.slot) c.in-Err.miss c.in-Err.ensures,
+        lost_run i.still few saw,
+      );
+    }
+
+pub returns : goal.returns
+returns c = let i = c.loop.invariant in record {
+  table = i.table;
+  places = i.places;
+  tried = (tt, runs_within (omega (arith, c.loop.auto.counter-end)) i.still);
+}

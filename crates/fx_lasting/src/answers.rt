@@ -1,0 +1,33 @@
+//! The results of the calls that change a slot if its file is on a node.
+use fx_base::OpenFile;
+use fx_table::Retired;
+
+/// The reason why a slot was left as it was, by a call that empties or replaces it if its file is
+/// on a node.
+#[derive(Clone, Copy)]
+pub enum Miss {
+    /// The slot had no file.
+    Empty,
+    /// The file at the slot was on another node.
+    Other,
+    /// The file at the slot was on the node, but the slot's word changed before each try.
+    Again,
+}
+
+/// The result of a call that empties a slot if its file is on a node. It must be consumed: the
+/// compiler rejects a program that drops one.
+pub enum TakenIf {
+    /// The file was removed, and is to be retired.
+    Removed(Retired),
+    /// Nothing was changed.
+    Missed(Miss),
+}
+
+/// The result of a call that replaces the file of a slot if it is on a node. It must be consumed:
+/// the compiler rejects a program that drops one.
+pub enum PutIf {
+    /// The slot has the new file. The file that it had is to be retired.
+    Replaced(Retired),
+    /// Nothing was changed. The new file comes back.
+    Missed(Miss, OpenFile),
+}
