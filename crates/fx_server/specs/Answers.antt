@@ -1,7 +1,7 @@
 -- The meaning of the numbers that C gets: the result of a worker's call, and its tag.
 use Rattle.std.specs.Prelude.{◌≡◌, ℕ, ℤ, pos, Option, Some, None, Result, Ok, Err}
 use Rattle.fx_server.specs.Workers.{IsGood, LooksUp, ReleasesHeld, Puts, PutsAny, RemovesFrom}
-use Rattle.fx_server.specs.Workers.{Chooses}
+use Rattle.fx_server.specs.Workers.{Chooses, RemovesIf, PutsIf}
 use Rattle.fx_server.specs.declared.answers.LookAnswer.{LookAnswer}
 use Rattle.fx_server.specs.declared.answers.ServerRefusal.{ServerRefusal}
 use Rattle.fx_server.specs.declared.answers.ServerRefusal.TheVariants as refusal
@@ -9,6 +9,7 @@ use Rattle.fx_server.specs.declared.answers.Removal.{Removal}
 use Rattle.fx_server.specs.declared.answers.Removal.TheVariants.{Nothing, InUse, Closed}
 use Rattle.fx_server.specs.declared.codes.TheConstants.{DONE, CLOSED, IN_USE, EMPTY, NO_SLOT, BUSY}
 use Rattle.fx_server.specs.declared.codes.TheConstants.{IDLE, NO_BLOCK, FULL, AGAIN, BAD, NO_MEMORY}
+use Rattle.fx_server.specs.declared.codes.TheConstants.{OTHER}
 use Rattle.fx_server.specs.declared.worker.TableWorker.{TableWorker}
 
 abbrev pub refusal_code : ServerRefusal → ℤ
@@ -21,6 +22,7 @@ refusal_code refusal.Full = FULL
 refusal_code refusal.Again = AGAIN
 refusal_code refusal.Bad = BAD
 refusal_code refusal.NoMemory = NO_MEMORY
+refusal_code refusal.Other = OTHER
 
 -- of a call that returns a node or a slot
 abbrev pub answer_number : Result ℕ ServerRefusal → ℤ
@@ -101,3 +103,21 @@ pub record ChoosesAs (w : TableWorker) (number : ℤ) (w' : TableWorker) : Type 
   pub good : IsGood w'
   pub chosen : Chooses w result w'
   pub its_number : number ≡ answer_number result
+
+-- of a removal if the file is on a node
+pub record RemovesIfAs (w : TableWorker) (slot node : ℕ) (number : ℤ) (closed : ℕ)
+    (w' : TableWorker) : Type 0 where
+  pub result : Result Removal ServerRefusal
+  pub good : IsGood w'
+  pub removed : RemovesIf w slot node result w'
+  pub its_number : number ≡ removal_number result
+  pub its_tag : closed ≡ removal_tag result
+
+-- of a replacement if the file is on a node
+pub record PutsIfAs (w : TableWorker) (slot node tag : ℕ) (number : ℤ) (closed : ℕ)
+    (w' : TableWorker) : Type 0 where
+  pub result : Result Removal ServerRefusal
+  pub good : IsGood w'
+  pub placed : PutsIf w slot node tag result w'
+  pub its_number : number ≡ removal_number result
+  pub its_tag : closed ≡ removal_tag result

@@ -17,15 +17,21 @@ use Rattle.fx_table.specs.declared.values.LookFault.{LookFault as TableFault}
 use Rattle.fx_table.specs.declared.values.LookFault.TheVariants as fault
 use Rattle.fx_table.specs.declared.values.Retired.{Retired}
 use Rattle.fx_lasting.specs.Choices.{HasChosen, UsesChoice, KeepsChoice}
+use Rattle.fx_lasting.specs.Keyed.{HasMissed, HasPutIf, HasTakenIf}
 use Rattle.fx_lasting.specs.Passes.{nodes_of}
 use Rattle.fx_lasting.specs.declared.layout.TheConstants.{MOST_SLOTS, MOST_PASSES, MOST_INSTALLING}
 use Rattle.fx_lasting.specs.Tables.{view_of, opening_of_table, IsPassOfTable}
+use Rattle.fx_lasting.specs.declared.answers.Miss.{Miss}
+use Rattle.fx_lasting.specs.declared.answers.Miss.TheVariants as miss
+use Rattle.fx_lasting.specs.declared.answers.PutIf.TheVariants.{Replaced}
+use Rattle.fx_lasting.specs.declared.answers.TakenIf.TheVariants.{Removed}
 use Rattle.fx_lasting.specs.declared.table.LastingTable.{LastingTable}
+use Rattle.fx_lasting.specs.declared.view.Start.{Start}
 use Rattle.fx_server.specs.Files.{file_with}
 use Rattle.fx_server.specs.declared.answers.LookAnswer.{LookAnswer}
 use Rattle.fx_server.specs.declared.answers.ServerRefusal.{ServerRefusal}
 use Rattle.fx_server.specs.declared.answers.ServerRefusal.TheVariants.{Empty, NoSlot, Busy}
-use Rattle.fx_server.specs.declared.answers.ServerRefusal.TheVariants.{Idle, NoBlock, Again}
+use Rattle.fx_server.specs.declared.answers.ServerRefusal.TheVariants.{Idle, NoBlock, Again, Other}
 use Rattle.fx_server.specs.declared.answers.ServerRefusal.TheVariants.{Full as NoFree}
 use Rattle.fx_server.specs.declared.answers.Removal.{Removal}
 use Rattle.fx_server.specs.declared.answers.Removal.TheVariants.{Nothing, InUse, Closed}
@@ -179,3 +185,58 @@ RemovesFrom w slot (Err Empty) w' =
 RemovesFrom w slot (Err NoSlot) w' = HasNoSlot w slot w'
 RemovesFrom w slot (Err Busy) w' = IsBusy w w'
 RemovesFrom w slot (Err _) w' = ⊥
+
+abbrev pub its_start : TableWorker → Start
+its_start w = (its_table w).table.shared.key
+
+-- the refusal of a call that names a node, if the slot is left as it is
+abbrev pub refusal_for : Miss → ServerRefusal
+refusal_for miss.Empty = Empty
+refusal_for miss.Other = Other
+refusal_for miss.Again = Again
+
+-- the slot is left as it is, for this reason
+abbrev pub Misses : TableWorker → ℕ → ℕ → Miss → TableWorker → Type 0
+Misses w slot node why w' = HasMissed (its_start w) (its_pass w) slot node why (its_pass w')
+
+-- the file of a slot is taken out, since it is on the node, and retired
+pub record TakesFromIf (w : TableWorker) (slot node : ℕ) (removal : Removal) (w' : TableWorker)
+    : Type 0 where
+  pub retired : Retired
+  pub between : PassView
+  pub taken : HasTakenIf (its_start w) (its_pass w) slot node (Removed retired) between
+  pub retires : RetiresAs (its_opening w) between retired removal (its_pass w')
+
+abbrev pub RemovesIf : TableWorker → ℕ → ℕ → Result Removal ServerRefusal → TableWorker → Type 0
+RemovesIf w slot node (Ok removal) w' = TakesFromIf w slot node removal w'
+RemovesIf w slot node (Err Empty) w' = Misses w slot node miss.Empty w'
+RemovesIf w slot node (Err Other) w' = Misses w slot node miss.Other w'
+RemovesIf w slot node (Err Again) w' = Misses w slot node miss.Again w'
+RemovesIf w slot node (Err NoSlot) w' = HasNoSlot w slot w'
+RemovesIf w slot node (Err Busy) w' = IsBusy w w'
+RemovesIf w slot node (Err _) w' = ⊥
+
+-- a file with this tag is put at a slot, in place of the file there, since that is on the node; the
+-- new file is on the node that was chosen, if one was; and what was there is retired
+pub record PutsAtIf (w : TableWorker) (slot node tag : ℕ) (removal : Removal) (w' : TableWorker)
+    : Type 0 where
+  pub retired : Retired
+  pub between : PassView
+  pub placed : HasPutIf (its_start w) (its_pass w) slot node (file_with tag) (Replaced retired)
+      between
+  pub used : UsesChoice (its_start w) w.pass between
+  pub retires : RetiresAs (its_opening w) between retired removal (its_pass w')
+
+-- the slot is left as it is, for this reason, and the node that was chosen stays so
+abbrev pub MissesPut : TableWorker → ℕ → ℕ → Miss → TableWorker → Type 0
+MissesPut w slot node why w' = KeepsChoice w.pass w'.pass × Misses w slot node why w'
+
+abbrev pub PutsIf : TableWorker → ℕ → ℕ → ℕ → Result Removal ServerRefusal → TableWorker → Type 0
+PutsIf w slot node tag (Ok removal) w' = PutsAtIf w slot node tag removal w'
+PutsIf w slot node tag (Err Empty) w' = MissesPut w slot node miss.Empty w'
+PutsIf w slot node tag (Err Other) w' = MissesPut w slot node miss.Other w'
+PutsIf w slot node tag (Err Again) w' = MissesPut w slot node miss.Again w'
+PutsIf w slot node tag (Err NoSlot) w' = HasNoSlot w slot w'
+PutsIf w slot node tag (Err NoBlock) w' = HasNoBlock w w'
+PutsIf w slot node tag (Err Busy) w' = IsBusy w w'
+PutsIf w slot node tag (Err _) w' = ⊥

@@ -2,10 +2,10 @@
 ghost use Rattle.std.specs.Prelude.{◌≡◌};
 ghost use Rattle.fx_server.specs.Answers.{refusal_code};
 
-use crate::codes::{AGAIN, BAD, BUSY, EMPTY, FULL, IDLE, NO_BLOCK, NO_MEMORY, NO_SLOT};
+use crate::codes::{AGAIN, BAD, BUSY, EMPTY, FULL, IDLE, NO_BLOCK, NO_MEMORY, NO_SLOT, OTHER};
 
-/// The reason why a call is not done. `Empty`, `Full` and `Again` are answers of the table; after
-/// any other reason nothing has changed.
+/// The reason why a call is not done. `Empty`, `Full`, `Again` and `Other` are answers of the
+/// table; after any other reason nothing has changed.
 #[derive(Clone, Copy)]
 pub enum ServerRefusal {
     /// The slot is empty.
@@ -20,12 +20,15 @@ pub enum ServerRefusal {
     NoBlock,
     /// At one step every slot had a file.
     Full,
-    /// The round installed nothing, and found no step at which every slot had a file.
+    /// The round installed nothing, and found no step at which every slot had a file. Or the slot's
+    /// word changed at each try of a call that names a node.
     Again,
     /// A number is out of its range.
     Bad,
     /// An allocation failed.
     NoMemory,
+    /// The file at the slot is on another node.
+    Other,
 }
 
 impl ServerRefusal {
@@ -44,6 +47,7 @@ impl ServerRefusal {
             ServerRefusal::Again => AGAIN,
             ServerRefusal::Bad => BAD,
             ServerRefusal::NoMemory => NO_MEMORY,
+            ServerRefusal::Other => OTHER,
         }
     }
 }

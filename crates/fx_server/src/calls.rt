@@ -1,7 +1,8 @@
 //! The calls of a worker, with their numbers and tags for C.
 ghost use Rattle.std.specs.Prelude.{◌≡◌, pos};
 ghost use Rattle.fx_lasting.specs.Passes.{nodes_of};
-ghost use Rattle.fx_server.specs.Answers.{ChoosesAs, LooksAs, PutsAnyAs, PutsAs, ReleasesAs, RemovesAs};
+ghost use Rattle.fx_server.specs.Answers.{ChoosesAs, LooksAs, PutsAnyAs, PutsAs, PutsIfAs, ReleasesAs, RemovesAs};
+ghost use Rattle.fx_server.specs.Answers.{RemovesIfAs};
 ghost use Rattle.fx_server.specs.Workers.{IsGood, its_table};
 
 use crate::numbers::{
@@ -78,4 +79,26 @@ pub fn take(worker: &mut TableWorker, slot: u32, closed: &mut u64) -> i64
     let taken = worker.take(slot);
     *closed = removal_tag(taken);
     removal_number(taken)
+}
+
+/// Empties a slot if its file is on this node.
+#[inline(always)]
+pub fn take_if(worker: &mut TableWorker, slot: u32, node: u32, closed: &mut u64) -> i64
+    requires good { IsGood worker.old }
+    ensures removed { RemovesIfAs worker.old slot node result closed.new worker.new }
+{
+    let taken = worker.take_if(slot, node);
+    *closed = removal_tag(taken);
+    removal_number(taken)
+}
+
+/// Replaces the file of a slot by one with this tag, if it is on this node.
+#[inline(always)]
+pub fn put_if(worker: &mut TableWorker, slot: u32, node: u32, tag: u64, closed: &mut u64) -> i64
+    requires good { IsGood worker.old }
+    ensures placed { PutsIfAs worker.old slot node tag result closed.new worker.new }
+{
+    let put = worker.put_if(slot, node, tag);
+    *closed = removal_tag(put);
+    removal_number(put)
 }

@@ -35,3 +35,6 @@ pub const BAD: i64 = -8;
 
 /// An allocation failed.
 pub const NO_MEMORY: i64 = -9;
+
+/// The file at the slot is on another node.
+pub const OTHER: i64 = -10;

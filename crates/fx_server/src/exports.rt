@@ -4,7 +4,8 @@
 ghost use Rattle.std.specs.Prelude.{◌≡◌, ◌≢◌, ◌⊎◌, length, pos};
 ghost use types.Logic.{sem};
 ghost use Rattle.fx_lasting.specs.Passes.{nodes_of};
-ghost use Rattle.fx_server.specs.Answers.{ChoosesAs, LooksAs, PutsAnyAs, PutsAs, ReleasesAs, RemovesAs};
+ghost use Rattle.fx_server.specs.Answers.{ChoosesAs, LooksAs, PutsAnyAs, PutsAs, PutsIfAs, ReleasesAs, RemovesAs};
+ghost use Rattle.fx_server.specs.Answers.{RemovesIfAs};
 ghost use Rattle.fx_server.specs.Handle.{HasWorker, handle_owns};
 ghost use Rattle.fx_server.specs.Places.{OpensAs};
 ghost use Rattle.fx_server.specs.Workers.{IsGood, IsInRange, its_table};
@@ -134,4 +135,40 @@ pub unsafe extern "C" fn yacht_core_take(worker: *mut Opaque, slot: u32, closed:
     ensures* removed { HasWorker 𝓛 worker (λ after. RemovesAs w slot result closed.new after) }
 {
     calls::take(&mut *(worker as *mut TableWorker), slot, closed)
+}
+
+/// Empties a slot if its file is on this node. It returns `CLOSED`, `IN_USE`, `BUSY`, `NO_SLOT`,
+/// `EMPTY`, `OTHER` or `AGAIN`. `closed` is the tag of what was there if that is closed, or 0.
+#[unsafe(no_mangle)]
+pub unsafe extern "C" fn yacht_core_take_if(
+    worker: *mut Opaque,
+    slot: u32,
+    node: u32,
+    closed: &mut u64,
+) -> i64
+    ghost w: { TableWorker }
+    requires* good { sem 𝓛 (handle_owns worker w) ∗ ⌜ IsGood w ⌝ }
+    ensures* removed { HasWorker 𝓛 worker (λ after.
+        RemovesIfAs w slot node result closed.new after) }
+{
+    calls::take_if(&mut *(worker as *mut TableWorker), slot, node, closed)
+}
+
+/// Replaces the file of a slot by one with this tag, if it is on this node. It returns `CLOSED`,
+/// `IN_USE`, `BUSY`, `NO_SLOT`, `NO_BLOCK`, `EMPTY`, `OTHER` or `AGAIN`. `closed` is the tag of
+/// what was there if that is closed, or 0.
+#[unsafe(no_mangle)]
+pub unsafe extern "C" fn yacht_core_put_if(
+    worker: *mut Opaque,
+    slot: u32,
+    node: u32,
+    tag: u64,
+    closed: &mut u64,
+) -> i64
+    ghost w: { TableWorker }
+    requires* good { sem 𝓛 (handle_owns worker w) ∗ ⌜ IsGood w ⌝ }
+    ensures* placed { HasWorker 𝓛 worker (λ after.
+        PutsIfAs w slot node tag result closed.new after) }
+{
+    calls::put_if(&mut *(worker as *mut TableWorker), slot, node, tag, closed)
 }

@@ -6,12 +6,13 @@ ghost use Rattle.fx_table.specs.Showing.{Learns};
 ghost use Rattle.fx_lasting.specs.Passes.{nodes_of};
 ghost use Rattle.fx_lasting.specs.Showing.{IsSeenOf, shown_of};
 ghost use Rattle.fx_server.specs.Workers.{Chooses, IsGood, LooksUp, Notes, ReleasesHeld, Puts, PutsAny};
-ghost use Rattle.fx_server.specs.Workers.{RemovesFrom, RetiresAs, its_opening, its_pass, its_table};
+ghost use Rattle.fx_server.specs.Workers.{PutsIf, RemovesFrom, RemovesIf, RetiresAs, its_opening, its_pass};
+ghost use Rattle.fx_server.specs.Workers.{its_table, refusal_for};
 
 use crate::answers::{LookAnswer, Removal, ServerRefusal};
 use crate::shared::Shared;
 use fx_base::OpenFile;
-use fx_lasting::{LastingPass, LastingSeen, LastingTable, TriedPut};
+use fx_lasting::{LastingPass, LastingSeen, LastingTable, Miss, PutIf, TakenIf, TriedPut};
 use fx_table::{Empty, Hold, LookFault as Fault, LookUp, RealTime, Retired};
 use std::alloc::Global;
 use std::sync::Arc;
@@ -230,6 +231,78 @@ impl TableWorker {
             Ok(retired) => Ok(retire(table, &mut self.pass, retired)),
             Err(Empty) => Err(ServerRefusal::Empty),
         }
+    }
+
+    /// Empties a slot if its file is on this node. Returns what was there, which is not `Nothing`.
+    /// While another worker holds a file of the node, no other file is on it
+    /// (`fx_lasting::laws::held_nodes_name_files`).
+    ///
+    /// # Errors
+    /// `Busy`, `NoSlot`, in this order; `Empty` if the slot has no file, `Other` if its file is on
+    /// another node, `Again` if look-ups changed the slot's word before each try.
+    #[inline(always)]
+    pub fn take_if(&mut self, slot: u32, node: u32) -> Result<Removal, ServerRefusal>
+        requires good { IsGood self.old }
+        ensures good { IsGood self.new }
+        ensures table { self.new.shared ≡ self.old.shared }
+        ensures removed { RemovesIf self.old slot node result self.new }
+    {
+        if self.held.is_some() {
+            return Err(ServerRefusal::Busy);
+        }
+        let table = &self.shared.table;
+        if slot >= table.size() {
+            return Err(ServerRefusal::NoSlot);
+        }
+        match table.take_if(&mut self.pass, slot, node) {
+            TakenIf::Removed(retired) => Ok(retire(table, &mut self.pass, retired)),
+            TakenIf::Missed(miss) => Err(refusal_for(miss)),
+        }
+    }
+
+    /// Replaces the file of a slot by one with this tag, if it is on this node. Returns what was
+    /// there, which is not `Nothing`.
+    ///
+    /// # Errors
+    /// `Busy`, `NoSlot`, `NoBlock`, in this order; `Empty`, `Other`, `Again` as of `take_if`.
+    #[inline(always)]
+    pub fn put_if(&mut self, slot: u32, node: u32, tag: u64) -> Result<Removal, ServerRefusal>
+        requires good { IsGood self.old }
+        ensures good { IsGood self.new }
+        ensures table { self.new.shared ≡ self.old.shared }
+        ensures placed { PutsIf self.old slot node tag result self.new }
+    {
+        if self.held.is_some() {
+            return Err(ServerRefusal::Busy);
+        }
+        let shared: &Shared = &self.shared;
+        let table = &shared.table;
+        if slot >= table.size() {
+            return Err(ServerRefusal::NoSlot);
+        }
+        if !table.installs(&self.pass) {
+            return Err(ServerRefusal::NoBlock);
+        }
+        let file = shared.file(tag);
+        match table.put_if(&mut self.pass, slot, node, file) {
+            PutIf::Replaced(retired) => Ok(retire(table, &mut self.pass, retired)),
+            PutIf::Missed(miss, file) => {
+                file.discard();
+                Err(refusal_for(miss))
+            }
+        }
+    }
+}
+
+// Returns the refusal of a call that left the slot as it was.
+#[inline(always)]
+fn refusal_for(miss: Miss) -> ServerRefusal
+    ensures { result ≡ refusal_for miss }
+{
+    match miss {
+        Miss::Empty => ServerRefusal::Empty,
+        Miss::Other => ServerRefusal::Other,
+        Miss::Again => ServerRefusal::Again,
     }
 }
 
