@@ -118,5 +118,5 @@ _Static_assert(sizeof(struct state) <= MOST_STATE, "a state has room");
 
 const struct step_table the_table = {
     "lock-free table", sizeof(struct state), sizeof families / sizeof families[0], WRONG_TABLES, wrong_names, begin_family, take_step,
-    check, missing
+    check, missing, NULL
 };

@@ -26,7 +26,8 @@ int bit_of(int who) {
 
 bool is_uncounted(const struct pass *it) {
     bool is_lowered = it->step == CHECK || it->step == BREAK || it->step == SWAP;
-    return it->step == RAISE || (is_lowered && it->call == REMOVE && family->group_len);
+    bool removes = it->call == REMOVE || (it->call == TAKE_IF && wrong != lower_after_the_exchange);
+    return it->step == RAISE || (is_lowered && removes && family->group_len);
 }
 
 /* Returns whether the pass is in a change of the range, after which the words are exact. */
@@ -52,11 +53,11 @@ enum step first_of_removal(void) {
 }
 
 enum step after_swap(const struct pass *it, bool was_empty) {
-    bool installs = it->call == PUT;
+    bool installs = it->call == PUT || it->call == PUT_IF;
     if (!family->group_len) {
         return IDLE;
     }
-    if (installs ? wrong == raise_before_the_fill : wrong == lower_after_the_swap) {
+    if (installs ? wrong == raise_before_the_fill : wrong == lower_after_the_swap || (it->call == TAKE_IF && wrong == lower_after_the_exchange)) {
         return was_empty ? IDLE : LOWER_LATE;
     }
     if (!installs && !was_empty && wrong == question_is_cleared_after_the_swap) {

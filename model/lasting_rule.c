@@ -25,7 +25,17 @@ static const struct family families[] = {
     {"two passes, files without nodes, two groups of two slots", 2, 4, 1, 2, {CHANGES, CHANGES}, true},
     {"two passes, files without nodes, three groups of a slot", 2, 3, 1, 1, {CHANGES, CHANGES}, true},
     {"three passes, files without nodes, two groups of a slot", 3, 2, 1, 1, {CHANGES, CHANGES, CHANGES}, true},
+    {"three passes, one slot in the range, a removal names a node", 3, 1, 1, 1, {LOOK, TAKE_IF, PUT_ANY | REMOVE}, false},
+    {"three passes, one slot, calls name a node, another pass looks up", 3, 1, 1, 0, {LOOK, TAKE_IF | PUT_IF | PUT, LOOK}, false},
+    {"three passes, one slot, calls name a node, another pass replaces", 3, 1, 1, 0, {LOOK, TAKE_IF | PUT_IF, PUT}, false},
 };
+
+/* The family with which the search for a wrong table begins. */
+enum { FIRST_OF_KEYS = sizeof families / sizeof families[0] - 3 };
+
+static int first_family(int table) {
+    return table < WRONG_KEYS ? 0 : FIRST_OF_KEYS;
+}
 
 static const char *const wrong_names[] = { TABLES(AS_NAME) };
 
@@ -106,9 +116,11 @@ static void check_node(const struct state *s, int node) {
 
 static void check_pass(const struct state *s, int who) {
     const struct pass *it = &s->pass[who];
-    bool is_look = it->call == LOOK, is_put = it->call == PUT && it->step != SEEK;
+    bool is_look = it->call == LOOK || it->call == TAKE_IF, is_put = it->call == PUT && it->step != SEEK;
+    bool is_keyed = it->call == TAKE_IF || it->call == PUT_IF;
     int words = (family->passes + PER_WORD - 1) / PER_WORD;
-    int most = is_look ? 8 : it->call == RELEASE ? 3 : it->call == REMOVE ? 5 : is_put ? 3 : 2 * family->passes + words;
+    int most = is_look ? 8 : it->call == RELEASE ? 3 : it->call == REMOVE ? 5 : is_put ? 3 : is_keyed ? 5 + TRIES
+        : 2 * family->passes + words;
     want(it->call == PUT_ANY || it->step == SEEK || it->steps + (is_look ? 1 : 0) < most || it->step == IDLE, "a call has too many steps");
     int hold = s->hold[who] & ~MARK;
     bool has_bit = s->list[who / PER_WORD] >> who % PER_WORD & 1;
@@ -147,7 +159,7 @@ static void check_question(const struct state *s, int who) {
     }
     for (int other = 0; other < family->passes; other++) {
         const struct pass *its = &s->pass[other];
-        holds &= its->call != REMOVE || its->step != SWAP || its->slot >= end;
+        holds &= (its->call != REMOVE && its->call != TAKE_IF) || its->step != SWAP || its->slot >= end;
     }
     want(holds, "a bit is there, and a slot that its pass found full is empty or may become so");
 }
@@ -181,5 +193,5 @@ _Static_assert(sizeof(struct state) <= MOST_STATE, "a state has room");
 
 const struct step_table the_table = {
     "lasting table", sizeof(struct state), sizeof families / sizeof families[0], WRONG_TABLES, wrong_names, begin_family, take_step,
-    check_state, NULL
+    check_state, NULL, first_family
 };

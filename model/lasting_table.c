@@ -23,6 +23,9 @@ static void close_file(struct state *s, int node) {
         want(s->pass[who].holds != node + 1, "a file is closed while a pass holds it");
     }
     want(s->place[node] == OPEN_FILE, "a file is closed that isn't in its place");
+    for (int who = 0; who < family->passes; who++) {
+        s->pass[who].is_stale |= s->pass[who].key == node + 1;
+    }
     s->file[node] = NO_FILE;
     s->place[node] = WITH_PASS;
 }
@@ -223,7 +226,7 @@ void end_change(struct pass *it, int who) {
 
 static void swap(struct state *s, struct pass *it, int who) {
     int found = s->named[it->slot], takes = s->takes[it->slot], heat = s->heat[it->slot];
-    if (it->call == PUT) {
+    if (it->call == PUT || it->call == PUT_IF) {
         install(s, it);
     } else {
         s->named[it->slot] = s->takes[it->slot] = s->heat[it->slot] = 0;
@@ -291,7 +294,7 @@ static void seek(struct state *s, struct pass *it, int who) {
 }
 
 static enum step after_birth(const struct pass *it) {
-    bool is_early = wrong == raise_before_the_fill && family->group_len;
+    bool is_early = wrong == raise_before_the_fill && family->group_len && it->call == PUT;
     return it->call == PUT_ANY ? PEEK : is_early ? RAISE_EARLY : SWAP;
 }
 
@@ -333,6 +336,73 @@ static void exchange(struct state *s, struct pass *it) {
     }
 }
 
+/* A call that names a node: the node of the file that the pass before holds until the call has
+ * removed the file or hasn't. */
+
+static int key_of(const struct state *s, int who) {
+    bool holds = who && (s->pass[who - 1].step == GUARDED || s->pass[who - 1].step == COUNTED);
+    return holds ? s->pass[who - 1].holds : 0;
+}
+
+/* Returns whether the next pass has a call under way that names the file which this pass holds. */
+static bool is_kept(const struct state *s, int who) {
+    return who + 1 < family->passes && s->pass[who + 1].key && wrong != file_of_the_node_is_not_held;
+}
+
+static void expect(const struct state *s, struct pass *it) {
+    it->takes = s->takes[it->slot];
+    it->heat = s->heat[it->slot];
+}
+
+static void see(struct state *s, struct pass *it, int who) {
+    it->key = key_of(s, who);
+    expect(s, it);
+    if (s->named[it->slot] != it->key && wrong != node_is_not_compared) {
+        begin_call(it, 0, IDLE);
+    } else {
+        it->step = it->call == PUT_IF ? SEEK : wrong == lower_after_the_exchange && family->group_len ? CHECK : first_of_removal();
+    }
+}
+
+/* Ends a call that has lost its last try. */
+static void miss(struct pass *it) {
+    bool is_counted = !family->group_len || wrong == missed_removal_is_not_raised || wrong == lower_after_the_exchange;
+    it->takes = UINT8_MAX;
+    it->key = 0;
+    it->step = it->call == PUT_IF ? REST_UNUSED : RAISE;
+    if (it->step == RAISE && is_counted) {
+        begin_call(it, 0, IDLE);
+    }
+}
+
+static void exchange_if(struct state *s, struct pass *it, int who) {
+    bool swaps = wrong == node_is_not_compared || wrong == node_is_compared_before_a_swap;
+    bool names = s->named[it->slot] == it->key || (wrong == found_word_is_not_compared && it->tried && s->named[it->slot]);
+    if (swaps || (names && s->takes[it->slot] == it->takes && s->heat[it->slot] == it->heat)) {
+        want(s->named[it->slot] == it->key && !it->is_stale, "a call removes another file than the one whose node it names");
+        it->key = it->tried = it->changes = 0;
+        swap(s, it, who);
+    } else if ((names || wrong == found_word_is_not_compared) && ++it->tried < TRIES) {
+        if (wrong != old_word_is_expected_again) {
+            expect(s, it);
+        }
+    } else {
+        want(!names || it->changes >= TRIES, "a call tries no more, and the slot's word changed less often than it tried");
+        it->tried = it->changes = 0;
+        miss(it);
+    }
+}
+
+/* Counts the change of a slot's word for other passes whose calls name a node. */
+static void count_changes(const struct state *before, struct state *s, int who) {
+    for (int other = 0; other < family->passes; other++) {
+        struct pass *it = &s->pass[other];
+        bool changed = before->named[it->slot] != s->named[it->slot] || before->takes[it->slot] != s->takes[it->slot]
+            || before->heat[it->slot] != s->heat[it->slot];
+        it->changes += other != who && it->key && changed && it->changes < TRIES;
+    }
+}
+
 /* Steps */
 
 /* Begins a call at a slot, and makes the first step of all but a removal. */
@@ -342,6 +412,8 @@ static void begin_at(struct state *s, struct pass *it, int who, int call, int sl
     it->is_alone = call == PUT_ANY;
     if (call == LOOK) {
         glance(s, it);
+    } else if (call == TAKE_IF || call == PUT_IF) {
+        see(s, it, who);
     } else if (call == REMOVE && wrong == scan_before_the_swap && s->named[slot] && s->heat[slot]) {
         it->node = s->named[slot] - 1;
         go_on(it, who);
@@ -354,13 +426,14 @@ static void begin_at(struct state *s, struct pass *it, int who, int call, int sl
 
 /* Begins a call in the `nth` way: a search may begin at each node of the pass's block. */
 static bool begin_nth(struct state *s, struct pass *it, int who, int nth) {
-    for (int call = LOOK; call <= PUT_ANY; call *= 2) {
-        bool searches = block && (call == PUT || call == PUT_ANY);
-        int ways = family->calls[who] & call ? family->slots * (searches ? block : 1) : 0;
+    for (int call = LOOK; call <= PUT_IF; call *= 2) {
+        bool searches = block && (call == PUT || call == PUT_ANY || call == PUT_IF), is_keyed = call == TAKE_IF || call == PUT_IF;
+        bool may = (family->calls[who] & call) && (!is_keyed || key_of(s, who));
+        int ways = may ? family->slots * (searches ? block : 1) : 0;
         if (nth < ways) {
             begin_at(s, it, who, call, nth % family->slots);
-            it->nth = nth / family->slots;
-            return call == LOOK || call == REMOVE || take_step(s, who, 0);
+            it->nth = it->step == IDLE ? 0 : nth / family->slots;
+            return call == LOOK || call == REMOVE || is_keyed || take_step(s, who, 0);
         }
         nth -= ways;
     }
@@ -370,13 +443,14 @@ static bool begin_nth(struct state *s, struct pass *it, int who, int nth) {
 bool take_step(void *state, int who, int nth) {
     struct state *s = state;
     struct pass *it = &s->pass[who];
+    const struct state before = *s;
     if (who >= family->passes) {
         return false;
     }
     if (it->step == IDLE) {
         return begin_nth(s, it, who, nth);
     }
-    if (nth > 0) {
+    if (nth > 0 || is_kept(s, who)) {
         return false;
     }
     if (it->step == GUARDED || it->step == COUNTED) {
@@ -413,10 +487,19 @@ bool take_step(void *state, int who, int nth) {
         rest(s, it);
         it->node = 0;
         it->step = BEGIN;
+        if (it->call == PUT_IF) {
+            begin_call(it, 0, IDLE);
+        }
         break;
     case SEEK: seek(s, it, who); break;
     case BIRTH: birth(s, it); break;
-    case SWAP: swap(s, it, who); break;
+    case SWAP:
+        if (it->key) {
+            exchange_if(s, it, who);
+        } else {
+            swap(s, it, who);
+        }
+        break;
     case SKIM: skim(s, it, who); break;
     case VISIT: visit(s, it, who); break;
     case MARK_HOLD: mark_hold(s, it, who); break;
@@ -426,5 +509,6 @@ bool take_step(void *state, int who, int nth) {
     default: take_step_of_range(s, it, who); break;
     }
     note_changes(s);
+    count_changes(&before, s, who);
     return true;
 }

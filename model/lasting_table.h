@@ -14,7 +14,10 @@ enum { NOTHING, OPEN_FILE, WITH_PASS };
 enum { NO_FILE, PLACED, AT_SLOT, REMOVED };
 
 /* The calls of a pass. A family names by a sum the calls that an idle pass may make. */
-enum { LOOK = 1, REMOVE = 2, PUT = 4, PUT_ANY = 8, RELEASE = 16, RETIREMENT = 32 };
+enum { LOOK = 1, REMOVE = 2, PUT = 4, PUT_ANY = 8, RELEASE = 16, RETIREMENT = 32, TAKE_IF = 64, PUT_IF = 128 };
+
+/* The tries of a call that names a node; the table's calls make four. */
+enum { TRIES = 2 };
 
 /* The next step of a pass. */
 enum step {
@@ -35,8 +38,10 @@ enum step {
     X(question_is_cleared_after_the_swap) X(cleared_only_at_a_full_group) X(cleared_by_one_exchange) \
     X(one_bit_is_cleared_alone) X(raise_before_the_fill) X(lower_after_the_swap) X(no_lower) X(raise_in_another_group) \
     X(empty_removal_is_not_raised) X(replaced_slot_is_counted) X(old_full_is_kept) X(bit_is_set_after_the_visits) \
-    X(one_bit_for_all_askers) X(last_group_is_not_visited) X(group_is_skipped_too_early)
-enum wrong { TABLES(AS_MEMBER) WRONG_TABLES, WRONG_RANGES = question_is_loaded_once };
+    X(one_bit_for_all_askers) X(last_group_is_not_visited) X(group_is_skipped_too_early) \
+    X(node_is_not_compared) X(node_is_compared_before_a_swap) X(found_word_is_not_compared) X(old_word_is_expected_again) \
+    X(missed_removal_is_not_raised) X(lower_after_the_exchange) X(file_of_the_node_is_not_held)
+enum wrong { TABLES(AS_MEMBER) WRONG_TABLES, WRONG_RANGES = question_is_loaded_once, WRONG_KEYS = node_is_not_compared };
 
 struct family {
     const char *name;
@@ -68,6 +73,9 @@ struct pass {
     uint8_t steps;
     /* In the model: the node of the file that the pass holds, plus 1, or 0. */
     uint8_t holds;
+    /* The node that a call names, plus 1, or 0. In the model: the file that the call means was
+     * closed, and the number of times that others changed the slot's word since the call began. */
+    uint8_t key, is_stale, changes;
 };
 
 struct state {

@@ -22,6 +22,8 @@ struct step_table {
     void (*check)(const void *state);
     /* After all families: what no order has reached, or NULL. */
     const char *(*missing)(void);
+    /* Returns the family with which the search for a wrong table begins; without it, it's 0. */
+    int (*first_family)(int wrong);
 };
 
 extern const struct step_table the_table;

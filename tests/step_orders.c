@@ -141,7 +141,8 @@ static bool explore(const struct step_table *table, int family, int wrong) {
 }
 
 static bool is_found(const struct step_table *table, int wrong) {
-    for (int family = 0; family < table->families; family++) {
+    int first = table->first_family ? table->first_family(wrong) : 0;
+    for (int family = first; family < table->families; family++) {
         if (!explore(table, family, wrong)) {
             return true;
         }
