@@ -3,3 +3,5 @@ pub mod Places
 pub mod Runs
 pub mod Steps
 pub mod Fronts
+pub mod Judging
+pub mod Refuting

@@ -1,7 +1,21 @@
-//! States that the flights of a log reach: the table, where each call is, and the files that were
-//! removed. If all of them are followed from event to event and none is left, the log isn't legal.
+//! The judge of logs of calls in flight: whether a log has a flight. All states that flights reach
+//! are followed from event to event, and if none is left, the log isn't legal.
 //!
-//! Begin reading at `specs/States.antt` and `specs/Refutations.antt`, then `laws.rt`.
+//! Begin reading at `specs/States.antt` and `specs/Refutations.antt`, then `laws.rt` and
+//! `verdict.rt`.
 #![tactic(auto)]
 
+mod call;
+mod explore;
+mod followed;
+mod front;
+mod judged;
 pub mod laws;
+mod log;
+mod passage;
+mod passed;
+mod refute;
+mod state;
+mod verdict;
+
+pub use verdict::{FlightVerdict, judge_events};

@@ -1,0 +1,304 @@
+-- The states of the judge, call by call, and where an access, a call or a close leads.
+use Rattle.check_flight.proofs.Words.{◌≡◌, ◌⊎◌, ◌↔◌, ℕ, ◌+◌, ◌-◌, ◌<◌, ◌≤◌, List, [], ◌∷◌, ◌++◌, length, refl, sym, ap, ◌∙◌, arith, ⊎_elim}
+use Rattle.check_flight.proofs.Words.{Access, Asked, Completed, Contains, Option, None, Some, Place, Rest, Rules, Bool, true, false, over, subst}
+use Rattle.check_flight.proofs.Words.{file_removed_by, get_or_append_left, get_or_at, length-append, run_at, settled_at, slice_index_or, step}
+use Rattle.check_flight.proofs.Words.{Contains-append_cases, Contains-append_left, Contains-append_right, contains_head, option_to_list, table_with}
+use Rattle.check_flight.proofs.Words.{if◌then◌else◌, Identity, Table, inl, inr}
+use Rattle.check_flight.proofs.Steps.{only_one}
+use Rattle.std.specs.Prelude.{nat_le, slice_set, IsPermutation}
+use Rattle.std.proofs.lemmas.Bool.{cases_Bool, cases_lt, le-leb, lt-leb, leb-false}
+use Rattle.std.proofs.lemmas.List.{drop_all, get_or-set_other, get_or-set_same, length-drop}
+use Rattle.check_outcomes.proofs.Words.{IsPermutation-sym, Settles, StepsChain, not_begun, rest_in, table_of_slots, drop}
+use Rattle.check_outcomes.specs.declared.submission.Progress.{Progress}
+use Rattle.check_outcomes.proofs.Words.{moved, rest_for}
+use Rattle.std.proofs.lemmas.List.{get_or-drop}
+use Rattle.std.proofs.lemmas.List.Sorted.{Contains-permutation}
+use Rattle.fx_flight.specs.Events.{FileClosed, all_happenings, first_of_call, happening_of}
+use Rattle.fx_flight.specs.declared.event.LogEvent.{LogEvent}
+use Rattle.fx_table.proofs.SumLemmas.{contains_map}
+use Rattle.check_flight.specs.Judged.{IsAccessFollowed, IsCallFollowed, catalogue_in, flight_view, flight_views, log_in, rest_of}
+use Rattle.check_flight.specs.States.{IsOneDenied, IsStateFollowed}
+use Rattle.check_flight.proofs.Words.{take}
+use Rattle.fx_flight.specs.Events.{Happening}
+use Rattle.std.proofs.lemmas.List.{take_more}
+use Rattle.check_flight.specs.declared.judged.JudgedLog.{JudgedLog}
+use Rattle.check_outcomes.specs.Stands.{HasEachNext}
+use Rattle.fx_chain.specs.Accepted.{IsWithinLimits}
+use Rattle.fx_chain.specs.Operation.{all_asked, asked_of}
+use Rattle.fx_chain.specs.declared.request.Request.{Request}
+use Rattle.std.specs.Prelude.{All, map}
+use Rattle.std.proofs.lemmas.List.Elements.{All-contains}
+use Rattle.check_outcomes.proofs.Words.{get_or-map, length-map}
+use Rattle.check_flight.specs.States.{AreWith, AreWithout, FlightView, LeadsByCall, LeadsByClose, StepsByAccess}
+use Rattle.check_flight.specs.declared.state.FlightState.{FlightState}
+
+-- The removed files.
+
+pub taken_one : (file : Option Identity) (other : Identity) → Contains (option_to_list file) other → file ≡ Some other
+taken_one None other (k, low, is) = absurd (omega arith)
+taken_one (Some it) other inside = ap Some (only_one it other inside)
+
+one_taken : (file : Option Identity) (other : Identity) → file ≡ Some other → Contains (option_to_list file) other
+one_taken file other is = rw is (contains_head other [])
+
+-- one more file, in whatever order
+pub are_with : (before after : List Identity) (file : Option Identity) → IsPermutation (before ++ option_to_list file) after → AreWith before file after
+are_with before after file same other = (
+  λ inside. ⊎_elim (λ old. inl old) (λ new. inr (taken_one file other new))
+      (Contains-append_cases before (option_to_list file) other
+      (Contains-permutation after (before ++ option_to_list file) other (IsPermutation-sym _ _ same) inside)),
+  λ either. Contains-permutation (before ++ option_to_list file) after other same
+      (⊎_elim (λ old. Contains-append_left before (option_to_list file) other old)
+      (λ new. Contains-append_right before (option_to_list file) other (one_taken file other new)) either),
+)
+
+-- the files without one of them, and one file more, which is another
+pub without_more : (files after : List Identity) (file more : Identity) → AreWithout files file after → (more ≡ file → ⊥)
+    → AreWithout (files ++ more ∷ []) file (after ++ more ∷ [])
+without_more files after file more without apart other = (
+  λ inside. ⊎_elim (λ old. Contains-append_left files (more ∷ []) other ((without other).0 old))
+      (λ new. Contains-append_right files (more ∷ []) other new) (Contains-append_cases after (more ∷ []) other inside),
+  λ differs inside. ⊎_elim (λ old. Contains-append_left after (more ∷ []) other ((without other).1 differs old))
+      (λ new. Contains-append_right after (more ∷ []) other new) (Contains-append_cases files (more ∷ []) other inside),
+)
+
+-- the same, where it is that file
+pub without_it : (files after : List Identity) (file more : Identity) → AreWithout files file after → more ≡ file
+    → AreWithout (files ++ more ∷ []) file after
+without_it files after file more without same other = (
+  λ inside. Contains-append_left files (more ∷ []) other ((without other).0 inside),
+  λ differs inside. ⊎_elim (λ old. (without other).1 differs old)
+      (λ new. absurd (differs (sym (only_one more other new) ∙ same))) (Contains-append_cases files (more ∷ []) other inside),
+)
+
+pub without_none : (file : Identity) → AreWithout [] file []
+without_none file other = (λ inside. inside, λ differs inside. inside)
+
+-- The calls.
+
+pub same_view : (runs : List (List Asked)) (one other : FlightState) → table_of_slots one.slots ≡ table_of_slots other.slots
+    → one.base ≡ other.base → one.chains.items ≡ other.chains.items → one.removed.items ≡ other.removed.items
+    → flight_view runs one ≡ flight_view runs other
+same_view runs one other table base chains removed = λ i. record {
+  table = table i;
+  rests = λ id. if nat_le id (base i) then over
+      else rest_in (first_of_call id) (run_at runs id) (slice_index_or (chains i) (id - 1 - base i) not_begun);
+  removed = removed i;
+}
+
+-- a later call is where the list has it
+pub open_rest : (runs : List (List Asked)) (state : FlightState) (id j : ℕ) → id ≡ state.base + j + 1
+    → rest_of runs state id ≡ rest_in (first_of_call id) (run_at runs id) (slice_index_or state.chains.items j not_begun)
+open_rest runs state id j is =
+    let later : nat_le id state.base ≡ false = lt-leb id state.base (omega arith) in
+    let at : id - 1 - state.base ≡ j = omega arith in
+    rw (later, at) refl
+
+-- another call is where it was
+same_other : (runs : List (List Asked)) (base j : ℕ) (chains : List Progress) (after : Progress) (other : ℕ) → 1 ≤ other
+    → (other ≡ base + j + 1 → ⊥)
+    → (if nat_le other base then over
+    else rest_in (first_of_call other) (run_at runs other) (slice_index_or (slice_set chains j after) (other - 1 - base) not_begun))
+    ≡ (if nat_le other base then over
+    else rest_in (first_of_call other) (run_at runs other) (slice_index_or chains (other - 1 - base) not_begun))
+same_other runs base j chains after other low apart = ⊎_elim
+    (λ early. rw early refl)
+    (λ late.
+    let low : base < other = leb-false other base late in
+    let differs : other - 1 - base ≡ j → ⊥ = λ (same : other - 1 - base ≡ j). apart (omega arith) in
+    rw (late, get_or-set_other chains j (other - 1 - base) after not_begun differs) refl)
+    (cases_Bool (nat_le other base))
+
+-- an access of the call that follows those that are over and j others
+pub stepped : (runs : List (List Asked)) {rules : Rules} (state next : FlightState) {j id : ℕ} {a : Access} {own : List Asked}
+    {progress after : Progress} {before told : List Completed}
+    → id ≡ state.base + j + 1 → next.base ≡ state.base → j < length state.chains.items
+    → slice_index_or state.chains.items j not_begun ≡ progress
+    → next.chains.items ≡ slice_set state.chains.items j after → own ≡ run_at runs id
+    → StepsChain rules (first_of_call id) own progress a before told after
+    → table_of_slots next.slots ≡ table_with (table_of_slots state.slots) a
+    → AreWith state.removed.items (file_removed_by a) next.removed.items
+    → StepsByAccess rules (flight_view runs state) id a (flight_view runs next)
+stepped runs {rules} state next {j} {id} {a} {own} {progress} {after} is base few here set run steps table removed =
+    let there : slice_index_or next.chains.items j not_begun ≡ after = rw set (get_or-set_same state.chains.items j after not_begun few) in
+    let now : rest_of runs next id ≡ rest_in (first_of_call id) own after =
+    rw (run, ← there) (open_rest runs next id j (omega arith)) in
+    let was : rest_of runs state id ≡ rest_in (first_of_call id) own progress =
+    rw (run, ← here) (open_rest runs state id j is) in
+    record {
+      table = table;
+      own = now ∙ (steps.rest ∙ ap (λ (r : Rest). (step rules r a).1) (sym was));
+      others = λ other low apart. rw (base, set) (same_other runs state.base j state.chains.items after other low (λ same. apart (omega arith)));
+      removed = removed;
+    }
+
+-- what it answers
+pub step_told : (runs : List (List Asked)) {rules : Rules} (state : FlightState) (j : ℕ) {id : ℕ} {a : Access} {own : List Asked}
+    {progress after : Progress} {told : List Completed}
+    → id ≡ state.base + j + 1 → slice_index_or state.chains.items j not_begun ≡ progress → own ≡ run_at runs id
+    → StepsChain rules (first_of_call id) own progress a [] told after
+    → told ≡ (step rules (rest_of runs state id) a).0
+step_told runs {rules} state j {id} {a} {own} {progress} is here run steps =
+    let was : rest_of runs state id ≡ rest_in (first_of_call id) own progress =
+    rw (run, ← here) (open_rest runs state id j is) in
+    steps.told ∙ ap (λ (r : Rest). (step rules r a).0) (sym was)
+
+-- a call
+pub called : (runs : List (List Asked)) {rules : Rules} (state next : FlightState) {requests : List Asked} {done : ℕ}
+    {before after : List Completed} {own : Progress}
+    → length runs ≡ state.base + length state.chains.items → next.base ≡ state.base
+    → own ≡ record { done = done; made = 0 } → next.chains.items ≡ state.chains.items ++ own ∷ []
+    → Settles (settled_at rules (first_of_call (length runs + 1)) requests) (first_of_call (length runs + 1)) requests before after done
+    → table_of_slots next.slots ≡ table_of_slots state.slots → next.removed.items ≡ state.removed.items
+    → LeadsByCall rules (flight_view runs state) (length runs + 1) requests (flight_view (runs ++ requests ∷ []) next)
+called runs {rules} state next {requests} {done} {own = own} many base is chains settles table removed =
+    let id : ℕ = length runs + 1 in
+    let n : ℕ = length state.chains.items in
+    let there : slice_index_or next.chains.items n not_begun ≡ own = rw chains (get_or_at state.chains.items own [] not_begun n refl) in
+    let run : run_at (runs ++ requests ∷ []) id ≡ requests = get_or_at runs requests [] [] (id - 1) (omega arith) in
+    let now : rest_of (runs ++ requests ∷ []) next id ≡ rest_in (first_of_call id) requests own =
+    open_rest (runs ++ requests ∷ []) next id n (omega arith)
+    ∙ (λ i. rest_in (first_of_call id) (run i) (there i)) in
+    record {
+      table = table;
+      own = now ∙ (ap (rest_in (first_of_call id) requests) is ∙ sym settles.rest);
+      others = λ other low few.
+          let before : run_at (runs ++ requests ∷ []) other ≡ run_at runs other =
+          get_or_append_left runs (requests ∷ []) [] (other - 1) (omega arith) in
+          rw (base, chains, before) (⊎_elim
+          (λ early. rw early refl)
+          (λ late.
+          let high : state.base < other = leb-false other state.base late in
+          rw (late, get_or_append_left state.chains.items (own ∷ []) not_begun (other - 1 - state.base) (omega arith)) refl)
+          (cases_Bool (nat_le other state.base)));
+      removed = removed;
+    }
+
+-- a close
+pub closed : (runs : List (List Asked)) (state next : FlightState) {file : Identity} → table_of_slots next.slots ≡ table_of_slots state.slots
+    → next.base ≡ state.base → next.chains.items ≡ state.chains.items → AreWithout state.removed.items file next.removed.items
+    → LeadsByClose (flight_view runs state) file (flight_view runs next)
+closed runs state next table base chains removed = record {
+  table = table;
+  rests = λ i id. if nat_le id (base i) then over
+      else rest_in (first_of_call id) (run_at runs id) (slice_index_or (chains i) (id - 1 - base i) not_begun);
+  removed = removed;
+}
+
+-- The answer of a member that isn't done yet.
+
+requests_for : (place : Place) (requests : List Asked) (made : ℕ) → (rest_for place requests made).requests ≡ requests
+requests_for place [] made = refl
+requests_for place (request ∷ requests) made = refl
+
+pub early : (runs : List (List Asked)) (state : FlightState) (j member : ℕ) {id n : ℕ} {progress : Progress}
+    → id ≡ state.base + j + 1 → slice_index_or state.chains.items j not_begun ≡ progress → length (run_at runs id) ≡ n
+    → n < n - progress.done + member
+    → length (run_at runs id) < length (rest_of runs state id).requests + member
+early runs state j member {id} {n} {progress} is here many few =
+    let run : List Asked = run_at runs id in
+    let there : rest_of runs state id ≡ rest_in (first_of_call id) run progress = rw (← here) (open_rest runs state id j is) in
+    let left : (rest_of runs state id).requests ≡ drop progress.done run =
+    ap (λ (r : Rest). r.requests) there ∙ requests_for (moved (first_of_call id) progress.done) (drop progress.done run) progress.made in
+    let long : length (rest_of runs state id).requests ≡ length run - progress.done = ap length left ∙ length-drop progress.done run in
+    omega arith
+
+-- The same state without its first calls, which are over.
+
+module _ (runs : List (List Asked)) (state : FlightState) (n : ℕ)
+    (over_there : (j : ℕ) → j < n → length (run_at runs (state.base + j + 1)) ≤ (slice_index_or state.chains.items j not_begun).done) where
+  over_rest : (id j : ℕ) → id ≡ state.base + j + 1 → j < n → rest_of runs state id ≡ over
+  over_rest id j is few =
+      let p : Progress = slice_index_or state.chains.items j not_begun in
+      let long : length (run_at runs id) ≤ p.done = rw is (over_there j few) in
+      let none : drop p.done (run_at runs id) ≡ [] = drop_all p.done (run_at runs id) long in
+      open_rest runs state id j is ∙ (rw none refl)
+
+  rest_without : (base id : ℕ) → base ≡ state.base + n
+      → (if nat_le id base then over
+      else rest_in (first_of_call id) (run_at runs id) (slice_index_or (drop n state.chains.items) (id - 1 - base) not_begun))
+      ≡ rest_of runs state id
+  rest_without base id is = ⊎_elim
+      (λ (high : base < id).
+      let at : n + (id - 1 - base) ≡ id - 1 - state.base = omega arith in
+      rw (lt-leb id base high, get_or-drop n state.chains.items (id - 1 - base) not_begun, at)
+      (sym (open_rest runs state id (id - 1 - state.base) (omega arith))))
+      (λ (low : id ≤ base). rw (le-leb id base low) (⊎_elim
+      (λ (above : state.base < id). sym (over_rest id (id - 1 - state.base) (omega arith) (omega arith)))
+      (λ (under : id ≤ state.base). rw (le-leb id state.base under) refl)
+      (cases_lt state.base id)))
+      (cases_lt base id)
+
+  pub without_first : (next : FlightState) → table_of_slots next.slots ≡ table_of_slots state.slots → next.base ≡ state.base + n
+      → next.chains.items ≡ drop n state.chains.items → next.removed.items ≡ state.removed.items → flight_view runs next ≡ flight_view runs state
+  without_first next table base chains removed =
+      let each : (id : ℕ) → rest_of runs next id ≡ rest_of runs state id = λ id. rw chains (rest_without next.base id base) in
+      λ i. record {
+        table = table i;
+        rests = λ id. each id i;
+        removed = removed i;
+      }
+
+-- The events.
+
+pub not_closed : (events : List LogEvent) (file : Identity)
+    → ((k : ℕ) (d : LogEvent) → k < length events → happening_of (slice_index_or events k d) ≡ FileClosed file → ⊥)
+    → Contains (all_happenings events) (FileClosed file) → ⊥
+not_closed events file none inside =
+    let (x, (k, low, is), same) = contains_map happening_of events (FileClosed file) inside in
+    none k x low (ap happening_of is ∙ sym same)
+
+-- What was looked through.
+
+-- each access that a call may make next
+pub call_followed : (log : JudgedLog) (runs : List (List Asked)) (states : List FlightState) (state : FlightState) (id : ℕ) (choices : List Access)
+    → HasEachNext (catalogue_in log) (table_of_slots state.slots) (rest_of runs state id) choices → length state.slots.at.items ≡ log.setting.size
+    → All (IsAccessFollowed log runs states state id) choices → IsCallFollowed log runs states state id
+call_followed log runs states state id choices each size all a next permits =
+    All-contains (IsAccessFollowed log runs states state id) choices a all (each a (rw size next) permits) permits
+
+-- each call
+pub state_followed : (log : JudgedLog) (runs : List (List Asked)) (states : List FlightState) (state : FlightState) (calls : ℕ) → state.base ≤ calls
+    → ((k : ℕ) → k < calls - state.base → IsCallFollowed log runs states state (state.base + k + 1))
+    → IsStateFollowed (catalogue_in log) log.setting.size (log_in log) calls (flight_views runs states) (flight_view runs state)
+state_followed log runs states state calls within each id low high a next permits = ⊎_elim
+    (λ (late : state.base < id).
+    let k : ℕ = id - 1 - state.base in
+    let is : state.base + k + 1 ≡ id = omega arith in
+    (subst (IsCallFollowed log runs states state) is (each k (omega arith))) a next permits)
+    (λ (early : id ≤ state.base). absurd (rw (le-leb id state.base early) at next))
+    (cases_lt state.base id)
+
+-- each state
+pub each_view : (P : FlightView → Type 0) (f : FlightState → FlightView) (states : List FlightState)
+    → ((k : ℕ) (d : FlightState) → k < length states → P (f (slice_index_or states k d))) → (view : FlightView) → Contains (map f states) view → P view
+each_view P f states each view inside =
+    let (x, (k, low, is), same) = contains_map f states view inside in
+    subst P (ap f is ∙ sym same) (each k x low)
+
+pub limits_of : (requests : List Request) → All IsWithinLimits (all_asked requests) → All (λ (r : Request). IsWithinLimits (asked_of r)) requests
+limits_of requests all = λ k d few.
+    let as_many = length-map requests asked_of in
+    subst IsWithinLimits (get_or-map asked_of requests k d (asked_of d) few) (all k (asked_of d) (omega arith))
+
+-- one file more was looked at, which is another
+pub kept : (files after : List Identity) (file : Identity) (i : ℕ) (d : Identity) → i < length files → (slice_index_or files i d ≡ file → ⊥)
+    → AreWithout (take i files) file after → (Contains after file → ⊥)
+    → AreWithout (take (i + 1) files) file (after ++ slice_index_or files i d ∷ [])
+    × (Contains (after ++ slice_index_or files i d ∷ []) file → ⊥)
+kept files after file i d few apart without gone = (
+  rw (take_more files i d few) (without_more (take i files) after file (slice_index_or files i d) without apart),
+  λ inside. ⊎_elim gone (λ new. apart (only_one (slice_index_or files i d) file new))
+      (Contains-append_cases after (slice_index_or files i d ∷ []) file inside),
+)
+
+pub left_out : (files after : List Identity) (file : Identity) (i : ℕ) (d : Identity) → i < length files → slice_index_or files i d ≡ file
+    → AreWithout (take i files) file after → AreWithout (take (i + 1) files) file after
+left_out files after file i d few same without =
+    rw (take_more files i d few) (without_it (take i files) after file (slice_index_or files i d) without same)
+
+-- what a call answers at once is denied
+pub denied_call : (log : List Happening) (rules : Rules) (n : ℕ) {id : ℕ} {requests own : List Asked} {told : List Completed} → id ≡ n + 1 → own ≡ requests
+    → told ≡ (settled_at rules (first_of_call (n + 1)) own).0 → IsOneDenied log told
+    → IsOneDenied log (settled_at rules (first_of_call id) requests).0
+denied_call log rules n is same all denied = rw (is, ← same, ← all) denied

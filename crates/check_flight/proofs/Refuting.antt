@@ -1,0 +1,86 @@
+-- A refutation, from front to front.
+use Rattle.check_flight.proofs.Words.{◌≡◌, ℕ, ◌+◌, ◌<◌, ◌≤◌, List, [], ◌∷◌, ◌++◌, length, take, refl, sym, ap, ◌∙◌, arith, subst, suc}
+use Rattle.check_flight.proofs.Words.{Asked, Contains, contains_head}
+use Rattle.check_outcomes.proofs.Words.{drop, length-map, slice_index_or, table_of_slots, drop_all}
+use Rattle.std.proofs.Math.Seq.{drop-cons}
+use Rattle.std.proofs.lemmas.List.{take_more}
+use Rattle.fx_flight.specs.Events.{Happening, AllSettled}
+use Rattle.fx_order.specs.Slots.{ring_of_slots}
+use Rattle.fx_order.specs.declared.slots.Slots.{Slots}
+use Rattle.check_flight.proofs.Fronts.{refuted}
+use Rattle.check_flight.specs.Judged.{catalogue_in, flight_view, flight_views, log_in, requests_of, rules_of_log, runs_of_calls}
+use Rattle.check_flight.specs.Passages.{IsFirstFront, IsNextFront, IsRefutedBehind, event_at}
+use Rattle.check_flight.specs.Refutations.{IsRefutedFrom}
+use Rattle.check_outcomes.specs.Rests.{rules_of}
+use Rattle.check_flight.specs.States.{AreFollowed, ArePassed, FlightView, HasNoFlight, IsNumbered, runs_with}
+use Rattle.check_flight.specs.declared.judged.ChainCall.{ChainCall}
+use Rattle.check_flight.specs.declared.judged.JudgedLog.{JudgedLog}
+use Rattle.check_flight.specs.declared.state.FlightState.{FlightState}
+
+module _ (log : JudgedLog) (slots : Slots) where
+  -- before the first event
+  pub refutes_first : {calls : List ChainCall} {states : List FlightState} → calls ≡ [] → IsFirstFront slots states → IsRefutedBehind log slots 0 calls states
+  refutes_first {calls} {states} none first submissions registrations from =
+      let start : FlightView = flight_view [] first.state in
+      refuted (ring_of_slots (catalogue_in log) slots submissions registrations) (log_in log) (flight_views [] states) (record {
+        start = start;
+        inside = rw first.only (contains_head start []);
+        leads = record {
+          table = first.table;
+          rests = λ id low high. absurd (omega arith);
+          unmade = λ id high. refl;
+          has = λ file inside unclosed. absurd (let few = inside.1 in omega arith);
+          only = λ file inside. let none = rw first.removed at inside in absurd (let few = none.1 in omega arith);
+        };
+        closed = λ state inside id low high. absurd (omega arith);
+        refuted = rw none at from;
+      })
+
+  -- one event more
+  pub refutes_next : {at : ℕ} {calls more : List ChainCall} {states nexts : List FlightState} → log.setting.size ≡ length slots.at.items
+      → at < length (log_in log) → IsRefutedBehind log slots at calls states → IsNextFront log at calls states more nexts
+      → IsRefutedBehind log slots (at + 1) more nexts
+  refutes_next {at} {calls} {more} {states} {nexts} size few before next submissions registrations from =
+      let event : Happening = event_at log at in
+      let runs : List (List Asked) = runs_of_calls calls in
+      let read : take (at + 1) (log_in log) ≡ take at (log_in log) ++ event ∷ [] = take_more (log_in log) at AllSettled few in
+      let one : suc at ≡ at + 1 = omega arith in
+      let rest : drop at (log_in log) ≡ event ∷ drop (at + 1) (log_in log) = rw (← one) (drop-cons (log_in log) at AllSettled few) in
+      let many : length more ≡ length (runs_with runs event) = sym (length-map more requests_of) ∙ ap length next.runs in
+      let on = rw (next.runs, read) at from in
+      before submissions registrations (rw rest (
+        flight_views (runs_with runs event) nexts,
+        record {
+          numbered = rw (← length-map calls requests_of) at next.numbered;
+          passed = subst (λ (n : ℕ). ArePassed (rules_of (catalogue_in log) n) (log_in log) runs (take at (log_in log)) (flight_views runs states)
+              (flight_views (runs_with runs event) nexts) event) size next.passed;
+          closed = subst (λ (n : ℕ). AreFollowed (catalogue_in log) n (log_in log) (length (runs_with runs event))
+              (flight_views (runs_with runs event) nexts)) size (rw (many, next.runs) at next.closed);
+        },
+        on,
+      ))
+
+  -- after the last event
+  pub refutes_last : {at : ℕ} (calls : List ChainCall) {states : List FlightState} → at ≡ length (log_in log) → states ≡ []
+      → IsRefutedBehind log slots at calls states → (submissions registrations : ℕ)
+      → HasNoFlight (ring_of_slots (catalogue_in log) slots submissions registrations) (log_in log)
+  refutes_last {at} calls {states} whole none before submissions registrations =
+      let over : drop at (log_in log) ≡ [] = drop_all at (log_in log) (omega arith) in
+      before submissions registrations (rw over (ap (flight_views (runs_of_calls calls)) none))
+
+-- what was looked through follows
+pub next_front_is : (log : JudgedLog) (at known : ℕ) (calls more before all : List ChainCall) (states nexts : List FlightState) (event : Happening)
+    → event ≡ event_at log at → all ≡ more → before ≡ take known all → known ≡ length calls → take (length calls) more ≡ calls
+    → runs_of_calls more ≡ runs_with (runs_of_calls calls) event → IsNumbered known event
+    → ArePassed (rules_of_log log) (log_in log) (runs_of_calls before) (take at (log_in log)) (flight_views (runs_of_calls before) states)
+    (flight_views (runs_with (runs_of_calls before) event) nexts) event
+    → AreFollowed (catalogue_in log) log.setting.size (log_in log) (length all) (flight_views (runs_of_calls all) nexts)
+    → IsNextFront log at calls states more nexts
+next_front_is log at known calls more before all states nexts event event_is all_is before_is known_is front runs numbered passed closed =
+    let same : before ≡ calls = before_is ∙ ((λ i. take (known_is i) (all_is i)) ∙ front) in
+    record {
+      runs = rw (← event_is) runs;
+      numbered = rw (← event_is, ← known_is) numbered;
+      passed = rw (← event_is, ← same) passed;
+      closed = rw (← all_is) closed;
+    }

@@ -1,0 +1,7 @@
+use Rattle.check_flight.proofs.Words.{arith}
+use Rattle.check_flight.proofs.Judging.{not_closed}
+use Rattle.check_flight.proofs.log.was_closed.Goals as goal
+
+pub returns : goal.returns
+returns c = λ inside. absurd (not_closed c.args.events.now c.args.file
+    (λ k d low. c.loop-event.invariant k d (omega (arith, low, c.loop-event-test.false))) inside)

@@ -1,0 +1,17 @@
+use Rattle.check_flight.proofs.Words.{arith, refl, slice_index_or, sym, take}
+use Rattle.check_outcomes.proofs.Words.{get_or-map}
+use Rattle.check_flight.proofs.Refuting.{next_front_is}
+use Rattle.fx_flight.specs.Events.{AllSettled, happening_of}
+use Rattle.check_flight.proofs.refute.advance.Goals as goal
+
+pub returns : goal.returns
+returns c = λ _.
+    let log = c.args.log.now in
+    let event = slice_index_or log.events.now c.args.at c.index-log-at.result in
+    let all = c.as_slice-calls.result.now in
+    next_front_is log c.args.at c.len-known.result c.args.calls.now.items c.push_call.new.calls.items (take c.len-known.result all) all
+    c.args.front.now.states.items c.in-Some.nexts.states.items (happening_of event)
+    (sym (get_or-map happening_of log.events.now c.args.at c.index-log-at.result AllSettled c.requires))
+    c.as_slice-calls.ensures.value refl (omega (arith, c.args.calls.now.ok.0)) (c.in_ok-push_call.ensures.front c.if-not-branch.false)
+    (c.in_ok-push_call.ensures.runs c.if-not-branch.false) (c.is_numbered.ensures c.if-not-is_numbered.false)
+    (c.in_ok-are_passed.ensures c.if-not-branch-2.false) (c.in_ok-are_states_followed.ensures c.if-not-branch-3.false)

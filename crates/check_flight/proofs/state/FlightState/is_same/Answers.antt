@@ -1,0 +1,17 @@
+use Rattle.check_flight.proofs.Words.{◌≡◌, ◌∙◌, sym, refl}
+use Rattle.check_outcomes.proofs.Words.{not-false, slice_eq-Decides, file_Decides}
+use Rattle.check_outcomes.specs.declared.submission.Progress.{Progress}
+use Rattle.std.proofs.Common.{rules}
+use Rattle.std.specs.Bool.{Decides}
+use Rattle.check_outcomes.specs.contracts.submission.ProgressPartialEq.TheImpl.{eq-value}
+use Rattle.check_flight.proofs.state.FlightState.is_same.Goals as goal
+
+progress_Decides : (a b : Progress) → Decides (eq-value.it a b) (a ≡ b)
+progress_Decides a b = search rules
+
+pub returns-then-self-other-clause-chains : goal.returns-then-self-other-clause-chains
+returns-then-self-other-clause-chains c = λ _.
+    (slice_eq-Decides progress_Decides _ _ _ refl).0 (not-false _ (sym c.ne.ensures ∙ c.if-ne.false))
+
+pub returns-then-self-other-clause-removed : goal.returns-then-self-other-clause-removed
+returns-then-self-other-clause-removed c = (slice_eq-Decides file_Decides _ _ _ c.eq.ensures).0

@@ -1,0 +1,8 @@
+use Rattle.check_flight.proofs.Words.{ℕ, ◌+◌, ◌<◌, ◌≤◌, length, run_at, slice_index_or}
+use Rattle.check_flight.specs.Judged.{runs_of_calls}
+use Rattle.check_outcomes.specs.Views.{not_begun}
+use Rattle.check_flight.proofs.state.count_over.Given as goal
+
+abbrev pub invariant-loop-j : goal.invariant-loop-j
+invariant-loop-j l = (k : ℕ) → k < l.j
+    → length (run_at (runs_of_calls l.calls) (l.state.base + k + 1)) ≤ (slice_index_or l.state.chains.items k not_begun).done

@@ -1,0 +1,32 @@
+//! The log that is judged, and the chains that it calls.
+ghost use Rattle.std.specs.Prelude.{◌<◌, ◌≤◌, ◌^◌, All, length};
+ghost use Rattle.fx_base.specs.Catalogue.{IsCatalogue};
+ghost use Rattle.fx_chain.specs.Accepted.{IsWithinLimits};
+ghost use Rattle.fx_chain.specs.Operation.{asked_of};
+ghost use Rattle.fx_chain.specs.declared.fault.TheConstants.{MOST_MEMBERS};
+
+use fx_chain::Request;
+use fx_flight::LogEvent;
+use fx_order::OrderSetting;
+
+/// A log that is judged.
+#[derive(Drop)]
+pub(crate) struct JudgedLog<'a> {
+    /// The catalogue, and the number of slots of the table.
+    pub(crate) setting: OrderSetting<'a>,
+    /// The events.
+    pub(crate) events: &'a [LogEvent],
+    /// The positions of the answers among the events, by call and member. Each is a hint.
+    pub(crate) answers: Vec<Vec<usize>>,
+    pub ghost catalogued: { IsCatalogue setting.catalogue.now },
+    pub ghost few_slots: { setting.size < 2 ^ 31 },
+}
+
+/// A chain that was called.
+#[derive(Drop)]
+pub(crate) struct ChainCall<'a> {
+    /// Its requests.
+    pub(crate) requests: &'a [Request],
+    pub ghost limits: { All (λ r. IsWithinLimits (asked_of r)) requests.now },
+    pub ghost few: { length requests.now ≤ MOST_MEMBERS },
+}

@@ -1,0 +1,256 @@
+//! A state of the flights of a log, and where an access, a call or a close leads from it.
+ghost use Rattle.std.specs.Prelude.{◌≡◌, ◌+◌, ◌++◌, ◌<◌, ◌≤◌, ◌^◌, ℕ, [], ◌∷◌, Contains, IfOk, IfSome, IsPermutation, IsTrue};
+ghost use Rattle.std.specs.Prelude.{length, slice_index_or};
+ghost use Rattle.std.specs.Option.{option_to_list};
+ghost use Rattle.fx_chain.specs.Completed.{all_completed};
+ghost use Rattle.fx_order.specs.Access.{file_removed_by};
+ghost use Rattle.fx_order.specs.Slots.{table_of_slots};
+ghost use Rattle.fx_flight.specs.Events.{first_of_call};
+ghost use Rattle.check_outcomes.specs.Rests.{settled_at, step};
+ghost use Rattle.check_outcomes.specs.Views.{not_begun, run_at};
+ghost use Rattle.check_flight.specs.Judged.{requests_of, rest_of, rules_of_log, runs_of_calls, flight_view};
+ghost use Rattle.check_flight.specs.States.{AreWithout, LeadsByCall, StepsByAccess};
+
+use crate::call::{first_place, members_at};
+use crate::judged::{ChainCall, JudgedLog};
+use check_outcomes::{Progress, settle, step};
+use fx_base::{Closed, NoMemory};
+use fx_chain::Completion;
+use fx_order::{Access, Slots};
+use std::alloc::Global;
+
+/// A state of the flights of a log.
+#[derive(Drop)]
+pub(crate) struct FlightState {
+    /// The files at the slots.
+    pub(crate) slots: Slots,
+    /// The number of first calls that are over, and aren't in the list.
+    pub(crate) base: usize,
+    /// The progress of each later call, the first one first.
+    pub(crate) chains: Vec<Progress>,
+    /// The files that were taken from their slots and aren't known to be closed, in order of mark.
+    pub(crate) removed: Vec<Closed>,
+}
+
+// Returns the files that were removed after an access, in order of mark.
+fn removed_after(
+    alloc: Global,
+    removed: &[Closed],
+    access: &Access,
+) -> Result<Vec<Closed>, NoMemory>
+    ensures { IfOk result (λ after. IsPermutation
+        (removed.now ++ option_to_list (file_removed_by access.now)) after.items) }
+{
+    let mut after = Vec::from_slice(alloc, removed)?;
+    if let Some(file) = access.removed() {
+        after.push(file)?;
+    }
+    after.sort_unstable_by_key(|file| file.mark);
+    Ok(after)
+}
+
+/// Returns the files without this one.
+pub(crate) fn without(
+    alloc: Global,
+    files: &[Closed],
+    file: Closed,
+) -> Result<Vec<Closed>, NoMemory>
+    ensures others { IfOk result (λ after. AreWithout files.now file after.items) }
+    ensures gone { IfOk result (λ after. Contains after.items file → ⊥) }
+{
+    let mut after = Vec::new(alloc);
+    for other in files {
+        if *other != file {
+            after.push(*other)?;
+        }
+    }
+    Ok(after)
+}
+
+impl FlightState {
+    /// Checks whether both are one.
+    pub(crate) fn is_same(&self, other: &FlightState) -> bool
+        ensures table { IsTrue result
+            → table_of_slots self.now.slots ≡ table_of_slots other.now.slots }
+        ensures base { IsTrue result → self.now.base ≡ other.now.base }
+        ensures chains { IsTrue result → self.now.chains.items ≡ other.now.chains.items }
+        ensures removed { IsTrue result → self.now.removed.items ≡ other.now.removed.items }
+    {
+        if !self.slots.is_same(&other.slots) || self.chains != other.chains {
+            return false;
+        }
+        self.base == other.base && self.removed == other.removed
+    }
+
+    /// Returns a copy.
+    pub(crate) fn copy(&self, alloc: Global) -> Result<FlightState, NoMemory>
+        ensures table { IfOk result (λ copy.
+            table_of_slots copy.slots ≡ table_of_slots self.now.slots) }
+        ensures base { IfOk result (λ copy. copy.base ≡ self.now.base) }
+        ensures chains { IfOk result (λ copy. copy.chains.items ≡ self.now.chains.items) }
+        ensures removed { IfOk result (λ copy. copy.removed.items ≡ self.now.removed.items) }
+    {
+        let slots = self.slots.copy(alloc)?;
+        let chains = Vec::from_slice(alloc, &self.chains)?;
+        let removed = Vec::from_slice(alloc, &self.removed)?;
+        Ok(FlightState {
+            slots,
+            base: self.base,
+            chains,
+            removed,
+        })
+    }
+
+    /// Returns the progress of the call that follows those that are over and `j` others.
+    pub(crate) fn progress(&self, j: usize) -> Progress
+        ensures { result ≡ slice_index_or self.now.chains.items j not_begun }
+    {
+        let not_begun = Progress { done: 0, made: 0 };
+        self.chains.get(j).copied().unwrap_or(not_begun)
+    }
+}
+
+/// Returns where an access leads of the call that follows those that are over and `j` others, and
+/// appends what is answered on the way. `None` if the state isn't one of the log, or its table
+/// doesn't permit the access.
+pub(crate) fn next_state(
+    log: &JudgedLog<'_>,
+    calls: &[ChainCall<'_>],
+    state: &FlightState,
+    j: usize,
+    access: &Access,
+    told: &mut Vec<Completion>,
+) -> Result<Option<FlightState>, NoMemory>
+    requires call { state.now.base + j < length calls.now }
+    requires told { told.old.items ≡ [] }
+    ensures told { IfOk result (λ next. IfSome next (λ next. all_completed told.new.items
+        ≡ (step (rules_of_log log.now) (rest_of (runs_of_calls calls.now) state.now
+        (state.now.base + j + 1)) access.now).0)) }
+    ensures leads { IfOk result (λ next. IfSome next (λ next. StepsByAccess (rules_of_log log.now)
+        (flight_view (runs_of_calls calls.now) state.now) (state.now.base + j + 1) access.now
+        (flight_view (runs_of_calls calls.now) next))) }
+{
+    let alloc = log.setting.alloc;
+    if state.slots.at.len() != log.setting.size as usize || !state.slots.permits(access) {
+        return Ok(None);
+    }
+    let Some(progress) = state.chains.get(j) else {
+        return Ok(None);
+    };
+    let i = state.base + j;
+    if i >= u32::MAX as usize - 1 || progress.made > u32::MAX as usize {
+        return Ok(None);
+    }
+    let own = members_at(calls, i);
+    let after = step(&log.setting, first_place(i), own, *progress, *access, told)?;
+    let mut chains = Vec::from_slice(alloc, &state.chains)?;
+    chains[j] = after;
+    let mut slots = state.slots.copy(alloc)?;
+    slots.make(access);
+    let removed = removed_after(alloc, &state.removed, access)?;
+    Ok(Some(FlightState {
+        slots,
+        base: state.base,
+        chains,
+        removed,
+    }))
+}
+
+/// Returns where the next call leads, and appends what is answered on the way. `None` if the state
+/// isn't one of the log.
+pub(crate) fn called_state(
+    log: &JudgedLog<'_>,
+    calls: &[ChainCall<'_>],
+    state: &FlightState,
+    call: &ChainCall<'_>,
+    told: &mut Vec<Completion>,
+) -> Result<Option<FlightState>, NoMemory>
+    requires told { told.old.items ≡ [] }
+    ensures told { IfOk result (λ next. IfSome next (λ next. all_completed told.new.items
+        ≡ (settled_at (rules_of_log log.now) (first_of_call (length calls.now + 1))
+        (requests_of call.now)).0)) }
+    ensures leads { IfOk result (λ next. IfSome next (λ next. LeadsByCall (rules_of_log log.now)
+        (flight_view (runs_of_calls calls.now) state.now) (length calls.now + 1)
+        (requests_of call.now)
+        (flight_view (runs_of_calls calls.now ++ requests_of call.now ∷ []) next))) }
+{
+    let alloc = log.setting.alloc;
+    let i = calls.len();
+    if i >= u32::MAX as usize - 1 || state.base > i || state.chains.len() != i - state.base {
+        return Ok(None);
+    }
+    let done = settle(&log.setting, first_place(i), call.requests, told)?;
+    let mut chains = Vec::from_slice(alloc, &state.chains)?;
+    chains.push(Progress { done, made: 0 })?;
+    let slots = state.slots.copy(alloc)?;
+    let removed = Vec::from_slice(alloc, &state.removed)?;
+    Ok(Some(FlightState {
+        slots,
+        base: state.base,
+        chains,
+        removed,
+    }))
+}
+
+// Returns the number of calls that are over, from the first one in the list on.
+fn count_over(calls: &[ChainCall<'_>], state: &FlightState) -> usize
+    ensures within { result ≤ length state.now.chains.items }
+    ensures fits { state.now.base + result < 2 ^ 64 }
+    ensures over { (j : ℕ) → j < result
+        → length (run_at (runs_of_calls calls.now) (state.now.base + j + 1))
+        ≤ (slice_index_or state.now.chains.items j not_begun).done }
+{
+    let most = calls.len().saturating_sub(state.base);
+    let most = most.min(state.chains.len());
+    for j in 0..most {
+        if state.progress(j).done < members_at(calls, state.base + j).len() {
+            return j;
+        }
+    }
+    most
+}
+
+/// Returns the same state, without the first calls that are over.
+pub(crate) fn trimmed(
+    alloc: Global,
+    calls: &[ChainCall<'_>],
+    state: &FlightState,
+) -> Result<FlightState, NoMemory>
+    ensures { IfOk result (λ same. flight_view (runs_of_calls calls.now) same
+        ≡ flight_view (runs_of_calls calls.now) state.now) }
+{
+    let count = count_over(calls, state);
+    let slots = state.slots.copy(alloc)?;
+    let chains = Vec::from_slice(alloc, &state.chains[count..])?;
+    let removed = Vec::from_slice(alloc, &state.removed)?;
+    Ok(FlightState {
+        slots,
+        base: state.base + count,
+        chains,
+        removed,
+    })
+}
+
+/// Returns where the close of a file leads.
+pub(crate) fn closed_state(
+    alloc: Global,
+    state: &FlightState,
+    file: Closed,
+) -> Result<FlightState, NoMemory>
+    ensures table { IfOk result (λ next.
+        table_of_slots next.slots ≡ table_of_slots state.now.slots) }
+    ensures base { IfOk result (λ next. next.base ≡ state.now.base) }
+    ensures chains { IfOk result (λ next. next.chains.items ≡ state.now.chains.items) }
+    ensures removed { IfOk result (λ next.
+        AreWithout state.now.removed.items file next.removed.items) }
+{
+    let slots = state.slots.copy(alloc)?;
+    let chains = Vec::from_slice(alloc, &state.chains)?;
+    let removed = without(alloc, &state.removed, file)?;
+    Ok(FlightState {
+        slots,
+        base: state.base,
+        chains,
+        removed,
+    })
+}

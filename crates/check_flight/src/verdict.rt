@@ -1,0 +1,105 @@
+//! The judge of a log of calls in flight.
+ghost use Rattle.std.specs.Prelude.{◌≡◌, ◌↔◌, ◌+◌, ◌<◌, ◌^◌, [], ℕ, IfOk, IfSome, Some, length, take};
+ghost use Rattle.fx_base.specs.Catalogue.{IsCatalogue};
+ghost use Rattle.fx_order.specs.Slots.{ring_of_slots};
+ghost use Rattle.fx_flight.specs.Events.{all_happenings};
+ghost use Rattle.fx_flight.specs.Faults.{fault_of_log};
+ghost use Rattle.check_flight.specs.States.{HasNoFlight};
+ghost use Rattle.check_flight.specs.declared.verdict.FlightVerdict.TheVariants.{Faulty, NotLegal};
+
+use crate::refute::refute;
+use check_search::Limits;
+use fx_base::{Catalogue, NoMemory};
+use fx_flight::{LogEvent, LogFault, fault_of_log};
+use fx_order::Slots;
+use std::alloc::Global;
+
+/// The verdict on a list of events.
+#[derive(Clone, Copy, Debug)]
+pub enum FlightVerdict {
+    /// The events aren't a log.
+    Faulty(LogFault),
+    /// The log has no flight in which each request finds memory. Up to and with the event at this
+    /// position, from 0, it has none either.
+    NotLegal {
+        /// The position of the event.
+        at: usize,
+    },
+    /// Nothing was shown: the log may be legal or not.
+    Undecided,
+}
+
+// Returns the largest number of states at an event. A slot of a state takes 40 bytes, and its
+// numbers in the key up to 48.
+fn room_for(slots: &Slots, limits: Limits) -> usize {
+    let weight = slots.at.len().saturating_mul(88).saturating_add(768);
+    limits
+        .states
+        .min(limits.bytes.checked_div(weight).unwrap_or(0))
+}
+
+// Returns the number of events of a beginning of the log that was refuted, the shortest one that
+// was found, or `None` if the log wasn't refuted.
+fn refuted_beginning(
+    alloc: Global,
+    catalogue: &Catalogue,
+    slots: &Slots,
+    events: &[LogEvent],
+    most: usize,
+) -> Result<Option<usize>, NoMemory>
+    requires catalogue { IsCatalogue catalogue.now }
+    requires slots { length slots.now.at.items < 2 ^ 31 }
+    ensures { IfOk result (λ count. IfSome count (λ count. (submissions registrations : ℕ)
+        → HasNoFlight (ring_of_slots catalogue.now slots.now submissions registrations)
+        (all_happenings (take count events.now)))) }
+{
+    let whole = refute(alloc, catalogue, slots, events, most)?;
+    if !whole.is_refuted {
+        return Ok(None);
+    }
+    let mut low = whole.at;
+    let mut high = events.len();
+    for _ in 0..64 {
+        if low >= high {
+            break;
+        }
+        let middle = low + (high - low) / 2;
+        if refute(alloc, catalogue, slots, &events[..middle], most)?.is_refuted {
+            high = middle;
+        } else {
+            low = middle + 1;
+        }
+    }
+    Ok(Some(high))
+}
+
+/// Judges the events of a log whose table has these slots at first: its size is constant, and no
+/// file of it is closed. Looks aren't judged: a log with one is undecided.
+///
+/// # Errors
+/// `NoMemory` if an allocation fails.
+pub fn judge_events(
+    alloc: Global,
+    catalogue: &Catalogue,
+    slots: &Slots,
+    events: &[LogEvent],
+    limits: Limits,
+) -> Result<FlightVerdict, NoMemory>
+    requires catalogue { IsCatalogue catalogue.now }
+    requires slots { length slots.now.at.items < 2 ^ 31 }
+    ensures fault { IfOk result (λ verdict. (fault : LogFault)
+        → (verdict ≡ Faulty fault)
+        ↔ (fault_of_log 0 [] (all_happenings events.now) ≡ Some fault)) }
+    ensures not_legal { IfOk result (λ verdict. (at : ℕ) → verdict ≡ NotLegal at
+        → (submissions registrations : ℕ)
+        → HasNoFlight (ring_of_slots catalogue.now slots.now submissions registrations)
+        (all_happenings (take (at + 1) events.now))) }
+{
+    if let Some(fault) = fault_of_log(alloc, events)? {
+        return Ok(FlightVerdict::Faulty(fault));
+    }
+    match refuted_beginning(alloc, catalogue, slots, events, room_for(slots, limits))? {
+        Some(count) if count > 0 => Ok(FlightVerdict::NotLegal { at: count - 1 }),
+        _ => Ok(FlightVerdict::Undecided),
+    }
+}
