@@ -14,7 +14,11 @@ pub mod laws;
 mod log;
 mod passage;
 mod passed;
+mod plan;
+mod player;
+mod propose;
 mod refute;
+mod search;
 mod state;
 mod verdict;
 

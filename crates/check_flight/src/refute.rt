@@ -1,7 +1,7 @@
 //! The refutation of a log: all states that flights reach, event by event, until none is left.
 ghost use Rattle.std.specs.Prelude.{◌≡◌, ◌<◌, ◌^◌, [], ◌∷◌, ℕ, IfOk, IsTrue, length, take};
 ghost use Rattle.fx_base.specs.Catalogue.{IsCatalogue};
-ghost use Rattle.fx_order.specs.Slots.{ring_of_slots};
+ghost use Rattle.fx_order.specs.Slots.{ring_of_slots, table_of_slots};
 ghost use Rattle.fx_flight.specs.Events.{all_happenings, happening_of};
 ghost use Rattle.check_flight.specs.Judged.{catalogue_in, log_in, runs_of_calls};
 ghost use Rattle.check_flight.specs.Passages.{IsFirstFront, IsNextFront};
@@ -30,8 +30,11 @@ pub(crate) struct Refutation {
     pub(crate) at: usize,
 }
 
-// Adds the call of an event to those before it. Returns whether its requests have no fault.
-fn push_call<'a>(calls: &mut Vec<ChainCall<'a>>, event: &'a LogEvent) -> Result<bool, NoMemory>
+/// Adds the call of an event to those before it. Returns whether its requests have no fault.
+pub(crate) fn push_call<'a>(
+    calls: &mut Vec<ChainCall<'a>>,
+    event: &'a LogEvent,
+) -> Result<bool, NoMemory>
     ensures runs { IfOk result (λ yes. IsTrue yes → runs_of_calls calls.new.items
         ≡ runs_with (runs_of_calls calls.old.items) (happening_of event.now)) }
     ensures front { IfOk result (λ yes. IsTrue yes
@@ -79,16 +82,25 @@ fn advance<'a>(
     Ok(true)
 }
 
-// Returns the front before the first event.
-fn first_front(alloc: Global, slots: &Slots) -> Result<Front, NoMemory>
-    ensures { IfOk result (λ front. IsFirstFront slots.now front.states.items) }
+/// Returns the state before the first event.
+pub(crate) fn first_state(alloc: Global, slots: &Slots) -> Result<FlightState, NoMemory>
+    ensures table { IfOk result (λ state.
+        table_of_slots state.slots ≡ table_of_slots slots.now) }
+    ensures removed { IfOk result (λ state. state.removed.items ≡ []) }
 {
-    let state = FlightState {
+    Ok(FlightState {
         slots: slots.copy(alloc)?,
         base: 0,
         chains: Vec::new(alloc),
         removed: Vec::new(alloc),
-    };
+    })
+}
+
+// Returns the front before the first event.
+fn first_front(alloc: Global, slots: &Slots) -> Result<Front, NoMemory>
+    ensures { IfOk result (λ front. IsFirstFront slots.now front.states.items) }
+{
+    let state = first_state(alloc, slots)?;
     Front::with(alloc, state)
 }
 

@@ -1,17 +1,22 @@
 //! The judge of a log of calls in flight.
-ghost use Rattle.std.specs.Prelude.{◌≡◌, ◌↔◌, ◌+◌, ◌<◌, ◌^◌, [], ℕ, IfOk, IfSome, Some, length, take};
+ghost use Rattle.std.specs.Prelude.{◌≡◌, ◌↔◌, ◌+◌, ◌<◌, ◌^◌, [], ℕ, IfOk, IfSome, IsTrue, Some, length, take};
 ghost use Rattle.fx_base.specs.Catalogue.{IsCatalogue};
 ghost use Rattle.fx_order.specs.Slots.{ring_of_slots};
 ghost use Rattle.fx_flight.specs.Events.{all_happenings};
 ghost use Rattle.fx_flight.specs.Faults.{fault_of_log};
+ghost use Rattle.fx_flight.specs.Flight.{IsLegalLog};
 ghost use Rattle.check_flight.specs.States.{HasNoFlight};
-ghost use Rattle.check_flight.specs.declared.verdict.FlightVerdict.TheVariants.{Faulty, NotLegal};
+ghost use Rattle.check_flight.specs.declared.verdict.FlightVerdict.TheVariants.{Faulty, Legal, NotLegal};
 
-use crate::refute::refute;
+use crate::judged::JudgedLog;
+use crate::log::positions;
+use crate::player::is_flight;
+use crate::propose::propose;
+use crate::refute::{first_state, push_call, refute};
 use check_search::Limits;
 use fx_base::{Catalogue, NoMemory};
 use fx_flight::{LogEvent, LogFault, fault_of_log};
-use fx_order::Slots;
+use fx_order::{OrderSetting, Slots};
 use std::alloc::Global;
 
 /// The verdict on a list of events.
@@ -25,6 +30,8 @@ pub enum FlightVerdict {
         /// The position of the event.
         at: usize,
     },
+    /// The log has a flight.
+    Legal,
     /// Nothing was shown: the log may be legal or not.
     Undecided,
 }
@@ -73,6 +80,41 @@ fn refuted_beginning(
     Ok(Some(high))
 }
 
+// Checks whether the log has a flight, by a search of at most `most` states.
+fn has_flight(
+    alloc: Global,
+    catalogue: &Catalogue,
+    slots: &Slots,
+    events: &[LogEvent],
+    most: usize,
+) -> Result<bool, NoMemory>
+    requires catalogue { IsCatalogue catalogue.now }
+    requires slots { length slots.now.at.items < 2 ^ 31 }
+    ensures { IfOk result (λ yes. IsTrue yes → (submissions registrations : ℕ) → IsLegalLog
+        (ring_of_slots catalogue.now slots.now submissions registrations)
+        (all_happenings events.now)) }
+{
+    let log = JudgedLog {
+        setting: OrderSetting {
+            alloc,
+            catalogue,
+            size: slots.at.len() as u32,
+        },
+        events,
+        answers: positions(alloc, events)?,
+    };
+    let mut calls = Vec::new(alloc);
+    for event in events {
+        if !push_call(&mut calls, event)? {
+            return Ok(false);
+        }
+    }
+    let Some(plan) = propose(&log, &calls, first_state(alloc, slots)?, most)? else {
+        return Ok(false);
+    };
+    is_flight(&log, slots, &plan)
+}
+
 /// Judges the events of a log whose table has these slots at first: its size is constant, and no
 /// file of it is closed. Looks aren't judged: a log with one is undecided.
 ///
@@ -90,6 +132,9 @@ pub fn judge_events(
     ensures fault { IfOk result (λ verdict. (fault : LogFault)
         → (verdict ≡ Faulty fault)
         ↔ (fault_of_log 0 [] (all_happenings events.now) ≡ Some fault)) }
+    ensures legal { IfOk result (λ verdict. verdict ≡ Legal → (submissions registrations : ℕ)
+        → IsLegalLog (ring_of_slots catalogue.now slots.now submissions registrations)
+        (all_happenings events.now)) }
     ensures not_legal { IfOk result (λ verdict. (at : ℕ) → verdict ≡ NotLegal at
         → (submissions registrations : ℕ)
         → HasNoFlight (ring_of_slots catalogue.now slots.now submissions registrations)
@@ -97,6 +142,9 @@ pub fn judge_events(
 {
     if let Some(fault) = fault_of_log(alloc, events)? {
         return Ok(FlightVerdict::Faulty(fault));
+    }
+    if has_flight(alloc, catalogue, slots, events, room_for(slots, limits))? {
+        return Ok(FlightVerdict::Legal);
     }
     match refuted_beginning(alloc, catalogue, slots, events, room_for(slots, limits))? {
         Some(count) if count > 0 => Ok(FlightVerdict::NotLegal { at: count - 1 }),
