@@ -1,5 +1,5 @@
 -- All states that flights reach, from event to event.
-use Rattle.check_flight.proofs.Words.{◌≡◌, ◌⊎◌, ℕ, ◌+◌, List, [], ◌∷◌, ◌++◌, length, refl, sym, ap, ◌∙◌, arith, ⊎_elim, Asked}
+use Rattle.check_flight.proofs.Words.{◌≡◌, ℕ, List, [], ◌∷◌, ◌++◌, length, refl, sym, ap, ◌∙◌, arith, ⊎_elim, Asked}
 use Rattle.check_flight.proofs.Words.{◌-◌, subst, Contains-append_cases, get_or_append_left, get_or_at, run_at}
 use Rattle.check_flight.proofs.Words.{Completed, Contains, RingState, length-append, rules_of}
 use Rattle.check_flight.proofs.Steps.{access_leads, answered_in, event_leads, followed_on, not_stopped, only_one, was_logged}

@@ -1,9 +1,9 @@
 -- The states of the judge, call by call, and where an access, a call or a close leads.
-use Rattle.check_flight.proofs.Words.{◌≡◌, ◌⊎◌, ◌↔◌, ℕ, ◌+◌, ◌-◌, ◌<◌, ◌≤◌, List, [], ◌∷◌, ◌++◌, length, refl, sym, ap, ◌∙◌, arith, ⊎_elim}
-use Rattle.check_flight.proofs.Words.{Access, Asked, Completed, Contains, Option, None, Some, Place, Rest, Rules, Bool, true, false, over, subst}
-use Rattle.check_flight.proofs.Words.{file_removed_by, get_or_append_left, get_or_at, length-append, run_at, settled_at, slice_index_or, step}
+use Rattle.check_flight.proofs.Words.{◌≡◌, ℕ, ◌+◌, ◌-◌, ◌<◌, ◌≤◌, List, [], ◌∷◌, ◌++◌, length, refl, sym, ap, ◌∙◌, arith, ⊎_elim}
+use Rattle.check_flight.proofs.Words.{Access, Asked, Completed, Contains, Option, None, Some, Place, Rest, Rules, false, over, subst}
+use Rattle.check_flight.proofs.Words.{file_removed_by, get_or_append_left, get_or_at, run_at, settled_at, slice_index_or, step}
 use Rattle.check_flight.proofs.Words.{Contains-append_cases, Contains-append_left, Contains-append_right, contains_head, option_to_list, table_with}
-use Rattle.check_flight.proofs.Words.{if◌then◌else◌, Identity, Table, inl, inr}
+use Rattle.check_flight.proofs.Words.{if◌then◌else◌, Identity, inl, inr}
 use Rattle.check_flight.proofs.Steps.{only_one}
 use Rattle.std.specs.Prelude.{nat_le, slice_set, IsPermutation}
 use Rattle.std.proofs.lemmas.Bool.{cases_Bool, cases_lt, le-leb, lt-leb, leb-false}

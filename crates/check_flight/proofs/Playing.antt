@@ -1,10 +1,10 @@
 -- A flight that is played goes on, by an access or an event.
 use Rattle.check_flight.proofs.Words.{◌≡◌, ◌⊎◌, ℕ, ◌+◌, ◌-◌, ◌<◌, ◌≤◌, List, [], ◌∷◌, ◌++◌, length, take, refl, sym, ap, ◌∙◌, arith, inl, inr, ⊎_elim}
-use Rattle.check_flight.proofs.Words.{Access, Asked, ChainAccess, Completed, Contains, IsChainDone, Option, None, Some, Table, append_assoc, by_equality}
+use Rattle.check_flight.proofs.Words.{Access, Asked, ChainAccess, Completed, Contains, IsChainDone, Option, Some, Table}
 use Rattle.check_flight.proofs.Words.{cases_eq, file_removed_by, get_or_append_left, get_or_at, length-append, ne_eqb, option_to_list, slice_index_or}
-use Rattle.check_flight.proofs.Words.{subst, suc, zero, table_with, Contains-append_cases, Contains-append_left, Contains-append_right, Contains-push}
-use Rattle.check_flight.proofs.Words.{contains_head, if◌then◌else◌, Identity, RingState}
-use Rattle.check_flight.proofs.Steps.{only_one, shifted}
+use Rattle.check_flight.proofs.Words.{suc, zero, table_with, Contains-append_cases, Contains-append_left, Contains-append_right, Contains-push}
+use Rattle.check_flight.proofs.Words.{contains_head, Identity, RingState}
+use Rattle.check_flight.proofs.Steps.{shifted}
 use Rattle.check_outcomes.proofs.Words.{Permits, all_asked, drop, get_or-map, get_or-set_other, get_or-set_same, map, slice_set, table_of}
 use Rattle.check_outcomes.proofs.Words.{table_of_slots, take-append-drop}
 use Rattle.check_outcomes.proofs.Words.{cases_Bool, eq-eqb, false≢true, file_Decides}
@@ -26,8 +26,7 @@ use Rattle.std.proofs.lemmas.List.Elements.{filter-append}
 use Rattle.check_outcomes.proofs.Words.{length-map}
 use Rattle.fx_flight.specs.Events.{Happening, Called, Answered, LookAnswered, FileClosed, AllSettled, all_happenings, first_of_call, happening_of}
 use Rattle.fx_flight.specs.declared.event.LogEvent.{LogEvent}
-use Rattle.fx_flight.specs.Flight.{Accesses, IsFlight, Logged, MayFollow, Moment, WasLogged, log_of, made_by, taken_in, table_behind}
-use Rattle.check_flight.specs.Judged.{catalogue_in}
+use Rattle.fx_flight.specs.Flight.{Accesses, Logged, MayFollow, Moment, WasLogged, made_by, taken_in}
 use Rattle.check_flight.specs.Played.{IsCallDone, IsMemberPlayed, IsFlightPlayed, IsPlayedCall, IsRingOf, accesses_in, accesses_of_plan, answers_in}
 use Rattle.check_flight.specs.Played.{answers_of_plan}
 use Rattle.check_flight.specs.States.{AreWithout, setting_of}

@@ -1,7 +1,7 @@
 -- A refutation, from front to front.
-use Rattle.check_flight.proofs.Words.{◌≡◌, ℕ, ◌+◌, ◌<◌, ◌≤◌, List, [], ◌∷◌, ◌++◌, length, take, refl, sym, ap, ◌∙◌, arith, subst, suc}
-use Rattle.check_flight.proofs.Words.{Asked, Contains, contains_head}
-use Rattle.check_outcomes.proofs.Words.{drop, length-map, slice_index_or, table_of_slots, drop_all}
+use Rattle.check_flight.proofs.Words.{◌≡◌, ℕ, ◌+◌, ◌<◌, List, [], ◌∷◌, ◌++◌, length, take, refl, sym, ap, ◌∙◌, arith, subst, suc}
+use Rattle.check_flight.proofs.Words.{Asked, contains_head}
+use Rattle.check_outcomes.proofs.Words.{drop, length-map, drop_all}
 use Rattle.std.proofs.Math.Seq.{drop-cons}
 use Rattle.std.proofs.lemmas.List.{take_more}
 use Rattle.fx_flight.specs.Events.{Happening, AllSettled}
@@ -10,7 +10,6 @@ use Rattle.fx_order.specs.declared.slots.Slots.{Slots}
 use Rattle.check_flight.proofs.Fronts.{refuted}
 use Rattle.check_flight.specs.Judged.{catalogue_in, flight_view, flight_views, log_in, requests_of, rules_of_log, runs_of_calls}
 use Rattle.check_flight.specs.Passages.{IsFirstFront, IsNextFront, IsRefutedBehind, event_at}
-use Rattle.check_flight.specs.Refutations.{IsRefutedFrom}
 use Rattle.check_outcomes.specs.Rests.{rules_of}
 use Rattle.check_flight.specs.States.{AreFollowed, ArePassed, FlightView, HasNoFlight, IsNumbered, runs_with}
 use Rattle.check_flight.specs.declared.judged.ChainCall.{ChainCall}

@@ -1,5 +1,5 @@
 -- Where a flight leads: its accesses and its events, one after another.
-use Rattle.check_flight.proofs.Words.{◌≡◌, ◌⊎◌, ℕ, ◌+◌, ◌<◌, ◌≤◌, List, [], ◌∷◌, ◌++◌, length, take, refl, sym, ap, ◌∙◌, arith, inl, inr}
+use Rattle.check_flight.proofs.Words.{◌≡◌, ℕ, ◌+◌, ◌<◌, ◌≤◌, List, [], ◌∷◌, ◌++◌, length, take, refl, sym, ap, ◌∙◌, arith, inl, inr}
 use Rattle.check_flight.proofs.Words.{⊎_elim, suc, zero, Access, AllByRecursion, Asked, ChainAccess, Completed, Contains, HasMemory}
 use Rattle.check_flight.proofs.Words.{IsNext, None, Option, Some, Place, Rest, Rules, append_assoc, by_equality, cases_eq, file_removed_by}
 use Rattle.check_flight.proofs.Words.{get_or_append_left, get_or_at, length-append, ne_eqb, option_to_list, OfChain, are_right, rules_of, run_at, settled_at}
