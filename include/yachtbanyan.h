@@ -4,10 +4,17 @@
  *
  * Drops. A value that was replaced or removed is dropped by its last user, before the call that
  * ends this use returns. Its users are the handles that hold it, the call that replaced or removed
- * it, and each look-up (yacht_get_at) under way that first saw it. Such a look-up is a user until
- * it ends, even if it returns another value. So yacht_get_at may drop a value that its caller never
- * got, and a thread that is stopped within yacht_get_at may delay a drop. While no call is under
- * way, each value that was replaced or removed, and that no handle holds, has been dropped.
+ * it, and each look-up (yacht_get_at, or a call by key) under way that first saw it. Such a look-up
+ * is a user until it ends, even if it returns another value. So a look-up may drop a value that its
+ * caller never got, and a thread that is stopped within one may delay a drop. While no call is
+ * under way, each value that was replaced or removed, and that no handle holds, has been dropped.
+ *
+ * Keys. A key names one value: its slot, and a number that no other value of the table has or will
+ * have. Once the value was replaced or removed, its key is stale: a call by it returns YACHT_STALE
+ * if the slot has another value, and YACHT_EMPTY if it has none. Any numbers are a key: one of
+ * another table, or one that no call returned, is stale, or is the key of some value. A key with
+ * the number 0 is that of no value. A handle has 2^64 numbers divided by the number of handles: if
+ * it uses them up, its further values have the number 0. No number is used again.
  *
  * The caller must ensure the following, which nothing checks:
  * - A table or a handle comes from a function of this header, and its table is not yet freed.
@@ -38,7 +45,7 @@ extern "C" {
 #define YACHT_VERSION_PATCH 0
 
 /* The largest numbers of slots, of handles that install values, and of handles and readers
- * together. */
+ * together, where each handle counts twice. */
 enum { YACHT_MOST_SLOTS = 4096, YACHT_MOST_HANDLES = 64, YACHT_MOST_IN_ALL = 1024 };
 
 /* What a function returns. A negative number is an error: the call has changed no slot. */
@@ -54,7 +61,8 @@ enum {
     YACHT_FULL = -6,         /* every slot had a value at one moment of the call */
     YACHT_AGAIN = -7,        /* other threads were changing slots during the call */
     YACHT_BAD_ARGUMENT = -8, /* an argument is NULL or out of its range */
-    YACHT_NO_MEMORY = -9     /* an allocation failed */
+    YACHT_NO_MEMORY = -9,    /* an allocation failed */
+    YACHT_STALE = -10        /* the slot has another value than that of the key */
 };
 
 /* A table. */
@@ -64,14 +72,20 @@ typedef struct yacht_table yacht_table;
  * use several handles. A reader is a handle that only looks values up. */
 typedef struct yacht_handle yacht_handle;
 
-/* Drops a value that has no users left. Any thread that uses the table may call it, within
- * yacht_get_at, yacht_release, yacht_replace_at, yacht_remove_at or yacht_free. It may use other
- * handles of the table; within yacht_free, any handle but the first. */
+/* The name of one value of a table. */
+typedef struct yacht_key {
+    uint64_t number;
+    uint32_t slot;
+} yacht_key;
+
+/* Drops a value that has no users left. Any thread that uses the table may call it, within a
+ * look-up, a replacement, a removal, yacht_release or yacht_free. It may use other handles of the
+ * table; within yacht_free, any handle but the first. */
 typedef void yacht_drop(void *value, void *with);
 
 /* Opens a table of 1 to YACHT_MOST_SLOTS empty slots, with 1 to YACHT_MOST_HANDLES handles that
- * install values, and with readers: at most YACHT_MOST_IN_ALL handles and readers together. `drop`
- * is called once for each value, with `with`.
+ * install values, and with readers: the readers, and twice the handles, are at most
+ * YACHT_MOST_IN_ALL together. `drop` is called once for each value, with `with`.
  * Returns YACHT_DONE and writes *table; or YACHT_BAD_ARGUMENT or YACHT_NO_MEMORY, and writes
  * nothing. */
 int yacht_open(yacht_table **table, uint32_t slots, uint32_t handles, uint32_t readers,
@@ -94,14 +108,21 @@ yacht_handle *yacht_reader_of(yacht_table *table, uint32_t number);
  * YACHT_BUSY, and writes nothing. */
 int yacht_get_at(yacht_handle *handle, uint32_t slot, void **value);
 
+/* Looks up the value with a key, as yacht_get_at.
+ * Returns what yacht_get_at returns; or YACHT_STALE, and writes nothing. */
+int yacht_get(yacht_handle *handle, yacht_key key, void **value);
+
+/* Writes the key of the value that the handle holds to *key.
+ * Returns YACHT_DONE; or YACHT_IDLE, and writes nothing. */
+int yacht_key_of(yacht_handle *handle, yacht_key *key);
+
 /* Releases the value that the handle holds. Drops it if it was replaced or removed and has no other
  * user.
  * Returns YACHT_DONE, or YACHT_IDLE. */
 int yacht_release(yacht_handle *handle);
 
 /* Installs a value, not NULL, at a free slot. It may wait while other threads change slots, and for
- * as long as one other thread is stopped within yacht_insert, yacht_try_insert, yacht_replace_at or
- * yacht_remove_at.
+ * as long as one other thread is stopped within an insertion, a replacement or a removal.
  * Returns the slot; or YACHT_FULL, YACHT_BUSY, YACHT_READER or YACHT_BAD_ARGUMENT: then the caller
  * still owns the value. */
 int yacht_insert(yacht_handle *handle, void *value);
@@ -109,6 +130,11 @@ int yacht_insert(yacht_handle *handle, void *value);
 /* Tries once to install a value, not NULL, at a free slot. It never waits.
  * Returns what yacht_insert returns; or YACHT_AGAIN: then the caller still owns the value. */
 int yacht_try_insert(yacht_handle *handle, void *value);
+
+/* Install a value as yacht_insert and yacht_try_insert, and write its key to *key; key is not NULL.
+ * Return the same. If that is an error, they write nothing. */
+int yacht_insert_key(yacht_handle *handle, void *value, yacht_key *key);
+int yacht_try_insert_key(yacht_handle *handle, void *value, yacht_key *key);
 
 /* Installs a value, not NULL, at a slot, in place of the value there.
  * Returns YACHT_DONE if the slot was empty, YACHT_DROPPED or YACHT_IN_USE; or YACHT_NO_SLOT,
@@ -119,6 +145,25 @@ int yacht_replace_at(yacht_handle *handle, uint32_t slot, void *value);
  * Returns YACHT_DROPPED or YACHT_IN_USE; or YACHT_EMPTY, YACHT_NO_SLOT, YACHT_BUSY or
  * YACHT_READER. */
 int yacht_remove_at(yacht_handle *handle, uint32_t slot);
+
+/* Installs a value, not NULL, in place of the one with the key *key, and writes the new value's key
+ * to *key. It tries again while other threads look the same slot up.
+ * Returns YACHT_DROPPED or YACHT_IN_USE; or YACHT_STALE, YACHT_EMPTY, YACHT_NO_SLOT, YACHT_BUSY,
+ * YACHT_READER or YACHT_BAD_ARGUMENT: then the caller still owns the value, and *key stays. */
+int yacht_replace(yacht_handle *handle, yacht_key *key, void *value);
+
+/* Removes the value with a key. It tries again while other threads look the same slot up.
+ * Returns YACHT_DROPPED or YACHT_IN_USE; or YACHT_STALE, YACHT_EMPTY, YACHT_NO_SLOT, YACHT_BUSY or
+ * YACHT_READER. */
+int yacht_remove(yacht_handle *handle, yacht_key key);
+
+/* Returns a key in 64 bits, as for the data of epoll or io_uring: the slot in the lower 12, and
+ * above them the number. Returns 0, which are the bits of no value's key, if the number has more
+ * than 52 bits: a handle installs 2^52 values divided by the number of handles before that. */
+uint64_t yacht_key_to_bits(yacht_key key);
+
+/* Returns the key that has these bits. */
+yacht_key yacht_key_from_bits(uint64_t bits);
 
 /* Returns a number of this header in words, such as "the slot is empty". The string is never freed.
  * A slot that yacht_insert returned is no such number. */

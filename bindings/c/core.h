@@ -1,7 +1,8 @@
 /* The C interface of the verified core (crates/fx_server), for this library alone: the shared
  * library does not export its functions. A worker of the core is one pass of its table. The
  * functions return the numbers of yachtbanyan.h: where that says YACHT_DROPPED, the core has
- * returned the tag of a value that nobody uses any more. */
+ * returned the tag of a value that nobody uses any more; and where it says YACHT_STALE, the slot's
+ * file is on another node than the call names. */
 #ifndef YACHT_CORE_H
 #define YACHT_CORE_H
 #include <stddef.h>
@@ -18,5 +19,8 @@ int64_t yacht_core_release(yacht_core *worker, uint64_t *closed);
 int64_t yacht_core_put(yacht_core *worker, uint32_t slot, uint64_t tag, uint64_t *closed);
 int64_t yacht_core_put_any(yacht_core *worker, uint64_t tag);
 int64_t yacht_core_take(yacht_core *worker, uint32_t slot, uint64_t *closed);
+int64_t yacht_core_take_if(yacht_core *worker, uint32_t slot, uint32_t node, uint64_t *closed);
+int64_t yacht_core_put_if(yacht_core *worker, uint32_t slot, uint32_t node, uint64_t tag,
+                          uint64_t *closed);
 
 #endif

@@ -1,8 +1,14 @@
-/* The C part of libyachtbanyan: the pointers to values. A value's tag, which the core keeps with
- * the value's file and returns to exactly one call, is its pointer. A hold names a node of the
- * table, and `by_node` has the pointer of the value whose file has that node. It is written before
- * the core installs the file: the core chooses the node, which no open file has (fx_lasting::laws,
- * chosen_nodes_are_free), and installs the file on it (fx_server, PutsAt and PutsAny). */
+/* The C part of libyachtbanyan: the pointers to values, and the numbers of their keys. A value's
+ * tag, which the core keeps with the value's file and returns to exactly one call, is its pointer.
+ * A hold names a node of the table, and `by_node` has the pointer of the value whose file has that
+ * node, and its number. Both are written before the core installs the file: the core chooses the
+ * node, which no open file has (fx_lasting::laws, chosen_nodes_are_free), and installs the file on
+ * it (fx_server, PutsAt, PutsAny and PutsIf). So who holds the file reads what was written for it.
+ *
+ * A call by key holds the file at the key's slot by a second worker, and compares its number with
+ * the key's meanwhile. While it is held no other file is on its node (held_nodes_name_files). So
+ * the core, which changes the slot only if its file is on this node (PutsIf, RemovesIf), changes it
+ * only if it still has this value. */
 #include "yachtbanyan.h"
 #include "core.h"
 #include <sched.h>
@@ -22,15 +28,20 @@ static void release(void *value) {
     if (__tsan_release) __tsan_release(value);
 }
 
-typedef _Atomic(void *) place;
+typedef struct place {
+    _Atomic(void *) value;
+    _Atomic uint64_t number;
+} place;
 
 struct yacht_handle {
     yacht_core *core;
+    yacht_core *holds; /* of a handle that installs: its second worker */
     yacht_table *table;
     place *by_node;
-    void *held; /* or NULL */
-    uint32_t is_reader;
-    char apart[128 - 4 * sizeof(void *) - sizeof(uint32_t)];
+    void *held;    /* or NULL */
+    uint64_t next; /* the number of the next value that it installs, or 0 if all were used */
+    uint32_t node, slot; /* of what it holds */
+    char apart[128 - 5 * sizeof(void *) - sizeof(uint64_t) - 2 * sizeof(uint32_t)];
 };
 
 struct yacht_table {
@@ -41,6 +52,14 @@ struct yacht_table {
     yacht_handle all[];
 };
 
+/* a worker that looked a slot up, what it holds then, and what the look-up was the last to use */
+typedef struct found {
+    yacht_core *core;
+    place *place; /* or NULL */
+    int64_t answer;
+    uint64_t freed;
+} found;
+
 static void *value_of(uint64_t tag) { return (void *)(uintptr_t)tag; }
 
 static uint64_t tag_of(void *value) { return (uint64_t)(uintptr_t)value; }
@@ -48,6 +67,14 @@ static uint64_t tag_of(void *value) { return (uint64_t)(uintptr_t)value; }
 static void drop_value(yacht_table *table, void *value) {
     acquire(value);
     table->drop(value, table->with);
+}
+
+static void *pointer_of(place *place) {
+    return atomic_load_explicit(&place->value, memory_order_relaxed);
+}
+
+static uint64_t number_of(place *place) {
+    return atomic_load_explicit(&place->number, memory_order_relaxed);
 }
 
 /* closes the workers that the core has opened so far, and frees the table */
@@ -64,9 +91,9 @@ int yacht_open(yacht_table **table, uint32_t slots, uint32_t handles, uint32_t r
                yacht_drop *drop, void *with) {
     if (!table || !drop || slots < 1 || slots > YACHT_MOST_SLOTS) return YACHT_BAD_ARGUMENT;
     if (handles < 1 || handles > YACHT_MOST_HANDLES) return YACHT_BAD_ARGUMENT;
-    if (readers > YACHT_MOST_IN_ALL - handles) return YACHT_BAD_ARGUMENT;
-    uint32_t count = handles + readers;
-    yacht_table *it = calloc(1, sizeof *it + count * sizeof *it->all);
+    if (readers > YACHT_MOST_IN_ALL - 2 * handles) return YACHT_BAD_ARGUMENT;
+    uint32_t count = 2 * handles + readers;
+    yacht_table *it = calloc(1, sizeof *it + (handles + readers) * sizeof *it->all);
     yacht_core **cores = calloc(count, sizeof *cores);
     if (!it || !cores) return give_up(it, cores, count, YACHT_NO_MEMORY);
     int64_t answer = yacht_core_open(slots, handles, cores, count);
@@ -75,8 +102,9 @@ int yacht_open(yacht_table **table, uint32_t slots, uint32_t handles, uint32_t r
     if (!it->by_node) return give_up(it, cores, count, YACHT_NO_MEMORY);
     it->drop = drop, it->with = with;
     it->slots = slots, it->handles = handles, it->readers = readers;
-    for (uint32_t i = 0; i < count; i++) {
-        yacht_handle handle = {cores[i], it, it->by_node, .is_reader = i >= handles};
+    for (uint32_t i = 0; i < handles + readers; i++) {
+        yacht_handle handle = {cores[i], .table = it, .by_node = it->by_node, .next = i + 1};
+        if (i < handles) handle.holds = cores[handles + readers + i];
         it->all[i] = handle;
     }
     free(cores);
@@ -96,8 +124,10 @@ void yacht_free(yacht_table *table) {
     if (!table) return;
     /* a drop may have installed another value */
     while (empty(table)) continue;
-    for (uint32_t i = 0; i < table->handles + table->readers; i++)
+    for (uint32_t i = 0; i < table->handles + table->readers; i++) {
         yacht_core_close(table->all[i].core);
+        if (table->all[i].holds) yacht_core_close(table->all[i].holds);
+    }
     free(table->by_node);
     free(table);
 }
@@ -110,57 +140,125 @@ yacht_handle *yacht_reader_of(yacht_table *table, uint32_t number) {
     return number < table->readers ? &table->all[table->handles + number] : NULL;
 }
 
-int yacht_get_at(yacht_handle *handle, uint32_t slot, void **value) {
-    uint64_t freed = 0;
-    int64_t answer = yacht_core_look(handle->core, slot, &freed);
-    if (answer >= 0) {
-        handle->held = atomic_load_explicit(&handle->by_node[answer], memory_order_relaxed);
-        acquire(handle->held);
-        *value = handle->held;
+static found look(yacht_handle *handle, yacht_core *core, uint32_t slot) {
+    found it = {core, NULL, 0, 0};
+    it.answer = yacht_core_look(core, slot, &it.freed);
+    if (it.answer < 0) return it;
+    it.place = &handle->by_node[it.answer];
+    acquire(pointer_of(it.place));
+    return it;
+}
+
+/* ends the hold of a look-up, and drops what both were the last to use; returns YACHT_DROPPED if
+ * that was the value that it held */
+static int end(yacht_handle *handle, found it) {
+    uint64_t closed = 0;
+    int answer = YACHT_DONE;
+    if (it.place) {
+        release(pointer_of(it.place));
+        answer = (int)yacht_core_release(it.core, &closed);
     }
-    if (freed) drop_value(handle->table, value_of(freed));
-    return answer >= 0 ? YACHT_DONE : (int)answer;
+    if (it.freed) drop_value(handle->table, value_of(it.freed));
+    if (answer == YACHT_DROPPED) drop_value(handle->table, value_of(closed));
+    return answer;
+}
+
+static int is_of(found it, yacht_key key) {
+    return key.number != 0 && number_of(it.place) == key.number;
+}
+
+/* makes the handle hold what its own worker holds */
+static int keep(yacht_handle *handle, found it, uint32_t slot, void **value) {
+    if (it.place) {
+        *value = handle->held = pointer_of(it.place);
+        handle->node = (uint32_t)it.answer, handle->slot = slot;
+    }
+    if (it.freed) drop_value(handle->table, value_of(it.freed));
+    return it.place ? YACHT_DONE : (int)it.answer;
+}
+
+int yacht_get_at(yacht_handle *handle, uint32_t slot, void **value) {
+    return keep(handle, look(handle, handle->core, slot), slot, value);
+}
+
+int yacht_get(yacht_handle *handle, yacht_key key, void **value) {
+    found it = look(handle, handle->core, key.slot);
+    if (!it.place || is_of(it, key)) return keep(handle, it, key.slot, value);
+    end(handle, it);
+    return YACHT_STALE;
 }
 
 int yacht_release(yacht_handle *handle) {
-    uint64_t closed = 0;
-    if (handle->held) release(handle->held);
+    if (!handle->held) return YACHT_IDLE;
+    found it = {handle->core, &handle->by_node[handle->node], 0, 0};
     handle->held = NULL;
-    int64_t answer = yacht_core_release(handle->core, &closed);
-    if (answer == YACHT_DROPPED) drop_value(handle->table, value_of(closed));
-    return answer < 0 ? (int)answer : YACHT_DONE;
+    end(handle, it);
+    return YACHT_DONE;
 }
 
-/* writes the pointer to the place of the next installed file; returns YACHT_DONE, or why there is
- * no such place */
-static int prepare(yacht_handle *handle, void *value) {
+int yacht_key_of(yacht_handle *handle, yacht_key *key) {
+    if (!handle->held) return YACHT_IDLE;
+    *key = (yacht_key){number_of(&handle->by_node[handle->node]), handle->slot};
+    return YACHT_DONE;
+}
+
+/* the number of the next value, which no other value of the table has: the numbers of two handles
+ * differ modulo the number of handles; or 0 if the handle has used all its numbers */
+static uint64_t next_number(yacht_handle *handle) {
+    uint64_t number = handle->next, step = handle->table->handles;
+    handle->next = number && number <= UINT64_MAX - step ? number + step : 0;
+    return number;
+}
+
+/* writes the pointer and the number to the place of the next installed file; returns YACHT_DONE, or
+ * why there is no such place */
+static int prepare(yacht_handle *handle, void *value, uint64_t *number) {
     if (!value) return YACHT_BAD_ARGUMENT;
     if (handle->held) return YACHT_BUSY;
     int64_t node = yacht_core_next(handle->core);
     if (node < 0) return (int)node;
-    atomic_store_explicit(&handle->by_node[node], value, memory_order_relaxed);
+    *number = next_number(handle);
+    atomic_store_explicit(&handle->by_node[node].value, value, memory_order_relaxed);
+    atomic_store_explicit(&handle->by_node[node].number, *number, memory_order_relaxed);
     release(value);
     return YACHT_DONE;
 }
 
-int yacht_try_insert(yacht_handle *handle, void *value) {
-    int error = prepare(handle, value);
-    return error ? error : (int)yacht_core_put_any(handle->core, tag_of(value));
+/* makes rounds to install a value at a free slot: one, or until it is installed or refused */
+static int insert(yacht_handle *handle, void *value, yacht_key *key, int once) {
+    uint64_t number;
+    int error = key ? prepare(handle, value, &number) : YACHT_BAD_ARGUMENT;
+    if (error) return error;
+    int64_t answer = yacht_core_put_any(handle->core, tag_of(value));
+    while (answer == YACHT_AGAIN && !once) {
+        sched_yield();
+        answer = yacht_core_put_any(handle->core, tag_of(value));
+    }
+    if (answer >= 0) *key = (yacht_key){number, (uint32_t)answer};
+    return (int)answer;
 }
 
 int yacht_insert(yacht_handle *handle, void *value) {
-    int error = prepare(handle, value);
-    if (error) return error;
-    for (;;) {
-        int64_t answer = yacht_core_put_any(handle->core, tag_of(value));
-        if (answer != YACHT_AGAIN) return (int)answer;
-        sched_yield();
-    }
+    yacht_key key;
+    return insert(handle, value, &key, 0);
+}
+
+int yacht_try_insert(yacht_handle *handle, void *value) {
+    yacht_key key;
+    return insert(handle, value, &key, 1);
+}
+
+int yacht_insert_key(yacht_handle *handle, void *value, yacht_key *key) {
+    return insert(handle, value, key, 0);
+}
+
+int yacht_try_insert_key(yacht_handle *handle, void *value, yacht_key *key) {
+    return insert(handle, value, key, 1);
 }
 
 int yacht_replace_at(yacht_handle *handle, uint32_t slot, void *value) {
-    uint64_t closed = 0;
-    int error = slot < handle->table->slots ? prepare(handle, value) : YACHT_NO_SLOT;
+    uint64_t closed = 0, number;
+    int error = slot < handle->table->slots ? prepare(handle, value, &number) : YACHT_NO_SLOT;
     if (error) return error;
     int64_t answer = yacht_core_put(handle->core, slot, tag_of(value), &closed);
     if (answer == YACHT_DROPPED) drop_value(handle->table, value_of(closed));
@@ -169,10 +267,68 @@ int yacht_replace_at(yacht_handle *handle, uint32_t slot, void *value) {
 
 int yacht_remove_at(yacht_handle *handle, uint32_t slot) {
     uint64_t closed = 0;
-    if (handle->is_reader) return YACHT_READER;
+    if (!handle->holds) return YACHT_READER;
     int64_t answer = yacht_core_take(handle->core, slot, &closed);
     if (answer == YACHT_DROPPED) drop_value(handle->table, value_of(closed));
     return (int)answer;
+}
+
+/* holds the value of a key by the second worker; returns YACHT_DONE, or why not */
+static int hold(yacht_handle *handle, yacht_key key, found *it) {
+    if (!handle->holds) return YACHT_READER;
+    if (handle->held) return YACHT_BUSY;
+    *it = look(handle, handle->holds, key.slot);
+    if (it->place && is_of(*it, key)) return YACHT_DONE;
+    end(handle, *it);
+    return it->place ? YACHT_STALE : (int)it->answer;
+}
+
+/* ends the hold of a call by key with this answer of the core, which closes no value that is held;
+ * returns the answer of the call */
+static int end_hold(yacht_handle *handle, found it, int64_t answer) {
+    int last = end(handle, it);
+    if (answer < 0) return (int)answer;
+    return last == YACHT_DROPPED ? YACHT_DROPPED : YACHT_IN_USE;
+}
+
+int yacht_remove(yacht_handle *handle, yacht_key key) {
+    uint64_t closed = 0;
+    found it;
+    int error = hold(handle, key, &it);
+    if (error) return error;
+    for (;;) {
+        int64_t answer = yacht_core_take_if(handle->core, key.slot, (uint32_t)it.answer, &closed);
+        if (answer != YACHT_AGAIN) return end_hold(handle, it, answer);
+        sched_yield();
+    }
+}
+
+int yacht_replace(yacht_handle *handle, yacht_key *key, void *value) {
+    uint64_t closed = 0, tag = tag_of(value), number = 0;
+    found it;
+    if (!key || !value) return YACHT_BAD_ARGUMENT;
+    int error = hold(handle, *key, &it);
+    if (error) return error;
+    uint32_t slot = key->slot, node = (uint32_t)it.answer;
+    int64_t answer = prepare(handle, value, &number);
+    while (answer == YACHT_DONE || answer == YACHT_AGAIN) {
+        if (answer == YACHT_AGAIN) sched_yield();
+        answer = yacht_core_put_if(handle->core, slot, node, tag, &closed);
+    }
+    if (answer > 0) key->number = number;
+    return end_hold(handle, it, answer);
+}
+
+enum { SLOT_BITS = 12 };
+_Static_assert(YACHT_MOST_SLOTS == 1 << SLOT_BITS, "a slot has this number of bits");
+
+uint64_t yacht_key_to_bits(yacht_key key) {
+    if (key.slot >= YACHT_MOST_SLOTS || key.number >> (64 - SLOT_BITS)) return 0;
+    return key.number << SLOT_BITS | key.slot;
+}
+
+yacht_key yacht_key_from_bits(uint64_t bits) {
+    return (yacht_key){bits >> SLOT_BITS, bits & (YACHT_MOST_SLOTS - 1)};
 }
 
 const char *yacht_strerror(int answer) {
@@ -189,6 +345,7 @@ const char *yacht_strerror(int answer) {
     case YACHT_AGAIN: return "other threads are changing slots";
     case YACHT_BAD_ARGUMENT: return "an argument is NULL or out of its range";
     case YACHT_NO_MEMORY: return "an allocation failed";
+    case YACHT_STALE: return "the slot has another value";
     default: return "not a number of yachtbanyan.h";
     }
 }

@@ -15,7 +15,7 @@ judged() {
 
 # records TABLE SEED [NUMBER..]
 records() {
-    timeout 120 "$recorder/release/recorder" "$@" > "$room/log"
+    timeout "${limit:-120}" "$recorder/release/recorder" "$@" > "$room/log"
 }
 
 # legal TABLE NUMBER..: the logs of three seeds are legal
@@ -36,13 +36,13 @@ found() {
     return 1
 }
 
-# in_turns TABLE: threads that take turns of a few instructions; a log is tried again if its threads
-# don't end in time
+# in_turns TABLE SLOTS: threads that take turns of a few instructions; a log is tried again if its
+# threads don't end in time
 in_turns() {
     local seed
     gcc -O2 -shared -fPIC tests/step.c -o "$room/step.so" -ldl || return 1
     for seed in 1 2 3 4 5 6; do
-        SEED=$seed TURN=30 LD_PRELOAD=$room/step.so records "$1" "$seed" 3 2 20 2 || continue
+        SEED=$seed TURN=30 LD_PRELOAD=$room/step.so limit=30 records "$1" "$seed" 3 2 20 "$2" || continue
         judged legal && return
         return 1
     done
@@ -55,8 +55,12 @@ recorded() {
     want 'a log of the Rust crate with one slot is not legal' legal yachtbanyan 4 20 200 1
     want 'a log of the C library is not legal' legal c 3 20 300 3
     want 'a log of a table of std is not legal' legal slots 3 20 300 3
-    want 'a log of the Rust crate in turns is not legal' in_turns yachtbanyan
-    want 'a log of the C library in turns is not legal' in_turns c
+    want 'a log of the Rust crate by keys is not legal' legal keys 3 2 100 1024
+    want 'a log of the C library by keys is not legal' legal c-keys 3 2 100 1024
+    want 'a log of the Rust crate in turns is not legal' in_turns yachtbanyan 2
+    want 'a log of the C library in turns is not legal' in_turns c 2
+    want 'a log of the Rust crate by keys in turns is not legal' in_turns keys 64
+    want 'a log of the C library by keys in turns is not legal' in_turns c-keys 64
 }
 
 wrong_recorded() {

@@ -1,11 +1,11 @@
-/* Each answer of the C table, derived by hand; and the opening of a table with each allocation
- * failing in turn. */
+/* Each answer of the C table, derived by hand, also of the calls by key; and the opening of a table
+ * with each allocation failing in turn. */
 #include "refusing.h"
 #include <stdlib.h>
 #include <string.h>
 #include <yachtbanyan.h>
 
-static int dropped[8], drops, other;
+static int dropped[16], drops, other;
 /* what a refused opening must leave in *table */
 static yacht_table *const untouched = (yacht_table *)&other;
 /* the handle by which drops install more values, and how many */
@@ -32,15 +32,15 @@ static void numbers_out_of_range(void) {
     WANT(refused(YACHT_MOST_SLOTS + 1, 1, 0, drop));
     WANT(refused(1, 0, 1, drop));
     WANT(refused(1, YACHT_MOST_HANDLES + 1, 0, drop));
-    WANT(refused(1, 1, YACHT_MOST_IN_ALL, drop));
+    WANT(refused(1, 1, YACHT_MOST_IN_ALL - 1, drop));
     WANT(refused(1, 1, UINT32_MAX, drop));
     WANT(refused(1, 1, 0, NULL));
     WANT(yacht_open(NULL, 1, 1, 0, drop, NULL) == YACHT_BAD_ARGUMENT);
-    WANT(yacht_open(&table, YACHT_MOST_SLOTS, YACHT_MOST_HANDLES, YACHT_MOST_IN_ALL - YACHT_MOST_HANDLES, drop, &drops) == YACHT_DONE);
+    WANT(yacht_open(&table, YACHT_MOST_SLOTS, YACHT_MOST_HANDLES, YACHT_MOST_IN_ALL - 2 * YACHT_MOST_HANDLES, drop, &drops) == YACHT_DONE);
     WANT(yacht_handle_of(table, YACHT_MOST_HANDLES - 1) != NULL);
     WANT(yacht_handle_of(table, YACHT_MOST_HANDLES) == NULL);
-    WANT(yacht_reader_of(table, YACHT_MOST_IN_ALL - YACHT_MOST_HANDLES - 1) != NULL);
-    WANT(yacht_reader_of(table, YACHT_MOST_IN_ALL - YACHT_MOST_HANDLES) == NULL);
+    WANT(yacht_reader_of(table, YACHT_MOST_IN_ALL - 2 * YACHT_MOST_HANDLES - 1) != NULL);
+    WANT(yacht_reader_of(table, YACHT_MOST_IN_ALL - 2 * YACHT_MOST_HANDLES) == NULL);
     WANT(yacht_reader_of(table, 0) != yacht_handle_of(table, YACHT_MOST_HANDLES - 1));
     yacht_free(table);
     yacht_free(NULL);
@@ -111,6 +111,69 @@ static void drops_that_install(void) {
     WANT(drops == 8 && dropped[5] == 1 && dropped[6] == 1 && dropped[7] == 1);
 }
 
+/* each call by a key that finds no value returns the same */
+static void finds_none(yacht_handle *a, yacht_handle *reader, yacht_key key, int answer) {
+    yacht_key same = key;
+    void *value = NULL;
+    WANT(yacht_get(a, key, &value) == answer && yacht_get(reader, key, &value) == answer && !value);
+    WANT(yacht_remove(a, key) == answer);
+    WANT(yacht_replace(a, &same, &dropped[15]) == answer);
+    WANT(same.slot == key.slot && same.number == key.number && !dropped[15]);
+}
+
+static void calls_by_key(yacht_handle *a, yacht_handle *b, yacht_handle *reader) {
+    yacht_key first, second, third, none = {0, 0};
+    void *value = NULL;
+    /* the handles' numbers are 1, 3, 5.. and 2, 4, 6.. */
+    WANT(yacht_insert_key(a, &dropped[8], &first) == 0 && first.slot == 0 && first.number == 1);
+    WANT(yacht_get(a, first, &value) == YACHT_DONE && value == &dropped[8]);
+    WANT(yacht_key_of(a, &second) == YACHT_DONE && second.slot == 0 && second.number == 1);
+    WANT(yacht_remove(a, first) == YACHT_BUSY && yacht_replace(a, &second, &dropped[15]) == YACHT_BUSY);
+    WANT(yacht_get(a, first, &value) == YACHT_BUSY && yacht_insert_key(a, &dropped[15], &third) == YACHT_BUSY);
+    WANT(yacht_replace(b, &second, &dropped[9]) == YACHT_IN_USE && second.slot == 0 && second.number == 2);
+    WANT(!dropped[8] && yacht_release(a) == YACHT_DONE && dropped[8] == 1);
+    WANT(yacht_key_of(a, &third) == YACHT_IDLE);
+    finds_none(a, reader, first, YACHT_STALE);
+    finds_none(a, reader, none, YACHT_STALE);
+    finds_none(a, reader, (yacht_key){2, 1}, YACHT_NO_SLOT);
+    WANT(yacht_replace(a, NULL, &dropped[15]) == YACHT_BAD_ARGUMENT && yacht_replace(a, &second, NULL) == YACHT_BAD_ARGUMENT);
+    WANT(yacht_remove(reader, second) == YACHT_READER && yacht_replace(reader, &second, &dropped[15]) == YACHT_READER);
+    WANT(yacht_insert_key(reader, &dropped[15], &third) == YACHT_READER);
+    WANT(yacht_try_insert_key(a, &dropped[15], NULL) == YACHT_BAD_ARGUMENT);
+    WANT(yacht_try_insert_key(a, &dropped[15], &third) == YACHT_FULL);
+    WANT(yacht_get(reader, second, &value) == YACHT_DONE && value == &dropped[9]);
+    WANT(yacht_remove(a, second) == YACHT_IN_USE && !dropped[9]);
+    WANT(yacht_release(reader) == YACHT_DONE && dropped[9] == 1);
+    finds_none(a, reader, second, YACHT_EMPTY);
+    WANT(yacht_try_insert_key(b, &dropped[10], &third) == 0 && third.number != second.number);
+    finds_none(b, reader, second, YACHT_STALE);
+    WANT(yacht_replace_at(a, 0, &dropped[11]) == YACHT_DROPPED);
+    finds_none(a, reader, third, YACHT_STALE);
+    WANT(yacht_get_at(a, 0, &value) == YACHT_DONE && yacht_key_of(a, &third) == YACHT_DONE && yacht_release(a) == YACHT_DONE);
+    WANT(yacht_remove(b, third) == YACHT_DROPPED && dropped[11] == 1);
+}
+
+static void bits(void) {
+    yacht_key key = yacht_key_from_bits(UINT64_MAX);
+    WANT(key.slot == 4095 && key.number == UINT64_MAX >> 12 && yacht_key_to_bits(key) == UINT64_MAX);
+    key = yacht_key_from_bits(5 << 12 | 3);
+    WANT(key.slot == 3 && key.number == 5 && yacht_key_to_bits(key) == (5 << 12 | 3));
+    key.number = 1ull << 52;
+    WANT(yacht_key_to_bits(key) == 0);
+    key.number = 1, key.slot = YACHT_MOST_SLOTS;
+    WANT(yacht_key_to_bits(key) == 0);
+    WANT(yacht_key_from_bits(0).number == 0 && yacht_key_from_bits(4095).number == 0);
+}
+
+static void keys(void) {
+    yacht_table *table;
+    WANT(yacht_open(&table, 1, 2, 1, drop, &drops) == YACHT_DONE);
+    calls_by_key(yacht_handle_of(table, 0), yacht_handle_of(table, 1), yacht_reader_of(table, 0));
+    bits();
+    yacht_free(table);
+    WANT(drops == 12 && dropped[10] == 1 && !dropped[15]);
+}
+
 static void words(void) {
     WANT(!strcmp(yacht_strerror(YACHT_DONE), "done"));
     WANT(!strcmp(yacht_strerror(YACHT_DROPPED), "the old value was dropped"));
@@ -124,6 +187,7 @@ static void words(void) {
     WANT(!strcmp(yacht_strerror(YACHT_AGAIN), "other threads are changing slots"));
     WANT(!strcmp(yacht_strerror(YACHT_BAD_ARGUMENT), "an argument is NULL or out of its range"));
     WANT(!strcmp(yacht_strerror(YACHT_NO_MEMORY), "an allocation failed"));
+    WANT(!strcmp(yacht_strerror(YACHT_STALE), "the slot has another value"));
     WANT(!strcmp(yacht_strerror(3), "not a number of yachtbanyan.h"));
 }
 
@@ -149,6 +213,7 @@ int main(void) {
     numbers_out_of_range();
     each_answer();
     drops_that_install();
+    keys();
     words();
     refused_openings();
     return report("table");

@@ -11,9 +11,19 @@ struct RawTable([u8; 0]);
 #[repr(C)]
 struct RawHandle([u8; 0]);
 
+/// The name of a value.
+#[repr(C)]
+#[derive(Clone, Copy)]
+struct RawKey {
+    number: u64,
+    slot: u32,
+}
+
 const DONE: c_int = 0;
 const EMPTY: c_int = -1;
+const NO_SLOT: c_int = -2;
 const FULL: c_int = -6;
+const STALE: c_int = -10;
 
 extern "C" {
     fn yacht_open(
@@ -31,6 +41,11 @@ extern "C" {
     fn yacht_insert(handle: *mut RawHandle, value: *mut c_void) -> c_int;
     fn yacht_replace_at(handle: *mut RawHandle, slot: u32, value: *mut c_void) -> c_int;
     fn yacht_remove_at(handle: *mut RawHandle, slot: u32) -> c_int;
+    fn yacht_get(handle: *mut RawHandle, key: RawKey, value: *mut *mut c_void) -> c_int;
+    fn yacht_insert_key(handle: *mut RawHandle, value: *mut c_void, key: *mut RawKey) -> c_int;
+    fn yacht_remove(handle: *mut RawHandle, key: RawKey) -> c_int;
+    fn yacht_key_to_bits(key: RawKey) -> u64;
+    fn yacht_key_from_bits(bits: u64) -> RawKey;
 }
 
 /// Drops a value that [`into_raw`] made.
@@ -158,5 +173,61 @@ impl Handle for CHandle<'_> {
         let answer = unsafe { yacht_remove_at(self.raw, slot as u32) };
         assert!(answer >= DONE || answer == EMPTY);
         answer != EMPTY
+    }
+}
+
+/// The table of the C library by the keys of its values, as [`Keyed`](crate::tables::Keyed).
+pub struct CKeyed(pub CTable);
+
+/// A thread's access to [`CKeyed`].
+pub struct CKeyedHandle<'a>(CHandle<'a>);
+
+fn is_none(answer: c_int) -> bool {
+    matches!(answer, EMPTY | NO_SLOT | STALE)
+}
+
+impl Table for CKeyed {
+    type Handle<'a> = CKeyedHandle<'a>;
+
+    fn handle(&self) -> CKeyedHandle<'_> {
+        CKeyedHandle(self.0.handle())
+    }
+}
+
+impl Handle for CKeyedHandle<'_> {
+    type Guard<'a>
+        = CGuard<'a>
+    where
+        Self: 'a;
+    const CHOOSES: bool = true;
+
+    fn get(&self, key: usize) -> Option<CGuard<'_>> {
+        let (mut value, handle) = (null_mut(), &self.0);
+        // SAFETY: the handle is this thread's, and `value` is written
+        let answer = unsafe { yacht_get(handle.raw, yacht_key_from_bits(key as u64), &mut value) };
+        assert!(answer == DONE || is_none(answer));
+        let value = value.cast();
+        (answer == DONE).then(|| CGuard { value, handle })
+    }
+
+    fn put(&self, _: usize, _: Value) {
+        unreachable!("the table chooses its keys");
+    }
+
+    fn put_any(&self, value: Value) -> Result<usize, Value> {
+        let mut key = RawKey { number: 0, slot: 0 };
+        // SAFETY: the handle is this thread's, the value is the library's from now on, and `key` is
+        // written
+        let slot = unsafe { yacht_insert_key(self.0.raw, into_raw(value), &mut key) };
+        assert_eq!(slot, key.slot as c_int, "a slot for each value");
+        // SAFETY: any key may be passed
+        Ok(unsafe { yacht_key_to_bits(key) } as usize)
+    }
+
+    fn take(&self, key: usize) -> bool {
+        // SAFETY: the handle is this thread's
+        let answer = unsafe { yacht_remove(self.0.raw, yacht_key_from_bits(key as u64)) };
+        assert!(answer > DONE || is_none(answer));
+        answer > DONE
     }
 }

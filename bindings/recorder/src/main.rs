@@ -1,22 +1,30 @@
 //! recorder TABLE SEED [THREADS [ROUNDS [CALLS [SLOTS]]]]: records random calls of threads on a
 //! table, and prints the log (docs/FLIGHT.md). TABLE is `yachtbanyan`, `c` (that of the C library),
-//! `slots` (a table of std), or a wrong one: `stale`, `early` or `walk`.
-use recorder::tables::{Fault, Slots};
+//! `keys` and `c-keys` (the same two by the keys of their values), `slots` (a table of std), or a
+//! wrong one: `stale`, `early` or `walk`.
+use recorder::tables::{Fault, Keyed, Slots};
 use recorder::{record, Log, Plan};
 use std::io::Write;
 use std::process::ExitCode;
 
 fn log_of(table: &str, plan: Plan) -> Option<Log> {
     let fault = match table {
-        "yachtbanyan" => {
+        "yachtbanyan" | "keys" => {
             let options = yachtbanyan::Options::new(plan.slots as u32);
-            let table = options.handles(plan.threads as u32).open();
-            return Some(record(table.expect("a table"), plan));
+            let opened = options.handles(plan.threads as u32).open();
+            let opened = opened.expect("a table");
+            return Some(match table {
+                "keys" => record(Keyed(opened), plan),
+                _ => record(opened, plan),
+            });
         }
         #[cfg(not(yachtbanyan_stand_in))]
-        "c" => {
-            let table = recorder::c::CTable::new(plan.slots, plan.threads);
-            return Some(record(table, plan));
+        "c" | "c-keys" => {
+            let opened = recorder::c::CTable::new(plan.slots, plan.threads);
+            return Some(match table {
+                "c-keys" => record(recorder::c::CKeyed(opened), plan),
+                _ => record(opened, plan),
+            });
         }
         "slots" => Fault::None,
         "stale" => Fault::Stale,

@@ -3,6 +3,7 @@ use crate::{Handle, Table, Value};
 use std::cell::RefCell;
 use std::sync::atomic::{AtomicUsize, Ordering::SeqCst};
 use std::sync::{Arc, Mutex};
+use yachtbanyan::Key;
 
 impl Table for yachtbanyan::Table<Value> {
     type Handle<'a> = yachtbanyan::Handle<Value>;
@@ -26,13 +27,51 @@ impl Handle for yachtbanyan::Handle<Value> {
 
     fn put_any(&self, value: Value) -> Result<usize, Value> {
         match self.insert(value) {
-            Ok(slot) => Ok(slot as usize),
+            Ok(key) => Ok(key.slot() as usize),
             Err(refused) => Err(refused.value),
         }
     }
 
     fn take(&self, slot: usize) -> bool {
         self.remove_at(slot as u32).is_ok_and(|old| !old.is_none())
+    }
+}
+
+/// This library's table by the keys of its values. In the log each key is a slot of its own, which
+/// has one value and is empty from then on: a stale key that finds or removes another value breaks
+/// the rules. The table must have a slot for each value that is recorded.
+pub struct Keyed(pub yachtbanyan::Table<Value>);
+
+/// A thread's access to [`Keyed`].
+pub struct KeyedHandle(yachtbanyan::Handle<Value>);
+
+impl Table for Keyed {
+    type Handle<'a> = KeyedHandle;
+
+    fn handle(&self) -> KeyedHandle {
+        KeyedHandle(self.0.handle().expect("a handle for each thread"))
+    }
+}
+
+impl Handle for KeyedHandle {
+    type Guard<'a> = yachtbanyan::Guard<'a, Value>;
+    const CHOOSES: bool = true;
+
+    fn get(&self, key: usize) -> Option<Self::Guard<'_>> {
+        self.0.get(Key::from_bits(key as u64)).ok()
+    }
+
+    fn put(&self, _: usize, _: Value) {
+        unreachable!("the table chooses its keys");
+    }
+
+    fn put_any(&self, value: Value) -> Result<usize, Value> {
+        let key = self.0.insert(value).expect("a slot for each value");
+        Ok(key.to_bits().expect("a key of 64 bits") as usize)
+    }
+
+    fn take(&self, key: usize) -> bool {
+        self.0.remove(Key::from_bits(key as u64)).is_ok()
     }
 }
 

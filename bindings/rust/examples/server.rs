@@ -1,28 +1,24 @@
-//! The connections of a server: 4,096 slots, and four threads that serve. Each new connection gets
-//! a free slot as its number. Any thread answers a request of any connection, and any thread ends
-//! one: its last user closes it, once.
+//! The connections of a server: 4,096 slots, four threads, and 100,000 connections in all. Any
+//! thread answers a request of any connection, or ends one. A request has the key of its connection
+//! in 64 bits, as `epoll` returns them. It may be late: its connection has ended, and another one
+//! has the slot. Then the key is stale, and the other connection is left alone.
 //!
-//! The connections are counters in place of sockets: cargo run --release --example server
+//! The connections are numbers in place of sockets: cargo run --release --example server
+use std::collections::VecDeque;
 use std::sync::atomic::{AtomicU32, Ordering::Relaxed};
-use yachtbanyan::{Handle, Options, Reason, Table};
+use std::sync::Mutex;
+use yachtbanyan::{Handle, Key, Options, Table};
 
-const CONNECTIONS: u32 = 4_096;
+const SLOTS: u32 = 4_096;
 const THREADS: u32 = 4;
-const REQUESTS: u32 = 25_000;
+const CONNECTIONS: u32 = 100_000;
+/// The number of connections that a thread keeps open.
+const OPEN: usize = (SLOTS / THREADS) as usize;
 
-static OPENED: AtomicU32 = AtomicU32::new(0);
 static CLOSED: AtomicU32 = AtomicU32::new(0);
 
 struct Connection {
-    answers: AtomicU32,
-}
-
-impl Connection {
-    fn accept() -> Connection {
-        OPENED.fetch_add(1, Relaxed);
-        let answers = AtomicU32::new(0);
-        Connection { answers }
-    }
+    number: u32,
 }
 
 impl Drop for Connection {
@@ -31,49 +27,107 @@ impl Drop for Connection {
     }
 }
 
-/// Serves requests by a handle of the thread's own. Each is of a random connection: the thread
-/// answers it, or, one time out of 16, ends it and accepts another. Returns the number of answers.
-fn serve(handle: &Handle<Connection>, seed: u32) -> u32 {
-    let (mut random, mut answered) = (seed, 0);
-    for _ in 0..REQUESTS {
-        random = random.wrapping_mul(1_664_525).wrapping_add(1_013_904_223);
-        let slot = (random >> 8) % CONNECTIONS;
-        if random >> 28 == 0 {
-            // `None` if another thread has ended it; a value in use is closed by its last user
-            drop(handle.remove_at(slot).expect("the table has this slot"));
-            // All slots are full if others were faster. Then the connection is refused, and closed.
-            drop(handle.insert(Connection::accept()));
-        } else if let Ok(connection) = handle.get_at(slot) {
-            connection.answers.fetch_add(1, Relaxed);
-            answered += 1;
+/// A request: the key of a connection, and the connection's number, which a client knows.
+type Request = Mutex<Option<(u64, u32)>>;
+
+/// A thread's handle, and the number of requests of each kind that it had.
+struct Server<'a> {
+    handle: Handle<Connection>,
+    requests: &'a [Request],
+    random: u32,
+    ended: u32,
+    late: u32,
+    wrong: u32,
+}
+
+impl Server<'_> {
+    fn a_request(&mut self) -> usize {
+        self.random = self
+            .random
+            .wrapping_mul(1_664_525)
+            .wrapping_add(1_013_904_223);
+        (self.random >> 16) as usize % self.requests.len()
+    }
+
+    /// Accepts a connection, whose requests may come to any thread.
+    fn accept(&mut self, number: u32) -> Key {
+        let key = self.handle.insert(Connection { number });
+        let key = key.expect("a slot: the threads keep at most as many open");
+        let bits = key.to_bits().expect("a key of fewer than 64 bits");
+        let request = self.a_request();
+        *self.requests[request].lock().unwrap() = Some((bits, number));
+        key
+    }
+
+    /// Answers a request.
+    fn answer(&mut self, key: Key, number: u32) {
+        match self.handle.get(key) {
+            Ok(connection) => self.wrong += u32::from(connection.number != number),
+            Err(_) => self.late += 1,
         }
     }
-    answered
+
+    /// Ends a connection, unless another thread has. Its last user closes it. From then on its key
+    /// finds nothing.
+    fn end(&mut self, key: Key) {
+        match self.handle.remove(key) {
+            Ok(_) => self.ended += 1,
+            Err(_) => self.late += 1,
+        }
+        self.wrong += u32::from(self.handle.get(key).is_ok());
+    }
+
+    /// Serves until this thread has accepted its share of the connections, and all have ended.
+    fn serve(mut self, share: std::ops::Range<u32>) -> Self {
+        let mut open = VecDeque::new();
+        for number in share {
+            if open.len() == OPEN {
+                open.pop_front().into_iter().for_each(|key| self.end(key));
+            }
+            open.push_back(self.accept(number));
+            let request = self.a_request();
+            let request = *self.requests[request].lock().unwrap();
+            match request.map(|(bits, number)| (Key::from_bits(bits), number)) {
+                Some((key, number)) if number % 8 != 0 => self.answer(key, number),
+                Some((key, _)) => self.end(key),
+                None => {}
+            }
+        }
+        open.into_iter().for_each(|key| self.end(key));
+        self
+    }
 }
 
 fn main() -> Result<(), Box<dyn std::error::Error>> {
-    let options = Options::new(CONNECTIONS).handles(THREADS + 1);
-    let table: Table<Connection> = options.open()?;
-    let first = table.handle()?;
-    for _ in 0..CONNECTIONS {
-        first.insert(Connection::accept())?;
+    let table: Table<Connection> = Options::new(SLOTS).handles(THREADS).open()?;
+    let requests: Vec<Request> = (0..64).map(|_| Mutex::default()).collect();
+    let mut servers = Vec::new();
+    for number in 0..THREADS {
+        let share = CONNECTIONS / THREADS * number..CONNECTIONS / THREADS * (number + 1);
+        let server = Server {
+            handle: table.handle()?,
+            requests: &requests,
+            random: number,
+            ended: 0,
+            late: 0,
+            wrong: 0,
+        };
+        servers.push((server, share));
     }
-    let refused = first.insert(Connection::accept()).unwrap_err();
-    assert_eq!(refused.reason, Reason::Full { slots: CONNECTIONS });
-    println!("{} connections; another is refused: {refused}", first.len());
-    drop(refused);
-
-    let handles = (0..THREADS).map(|_| table.handle());
-    let handles: Vec<_> = handles.collect::<Result<_, _>>()?;
-    let answered: u32 = std::thread::scope(|scope| {
-        let serves = |(seed, handle)| scope.spawn(move || serve(&handle, seed));
-        let threads: Vec<_> = (1..).zip(handles).map(serves).collect();
-        threads.into_iter().map(|it| it.join().unwrap()).sum()
+    let servers: Vec<Server> = std::thread::scope(|scope| {
+        let mut threads = Vec::new();
+        for (server, share) in servers {
+            threads.push(scope.spawn(move || server.serve(share)));
+        }
+        threads.into_iter().map(|it| it.join().unwrap()).collect()
     });
-    let most = answered > THREADS * REQUESTS / 2;
-    println!("more than half of the requests are answered: {most}");
-    drop((first, table));
-    let closed = CLOSED.load(Relaxed) == OPENED.load(Relaxed);
-    println!("as many connections were closed as opened: {closed}");
+    let sum = |count: fn(&Server) -> u32| servers.iter().map(count).sum::<u32>();
+    println!(
+        "{} connections were ended by their keys",
+        sum(|it| it.ended)
+    );
+    println!("some requests were late: {}", sum(|it| it.late) > 0);
+    println!("{} requests found another connection", sum(|it| it.wrong));
+    println!("{} connections were closed", CLOSED.load(Relaxed));
     Ok(())
 }

@@ -9,10 +9,12 @@
 //! The arguments in these files name what they rest on. Clauses of the core's worker
 //! (`fx_server::TableWorker`): `looked` (the look-up found a file of the slot, and the worker holds
 //! it), `released`, `placed`, `allocated` and `removed` (which file is returned to be closed, by
-//! its tag, and that a file is on the node that was chosen for it), `chosen`. Laws of every history
+//! its tag, that a file is on the node that was chosen for it, and that a call which names a node
+//! changes the slot only if its file is on that node), `chosen`. Laws of every history
 //! (`fx_plain::laws`): `no_close_while_held`, `closed_at_most_once`. They hold of what all workers
 //! do together, by `has_one_history`. Laws of every state of the table (`fx_lasting::laws`):
-//! `has_one_history`, `nodes_are_of_one_file`, `chosen_nodes_are_free`, `removed_files_have_users`.
+//! `has_one_history`, `nodes_are_of_one_file`, `held_nodes_name_files`, `chosen_nodes_are_free`,
+//! `removed_files_have_users`.
 //!
 //! One rule of this crate is cited as well. *One user*: a seat (`seats.rs`) is used by one thread
 //! at a time. Its number is claimed by an exchange that acquires, and returned by an operation that
@@ -20,6 +22,7 @@
 mod core;
 mod guard;
 mod handle;
+mod keys;
 mod reader;
 mod seats;
 #[cfg(yachtbanyan_stand_in)]

@@ -82,8 +82,8 @@
 //!
 //! ```compile_fail,E0505
 //! let table = yachtbanyan::Table::<u8>::with_slots(1).unwrap();
-//! table.insert(1).unwrap();
-//! let guard = table.get_owned(0).unwrap();
+//! let key = table.insert(1).unwrap();
+//! let guard = table.get_owned(key).unwrap();
 //! let value: &u8 = &guard;
 //! drop(guard);
 //! println!("{value}");

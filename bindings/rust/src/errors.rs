@@ -66,7 +66,7 @@ pub struct NoSlot {
 /// use yachtbanyan::{GetError, Table};
 ///
 /// let table = Table::<u64>::with_slots(4)?;
-/// match table.get_owned(3) {
+/// match table.get_owned_at(3) {
 ///     Ok(guard) => println!("{guard}"),
 ///     Err(GetError::Empty { slot }) => println!("nothing at {slot}"),
 ///     Err(error) => return Err(error.into()),
@@ -81,13 +81,19 @@ pub enum GetError {
         /// The slot.
         slot: u32,
     },
+    /// The slot has another value than that of the key.
+    Stale {
+        /// The slot.
+        slot: u32,
+    },
     /// The table has no such slot.
     NoSlot(NoSlot),
     /// There is no seat for a guard.
     NoSeat(NoSeat),
 }
 
-/// The reason why [`Table::remove_at`](crate::Table::remove_at) removes nothing.
+/// The reason why a call that removes a value by its key, by its guard, or by a seat of the table
+/// removes nothing.
 ///
 /// ```
 /// let table = yachtbanyan::Table::<u64>::with_slots(4)?;
@@ -98,6 +104,16 @@ pub enum GetError {
 #[derive(Clone, Copy, Debug, PartialEq, Eq)]
 #[non_exhaustive]
 pub enum RemoveError {
+    /// The slot of the key is empty.
+    Empty {
+        /// The slot.
+        slot: u32,
+    },
+    /// The slot has another value than that of the key.
+    Stale {
+        /// The slot.
+        slot: u32,
+    },
     /// The table has no such slot.
     NoSlot(NoSlot),
     /// There is no seat for the call.
@@ -134,6 +150,16 @@ pub enum Reason {
     },
     /// No slot was free when it was looked at, and others were filling or emptying slots.
     Again,
+    /// The slot of the key is empty.
+    Empty {
+        /// The slot.
+        slot: u32,
+    },
+    /// The slot has another value than that of the key.
+    Stale {
+        /// The slot.
+        slot: u32,
+    },
     /// The table has no such slot.
     NoSlot(NoSlot),
     /// There is no seat for the call.
@@ -141,8 +167,7 @@ pub enum Reason {
 }
 
 impl<T> Refused<T> {
-    pub(crate) fn new((value, reason): (Box<T>, Reason)) -> Refused<T> {
-        let value = *value;
+    pub(crate) fn new(value: T, reason: Reason) -> Refused<T> {
         Refused { value, reason }
     }
 }
@@ -163,10 +188,12 @@ impl<T> fmt::Display for Refused<T> {
 
 impl fmt::Display for Reason {
     fn fmt(&self, f: &mut fmt::Formatter<'_>) -> fmt::Result {
-        match self {
+        match *self {
             Reason::Full { slots: 1 } => f.write_str("the only slot has a value"),
             Reason::Full { slots } => write!(f, "all {slots} slots have values"),
             Reason::Again => f.write_str("other threads are filling or emptying slots"),
+            Reason::Empty { slot } => GetError::Empty { slot }.fmt(f),
+            Reason::Stale { slot } => GetError::Stale { slot }.fmt(f),
             Reason::NoSlot(error) => error.fmt(f),
             Reason::NoSeat(error) => error.fmt(f),
         }
@@ -222,6 +249,7 @@ impl fmt::Display for GetError {
     fn fmt(&self, f: &mut fmt::Formatter<'_>) -> fmt::Result {
         match self {
             GetError::Empty { slot } => write!(f, "slot {slot} is empty"),
+            GetError::Stale { slot } => write!(f, "slot {slot} has another value"),
             GetError::NoSlot(error) => error.fmt(f),
             GetError::NoSeat(error) => error.fmt(f),
         }
@@ -230,7 +258,9 @@ impl fmt::Display for GetError {
 
 impl fmt::Display for RemoveError {
     fn fmt(&self, f: &mut fmt::Formatter<'_>) -> fmt::Result {
-        match self {
+        match *self {
+            RemoveError::Empty { slot } => GetError::Empty { slot }.fmt(f),
+            RemoveError::Stale { slot } => GetError::Stale { slot }.fmt(f),
             RemoveError::NoSlot(error) => error.fmt(f),
             RemoveError::NoSeat(error) => error.fmt(f),
         }
@@ -246,6 +276,28 @@ impl From<NoSlot> for RemoveError {
 impl From<NoSeat> for RemoveError {
     fn from(error: NoSeat) -> RemoveError {
         RemoveError::NoSeat(error)
+    }
+}
+
+impl From<GetError> for RemoveError {
+    fn from(error: GetError) -> RemoveError {
+        match error {
+            GetError::Empty { slot } => RemoveError::Empty { slot },
+            GetError::Stale { slot } => RemoveError::Stale { slot },
+            GetError::NoSlot(error) => RemoveError::NoSlot(error),
+            GetError::NoSeat(error) => RemoveError::NoSeat(error),
+        }
+    }
+}
+
+impl From<GetError> for Reason {
+    fn from(error: GetError) -> Reason {
+        match error {
+            GetError::Empty { slot } => Reason::Empty { slot },
+            GetError::Stale { slot } => Reason::Stale { slot },
+            GetError::NoSlot(error) => Reason::NoSlot(error),
+            GetError::NoSeat(error) => Reason::NoSeat(error),
+        }
     }
 }
 

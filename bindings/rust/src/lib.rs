@@ -8,12 +8,14 @@ mod access;
 mod bounds;
 mod errors;
 mod iter;
+mod key;
 mod old;
 mod options;
 
 pub use access::{Guard, Handle, OwnedGuard, Reader, Table};
 pub use errors::{GetError, NoSeat, NoSlot, OpenError, Reason, Refused, RemoveError};
 pub use iter::Iter;
+pub use key::Key;
 pub use old::Old;
 pub use options::Options;
 

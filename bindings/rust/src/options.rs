@@ -71,9 +71,9 @@ impl Options {
     /// ```
     /// let table = yachtbanyan::Options::new(4).guards(1).open::<u64>()?;
     /// let handle = table.handle()?;
-    /// let slot = handle.insert(7)?;
-    /// let (_first, _second) = (handle.get_at(slot)?, handle.get_at(slot)?);
-    /// let error = table.get_owned(slot).unwrap_err();
+    /// let key = handle.insert(7)?;
+    /// let (_first, _second) = (handle.get(key)?, handle.get(key)?);
+    /// let error = table.get_owned(key).unwrap_err();
     /// assert_eq!(error.to_string(), "1 guard is in use; Options::guards sets at most 1022");
     /// # Ok::<(), Box<dyn std::error::Error>>(())
     /// ```

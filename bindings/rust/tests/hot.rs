@@ -7,7 +7,7 @@ use std::cell::Cell;
 use std::sync::atomic::{AtomicBool, AtomicUsize, Ordering::SeqCst};
 use std::time::{Duration, Instant};
 use support::{together, Job};
-use yachtbanyan::{Handle, Options};
+use yachtbanyan::{Handle, Key, Options};
 
 const THREADS: u32 = 4;
 const LOOKS: u32 = 63;
@@ -16,7 +16,7 @@ const MOST: Duration = Duration::from_secs(10);
 
 static MADE: AtomicUsize = AtomicUsize::new(0);
 static DROPPED: AtomicUsize = AtomicUsize::new(0);
-/// The drops within `get_at` and within `get_owned`, which returned another value.
+/// The drops within `get_at` and within `get_owned_at`, which returned another value.
 static WITHIN: [AtomicUsize; 2] = [const { AtomicUsize::new(0) }; 2];
 static ENDS: AtomicBool = AtomicBool::new(false);
 
@@ -56,11 +56,13 @@ fn serve(handle: &Handle<Value>) {
     let table = handle.table();
     while !ENDS.load(SeqCst) {
         for number in 0..LOOKS {
-            match number % 4 {
+            match number % 5 {
                 0 => assert_eq!(*within(0, || handle.get_at(0)).unwrap().0, 7),
-                1 => assert_eq!(*within(1, || table.get_owned(0)).unwrap().0, 7),
+                1 => assert_eq!(*within(1, || table.get_owned_at(0)).unwrap().0, 7),
                 2 => assert!(handle.contains(0)),
-                _ => assert!(table.contains(0).unwrap()),
+                3 => assert!(table.contains(0).unwrap()),
+                // a call by the key of no value looks the slot up as well
+                _ => assert!(table.remove(Key::from_bits(0)).is_err()),
             }
         }
         handle.replace_at(0, Value::new(7)).unwrap();
@@ -93,7 +95,9 @@ fn main() {
     together(jobs);
     let (made, dropped) = (MADE.load(SeqCst), DROPPED.load(SeqCst));
     let [borrowed, owned] = counts();
-    println!("{made} values made, {dropped} dropped: {borrowed} in get_at, {owned} in get_owned");
+    println!(
+        "{made} values made, {dropped} dropped: {borrowed} in get_at, {owned} in get_owned_at"
+    );
     // no guard is alive and no call runs: the value at the slot is the only one that is left
     assert_eq!(made - dropped, 1, "a value is lost");
     assert!(

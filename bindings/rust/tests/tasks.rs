@@ -63,28 +63,31 @@ fn a_thousand_tasks_hold_owned_guards() {
     (0..4).for_each(|slot| assert!(table.replace_at(slot, slot + 1) == Ok(Old::None)));
     let sum = Arc::new(AtomicU32::new(0));
     // each guard is alive before the first task runs
-    let task =
-        |number: u32| -> Task { Box::pin(hold(table.get_owned(number % 4).unwrap(), sum.clone())) };
+    let task = |number: u32| -> Task {
+        Box::pin(hold(table.get_owned_at(number % 4).unwrap(), sum.clone()))
+    };
     let tasks: Vec<Task> = (0..1_000).map(task).collect();
-    assert!(table.get_owned(0).is_err());
+    assert!(table.get_owned_at(0).is_err());
     assert_eq!(table.replace_at(0, 100), Ok(Old::InUse));
     run(tasks, 4);
     assert_eq!(sum.load(SeqCst), 250 * (1 + 2 + 3 + 4));
-    assert_eq!(*table.get_owned(0).unwrap(), 100);
+    assert_eq!(*table.get_owned_at(0).unwrap(), 100);
 }
 
 async fn come_and_go(table: Table<u32>, number: u32) {
-    let slot = loop {
+    let key = loop {
         match table.insert(number) {
-            Ok(slot) => break slot,
+            Ok(key) => break key,
             Err(_) => Yield::default().await,
         }
     };
-    let guard = table.get_owned(slot).unwrap();
+    let guard = table.get_owned(key).unwrap();
     Yield::default().await;
     assert_eq!(*guard, number);
-    assert_eq!(table.remove_at(slot), Ok(Old::InUse));
+    assert_eq!(table.remove(key), Ok(Old::InUse));
     drop(guard);
+    Yield::default().await;
+    assert!(table.get_owned(key).is_err() && table.remove(key).is_err());
 }
 
 #[test]
@@ -102,9 +105,9 @@ fn a_thousand_tasks_insert_and_remove() {
 
 async fn serve(handle: &mut Handle<u32>) -> u32 {
     Yield::default().await;
-    let slot = handle.insert(7).unwrap();
+    let key = handle.insert(7).unwrap();
     Yield::default().await;
-    let seven = *handle.get_at(slot).unwrap();
+    let seven = *handle.get(key).unwrap();
     Yield::default().await;
     seven
 }

@@ -4,7 +4,7 @@ mod support;
 
 use std::sync::atomic::{AtomicBool, AtomicUsize, Ordering::Relaxed, Ordering::SeqCst};
 use support::{begin, join, together, Job};
-use yachtbanyan::{GetError, Handle, NoSeat, Options, Reason, Table};
+use yachtbanyan::{GetError, Guard, Handle, Key, NoSeat, Old, Options, Reason, Table};
 
 static MADE: AtomicUsize = AtomicUsize::new(0);
 static DROPPED: AtomicUsize = AtomicUsize::new(0);
@@ -51,12 +51,66 @@ fn next(seed: &mut u64) -> u64 {
     *seed >> 33
 }
 
+/// A value that a thread installed: its key and its number.
+type Own = Option<(Key, u64)>;
+
+/// Checks that a key's guard is of the value with this number.
+fn check_own(guard: &Guard<'_, Value>, number: u64) {
+    guard.check();
+    if guard.number != number {
+        WRONG.fetch_add(1, SeqCst);
+    }
+}
+
+/// Makes a call by the key of a value that this thread installed, which others may have replaced or
+/// removed. Each of these finds that value or none.
+fn serve_own(handle: &Handle<Value>, own: &mut Own, random: u64, number: u64) {
+    let Some((key, wanted)) = *own else {
+        return;
+    };
+    let is_wanted = |old: Old<Value>| match old {
+        Old::Unused(value) => value.number == wanted,
+        Old::InUse => true,
+        Old::None => false,
+    };
+    let old = match random % 8 {
+        0..=2 => {
+            if let Ok(guard) = handle.get(key) {
+                check_own(&guard, wanted);
+            }
+            return;
+        }
+        3 => handle.remove(key).ok(),
+        4 => handle.table().remove(key).ok(),
+        5 => handle.get(key).ok().and_then(|guard| guard.remove().ok()),
+        6 => match handle.replace(key, Value::new(number)) {
+            Ok((key, old)) => {
+                *own = Some((key, number));
+                Some(old)
+            }
+            Err(_) => None,
+        },
+        _ => match handle.table().replace(key, Value::new(number)) {
+            Ok((key, old)) => {
+                *own = Some((key, number));
+                Some(old)
+            }
+            Err(_) => None,
+        },
+    };
+    if !old.is_none_or(is_wanted) {
+        WRONG.fetch_add(1, SeqCst);
+    }
+}
+
 /// Serves by a handle.
 fn serve(handle: &Handle<Value>, mut seed: u64, rounds: u64) {
     let slots = u64::from(handle.table().slots());
+    let (mut own, first) = (None, seed << 32);
     for round in 0..rounds {
         let random = next(&mut seed);
-        let (slot, what) = ((random % slots) as u32, (random >> 7) % 16);
+        let (slot, what) = ((random % slots) as u32, (random >> 7) % 20);
+        let number = first + round;
         match what {
             0..=6 => drop(handle.get_at(slot).map(|guard| guard.check())),
             7..=8 => {
@@ -69,10 +123,21 @@ fn serve(handle: &Handle<Value>, mut seed: u64, rounds: u64) {
                 }
             }
             9 => drop(handle.contains(slot)),
-            10..=12 => drop(handle.replace_at(slot, Value::new(round))),
-            13 => drop(handle.insert(Value::new(round))),
-            14 => drop(handle.try_insert(Value::new(round))),
-            _ => drop(handle.remove_at(slot)),
+            10..=12 => drop(handle.replace_at(slot, Value::new(number))),
+            13 => {
+                own = handle
+                    .insert(Value::new(number))
+                    .ok()
+                    .map(|key| (key, number))
+            }
+            14 => {
+                own = handle
+                    .try_insert(Value::new(number))
+                    .ok()
+                    .map(|key| (key, number))
+            }
+            15 => drop(handle.remove_at(slot)),
+            _ => serve_own(handle, &mut own, random >> 12, number),
         }
     }
 }
@@ -84,7 +149,7 @@ fn serve_by_table(table: &Table<Value>, mut seed: u64, rounds: u64) {
         let random = next(&mut seed);
         let (slot, what) = ((random % slots) as u32, (random >> 7) % 16);
         match what {
-            0..=9 => drop(table.get_owned(slot).map(|guard| guard.check())),
+            0..=9 => drop(table.get_owned_at(slot).map(|guard| guard.check())),
             10..=12 => drop(table.replace_at(slot, Value::new(round)).unwrap()),
             13..=14 => {
                 // it waits for a seat
@@ -107,12 +172,12 @@ fn hand_over(rounds: u64) {
         .unwrap();
     table.insert(Value::new(0)).unwrap();
     for round in 0..rounds {
-        let given = table.get_owned(0).unwrap();
+        let given = table.get_owned_at(0).unwrap();
         drop(table.replace_at(0, Value::new(round)).unwrap());
         // SAFETY: it is joined below.
         let thread = unsafe { begin(Box::new(move || given.check())) };
         let again = loop {
-            match table.get_owned(0) {
+            match table.get_owned_at(0) {
                 Ok(guard) => break guard,
                 Err(error) => assert_eq!(error, GetError::NoSeat(NoSeat::Guard { in_use: 1 })),
             }

@@ -47,7 +47,7 @@ fn a_handle_uses_the_storage_of_a_removed_value_again() {
     let table = Options::new(4).handles(1).open().unwrap();
     let handle = table.handle().unwrap();
     let insert = |number| {
-        let slot = handle.insert(notes.value(number)).unwrap();
+        let slot = handle.insert(notes.value(number)).unwrap().slot();
         let guard = handle.get_at(slot).unwrap();
         assert_eq!(guard.number, number);
         (slot, &raw const *guard)
@@ -90,7 +90,7 @@ fn the_last_guard_drops_it_on_its_own_thread() {
     let table = Table::with_slots(1).unwrap();
     let handle = table.handle().unwrap();
     handle.replace_at(0, notes.value(1)).unwrap();
-    let guard = table.get_owned(0).unwrap();
+    let guard = table.get_owned_at(0).unwrap();
     assert!(matches!(handle.remove_at(0), Ok(Old::InUse)));
     let there = std::thread::scope(|scope| {
         let thread = scope.spawn(move || drop(guard));
@@ -105,21 +105,21 @@ fn the_last_guard_drops_it_on_its_own_thread() {
 fn each_empty_slot_is_found() {
     let table = Options::new(8).handles(2).open().unwrap();
     let (one, other) = (table.handle().unwrap(), table.handle().unwrap());
-    let mut filled: Vec<u32> = (0..8).map(|it| one.insert(it).unwrap()).collect();
+    let mut filled: Vec<u32> = (0..8).map(|it| one.insert(it).unwrap().slot()).collect();
     filled.sort_unstable();
     assert!(filled.into_iter().eq(0..8));
     assert!((0..8).all(|slot| one.replace_at(slot, slot).is_ok()));
     // whichever slot a handle filled last, before or after the only empty one
     for slot in [7, 3, 1, 6, 0, 4] {
         assert_eq!(one.remove_at(slot), Ok(Old::Unused(slot)));
-        assert_eq!(other.try_insert(slot), Ok(slot));
+        assert_eq!(other.try_insert(slot).unwrap().slot(), slot);
     }
     // a handle first fills the slot that it emptied last
     for slot in [2, 5] {
         assert_eq!(one.remove_at(slot), Ok(Old::Unused(slot)));
     }
-    assert_eq!(one.insert(5), Ok(5));
-    assert_eq!(one.insert(2), Ok(2));
+    assert_eq!(one.insert(5).unwrap().slot(), 5);
+    assert_eq!(one.insert(2).unwrap().slot(), 2);
 }
 
 #[test]
@@ -136,7 +136,7 @@ fn one_handle_has_several_guards() {
     );
     let none = GetError::NoSeat(NoSeat::Guard { in_use: 2 });
     assert_eq!(handle.get_at(5).unwrap_err(), none);
-    assert_eq!(table.get_owned(5).unwrap_err(), none);
+    assert_eq!(table.get_owned_at(5).unwrap_err(), none);
     // a handle installs and removes while it has guards
     assert_eq!(handle.replace_at(2, 21), Ok(Old::InUse));
     assert_eq!(handle.remove_at(7), Ok(Old::Unused(70)));
@@ -153,7 +153,10 @@ fn each_error_has_its_numbers_and_gives_the_value_back() {
     let no_slot = NoSlot { slot: 2, slots: 2 };
     assert_eq!(handle.get_at(0).unwrap_err(), GetError::Empty { slot: 0 });
     assert_eq!(handle.get_at(2).unwrap_err(), GetError::NoSlot(no_slot));
-    assert_eq!(table.get_owned(2).unwrap_err(), GetError::NoSlot(no_slot));
+    assert_eq!(
+        table.get_owned_at(2).unwrap_err(),
+        GetError::NoSlot(no_slot)
+    );
     assert_eq!(handle.remove_at(1), Ok(Old::None));
     assert_eq!(handle.remove_at(2), Err(no_slot));
     let refused = handle.replace_at(2, "a").unwrap_err();
@@ -162,7 +165,7 @@ fn each_error_has_its_numbers_and_gives_the_value_back() {
         ("a", Reason::NoSlot(no_slot))
     );
     assert_eq!(handle.replace_at(0, "b"), Ok(Old::None));
-    assert_eq!(handle.try_insert("c"), Ok(1));
+    assert_eq!(handle.try_insert("c").unwrap().slot(), 1);
     let full = Reason::Full { slots: 2 };
     let refused = [handle.insert("d"), handle.try_insert("d")].map(Result::unwrap_err);
     assert_eq!(refused.map(|it| (it.value, it.reason)), [("d", full); 2]);
@@ -178,7 +181,7 @@ fn each_error_has_its_numbers_and_gives_the_value_back() {
 #[test]
 fn the_table_lends_a_seat_for_a_call() {
     let table = Options::new(1).handles(1).open().unwrap();
-    assert_eq!(table.insert("a"), Ok(0));
+    assert_eq!(table.insert("a").unwrap().slot(), 0);
     let no_slot = NoSlot { slot: 1, slots: 1 };
     assert_eq!(table.remove_at(1), Err(RemoveError::NoSlot(no_slot)));
     let refused = table.replace_at(1, "b").unwrap_err();
@@ -198,10 +201,9 @@ fn the_table_lends_a_seat_for_a_call() {
     let none = NoSeat::Handle { in_use: 1 };
     assert_eq!(table.remove_at(0), Err(RemoveError::NoSeat(none)));
     assert_eq!(table.contains(0), Err(none));
-    let refused = [table.insert("c"), table.replace_at(0, "c").map(|_| 0)];
-    let refused = refused
-        .map(Result::unwrap_err)
-        .map(|it| (it.value, it.reason));
+    let refused = (table.insert("c"), table.replace_at(0, "c"));
+    let refused = [refused.0.unwrap_err(), refused.1.unwrap_err()];
+    let refused = refused.map(|it| (it.value, it.reason));
     assert_eq!(refused, [("c", Reason::NoSeat(none)); 2]);
     drop(handle);
     assert_eq!(table.remove_at(0), Ok(Old::Unused("a")));
@@ -211,7 +213,8 @@ fn the_table_lends_a_seat_for_a_call() {
 fn each_slot_of_the_largest_table_is_filled_and_emptied() {
     let table = Table::with_slots(MOST_SLOTS).unwrap();
     let handle = table.handle().unwrap();
-    let mut filled: Vec<u32> = (0..4_096).map(|it| handle.insert(it).unwrap()).collect();
+    let insert = |number| handle.insert(number).unwrap().slot();
+    let mut filled: Vec<u32> = (0..4_096).map(insert).collect();
     let refused = handle.insert(4_096).unwrap_err();
     assert_eq!(refused.reason, Reason::Full { slots: 4_096 });
     for (number, &slot) in filled.iter().enumerate() {
@@ -250,13 +253,13 @@ fn a_table_that_is_too_large_or_too_small_is_refused() {
         "64 handles are in use; Options::handles sets at most 64"
     );
     drop(handles);
-    let guards: Vec<OwnedGuard<u8>> = (0..496).map(|_| largest.get_owned(0).unwrap()).collect();
+    let guards: Vec<OwnedGuard<u8>> = (0..496).map(|_| largest.get_owned_at(0).unwrap()).collect();
     assert_eq!(
         (*handle.get_at(0).unwrap(), *reader.get_at(0).unwrap()),
         (1, 1)
     );
     assert_eq!(
-        largest.get_owned(0).unwrap_err(),
+        largest.get_owned_at(0).unwrap_err(),
         GetError::NoSeat(NoSeat::Guard { in_use: 496 })
     );
     drop(guards);
@@ -310,7 +313,8 @@ fn guards_are_dropped_in_any_order() {
         order.into_iter().for_each(|at| drop(guards[at].take()));
         guards.into_iter().for_each(std::mem::forget);
         // others get the seats that are free, and keep them when the handle's are returned
-        let own: Vec<OwnedGuard<Noted>> = std::iter::from_fn(|| table.get_owned(0).ok()).collect();
+        let own: Vec<OwnedGuard<Noted>> =
+            std::iter::from_fn(|| table.get_owned_at(0).ok()).collect();
         assert_eq!(own.len(), if order.contains(&0) { 2 } else { 3 });
         drop(handle);
         assert!(matches!(table.remove_at(0), Ok(Old::InUse)));
@@ -329,7 +333,7 @@ fn a_panic_while_holding_releases() {
     let handle = table.handle().unwrap();
     handle.replace_at(0, notes.value(1)).unwrap();
     let caught = std::panic::catch_unwind(std::panic::AssertUnwindSafe(|| {
-        let _guards = (handle.get_at(0).unwrap(), table.get_owned(0).unwrap());
+        let _guards = (handle.get_at(0).unwrap(), table.get_owned_at(0).unwrap());
         assert!(matches!(handle.remove_at(0), Ok(Old::InUse)));
         panic!("while holding");
     }));
@@ -364,7 +368,7 @@ fn a_drop_that_panics_leaves_each_seat_usable() {
         handle.replace_at(0, Fragile(true)).unwrap();
         // each kind of guard, as the last user
         let mut guard = (round == 0).then(|| handle.get_at(0).unwrap());
-        let mut own = (round == 1).then(|| table.get_owned(0).unwrap());
+        let mut own = (round == 1).then(|| table.get_owned_at(0).unwrap());
         let mut other = (round == 2).then(|| reader.get_at(0).unwrap());
         assert!(matches!(
             handle.replace_at(0, Fragile(false)),
@@ -372,7 +376,7 @@ fn a_drop_that_panics_leaves_each_seat_usable() {
         ));
         panics(&mut || drop((guard.take(), own.take(), other.take())));
         // all seats at once
-        let (guard, own) = (handle.get_at(0).unwrap(), table.get_owned(0).unwrap());
+        let (guard, own) = (handle.get_at(0).unwrap(), table.get_owned_at(0).unwrap());
         assert!(!guard.0 && !own.0 && !reader.get_at(0).unwrap().0);
     }
 }
@@ -385,8 +389,8 @@ impl Drop for Nested {
         let Some(table) = self.0.take() else {
             return;
         };
-        let slot = table.insert(Nested(None)).unwrap();
-        assert!(table.get_owned(slot).unwrap().0.is_none());
+        let slot = table.insert(Nested(None)).unwrap().slot();
+        assert!(table.get_owned_at(slot).unwrap().0.is_none());
         assert!(matches!(table.remove_at(slot), Ok(Old::Unused(_))));
         table.handle().unwrap().insert(Nested(None)).unwrap();
     }
@@ -397,8 +401,8 @@ fn a_drop_may_use_the_same_table() {
     let table = Options::new(4).handles(2).guards(2).open().unwrap();
     let handle = table.handle().unwrap();
     for round in 0..3 {
-        let slot = handle.insert(Nested(Some(table.clone()))).unwrap();
-        let guards = (round > 0).then(|| (handle.get_at(slot).unwrap(), table.get_owned(slot)));
+        let slot = handle.insert(Nested(Some(table.clone()))).unwrap().slot();
+        let guards = (round > 0).then(|| (handle.get_at(slot).unwrap(), table.get_owned_at(slot)));
         drop(handle.remove_at(slot).unwrap());
         drop(guards);
         assert_eq!((handle.len(), round), (1, round));
@@ -467,9 +471,9 @@ fn what_is_left_is_dropped_with_the_last_handle() {
 fn an_owned_guard_keeps_the_table() {
     let notes = Notes::default();
     let table = Table::with_slots(2).unwrap();
-    let slot = table.insert(notes.value(7)).unwrap();
+    let key = table.insert(notes.value(7)).unwrap();
     table.insert(notes.value(8)).unwrap();
-    let own = table.get_owned(slot).unwrap();
+    let own = table.get_owned(key).unwrap();
     drop(table);
     assert_eq!((own.number, notes.drops()), (7, 0));
     drop(own);
@@ -513,7 +517,7 @@ fn debug_and_display_show_the_value_of_a_guard() {
     let table = Table::with_slots(2).unwrap();
     let (handle, reader) = (table.handle().unwrap(), table.reader().unwrap());
     handle.replace_at(1, "five").unwrap();
-    let (guard, own) = (handle.get_at(1).unwrap(), table.get_owned(1).unwrap());
+    let (guard, own) = (handle.get_at(1).unwrap(), table.get_owned_at(1).unwrap());
     assert_eq!(
         format!("{guard:?} {own:?} {guard} {own}"),
         "\"five\" \"five\" five five"

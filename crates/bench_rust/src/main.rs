@@ -15,7 +15,7 @@ mod timing;
 mod words;
 mod work;
 
-use bindings::Lasting;
+use bindings::{Lasting, LastingKeys};
 use exports::Core;
 use lasting_words::LastingWords;
 use locked::Locked;
@@ -68,6 +68,8 @@ fn large_round(name: &str, _: &str, row: Row, threads: usize) {
     let times = [
         ("lasting", time::<Core>(row, threads)),
         ("Rust crate", time::<Lasting>(row, threads)),
+        ("Rust crate keys", time::<LastingKeys>(row, threads)),
+        ("lasting words", time::<LastingWords>(row, threads)),
         ("sharded-slab keys", time::<Keys>(row, threads)),
         ("sharded-slab", time::<Slabs>(row, threads)),
     ];

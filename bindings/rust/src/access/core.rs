@@ -28,12 +28,14 @@ pub(crate) const IDLE: i64 = -4;
 pub(crate) const NO_BLOCK: i64 = -5;
 /// Every slot has a value.
 pub(crate) const FULL: i64 = -6;
-/// The slots changed during the round.
+/// The slots changed during the round, or the slot's word changed at each try.
 pub(crate) const AGAIN: i64 = -7;
 /// An argument is out of range.
 pub(crate) const BAD: i64 = -8;
 /// An allocation failed.
 pub(crate) const NO_MEMORY: i64 = -9;
+/// The slot has another file than the one that the call names.
+pub(crate) const OTHER: i64 = -10;
 
 /// The largest number of slots.
 pub(crate) const MOST_SLOTS: u32 = 4096;
@@ -61,4 +63,17 @@ unsafe extern "C" {
     pub(crate) fn yacht_core_put(worker: *mut Core, slot: u32, tag: u64, closed: *mut u64) -> i64;
     pub(crate) fn yacht_core_put_any(worker: *mut Core, tag: u64) -> i64;
     pub(crate) fn yacht_core_take(worker: *mut Core, slot: u32, closed: *mut u64) -> i64;
+    pub(crate) fn yacht_core_take_if(
+        worker: *mut Core,
+        slot: u32,
+        node: u32,
+        closed: *mut u64,
+    ) -> i64;
+    pub(crate) fn yacht_core_put_if(
+        worker: *mut Core,
+        slot: u32,
+        node: u32,
+        tag: u64,
+        closed: *mut u64,
+    ) -> i64;
 }

@@ -1,9 +1,12 @@
 //! Guards of values.
 use super::reader::Reader;
 use super::seats::Place;
+use super::storage::Stored;
 use super::table::Table;
-use super::values::drop_last;
+use super::values::{drop_last, Held};
+use crate::key::Key;
 use std::fmt;
+use std::mem::ManuallyDrop;
 use std::ops::Deref;
 
 /// A value that a [`Handle`](crate::Handle) or a [`Reader`] looked up. It stays alive until the
@@ -12,7 +15,8 @@ use std::ops::Deref;
 ///
 /// A guard stays on its thread; an [`OwnedGuard`] may go anywhere. Other threads may read through
 /// `&Guard`. If a guard is forgotten (`std::mem::forget`), its value stays until its handle or
-/// reader is dropped.
+/// reader is dropped. A method of the value that is named `slot`, `key` or `remove` is called as
+/// `(*guard).key()`.
 ///
 /// ```
 /// use yachtbanyan::{Old, Table};
@@ -29,13 +33,14 @@ use std::ops::Deref;
 /// ```
 #[must_use = "the value is released when the guard is dropped"]
 pub struct Guard<'r, T> {
-    value: *const T,
-    reader: &'r Reader<T>,
+    value: *const Stored<T>,
+    node: u32,
+    pub(super) reader: &'r Reader<T>,
     place: Place,
     slot: u32,
 }
 
-// SAFETY: a shared guard gives references to the value and its slot alone.
+// SAFETY: a shared guard gives references to the value, its slot and its key alone.
 unsafe impl<T: Sync> Sync for Guard<'_, T> {}
 
 impl<'r, T> Guard<'r, T> {
@@ -43,22 +48,77 @@ impl<'r, T> Guard<'r, T> {
     #[inline]
     pub(super) fn new(
         reader: &'r Reader<T>,
-        value: *const T,
+        held: Held<Stored<T>>,
         place: Place,
         slot: u32,
     ) -> Guard<'r, T> {
         Guard {
-            value,
+            value: held.value,
+            node: held.node,
             reader,
             place,
             slot,
         }
     }
 
+    #[inline]
+    fn stored(&self) -> &Stored<T> {
+        // SAFETY: the core closes no file that is held (`no_close_while_held`, `has_one_history`),
+        // so the box is there until `end`.
+        unsafe { &*self.value }
+    }
+
     /// Returns the slot at which the value was found.
     #[inline]
     pub fn slot(&self) -> u32 {
         self.slot
+    }
+
+    /// Returns the node of the value's file.
+    pub(super) fn node(&self) -> u32 {
+        self.node
+    }
+
+    /// Returns the key of the value, by which others find it while it is at its slot.
+    ///
+    /// ```
+    /// let table = yachtbanyan::Table::<u64>::with_slots(4)?;
+    /// let handle = table.handle()?;
+    /// handle.replace_at(3, 7)?;
+    /// let key = handle.get_at(3)?.key();
+    /// assert_eq!(*handle.get(key)?, 7);
+    /// # Ok::<(), Box<dyn std::error::Error>>(())
+    /// ```
+    #[inline]
+    pub fn key(&self) -> Key {
+        Key::new(self.slot, self.stored().0)
+    }
+
+    /// Checks whether the value has this key.
+    #[inline]
+    pub(super) fn is_of(&self, key: Key) -> bool {
+        key.is_of(self.stored().0)
+    }
+
+    /// Ends the hold, and gives its seat back. Returns the value if this closed it.
+    #[inline]
+    pub(super) fn end(self) -> Option<Box<Stored<T>>> {
+        let guard = ManuallyDrop::new(self);
+        // SAFETY: the guard isn't dropped.
+        unsafe { guard.release() }
+    }
+
+    // Ends the hold, and gives its seat back.
+    //
+    // SAFETY of a call: the guard is used no more.
+    #[inline]
+    unsafe fn release(&self) -> Option<Box<Stored<T>>> {
+        let values = self.reader.table().values();
+        // SAFETY: the seat is the reader's (one user), on whose thread this guard is. It holds this
+        // guard's value, and every reference to the value borrowed the guard.
+        let freed = unsafe { values.release(self.place.core, self.value) };
+        self.reader.give_back(self.place.number);
+        freed
     }
 }
 
@@ -67,20 +127,15 @@ impl<T> Deref for Guard<'_, T> {
 
     #[inline]
     fn deref(&self) -> &T {
-        // SAFETY: the core closes no file that is held (`no_close_while_held`, `has_one_history`),
-        // so the box is there until `drop`.
-        unsafe { &*self.value }
+        &self.stored().1
     }
 }
 
 impl<T> Drop for Guard<'_, T> {
     #[inline]
     fn drop(&mut self) {
-        let values = self.reader.table().values();
-        // SAFETY: the seat is the reader's (one user), on whose thread this guard is. It holds this
-        // guard's value, and every reference to the value borrowed the guard.
-        let freed = unsafe { values.release(self.place.core, self.value) };
-        self.reader.give_back(self.place.number);
+        // SAFETY: nobody uses a guard after its drop.
+        let freed = unsafe { self.release() };
         drop_last(freed);
     }
 }
@@ -97,8 +152,8 @@ impl<T: fmt::Display> fmt::Display for Guard<'_, T> {
     }
 }
 
-/// A value that [`Table::get_owned`] looked up. It borrows nothing: it may be kept over an
-/// `.await`, stored, and go to another thread.
+/// A value that [`Table::get_owned`] or [`Table::get_owned_at`] looked up. It borrows nothing: it
+/// may be kept over an `.await`, stored, and go to another thread.
 ///
 /// It stays alive until the guard is dropped, even if another thread replaces or removes it in the
 /// meantime. The last user drops the value. An owned guard keeps the table alive. One that is
@@ -108,8 +163,8 @@ impl<T: fmt::Display> fmt::Display for Guard<'_, T> {
 /// use yachtbanyan::Table;
 ///
 /// let table = Table::<String>::with_slots(1)?;
-/// table.insert("value".to_string())?;
-/// let own = table.get_owned(0)?;
+/// let key = table.insert("value".to_string())?;
+/// let own = table.get_owned(key)?;
 /// drop(table);
 /// let thread = std::thread::spawn(move || own.len());
 /// assert_eq!(thread.join().unwrap(), 5);
@@ -117,29 +172,43 @@ impl<T: fmt::Display> fmt::Display for Guard<'_, T> {
 /// ```
 #[must_use = "the value is released when the guard is dropped"]
 pub struct OwnedGuard<T> {
-    value: *const T,
+    value: *const Stored<T>,
+    node: u32,
     place: Place,
     slot: u32,
     // it is dropped after `drop` has run
-    table: Table<T>,
+    pub(super) table: Table<T>,
 }
 
 // SAFETY: another thread may read the value (`T: Sync`) and end the hold, which may give it the
 // value to drop (`T: Send`). It has the guard's seat alone (one user).
 unsafe impl<T: Send + Sync> Send for OwnedGuard<T> {}
-// SAFETY: a shared guard gives references to the value and its slot alone.
+// SAFETY: a shared guard gives references to the value, its slot and its key alone.
 unsafe impl<T: Sync> Sync for OwnedGuard<T> {}
 
 impl<T> OwnedGuard<T> {
     /// Makes a guard of a value that this seat of the table holds.
     #[inline]
-    pub(super) fn new(table: Table<T>, value: *const T, place: Place, slot: u32) -> OwnedGuard<T> {
+    pub(super) fn new(
+        table: Table<T>,
+        held: Held<Stored<T>>,
+        place: Place,
+        slot: u32,
+    ) -> OwnedGuard<T> {
         OwnedGuard {
-            value,
+            value: held.value,
+            node: held.node,
             place,
             slot,
             table,
         }
+    }
+
+    #[inline]
+    fn stored(&self) -> &Stored<T> {
+        // SAFETY: the core closes no file that is held (`no_close_while_held`, `has_one_history`),
+        // so the box is there until `drop`. The guard's table keeps the core.
+        unsafe { &*self.value }
     }
 
     /// Returns the slot at which the value was found.
@@ -147,12 +216,57 @@ impl<T> OwnedGuard<T> {
     /// ```
     /// let table = yachtbanyan::Table::<u64>::with_slots(4)?;
     /// table.replace_at(3, 7)?;
-    /// assert_eq!(table.get_owned(3)?.slot(), 3);
+    /// assert_eq!(table.get_owned_at(3)?.slot(), 3);
     /// # Ok::<(), Box<dyn std::error::Error>>(())
     /// ```
     #[inline]
     pub fn slot(&self) -> u32 {
         self.slot
+    }
+
+    /// Returns the node of the value's file.
+    pub(super) fn node(&self) -> u32 {
+        self.node
+    }
+
+    /// Returns the key of the value, by which others find it while it is at its slot.
+    ///
+    /// ```
+    /// let table = yachtbanyan::Table::<u64>::with_slots(4)?;
+    /// let key = table.insert(7)?;
+    /// assert_eq!(table.get_owned(key)?.key(), key);
+    /// # Ok::<(), Box<dyn std::error::Error>>(())
+    /// ```
+    #[inline]
+    pub fn key(&self) -> Key {
+        Key::new(self.slot, self.stored().0)
+    }
+
+    /// Checks whether the value has this key.
+    pub(super) fn is_of(&self, key: Key) -> bool {
+        key.is_of(self.stored().0)
+    }
+
+    /// Ends the hold, and gives its seat back. Returns the value if this closed it.
+    pub(super) fn end(self) -> Option<Box<Stored<T>>> {
+        let guard = ManuallyDrop::new(self);
+        // SAFETY: the guard isn't dropped, and its table is read once.
+        let (freed, table) = unsafe { (guard.release(), std::ptr::read(&raw const guard.table)) };
+        drop(table);
+        freed
+    }
+
+    // Ends the hold, and gives its seat back.
+    //
+    // SAFETY of a call: the guard is used no more, but for its table.
+    #[inline]
+    unsafe fn release(&self) -> Option<Box<Stored<T>>> {
+        let values = self.table.values();
+        // SAFETY: the seat is this guard's (one user). It holds this guard's value, and every
+        // reference to the value borrowed the guard.
+        let freed = unsafe { values.release(self.place.core, self.value) };
+        values.seats.give_back(self.place.number);
+        freed
     }
 }
 
@@ -161,20 +275,15 @@ impl<T> Deref for OwnedGuard<T> {
 
     #[inline]
     fn deref(&self) -> &T {
-        // SAFETY: the core closes no file that is held (`no_close_while_held`, `has_one_history`),
-        // so the box is there until `drop`. The guard's table keeps the core.
-        unsafe { &*self.value }
+        &self.stored().1
     }
 }
 
 impl<T> Drop for OwnedGuard<T> {
     #[inline]
     fn drop(&mut self) {
-        let values = self.table.values();
-        // SAFETY: the seat is this guard's (one user). It holds this guard's value, and every
-        // reference to the value borrowed the guard.
-        let freed = unsafe { values.release(self.place.core, self.value) };
-        values.seats.give_back(self.place.number);
+        // SAFETY: nobody uses a guard after its drop, but for its table.
+        let freed = unsafe { self.release() };
         drop_last(freed);
     }
 }

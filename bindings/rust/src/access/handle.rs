@@ -2,12 +2,13 @@
 use super::core::Core;
 use super::guard::Guard;
 use super::reader::Reader;
-use super::seats::Place;
-use super::storage::{self, Spare};
+use super::seats::{Installer, Place};
+use super::storage::{self, Spare, Stored};
 use super::table::Table;
 use super::values::{Round, Values};
 use crate::errors::{GetError, NoSeat, NoSlot, Reason, Refused};
 use crate::iter::Iter;
+use crate::key::Key;
 use crate::old::Old;
 use std::fmt;
 
@@ -34,17 +35,17 @@ use std::fmt;
 /// asynchronous function takes `&mut Handle`, so that its future is `Send`:
 ///
 /// ```
-/// use yachtbanyan::{Handle, Table};
+/// use yachtbanyan::{Handle, Key, Table};
 ///
 /// # async fn read_from_network() -> u64 { 7 }
-/// async fn serve(handle: &mut Handle<u64>) -> u32 {
+/// async fn serve(handle: &mut Handle<u64>) -> Key {
 ///     let value = read_from_network().await;
-///     let slot = handle.insert(value).unwrap();
+///     let key = handle.insert(value).unwrap();
 ///     read_from_network().await;
-///     slot
+///     key
 /// }
 ///
-/// # fn spawn(_: impl Future<Output = u32> + Send + 'static) {}
+/// # fn spawn(_: impl Future<Output = Key> + Send + 'static) {}
 /// # use std::future::Future;
 /// let table = Table::<u64>::with_slots(8)?;
 /// let mut handle = table.handle()?;
@@ -53,27 +54,39 @@ use std::fmt;
 /// ```
 #[must_use = "a handle is in use until it is dropped"]
 pub struct Handle<T> {
-    /// Its own seat has the number of the handle's installing seat as well.
-    reader: Reader<T>,
-    installer: Place,
-    spare: Spare<T>,
+    pub(super) reader: Reader<T>,
+    installer: Installer,
+    pub(super) spare: Spare<T>,
 }
 
 impl<T> Handle<T> {
-    /// Makes a handle of a reader whose seats a handle has.
-    pub(super) fn new(reader: Reader<T>) -> Handle<T> {
-        let seats = &reader.table().values().seats;
-        let installer = seats.installing_place(reader.number());
+    /// Makes a handle of the seats that the caller claimed, which have the same number.
+    pub(super) fn new(table: Table<T>, own: Place) -> Handle<T> {
+        let installer = table.values().seats.installer(own.number);
         Handle {
-            reader,
+            reader: Reader::new(table, own, Some(installer)),
             installer,
             spare: Spare::default(),
         }
     }
 
     #[inline]
-    fn parts(&self) -> (&Values<T>, *mut Core) {
+    pub(super) fn parts(&self) -> (&Values<Stored<T>>, *mut Core) {
         (self.reader.table().values(), self.installer.core)
+    }
+
+    /// Stores a value that the handle installs.
+    #[inline]
+    pub(super) fn store(&self, value: T) -> Box<Stored<T>> {
+        // SAFETY: the seat is this handle's (one user), and the reader keeps the table.
+        let number = unsafe { self.installer.next_number() };
+        storage::put(&self.spare, (number, value))
+    }
+
+    /// Gives a value back that isn't installed.
+    pub(super) fn refuse(&self, stored: Box<Stored<T>>, reason: Reason) -> Refused<T> {
+        let value = storage::take(&self.spare, stored);
+        Refused { value, reason }
     }
 
     /// Returns a guard of the value at a slot. The look-up may drop another value: one that it saw
@@ -101,7 +114,7 @@ impl<T> Handle<T> {
         self.reader.get_at(slot)
     }
 
-    /// Installs a value at a free slot, and returns the slot. It may wait as long as one other
+    /// Installs a value at a free slot, and returns its key. It may wait as long as one other
     /// thread is stopped within its own insert, replace or remove: [`Handle::try_insert`] doesn't.
     ///
     /// # Errors
@@ -112,23 +125,23 @@ impl<T> Handle<T> {
     ///
     /// let table = Table::<&str>::with_slots(1)?;
     /// let handle = table.handle()?;
-    /// assert_eq!(handle.insert("first")?, 0);
+    /// let key = handle.insert("first")?;
+    /// assert_eq!(*handle.get(key)?, "first");
     /// let refused = handle.insert("second").unwrap_err();
     /// assert_eq!((refused.value, refused.reason), ("second", Reason::Full { slots: 1 }));
     /// # Ok::<(), Box<dyn std::error::Error>>(())
     /// ```
-    pub fn insert(&self, value: T) -> Result<u32, Refused<T>> {
-        let (values, core) = self.parts();
+    pub fn insert(&self, value: T) -> Result<Key, Refused<T>> {
+        let ((values, core), stored) = (self.parts(), self.store(value));
+        let number = stored.0;
         // SAFETY: the seat is this handle's (one user), and holds nothing between two calls.
-        unsafe { values.insert(core, storage::put(&self.spare, value)) }.map_err(|value| Refused {
-            value: storage::take(&self.spare, value),
-            reason: Reason::Full {
-                slots: values.slots(),
-            },
-        })
+        match unsafe { values.insert(core, stored) } {
+            Ok(slot) => Ok(Key::new(slot, number)),
+            Err(stored) => Err(self.refuse(stored, values.is_full())),
+        }
     }
 
-    /// Looks for a free slot once, and installs a value there. Returns the slot. It waits for no
+    /// Looks for a free slot once, and installs a value there. Returns its key. It waits for no
     /// thread.
     ///
     /// # Errors
@@ -142,25 +155,21 @@ impl<T> Handle<T> {
     /// let table = Table::<&str>::with_slots(1)?;
     /// let handle = table.handle()?;
     /// match handle.try_insert("value") {
-    ///     Ok(slot) => assert_eq!(slot, 0),
+    ///     Ok(key) => assert_eq!(key.slot(), 0),
     ///     Err(refused) if refused.reason == Reason::Again => println!("later: {}", refused.value),
     ///     Err(refused) => return Err(refused.into()),
     /// }
     /// # Ok::<(), Box<dyn std::error::Error>>(())
     /// ```
-    pub fn try_insert(&self, value: T) -> Result<u32, Refused<T>> {
-        let (values, core) = self.parts();
+    pub fn try_insert(&self, value: T) -> Result<Key, Refused<T>> {
+        let ((values, core), stored) = (self.parts(), self.store(value));
+        let number = stored.0;
         // SAFETY: the seat is this handle's (one user), and holds nothing between two calls.
-        let answer = unsafe { values.try_insert(core, storage::put(&self.spare, value)) };
-        answer.map_err(|(value, round)| Refused {
-            value: storage::take(&self.spare, value),
-            reason: match round {
-                Round::Again => Reason::Again,
-                Round::Full => Reason::Full {
-                    slots: values.slots(),
-                },
-            },
-        })
+        match unsafe { values.try_insert(core, stored) } {
+            Ok(slot) => Ok(Key::new(slot, number)),
+            Err((stored, Round::Again)) => Err(self.refuse(stored, Reason::Again)),
+            Err((stored, Round::Full)) => Err(self.refuse(stored, values.is_full())),
+        }
     }
 
     /// Installs a value at a slot. Returns what became of the old value. An old value that is in
@@ -183,14 +192,11 @@ impl<T> Handle<T> {
     /// ```
     #[inline]
     pub fn replace_at(&self, slot: u32, value: T) -> Result<Old<T>, Refused<T>> {
-        let (values, core) = self.parts();
+        let ((values, core), stored) = (self.parts(), self.store(value));
         // SAFETY: the seat is this handle's (one user), and holds nothing between two calls.
-        match unsafe { values.replace_at(core, slot, storage::put(&self.spare, value)) } {
+        match unsafe { values.replace_at(core, slot, stored) } {
             Ok(old) => Ok(old.map(|it| storage::take(&self.spare, it))),
-            Err(value) => Err(Refused {
-                value: storage::take(&self.spare, value),
-                reason: Reason::NoSlot(values.no_slot(slot)),
-            }),
+            Err(stored) => Err(self.refuse(stored, Reason::NoSlot(values.no_slot(slot)))),
         }
     }
 
@@ -258,9 +264,9 @@ impl<T> Handle<T> {
     /// ```
     /// let table = yachtbanyan::Table::<u64>::with_slots(4)?;
     /// let handle = table.handle()?;
-    /// let slot = handle.insert(7)?;
+    /// let key = handle.insert(7)?;
     /// assert!(!handle.is_empty());
-    /// handle.remove_at(slot)?;
+    /// handle.remove(key)?;
     /// assert!(handle.is_empty());
     /// # Ok::<(), Box<dyn std::error::Error>>(())
     /// ```

@@ -1,6 +1,7 @@
 //! Readers.
 use super::guard::Guard;
-use super::seats::Place;
+use super::seats::{Installer, Place};
+use super::storage::Stored;
 use super::table::Table;
 use super::values::{drop_last, Looked};
 use crate::errors::{GetError, NoSeat};
@@ -43,6 +44,8 @@ pub struct Reader<T> {
     is_busy: Cell<bool>,
     /// The first seat in the list of its other guards' seats.
     others: Cell<Option<u32>>,
+    /// The handle's seat that installs, if this reader is that of a handle.
+    pub(super) installer: Option<Installer>,
 }
 
 // SAFETY: the thread that gets the reader may read values (`T: Sync`) and drop them (`T: Send`). It
@@ -51,19 +54,16 @@ pub struct Reader<T> {
 unsafe impl<T: Send + Sync> Send for Reader<T> {}
 
 impl<T> Reader<T> {
-    /// Makes a reader of a seat that the caller claimed.
-    pub(super) fn new(table: Table<T>, own: Place) -> Reader<T> {
+    /// Makes a reader of a seat that the caller claimed, and of the seat that installs if it is the
+    /// reader of a handle.
+    pub(super) fn new(table: Table<T>, own: Place, installer: Option<Installer>) -> Reader<T> {
         Reader {
             table,
             own,
             is_busy: Cell::new(false),
             others: Cell::new(None),
+            installer,
         }
-    }
-
-    /// Returns the number of the reader's own seat.
-    pub(super) fn number(&self) -> u32 {
-        self.own.number
     }
 
     /// Returns a guard of the value at a slot. The look-up may drop another value: one that it saw
@@ -80,8 +80,8 @@ impl<T> Reader<T> {
     /// let table = Table::<u64>::with_slots(2)?;
     /// let reader = table.reader()?;
     /// assert_eq!(reader.get_at(1).unwrap_err(), GetError::Empty { slot: 1 });
-    /// let slot = table.insert(7)?;
-    /// assert_eq!(*reader.get_at(slot)?, 7);
+    /// let key = table.insert(7)?;
+    /// assert_eq!(*reader.get_at(key.slot())?, 7);
     /// # Ok::<(), Box<dyn std::error::Error>>(())
     /// ```
     #[inline]
@@ -89,17 +89,15 @@ impl<T> Reader<T> {
         if self.is_busy.get() {
             return self.get_by_another(slot);
         }
+        let values = self.table.values();
         // SAFETY: the seat is this reader's (one user), and no guard uses it.
-        match unsafe { self.table.values().look(self.own.core, slot) } {
-            Looked {
-                found: Ok(value),
-                freed: None,
-            } => {
-                self.is_busy.set(true);
-                Ok(Guard::new(self, value, self.own, slot))
-            }
-            looked => self.finish(self.own, slot, looked),
+        let looked = unsafe { values.look(self.own.core, slot) };
+        if looked.answer < 0 || looked.freed.is_some() {
+            return self.finish(self.own, slot, looked);
         }
+        self.is_busy.set(true);
+        let held = values.held(looked.answer);
+        Ok(Guard::new(self, held, self.own, slot))
     }
 
     // Looks a slot up by a seat of the table. This and `finish` aren't inlined, so that a look-up
@@ -115,19 +113,21 @@ impl<T> Reader<T> {
 
     // Turns the result of a look-up into a guard, which has the look-up's seat, or into an error.
     #[inline(never)]
-    fn finish(&self, place: Place, slot: u32, looked: Looked<T>) -> Result<Guard<'_, T>, GetError> {
-        let Looked { found, freed } = looked;
-        let guard = match found {
-            Ok(value) => {
-                self.note(place.number);
-                Ok(Guard::new(self, value, place, slot))
-            }
-            Err(number) => {
-                self.end(place.number);
-                Err(self.table.values().get_error(number, slot))
-            }
+    fn finish(
+        &self,
+        place: Place,
+        slot: u32,
+        looked: Looked<Stored<T>>,
+    ) -> Result<Guard<'_, T>, GetError> {
+        let values = self.table.values();
+        let guard = if looked.answer < 0 {
+            self.end(place.number);
+            Err(values.get_error(looked.answer, slot))
+        } else {
+            self.note(place.number);
+            Ok(Guard::new(self, values.held(looked.answer), place, slot))
         };
-        drop_last(freed);
+        drop_last(looked.freed);
         guard
     }
 
@@ -216,7 +216,7 @@ impl<T> Reader<T> {
     }
 
     /// Ends the hold of a seat whose guard was forgotten. Returns the value if this closed it.
-    fn end_forgotten(&self, number: u32) -> Option<Box<T>> {
+    fn end_forgotten(&self, number: u32) -> Option<Box<Stored<T>>> {
         let values = self.table.values();
         let core = values.seats.looking[number as usize].core();
         // SAFETY: a guard borrows the reader, so none is alive: this seat's guard was forgotten,
@@ -229,7 +229,7 @@ impl<T> Reader<T> {
 
 impl<T> Drop for Reader<T> {
     fn drop(&mut self) {
-        let mut freed: Vec<Box<T>> = Vec::new();
+        let mut freed: Vec<Box<Stored<T>>> = Vec::new();
         while let Some(number) = self.others.get() {
             freed.extend(self.end_forgotten(number));
         }

@@ -6,7 +6,7 @@
 //! is 0 where the node is free, `BORN` less what was released while its file is in a slot, and 1
 //! and what is still held after that.
 use super::core::{
-    Core, AGAIN, BAD, BUSY, CLOSED, DONE, EMPTY, FULL, IDLE, IN_USE, NO_BLOCK, NO_SLOT,
+    Core, AGAIN, BAD, BUSY, CLOSED, DONE, EMPTY, FULL, IDLE, IN_USE, NO_BLOCK, NO_SLOT, OTHER,
 };
 use super::core::{MOST_INSTALLING, MOST_SLOTS, MOST_WORKERS};
 use std::cell::UnsafeCell;
@@ -65,6 +65,25 @@ impl Table {
         self.changes.fetch_add(1, SeqCst);
         self.subtract((word >> 32) as usize - 1, (1 << 32) - (word & TAKES))
     }
+
+    // Exchanges the word of a slot once if it names this node. Returns the old word, or the number
+    // of the reason.
+    fn exchange(&self, slot: u32, node: u32, word: u64) -> Result<u64, i64> {
+        let it = &self.slots[slot as usize];
+        let old = it.load(SeqCst);
+        if old >> 32 == 0 {
+            return Err(EMPTY);
+        }
+        if old >> 32 != u64::from(node) + 1 {
+            return Err(OTHER);
+        }
+        #[cfg(test)]
+        if super::tests::is_overtaken() {
+            return Err(AGAIN);
+        }
+        let done = it.compare_exchange(old, word, SeqCst, SeqCst);
+        done.map_err(|_| AGAIN)
+    }
 }
 
 impl Worker {
@@ -88,6 +107,11 @@ impl Worker {
         Some((node as u64 + 1) << 32)
     }
 
+    // Makes the node of a word that was not installed free again. It stays chosen.
+    fn take_back(&self, word: u64) {
+        self.table.nodes[(word >> 32) as usize - 1].store(0, SeqCst);
+    }
+
     fn look(&mut self, slot: usize) -> i64 {
         let Some(word) = self.table.slots.get(slot) else {
             return NO_SLOT;
@@ -101,6 +125,14 @@ impl Worker {
                 self.held = Some(name - 1);
                 name as i64 - 1
             }
+        }
+    }
+
+    // Notes that this worker emptied a slot.
+    fn note_emptied(&mut self, slot: u32) {
+        self.emptied.push_back(slot as usize);
+        if self.emptied.len() > EMPTIED {
+            self.emptied.pop_front();
         }
     }
 
@@ -252,7 +284,7 @@ pub(crate) unsafe fn yacht_core_put_any(handle: *mut Core, tag: u64) -> i64 {
     if slot >= 0 {
         it.next = None;
     } else {
-        it.table.nodes[(word >> 32) as usize - 1].store(0, SeqCst);
+        it.take_back(word);
     }
     slot
 }
@@ -268,10 +300,58 @@ pub(crate) unsafe fn yacht_core_take(handle: *mut Core, slot: u32, closed: *mut 
     match word.swap(0, SeqCst) {
         old if old >> 32 == 0 => EMPTY,
         old => {
-            it.emptied.push_back(slot as usize);
-            if it.emptied.len() > EMPTIED {
-                it.emptied.pop_front();
-            }
+            it.note_emptied(slot);
+            answer(it.table.retire(old), IN_USE, unsafe { &mut *closed })
+        }
+    }
+}
+
+pub(crate) unsafe fn yacht_core_take_if(
+    handle: *mut Core,
+    slot: u32,
+    node: u32,
+    closed: *mut u64,
+) -> i64 {
+    let it = unsafe { worker(handle) };
+    if it.held.is_some() {
+        return BUSY;
+    }
+    if slot as usize >= it.table.slots.len() {
+        return NO_SLOT;
+    }
+    match it.table.exchange(slot, node, 0) {
+        Err(number) => number,
+        Ok(old) => {
+            it.note_emptied(slot);
+            answer(it.table.retire(old), IN_USE, unsafe { &mut *closed })
+        }
+    }
+}
+
+pub(crate) unsafe fn yacht_core_put_if(
+    handle: *mut Core,
+    slot: u32,
+    node: u32,
+    tag: u64,
+    closed: *mut u64,
+) -> i64 {
+    let it = unsafe { worker(handle) };
+    if it.held.is_some() {
+        return BUSY;
+    }
+    if slot as usize >= it.table.slots.len() {
+        return NO_SLOT;
+    }
+    let Some(word) = it.begin(tag) else {
+        return NO_BLOCK;
+    };
+    match it.table.exchange(slot, node, word) {
+        Err(number) => {
+            it.take_back(word);
+            number
+        }
+        Ok(old) => {
+            it.next = None;
             answer(it.table.retire(old), IN_USE, unsafe { &mut *closed })
         }
     }

@@ -2,8 +2,10 @@
 use super::guard::OwnedGuard;
 use super::handle::Handle;
 use super::reader::Reader;
+use super::storage::Stored;
 use super::values::{drop_last, Looked, Values};
 use crate::errors::{GetError, NoSeat, OpenError, Reason, Refused, RemoveError};
+use crate::key::Key;
 use crate::old::Old;
 use crate::options::Options;
 use std::fmt;
@@ -19,7 +21,7 @@ use std::sync::Arc;
 /// for the call.
 #[must_use = "a table is dropped with its last user"]
 pub struct Table<T> {
-    values: Arc<Values<T>>,
+    values: Arc<Values<Stored<T>>>,
 }
 
 // SAFETY: threads get references to values (`T: Sync`), and any of them may get a value to drop it
@@ -57,7 +59,7 @@ impl<T> Table<T> {
     }
 
     #[inline]
-    pub(super) fn values(&self) -> &Values<T> {
+    pub(super) fn values(&self) -> &Values<Stored<T>> {
         &self.values
     }
 
@@ -94,7 +96,7 @@ impl<T> Table<T> {
     /// ```
     pub fn handle(&self) -> Result<Handle<T>, NoSeat> {
         let place = self.values.seats.claim_handle()?;
-        Ok(Handle::new(Reader::new(self.clone(), place)))
+        Ok(Handle::new(self.clone(), place))
     }
 
     /// Takes a reader, which looks slots up, for one thread at a time. It is free again when it is
@@ -112,7 +114,7 @@ impl<T> Table<T> {
     /// ```
     pub fn reader(&self) -> Result<Reader<T>, NoSeat> {
         let place = self.values.seats.claim_reader()?;
-        Ok(Reader::new(self.clone(), place))
+        Ok(Reader::new(self.clone(), place, None))
     }
 
     /// Returns a guard of the value at a slot that borrows nothing. It takes a guard's seat of the
@@ -134,30 +136,27 @@ impl<T> Table<T> {
     ///
     /// # fn spawn(_: impl std::future::Future<Output = ()> + Send + 'static) {}
     /// let table = Table::<String>::with_slots(4)?;
-    /// let slot = table.insert("page".to_string())?;
-    /// spawn(serve(table.get_owned(slot)?));
+    /// table.replace_at(3, "page".to_string())?;
+    /// spawn(serve(table.get_owned_at(3)?));
     /// # Ok::<(), Box<dyn std::error::Error>>(())
     /// ```
-    pub fn get_owned(&self, slot: u32) -> Result<OwnedGuard<T>, GetError> {
+    pub fn get_owned_at(&self, slot: u32) -> Result<OwnedGuard<T>, GetError> {
         let seats = &self.values.seats;
         let place = seats.claim_guard().map_err(GetError::NoSeat)?;
         // SAFETY: the seat is this call's (one user).
-        let Looked { found, freed } = unsafe { self.values.look(place.core, slot) };
-        match found {
-            Ok(value) => {
-                let guard = OwnedGuard::new(self.clone(), value, place, slot);
-                drop_last(freed);
-                Ok(guard)
-            }
-            Err(number) => {
-                seats.give_back(place.number);
-                drop_last(freed);
-                Err(self.values.get_error(number, slot))
-            }
-        }
+        let Looked { answer, freed } = unsafe { self.values.look(place.core, slot) };
+        let guard = if answer < 0 {
+            seats.give_back(place.number);
+            Err(self.values.get_error(answer, slot))
+        } else {
+            let held = self.values.held(answer);
+            Ok(OwnedGuard::new(self.clone(), held, place, slot))
+        };
+        drop_last(freed);
+        guard
     }
 
-    /// Installs a value at a free slot, and returns the slot, by a seat for this call. It may wait
+    /// Installs a value at a free slot, and returns its key, by a seat for this call. It may wait
     /// as long as one other thread is stopped within its own insert, replace or remove. It also
     /// waits while other calls of the table use all seats that no handle has.
     ///
@@ -167,21 +166,22 @@ impl<T> Table<T> {
     ///
     /// ```
     /// let table = yachtbanyan::Table::<String>::with_slots(4)?;
-    /// let slot = table.insert("value".to_string())?;
-    /// assert!(slot < 4);
+    /// let key = table.insert("value".to_string())?;
+    /// assert_eq!(table.get_owned(key)?.as_str(), "value");
     /// # Ok::<(), Box<dyn std::error::Error>>(())
     /// ```
-    pub fn insert(&self, value: T) -> Result<u32, Refused<T>> {
-        let value = Box::new(value);
-        let answer = match self.values.seats.claim_call() {
-            // SAFETY: the seat is this call's (one user).
-            Ok(call) => unsafe { self.values.insert(call.core(), value) }.map_err(|value| {
-                let slots = self.slots();
-                (value, Reason::Full { slots })
-            }),
-            Err(error) => Err((value, Reason::NoSeat(error))),
+    pub fn insert(&self, value: T) -> Result<Key, Refused<T>> {
+        let call = match self.values.seats.claim_call() {
+            Ok(call) => call,
+            Err(error) => return Err(Refused::new(value, Reason::NoSeat(error))),
         };
-        answer.map_err(Refused::new)
+        let stored = call.store(value);
+        let number = stored.0;
+        // SAFETY: the seat is this call's (one user).
+        match unsafe { self.values.insert(call.core(), stored) } {
+            Ok(slot) => Ok(Key::new(slot, number)),
+            Err(stored) => Err(Refused::new(stored.1, self.values.is_full())),
+        }
     }
 
     /// Installs a value at a slot, by a seat for this call. Returns what became of the old value. A
@@ -201,16 +201,17 @@ impl<T> Table<T> {
     /// # Ok::<(), Box<dyn std::error::Error>>(())
     /// ```
     pub fn replace_at(&self, slot: u32, value: T) -> Result<Old<T>, Refused<T>> {
-        let value = Box::new(value);
-        let answer = match self.values.seats.claim_call() {
-            // SAFETY: the seat is this call's (one user).
-            Ok(call) => unsafe { self.values.replace_at(call.core(), slot, value) }
-                .map_err(|value| (value, Reason::NoSlot(self.values.no_slot(slot)))),
-            Err(error) => Err((value, Reason::NoSeat(error))),
+        let call = match self.values.seats.claim_call() {
+            Ok(call) => call,
+            Err(error) => return Err(Refused::new(value, Reason::NoSeat(error))),
         };
-        match answer {
-            Ok(old) => Ok(old.map(|it| *it)),
-            Err(parts) => Err(Refused::new(parts)),
+        // SAFETY: the seat is this call's (one user).
+        match unsafe { self.values.replace_at(call.core(), slot, call.store(value)) } {
+            Ok(old) => Ok(old.map(|it| it.1)),
+            Err(stored) => {
+                let reason = Reason::NoSlot(self.values.no_slot(slot));
+                Err(Refused::new(stored.1, reason))
+            }
         }
     }
 
@@ -225,8 +226,8 @@ impl<T> Table<T> {
     /// use yachtbanyan::{Old, Table};
     ///
     /// let table = Table::<u64>::with_slots(4)?;
-    /// let slot = table.insert(7)?;
-    /// assert_eq!(table.remove_at(slot)?, Old::Unused(7));
+    /// table.replace_at(3, 7)?;
+    /// assert_eq!(table.remove_at(3)?, Old::Unused(7));
     /// # Ok::<(), Box<dyn std::error::Error>>(())
     /// ```
     pub fn remove_at(&self, slot: u32) -> Result<Old<T>, RemoveError> {
@@ -234,7 +235,7 @@ impl<T> Table<T> {
         // SAFETY: the seat is this call's (one user).
         let old = unsafe { self.values.remove_at(call.core(), slot) };
         drop(call);
-        Ok(old?.map(|it| *it))
+        Ok(old?.map(|it| it.1))
     }
 
     /// Checks whether a slot has a value, by a seat for this call. A slot that the table hasn't has
@@ -246,8 +247,8 @@ impl<T> Table<T> {
     ///
     /// ```
     /// let table = yachtbanyan::Table::<u64>::with_slots(4)?;
-    /// let slot = table.insert(7)?;
-    /// assert!(table.contains(slot)?);
+    /// table.replace_at(3, 7)?;
+    /// assert!(table.contains(3)? && !table.contains(2)?);
     /// # Ok::<(), Box<dyn std::error::Error>>(())
     /// ```
     pub fn contains(&self, slot: u32) -> Result<bool, NoSeat> {

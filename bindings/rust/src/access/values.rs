@@ -1,7 +1,7 @@
 //! The values of a table, and the calls of the core on them.
 use super::core::{self, Core};
 use super::seats::Seats;
-use crate::errors::{GetError, NoSlot, OpenError};
+use crate::errors::{GetError, NoSlot, OpenError, Reason};
 use crate::old::Old;
 use crate::options::Options;
 use std::marker::PhantomData;
@@ -15,10 +15,17 @@ pub(super) struct Values<T> {
     _owns: PhantomData<T>,
 }
 
-/// The result of a look-up: the address of the value, which the seat holds now, or the core's
-/// number of the reason why there is none; and a value that this look-up was the last to use.
+/// A value that a seat holds: its address, and the node of its file.
+pub(super) struct Held<T> {
+    pub(super) value: *const T,
+    pub(super) node: u32,
+}
+
+/// The result of a look-up: the node of the file that the seat holds now, or the core's number of
+/// the reason why there is no value, which is negative; and a value that this look-up was the last
+/// to use.
 pub(super) struct Looked<T> {
-    pub(super) found: Result<*const T, i64>,
+    pub(super) answer: i64,
     pub(super) freed: Option<Box<T>>,
 }
 
@@ -81,6 +88,12 @@ impl<T> Values<T> {
         NoSlot { slot, slots }
     }
 
+    /// Returns the reason why a value isn't installed if every slot has one.
+    pub(super) fn is_full(&self) -> Reason {
+        let slots = self.slots;
+        Reason::Full { slots }
+    }
+
     /// Looks a slot up. If it finds a value, the seat holds that value until `release`.
     ///
     /// # Safety
@@ -90,19 +103,23 @@ impl<T> Values<T> {
         let mut freed = 0;
         // SAFETY: no other call uses the core's worker meanwhile.
         let answer = unsafe { core::yacht_core_look(core, slot, &mut freed) };
-        let found = if answer >= 0 {
-            // The address was written before the file was installed on this node (`placed`,
-            // `allocated`), and stays while the file is held: nobody chooses the node until then
-            // (`chosen_nodes_are_free`, `nodes_are_of_one_file`).
-            let value = self.by_node[answer as usize].load(Ordering::Relaxed);
-            order::acquire(value as usize as u64);
-            Ok(value.cast_const())
-        } else {
-            Err(answer)
-        };
         // SAFETY: this look-up was overtaken, and the core closed this file in it (`looked`).
         let freed = (freed != 0).then(|| unsafe { value_of(freed) });
-        Looked { found, freed }
+        Looked { answer, freed }
+    }
+
+    /// Returns what a seat holds whose look-up had this answer, which is a node.
+    #[inline]
+    pub(super) fn held(&self, answer: i64) -> Held<T> {
+        // The address was written before the file was installed on this node (`placed`,
+        // `allocated`), and stays while the file is held: nobody chooses the node until then
+        // (`chosen_nodes_are_free`, `nodes_are_of_one_file`).
+        let value = self.by_node[answer as usize].load(Ordering::Relaxed);
+        order::acquire(value as usize as u64);
+        Held {
+            value: value.cast_const(),
+            node: answer as u32,
+        }
     }
 
     /// Returns the error of a look-up that has this number of the core.
@@ -137,12 +154,13 @@ impl<T> Values<T> {
     /// As of `look`.
     pub(super) unsafe fn sees(&self, core: *mut Core, slot: u32) -> (bool, [Option<Box<T>>; 2]) {
         // SAFETY: as the caller ensures.
-        let Looked { found, freed } = unsafe { self.look(core, slot) };
-        match found {
-            // SAFETY: the seat holds this value, to which there is no reference.
-            Ok(value) => (true, [unsafe { self.release(core, value) }, freed]),
-            Err(_) => (false, [None, freed]),
+        let Looked { answer, freed } = unsafe { self.look(core, slot) };
+        if answer < 0 {
+            return (false, [None, freed]);
         }
+        let value = self.held(answer).value;
+        // SAFETY: the seat holds this value, to which there is no reference.
+        (true, [unsafe { self.release(core, value) }, freed])
     }
 
     // Writes the address of a value where the next installation puts its file. Returns the tag.
@@ -258,6 +276,71 @@ impl<T> Values<T> {
             core::EMPTY => Ok(Old::None),
             _ => Err(self.no_slot(slot)),
         }
+    }
+
+    /// Empties a slot if it still has the value that another seat of the caller holds, on this
+    /// node. Returns an error if the slot is empty, or has another value. It tries again while
+    /// other threads count look-ups at the slot.
+    ///
+    /// # Safety
+    /// The core's worker is of a seat that the caller has (one user). It holds nothing. Another
+    /// seat of the caller holds a file that it found at this slot on this node.
+    pub(super) unsafe fn remove_held(
+        &self,
+        core: *mut Core,
+        slot: u32,
+        node: u32,
+    ) -> Result<(), GetError> {
+        #[cfg(test)]
+        super::tests::meanwhile();
+        loop {
+            let mut closed = 0;
+            // SAFETY: no other call uses the core's worker meanwhile.
+            let answer = unsafe { core::yacht_core_take_if(core, slot, node, &mut closed) };
+            if answer != core::AGAIN {
+                return of_held(answer, slot);
+            }
+            std::thread::yield_now();
+        }
+    }
+
+    /// Installs a value at a slot if it still has the value that another seat of the caller holds,
+    /// on this node. Returns the value and an error if the slot is empty, or has another value. It
+    /// tries again while other threads count look-ups at the slot.
+    ///
+    /// # Safety
+    /// As of `remove_held`, and the core's worker installs.
+    pub(super) unsafe fn replace_held(
+        &self,
+        core: *mut Core,
+        slot: u32,
+        node: u32,
+        value: Box<T>,
+    ) -> Result<(), (Box<T>, GetError)> {
+        // SAFETY: as the caller ensures.
+        let tag = unsafe { self.prepare(core, value) };
+        #[cfg(test)]
+        super::tests::meanwhile();
+        loop {
+            let mut closed = 0;
+            // SAFETY: no other call uses the core's worker meanwhile.
+            let answer = unsafe { core::yacht_core_put_if(core, slot, node, tag, &mut closed) };
+            if answer != core::AGAIN {
+                // SAFETY: if the core refused the file, it was never installed (`placed`).
+                return of_held(answer, slot).map_err(|error| (unsafe { value_of(tag) }, error));
+            }
+            std::thread::yield_now();
+        }
+    }
+}
+
+// Returns the result of a call on the file at a slot that another seat of the caller holds. That
+// file is not closed by the call (`no_close_while_held`), and the slot exists.
+fn of_held(answer: i64, slot: u32) -> Result<(), GetError> {
+    match answer {
+        core::EMPTY => Err(GetError::Empty { slot }),
+        core::OTHER => Err(GetError::Stale { slot }),
+        _ => Ok(()),
     }
 }
 

@@ -32,9 +32,9 @@ async fn work(session: OwnedGuard<Session>) -> u32 {
 /// Opens a session as soon as a slot is free, works on it, and removes it.
 async fn task(table: Table<Session>, number: u32) -> u32 {
     let mut session = Session { number };
-    let slot = loop {
+    let key = loop {
         match table.insert(session) {
-            Ok(slot) => break slot,
+            Ok(key) => break key,
             Err(refused) => {
                 assert!(matches!(refused.reason, Reason::Full { .. }), "{refused}");
                 session = refused.value;
@@ -42,8 +42,8 @@ async fn task(table: Table<Session>, number: u32) -> u32 {
             }
         }
     };
-    let worked = work(table.get_owned(slot).expect("its own session")).await;
-    table.remove_at(slot).expect("a seat");
+    let worked = work(table.get_owned(key).expect("its own session")).await;
+    table.remove(key).expect("its own session, and a seat");
     worked
 }
 
@@ -67,13 +67,13 @@ async fn main() -> Result<(), Box<dyn std::error::Error>> {
     }
     println!("{sum}, {} ended", ENDED.load(Ordering::Relaxed));
 
-    let slot = table.insert(Session { number: 1 })?;
+    let key = table.insert(Session { number: 1 })?;
     let all = Arc::new(Barrier::new(TASKS as usize));
     let mut tasks = Vec::new();
     for _ in 0..TASKS {
-        tasks.push(tokio::spawn(hold(table.get_owned(slot)?, all.clone())));
+        tasks.push(tokio::spawn(hold(table.get_owned(key)?, all.clone())));
     }
-    table.remove_at(slot)?;
+    table.remove(key)?;
     let mut sum = 0;
     for task in tasks {
         sum += task.await?;

@@ -1,0 +1,393 @@
+//! The calls by key. Each holds the value at the key's slot, and compares its number with the key's
+//! while it holds it. No other file can be on the held file's node (`held_nodes_name_files`). The
+//! core replaces or removes the slot's file only if that is on this node (`placed`, `removed`). So
+//! it changes the slot only if that still has this value.
+//!
+//! A number is in the box of its value. It is written before the value is installed, so whoever
+//! holds the value reads it as the value itself.
+use super::guard::{Guard, OwnedGuard};
+use super::handle::Handle;
+use super::reader::Reader;
+use super::seats::Call;
+use super::storage::{self, Stored};
+use super::table::Table;
+use super::values::{drop_last, Held, Looked, Values};
+use crate::errors::{GetError, Refused, RemoveError};
+use crate::key::Key;
+use crate::old::Old;
+
+/// Returns the fate of a value that was replaced or removed while a seat held it, by what the end
+/// of that hold closed.
+fn of_hold<T>(last: Option<Box<Stored<T>>>) -> Old<Box<Stored<T>>> {
+    last.map_or(Old::InUse, Old::Unused)
+}
+
+impl<T> Reader<T> {
+    /// Returns a guard of the value with this key. It is a look-up, as [`Reader::get_at`].
+    ///
+    /// # Errors
+    /// `Stale` if the slot has another value, and as of [`Reader::get_at`].
+    ///
+    /// ```
+    /// let table = yachtbanyan::Table::<u64>::with_slots(2)?;
+    /// let reader = table.reader()?;
+    /// let key = table.insert(7)?;
+    /// assert_eq!(*reader.get(key)?, 7);
+    /// table.replace_at(key.slot(), 8)?;
+    /// let error = reader.get(key).unwrap_err();
+    /// assert_eq!(error.to_string(), format!("slot {} has another value", key.slot()));
+    /// # Ok::<(), Box<dyn std::error::Error>>(())
+    /// ```
+    #[inline]
+    pub fn get(&self, key: Key) -> Result<Guard<'_, T>, GetError> {
+        let slot = key.slot();
+        let guard = self.get_at(slot)?;
+        if guard.is_of(key) {
+            Ok(guard)
+        } else {
+            Err(GetError::Stale { slot })
+        }
+    }
+}
+
+impl<T> Guard<'_, T> {
+    /// Removes this value from its slot, and ends the guard. Returns what became of the value. A
+    /// guard of a handle uses the handle's seat, and one of a reader a seat for this call: then it
+    /// waits while calls of the table use all seats that no handle has. It tries again while other
+    /// threads count look-ups at the slot.
+    ///
+    /// # Errors
+    /// `Empty` if the slot has no value any more, `Stale` if it has another one, `NoSeat` if it is
+    /// the guard of a reader, and all seats that install have handles. The guard ends in any case.
+    ///
+    /// ```
+    /// use yachtbanyan::{Old, RemoveError, Table};
+    ///
+    /// let table = Table::<&str>::with_slots(1)?;
+    /// let handle = table.handle()?;
+    /// handle.insert("first")?;
+    /// let (guard, other) = (handle.get_at(0)?, handle.get_at(0)?);
+    /// handle.replace_at(0, "second")?;
+    /// assert_eq!(guard.remove(), Err(RemoveError::Stale { slot: 0 }));
+    /// assert_eq!(*other, "first");
+    /// assert_eq!(handle.get_at(0)?.remove(), Ok(Old::Unused("second")));
+    /// # Ok::<(), Box<dyn std::error::Error>>(())
+    /// ```
+    pub fn remove(self) -> Result<Old<T>, RemoveError> {
+        Ok(self.take_out()?.map(|it| it.1))
+    }
+
+    /// Removes the value from its slot, and ends the guard. Returns the value in its box.
+    fn take_out(self) -> Result<Old<Box<Stored<T>>>, RemoveError> {
+        let removed = self.remove_held();
+        let last = self.end();
+        match removed {
+            Ok(()) => Ok(of_hold(last)),
+            Err(error) => {
+                drop_last(last);
+                Err(error)
+            }
+        }
+    }
+
+    fn remove_held(&self) -> Result<(), RemoveError> {
+        let values = self.reader.table().values();
+        let (slot, node) = (self.slot(), self.node());
+        let Some(installer) = self.reader.installer else {
+            let call = values.seats.claim_call()?;
+            // SAFETY: the seat is this call's (one user), and this guard's seat holds the file.
+            return Ok(unsafe { values.remove_held(call.core(), slot, node) }?);
+        };
+        // SAFETY: the seat is the handle's (one user), on whose thread this guard is, and holds
+        // nothing between two calls. This guard's seat holds the file.
+        Ok(unsafe { values.remove_held(installer.core, slot, node) }?)
+    }
+}
+
+impl<T> OwnedGuard<T> {
+    /// Removes this value from its slot, by a seat for this call, and ends the guard. Returns what
+    /// became of the value. The call waits while others of the table use all seats that no handle
+    /// has, and tries again while other threads count look-ups at the slot.
+    ///
+    /// # Errors
+    /// `Empty` if the slot has no value any more, `Stale` if it has another one, `NoSeat` if all
+    /// seats that install have handles. The guard ends in any case.
+    ///
+    /// ```
+    /// use yachtbanyan::{Old, Table};
+    ///
+    /// let table = Table::<u64>::with_slots(4)?;
+    /// let guard = table.get_owned(table.insert(7)?)?;
+    /// assert_eq!(guard.remove(), Ok(Old::Unused(7)));
+    /// # Ok::<(), Box<dyn std::error::Error>>(())
+    /// ```
+    pub fn remove(self) -> Result<Old<T>, RemoveError> {
+        let removed = self.remove_held();
+        let last = self.end();
+        match removed {
+            Ok(()) => Ok(of_hold(last).map(|it| it.1)),
+            Err(error) => {
+                drop_last(last);
+                Err(error)
+            }
+        }
+    }
+
+    fn remove_held(&self) -> Result<(), RemoveError> {
+        let values = self.table.values();
+        let call = values.seats.claim_call()?;
+        // SAFETY: the seat is this call's (one user), and this guard's seat holds the file.
+        Ok(unsafe { values.remove_held(call.core(), self.slot(), self.node()) }?)
+    }
+}
+
+impl<T> Handle<T> {
+    /// Returns a guard of the value with this key. It is a look-up, as [`Handle::get_at`].
+    ///
+    /// # Errors
+    /// `Stale` if the slot has another value, and as of [`Handle::get_at`].
+    ///
+    /// ```
+    /// use yachtbanyan::{GetError, Table};
+    ///
+    /// let table = Table::<&str>::with_slots(1)?;
+    /// let handle = table.handle()?;
+    /// let key = handle.insert("first")?;
+    /// assert_eq!(*handle.get(key)?, "first");
+    /// handle.replace_at(0, "second")?;
+    /// assert_eq!(handle.get(key).unwrap_err(), GetError::Stale { slot: 0 });
+    /// handle.remove_at(0)?;
+    /// assert_eq!(handle.get(key).unwrap_err(), GetError::Empty { slot: 0 });
+    /// # Ok::<(), Box<dyn std::error::Error>>(())
+    /// ```
+    #[inline]
+    pub fn get(&self, key: Key) -> Result<Guard<'_, T>, GetError> {
+        self.reader.get(key)
+    }
+
+    /// Installs a value in place of the one with this key. Returns the new value's key, and what
+    /// became of the old value, whose key is stale then. It looks the slot up, as
+    /// [`Handle::get_at`], and tries again while other threads count look-ups there.
+    ///
+    /// # Errors
+    /// With the new value: `Stale` if the slot has another value than that of the key, `Empty` if
+    /// it has none, `NoSlot` if the table has no such slot, `NoSeat` if a guard of this handle is
+    /// alive, and the table has no seat for another.
+    ///
+    /// ```
+    /// use yachtbanyan::{Old, Reason, Table};
+    ///
+    /// let table = Table::<&str>::with_slots(1)?;
+    /// let handle = table.handle()?;
+    /// let first = handle.insert("first")?;
+    /// let (second, old) = handle.replace(first, "second")?;
+    /// assert_eq!(old, Old::Unused("first"));
+    /// let refused = handle.replace(first, "third").unwrap_err();
+    /// assert_eq!((refused.value, refused.reason), ("third", Reason::Stale { slot: 0 }));
+    /// assert_eq!(*handle.get(second)?, "second");
+    /// # Ok::<(), Box<dyn std::error::Error>>(())
+    /// ```
+    pub fn replace(&self, key: Key, value: T) -> Result<(Key, Old<T>), Refused<T>> {
+        let guard = match self.get(key) {
+            Ok(guard) => guard,
+            Err(error) => return Err(Refused::new(value, error.into())),
+        };
+        let ((values, core), stored) = (self.parts(), self.store(value));
+        let new = Key::new(key.slot(), stored.0);
+        // SAFETY: the seat is this handle's (one user), and holds nothing between two calls. The
+        // guard's seat holds the file.
+        let replaced = unsafe { values.replace_held(core, key.slot(), guard.node(), stored) };
+        let last = guard.end();
+        match replaced {
+            Ok(()) => Ok((new, of_hold(last).map(|it| storage::take(&self.spare, it)))),
+            Err((stored, error)) => {
+                let refused = self.refuse(stored, error.into());
+                drop_last(last);
+                Err(refused)
+            }
+        }
+    }
+
+    /// Removes the value with this key. Returns what became of it. A value that is in use is
+    /// dropped by its last user. It looks the slot up, as [`Handle::get_at`], and tries again while
+    /// other threads count look-ups there.
+    ///
+    /// # Errors
+    /// `Stale` if the slot has another value, `Empty` if it has none, `NoSlot` if the table has no
+    /// such slot, `NoSeat` if a guard of this handle is alive, and the table has no seat for
+    /// another.
+    ///
+    /// ```
+    /// use yachtbanyan::{Old, RemoveError, Table};
+    ///
+    /// let table = Table::<&str>::with_slots(1)?;
+    /// let handle = table.handle()?;
+    /// let first = handle.insert("first")?;
+    /// assert_eq!(handle.remove(first), Ok(Old::Unused("first")));
+    /// let second = handle.insert("second")?;
+    /// assert_eq!(handle.remove(first), Err(RemoveError::Stale { slot: 0 }));
+    /// assert_eq!(*handle.get(second)?, "second");
+    /// # Ok::<(), Box<dyn std::error::Error>>(())
+    /// ```
+    pub fn remove(&self, key: Key) -> Result<Old<T>, RemoveError> {
+        let old = self.get(key)?.take_out()?;
+        Ok(old.map(|it| storage::take(&self.spare, it)))
+    }
+}
+
+impl<T> Table<T> {
+    /// Returns a guard of the value with this key that borrows nothing. It is a look-up, as
+    /// [`Table::get_owned_at`].
+    ///
+    /// # Errors
+    /// `Stale` if the slot has another value, and as of [`Table::get_owned_at`].
+    ///
+    /// ```
+    /// use yachtbanyan::{GetError, Table};
+    ///
+    /// let table = Table::<u64>::with_slots(1)?;
+    /// let key = table.insert(7)?;
+    /// assert_eq!(*table.get_owned(key)?, 7);
+    /// table.replace_at(0, 8)?;
+    /// assert_eq!(table.get_owned(key).unwrap_err(), GetError::Stale { slot: 0 });
+    /// # Ok::<(), Box<dyn std::error::Error>>(())
+    /// ```
+    pub fn get_owned(&self, key: Key) -> Result<OwnedGuard<T>, GetError> {
+        let slot = key.slot();
+        let guard = self.get_owned_at(slot)?;
+        if guard.is_of(key) {
+            Ok(guard)
+        } else {
+            Err(GetError::Stale { slot })
+        }
+    }
+
+    /// Installs a value in place of the one with this key, as [`Handle::replace`], by a seat for
+    /// this call. The call waits while others of the table use all seats that no handle has.
+    ///
+    /// # Errors
+    /// With the new value: `Stale` if the slot has another value than that of the key, `Empty` if
+    /// it has none, `NoSlot` if the table has no such slot, `NoSeat` if all seats that install have
+    /// handles.
+    ///
+    /// ```
+    /// use yachtbanyan::{Old, Table};
+    ///
+    /// let table = Table::<u64>::with_slots(4)?;
+    /// let first = table.insert(7)?;
+    /// let (second, old) = table.replace(first, 8)?;
+    /// assert_eq!((old, table.remove(second)?), (Old::Unused(7), Old::Unused(8)));
+    /// # Ok::<(), Box<dyn std::error::Error>>(())
+    /// ```
+    pub fn replace(&self, key: Key, value: T) -> Result<(Key, Old<T>), Refused<T>> {
+        let hold = match self.hold(key) {
+            Ok(hold) => hold,
+            Err(error) => return Err(Refused::new(value, error.into())),
+        };
+        let stored = hold.call.store(value);
+        let new = Key::new(key.slot(), stored.0);
+        let (core, node) = (hold.call.core(), hold.held.node);
+        // SAFETY: the seats are this call's (one user), and its other seat holds the file.
+        let replaced = unsafe { self.values().replace_held(core, key.slot(), node, stored) };
+        let last = hold.end();
+        match replaced {
+            Ok(()) => Ok((new, of_hold(last).map(|it| it.1))),
+            Err((stored, error)) => {
+                let refused = Refused::new(stored.1, error.into());
+                drop_last(last);
+                Err(refused)
+            }
+        }
+    }
+
+    /// Removes the value with this key, as [`Handle::remove`], by a seat for this call. The call
+    /// waits while others of the table use all seats that no handle has.
+    ///
+    /// # Errors
+    /// `Stale` if the slot has another value, `Empty` if it has none, `NoSlot` if the table has no
+    /// such slot, `NoSeat` if all seats that install have handles.
+    ///
+    /// ```
+    /// use yachtbanyan::{Old, RemoveError, Table};
+    ///
+    /// let table = Table::<u64>::with_slots(1)?;
+    /// let first = table.insert(7)?;
+    /// assert_eq!(table.remove(first), Ok(Old::Unused(7)));
+    /// let second = table.insert(8)?;
+    /// assert_eq!(table.remove(first), Err(RemoveError::Stale { slot: 0 }));
+    /// assert_eq!(table.remove(second), Ok(Old::Unused(8)));
+    /// # Ok::<(), Box<dyn std::error::Error>>(())
+    /// ```
+    pub fn remove(&self, key: Key) -> Result<Old<T>, RemoveError> {
+        let hold = self.hold(key)?;
+        let (core, node) = (hold.call.core(), hold.held.node);
+        // SAFETY: the seats are this call's (one user), and its other seat holds the file.
+        let removed = unsafe { self.values().remove_held(core, key.slot(), node) };
+        let last = hold.end();
+        match removed {
+            Ok(()) => Ok(of_hold(last).map(|it| it.1)),
+            Err(error) => {
+                drop_last(last);
+                Err(error.into())
+            }
+        }
+    }
+
+    /// Holds the value with this key by the seats of a call.
+    fn hold(&self, key: Key) -> Result<Hold<'_, T>, GetError> {
+        let (values, slot) = (self.values(), key.slot());
+        let call = values.seats.claim_call().map_err(GetError::NoSeat)?;
+        // SAFETY: the seat is this call's (one user).
+        let Looked { answer, freed } = unsafe { values.look(call.looker(), slot) };
+        if answer < 0 {
+            drop(call);
+            drop_last(freed);
+            return Err(values.get_error(answer, slot));
+        }
+        let hold = Hold {
+            values,
+            call,
+            held: values.held(answer),
+            freed,
+        };
+        if hold.is_of(key) {
+            return Ok(hold);
+        }
+        drop_last(hold.end());
+        Err(GetError::Stale { slot })
+    }
+}
+
+/// A value that the looking seat of a call of the table holds.
+struct Hold<'t, T> {
+    values: &'t Values<Stored<T>>,
+    call: Call<'t>,
+    held: Held<Stored<T>>,
+    /// A value that the look-up was the last to use.
+    freed: Option<Box<Stored<T>>>,
+}
+
+impl<T> Hold<'_, T> {
+    /// Checks whether the value has this key.
+    fn is_of(&self, key: Key) -> bool {
+        // SAFETY: the core closes no file that is held (`no_close_while_held`, `has_one_history`).
+        key.is_of(unsafe { (*self.held.value).0 })
+    }
+
+    /// Ends the hold, and gives the seats back. Returns the value if this closed it.
+    fn end(self) -> Option<Box<Stored<T>>> {
+        let Hold {
+            values,
+            call,
+            held,
+            freed,
+        } = self;
+        // SAFETY: the seat is this call's (one user). It holds this value, to which there is no
+        // reference.
+        let last = unsafe { values.release(call.looker(), held.value) };
+        // a drop may call the table, and so may need these seats
+        drop(call);
+        drop_last(freed);
+        last
+    }
+}

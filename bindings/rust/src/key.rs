@@ -1,0 +1,111 @@
+//! Keys of values.
+use crate::access::MOST_SLOTS;
+use std::fmt;
+use std::num::NonZeroU64;
+
+/// The number of bits of a slot.
+const SLOT_BITS: u32 = MOST_SLOTS.ilog2();
+
+/// The name of one value in a table: its slot, and a number that no other value of the table has or
+/// will have. [`Handle::insert`](crate::Handle::insert) returns it, and so does
+/// [`Guard::key`](crate::Guard::key).
+///
+/// The key of a value that was replaced or removed is *stale*: a call with it returns an error,
+/// whatever the slot has now. So nobody finds, replaces or removes another value than the one that
+/// was meant.
+///
+/// ```
+/// use yachtbanyan::{GetError, Table};
+///
+/// let table = Table::<&str>::with_slots(1)?;
+/// let handle = table.handle()?;
+/// let first = handle.insert("first")?;
+/// handle.remove(first)?;
+/// let second = handle.insert("second")?;
+/// assert_eq!((first.slot(), second.slot()), (0, 0));
+/// assert_eq!(handle.get(first).unwrap_err(), GetError::Stale { slot: 0 });
+/// assert!(handle.remove(first).is_err() && *handle.get(second)? == "second");
+/// # Ok::<(), Box<dyn std::error::Error>>(())
+/// ```
+///
+/// A key doesn't name its table. In another one it is stale, or happens to be the key of some
+/// value: a call finds that value, safely.
+///
+/// Keys are ordered by slot. The order of numbers means nothing. Each handle has 2^64 numbers
+/// divided by the number of handles. If a handle uses them up, its further values have no number,
+/// and the keys of those are stale from the beginning. No number is used again.
+#[derive(Clone, Copy, Debug, PartialEq, Eq, PartialOrd, Ord, Hash)]
+pub struct Key {
+    slot: u32,
+    number: Option<NonZeroU64>,
+}
+
+impl Key {
+    pub(crate) fn new(slot: u32, number: Option<NonZeroU64>) -> Key {
+        Key { slot, number }
+    }
+
+    /// Returns the slot of the value.
+    ///
+    /// ```
+    /// let table = yachtbanyan::Table::<u64>::with_slots(4)?;
+    /// let key = table.insert(7)?;
+    /// assert!(key.slot() < 4 && table.contains(key.slot())?);
+    /// # Ok::<(), Box<dyn std::error::Error>>(())
+    /// ```
+    #[inline]
+    pub fn slot(self) -> u32 {
+        self.slot
+    }
+
+    /// Checks whether this is the key of a value with this number at its slot.
+    #[inline]
+    pub(crate) fn is_of(self, number: Option<NonZeroU64>) -> bool {
+        self.number.is_some() && self.number == number
+    }
+
+    /// Returns the key in 64 bits, as for the data of `epoll` or `io_uring`: the slot in the lower
+    /// 12, and above them the number. Returns `None` if the number has more than 52 bits. A handle
+    /// installs 2^52 values divided by the number of handles before that.
+    ///
+    /// ```
+    /// use yachtbanyan::{Key, Table};
+    ///
+    /// let table = Table::<u64>::with_slots(4)?;
+    /// let key = table.insert(7)?;
+    /// let data: u64 = key.to_bits().ok_or("the key has more bits")?;
+    /// assert_eq!(Key::from_bits(data), key);
+    /// # Ok::<(), Box<dyn std::error::Error>>(())
+    /// ```
+    pub fn to_bits(self) -> Option<u64> {
+        let number = self.number.map_or(0, NonZeroU64::get);
+        (number >> (64 - SLOT_BITS) == 0).then_some(number << SLOT_BITS | u64::from(self.slot))
+    }
+
+    /// Returns the key of these bits. Bits that [`Key::to_bits`] didn't return are those of some
+    /// key, which is stale, or finds a value, or has a slot that the table hasn't. Those below
+    /// 4,096, as 0, are a key of no value.
+    ///
+    /// ```
+    /// use yachtbanyan::{GetError, Key, Table};
+    ///
+    /// let table = Table::<u64>::with_slots(1)?;
+    /// let handle = table.handle()?;
+    /// handle.insert(7)?;
+    /// let none = Key::from_bits(0);
+    /// assert_eq!(handle.get(none).unwrap_err(), GetError::Stale { slot: 0 });
+    /// # Ok::<(), Box<dyn std::error::Error>>(())
+    /// ```
+    pub fn from_bits(bits: u64) -> Key {
+        let slot = bits as u32 & ((1 << SLOT_BITS) - 1);
+        Key::new(slot, NonZeroU64::new(bits >> SLOT_BITS))
+    }
+}
+
+/// Prints the slot and the number, as `3#17`.
+impl fmt::Display for Key {
+    fn fmt(&self, f: &mut fmt::Formatter<'_>) -> fmt::Result {
+        let number = self.number.map_or(0, NonZeroU64::get);
+        write!(f, "{}#{number}", self.slot)
+    }
+}
