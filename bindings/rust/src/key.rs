@@ -45,6 +45,12 @@ impl Key {
         Key { slot, number }
     }
 
+    // Returns the number, or 0 if there is none.
+    #[inline]
+    fn bits_of_number(self) -> u64 {
+        self.number.map_or(0, NonZeroU64::get)
+    }
+
     /// Returns the slot of the value.
     ///
     /// ```
@@ -61,7 +67,7 @@ impl Key {
     /// Checks whether this is the key of a value with this number at its slot.
     #[inline]
     pub(crate) fn is_of(self, number: Option<NonZeroU64>) -> bool {
-        self.number.is_some() && self.number == number
+        self.number.is_some() && self.bits_of_number() == number.map_or(0, NonZeroU64::get)
     }
 
     /// Returns the key in 64 bits, as for the data of `epoll` or `io_uring`: the slot in the lower
@@ -78,7 +84,7 @@ impl Key {
     /// # Ok::<(), Box<dyn std::error::Error>>(())
     /// ```
     pub fn to_bits(self) -> Option<u64> {
-        let number = self.number.map_or(0, NonZeroU64::get);
+        let number = self.bits_of_number();
         (number >> (64 - SLOT_BITS) == 0).then_some(number << SLOT_BITS | u64::from(self.slot))
     }
 
@@ -105,7 +111,6 @@ impl Key {
 /// Prints the slot and the number, as `3#17`.
 impl fmt::Display for Key {
     fn fmt(&self, f: &mut fmt::Formatter<'_>) -> fmt::Result {
-        let number = self.number.map_or(0, NonZeroU64::get);
-        write!(f, "{}#{number}", self.slot)
+        write!(f, "{}#{}", self.slot, self.bits_of_number())
     }
 }

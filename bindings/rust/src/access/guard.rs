@@ -100,6 +100,15 @@ impl<'r, T> Guard<'r, T> {
         key.is_of(self.stored().0)
     }
 
+    /// Drops the guard, by a call that isn't inlined: it is seldom made.
+    #[inline]
+    pub(super) fn drop_apart(self) {
+        let guard = ManuallyDrop::new(self);
+        let (reader, value, place) = (guard.reader, guard.value, guard.place);
+        // SAFETY: the guard isn't dropped.
+        unsafe { release_and_drop(reader, value, place) }
+    }
+
     /// Ends the hold, and gives its seat back. Returns the value if this closed it.
     #[inline]
     pub(super) fn end(self) -> Option<Box<Stored<T>>> {
@@ -113,13 +122,37 @@ impl<'r, T> Guard<'r, T> {
     // SAFETY of a call: the guard is used no more.
     #[inline]
     unsafe fn release(&self) -> Option<Box<Stored<T>>> {
-        let values = self.reader.table().values();
-        // SAFETY: the seat is the reader's (one user), on whose thread this guard is. It holds this
-        // guard's value, and every reference to the value borrowed the guard.
-        let freed = unsafe { values.release(self.place.core, self.value) };
-        self.reader.give_back(self.place.number);
-        freed
+        // SAFETY: as the caller ensures.
+        unsafe { release(self.reader, self.value, self.place) }
     }
+}
+
+// Ends the hold of a guard with these parts, and gives its seat back.
+//
+// SAFETY of a call: the guard is used no more.
+#[inline]
+unsafe fn release<T>(
+    reader: &Reader<T>,
+    value: *const Stored<T>,
+    place: Place,
+) -> Option<Box<Stored<T>>> {
+    // SAFETY: the seat is the reader's (one user), on whose thread the guard is. It holds the
+    // guard's value, and every reference to the value borrowed the guard.
+    let freed = unsafe { reader.table().values().release(place.core, value) };
+    reader.give_back(place.number);
+    freed
+}
+
+// Ends the hold of a guard with these parts, gives its seat back, and drops the value if this
+// closed it.
+//
+// SAFETY of a call: as of `release`.
+#[cold]
+#[inline(never)]
+unsafe fn release_and_drop<T>(reader: &Reader<T>, value: *const Stored<T>, place: Place) {
+    // SAFETY: as the caller ensures.
+    let freed = unsafe { release(reader, value, place) };
+    drop_last(freed);
 }
 
 impl<T> Deref for Guard<'_, T> {

@@ -5,6 +5,7 @@
 //!
 //! A number is in the box of its value. It is written before the value is installed, so whoever
 //! holds the value reads it as the value itself.
+use super::core::Core;
 use super::guard::{Guard, OwnedGuard};
 use super::handle::Handle;
 use super::reader::Reader;
@@ -38,13 +39,14 @@ impl<T> Reader<T> {
     /// assert_eq!(error.to_string(), format!("slot {} has another value", key.slot()));
     /// # Ok::<(), Box<dyn std::error::Error>>(())
     /// ```
-    #[inline]
+    #[inline(always)]
     pub fn get(&self, key: Key) -> Result<Guard<'_, T>, GetError> {
-        let slot = key.slot();
-        let guard = self.get_at(slot)?;
+        let guard = self.get_at(key.slot())?;
         if guard.is_of(key) {
             Ok(guard)
         } else {
+            let slot = key.slot();
+            guard.drop_apart();
             Err(GetError::Stale { slot })
         }
     }
@@ -73,34 +75,52 @@ impl<T> Guard<'_, T> {
     /// assert_eq!(handle.get_at(0)?.remove(), Ok(Old::Unused("second")));
     /// # Ok::<(), Box<dyn std::error::Error>>(())
     /// ```
+    #[inline]
     pub fn remove(self) -> Result<Old<T>, RemoveError> {
-        Ok(self.take_out()?.map(|it| it.1))
+        let old = match self.reader.installer {
+            // SAFETY: the seat is the handle's (one user), on whose thread this guard is, and holds
+            // nothing between two calls.
+            Some(installer) => unsafe { self.take_out(installer.core) }?,
+            None => self.take_out_by_call()?,
+        };
+        Ok(old.map(|it| it.1))
     }
 
     /// Removes the value from its slot, and ends the guard. Returns the value in its box.
-    fn take_out(self) -> Result<Old<Box<Stored<T>>>, RemoveError> {
-        let removed = self.remove_held();
+    ///
+    /// # Safety
+    /// The core's worker is of a seat that the caller has (one user). It holds nothing.
+    #[inline]
+    unsafe fn take_out(self, core: *mut Core) -> Result<Old<Box<Stored<T>>>, RemoveError> {
+        let values = self.reader.table().values();
+        // SAFETY: as the caller ensures, and this guard's seat holds the file.
+        let removed = unsafe { values.remove_held(core, self.slot(), self.node()) };
         let last = self.end();
         match removed {
             Ok(()) => Ok(of_hold(last)),
             Err(error) => {
                 drop_last(last);
-                Err(error)
+                Err(error.into())
             }
         }
     }
 
-    fn remove_held(&self) -> Result<(), RemoveError> {
+    // Removes the value by a seat for this call. The seat is given back before a value is dropped.
+    #[inline(never)]
+    fn take_out_by_call(self) -> Result<Old<Box<Stored<T>>>, RemoveError> {
         let values = self.reader.table().values();
-        let (slot, node) = (self.slot(), self.node());
-        let Some(installer) = self.reader.installer else {
-            let call = values.seats.claim_call()?;
-            // SAFETY: the seat is this call's (one user), and this guard's seat holds the file.
-            return Ok(unsafe { values.remove_held(call.core(), slot, node) }?);
-        };
-        // SAFETY: the seat is the handle's (one user), on whose thread this guard is, and holds
-        // nothing between two calls. This guard's seat holds the file.
-        Ok(unsafe { values.remove_held(installer.core, slot, node) }?)
+        let call = values.seats.claim_call()?;
+        // SAFETY: the seat is this call's (one user), and this guard's seat holds the file.
+        let removed = unsafe { values.remove_held(call.core(), self.slot(), self.node()) };
+        drop(call);
+        let last = self.end();
+        match removed {
+            Ok(()) => Ok(of_hold(last)),
+            Err(error) => {
+                drop_last(last);
+                Err(error.into())
+            }
+        }
     }
 }
 
@@ -160,7 +180,7 @@ impl<T> Handle<T> {
     /// assert_eq!(handle.get(key).unwrap_err(), GetError::Empty { slot: 0 });
     /// # Ok::<(), Box<dyn std::error::Error>>(())
     /// ```
-    #[inline]
+    #[inline(always)]
     pub fn get(&self, key: Key) -> Result<Guard<'_, T>, GetError> {
         self.reader.get(key)
     }
@@ -229,8 +249,11 @@ impl<T> Handle<T> {
     /// assert_eq!(*handle.get(second)?, "second");
     /// # Ok::<(), Box<dyn std::error::Error>>(())
     /// ```
+    #[inline]
     pub fn remove(&self, key: Key) -> Result<Old<T>, RemoveError> {
-        let old = self.get(key)?.take_out()?;
+        let (guard, (_, core)) = (self.get(key)?, self.parts());
+        // SAFETY: the seat is this handle's (one user), and holds nothing between two calls.
+        let old = unsafe { guard.take_out(core) }?;
         Ok(old.map(|it| storage::take(&self.spare, it)))
     }
 }

@@ -285,6 +285,7 @@ impl<T> Values<T> {
     /// # Safety
     /// The core's worker is of a seat that the caller has (one user). It holds nothing. Another
     /// seat of the caller holds a file that it found at this slot on this node.
+    #[inline]
     pub(super) unsafe fn remove_held(
         &self,
         core: *mut Core,
@@ -310,6 +311,7 @@ impl<T> Values<T> {
     ///
     /// # Safety
     /// As of `remove_held`, and the core's worker installs.
+    #[inline]
     pub(super) unsafe fn replace_held(
         &self,
         core: *mut Core,
@@ -336,6 +338,7 @@ impl<T> Values<T> {
 
 // Returns the result of a call on the file at a slot that another seat of the caller holds. That
 // file is not closed by the call (`no_close_while_held`), and the slot exists.
+#[inline]
 fn of_held(answer: i64, slot: u32) -> Result<(), GetError> {
     match answer {
         core::EMPTY => Err(GetError::Empty { slot }),
