@@ -39,6 +39,7 @@ pub mod Passing
 pub mod Questions
 pub mod Trying
 pub mod ByNode
+pub mod EmptySlots
 pub mod Taking
 pub mod Retiring
 pub mod Visiting

@@ -26,4 +26,5 @@ pub mod Visits
 pub mod Firsts
 pub mod Tries
 pub mod Keyed
+pub mod Vacant
 pub mod Showing

@@ -1,4 +1,4 @@
-//! The results of the calls that change a slot if its file is on a node.
+//! The results of the calls that change a slot if its file is on a node, or if it is empty.
 use fx_base::OpenFile;
 use fx_table::Retired;
 
@@ -30,4 +30,15 @@ pub enum PutIf {
     Replaced(Retired),
     /// Nothing was changed. The new file comes back.
     Missed(Miss, OpenFile),
+}
+
+/// The result of a call that installs a file at a slot if it is empty. It must be consumed: the
+/// compiler rejects a program that drops one.
+pub enum PutEmpty {
+    /// The slot has the file.
+    Installed,
+    /// The slot had a file. The new one comes back.
+    HasFile(OpenFile),
+    /// The slot was empty, but its word changed before the file was there. The file comes back.
+    Lost(OpenFile),
 }

@@ -29,10 +29,11 @@ mod shared_table;
 mod shown;
 mod table;
 mod tried;
+mod vacant;
 mod view;
 mod visit;
 
-pub use answers::{Miss, PutIf, TakenIf};
+pub use answers::{Miss, PutEmpty, PutIf, TakenIf};
 pub use layout::{MOST_INSTALLING, MOST_PASSES, MOST_SLOTS};
 pub use pass::LastingPass;
 pub use shown::LastingSeen;

@@ -126,7 +126,7 @@ impl LastingTable {
     // Checks whether the pass was sure that the range is full and nobody has cleared its bit since,
     // in at most one step: the range is full now.
     #[inline(always)]
-    fn is_still_full(&self, pass: &mut LastingPass) -> bool
+    pub(crate) fn is_still_full(&self, pass: &mut LastingPass) -> bool
         requires fits { IsPassOfTable self.now pass.old }
         requires numbers { 0 < (view_of pass.old).numbers_left }
         ensures { HasAsked self.now 1 pass.old result pass.new }
@@ -140,7 +140,7 @@ impl LastingTable {
 
     // Asks whether the range is full, in at most three steps more than it has groups.
     #[inline(never)]
-    fn is_all_full(&self, pass: &mut LastingPass) -> bool
+    pub(crate) fn is_all_full(&self, pass: &mut LastingPass) -> bool
         requires fits { IsPassOfTable self.now pass.old }
         requires numbers { 0 < (view_of pass.old).numbers_left }
         ensures { HasAsked self.now (groups_in self.now.range_len + 3) pass.old result
@@ -252,7 +252,7 @@ impl LastingTable {
 
     // Tries to install the file at the slot, in at most three steps. Returns whether the slot was
     // empty and now has the file.
-    fn try_slot(
+    pub(crate) fn try_slot(
         &self,
         seat: &mut Seat<Option<OpenFile>, View>,
         node: u32,

@@ -1,7 +1,7 @@
 -- The meaning of the numbers that C gets: the result of a worker's call, and its tag.
 use Rattle.std.specs.Prelude.{◌≡◌, ℕ, ℤ, pos, Option, Some, None, Result, Ok, Err}
 use Rattle.fx_server.specs.Workers.{IsGood, LooksUp, ReleasesHeld, Puts, PutsAny, RemovesFrom}
-use Rattle.fx_server.specs.Workers.{Chooses, RemovesIf, PutsIf}
+use Rattle.fx_server.specs.Workers.{Chooses, RemovesIf, PutsIf, PutsEmpty, ReportsFull}
 use Rattle.fx_server.specs.declared.answers.LookAnswer.{LookAnswer}
 use Rattle.fx_server.specs.declared.answers.ServerRefusal.{ServerRefusal}
 use Rattle.fx_server.specs.declared.answers.ServerRefusal.TheVariants as refusal
@@ -28,6 +28,11 @@ refusal_code refusal.Other = OTHER
 abbrev pub answer_number : Result ℕ ServerRefusal → ℤ
 answer_number (Ok number) = pos number
 answer_number (Err reason) = refusal_code reason
+
+-- of a call that returns nothing else
+abbrev pub done_number : Result (Unit {0}) ServerRefusal → ℤ
+done_number (Ok _) = DONE
+done_number (Err reason) = refusal_code reason
 
 abbrev pub tag_or_zero : Option ℕ → ℕ
 tag_or_zero None = 0
@@ -121,3 +126,18 @@ pub record PutsIfAs (w : TableWorker) (slot node tag : ℕ) (number : ℤ) (clos
   pub placed : PutsIf w slot node tag result w'
   pub its_number : number ≡ removal_number result
   pub its_tag : closed ≡ removal_tag result
+
+-- of an installation at an empty slot
+pub record PutsEmptyAs (w : TableWorker) (slot tag : ℕ) (number : ℤ) (w' : TableWorker)
+    : Type 0 where
+  pub result : Result (Unit {0}) ServerRefusal
+  pub good : IsGood w'
+  pub placed : PutsEmpty w slot tag result w'
+  pub its_number : number ≡ done_number result
+
+-- of the question whether every slot has a file
+pub record ReportsFullAs (w : TableWorker) (number : ℤ) (w' : TableWorker) : Type 0 where
+  pub answer : ServerRefusal
+  pub good : IsGood w'
+  pub told : ReportsFull w answer w'
+  pub its_number : number ≡ refusal_code answer

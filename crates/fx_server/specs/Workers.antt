@@ -18,14 +18,18 @@ use Rattle.fx_table.specs.declared.values.LookFault.TheVariants as fault
 use Rattle.fx_table.specs.declared.values.Retired.{Retired}
 use Rattle.fx_lasting.specs.Choices.{HasChosen, UsesChoice, KeepsChoice}
 use Rattle.fx_lasting.specs.Keyed.{HasMissed, HasPutIf, HasTakenIf}
+use Rattle.fx_lasting.specs.Laws.{IsInRange as IsAllocated}
 use Rattle.fx_lasting.specs.Passes.{nodes_of}
 use Rattle.fx_lasting.specs.declared.layout.TheConstants.{MOST_SLOTS, MOST_PASSES, MOST_INSTALLING}
 use Rattle.fx_lasting.specs.Tables.{view_of, opening_of_table, IsPassOfTable}
 use Rattle.fx_lasting.specs.declared.answers.Miss.{Miss}
 use Rattle.fx_lasting.specs.declared.answers.Miss.TheVariants as miss
+use Rattle.fx_lasting.specs.declared.answers.PutEmpty.{PutEmpty}
+use Rattle.fx_lasting.specs.declared.answers.PutEmpty.TheVariants as empty
 use Rattle.fx_lasting.specs.declared.answers.PutIf.TheVariants.{Replaced}
 use Rattle.fx_lasting.specs.declared.answers.TakenIf.TheVariants.{Removed}
 use Rattle.fx_lasting.specs.declared.table.LastingTable.{LastingTable}
+use Rattle.fx_lasting.specs.Vacant.{HasPutEmpty}
 use Rattle.fx_lasting.specs.declared.view.Start.{Start}
 use Rattle.fx_server.specs.Files.{file_with}
 use Rattle.fx_server.specs.declared.answers.LookAnswer.{LookAnswer}
@@ -240,3 +244,36 @@ PutsIf w slot node tag (Err NoSlot) w' = HasNoSlot w slot w'
 PutsIf w slot node tag (Err NoBlock) w' = HasNoBlock w w'
 PutsIf w slot node tag (Err Busy) w' = IsBusy w w'
 PutsIf w slot node tag (Err _) w' = ⊥
+
+-- the worker is unchanged, since the slot isn't in the allocation range
+abbrev pub HasNoSuchSlot : TableWorker → ℕ → TableWorker → Type 0
+HasNoSuchSlot w slot w' = (IsAllocated (its_start w) slot → ⊥) × (w' ≡ w)
+
+-- the call of the table for an empty slot returned this
+abbrev pub TriesEmpty : TableWorker → ℕ → ℕ → PutEmpty → TableWorker → Type 0
+TriesEmpty w slot tag answer w' =
+    HasPutEmpty (its_start w) (its_pass w) slot (file_with tag) answer (its_pass w')
+
+-- a file with this tag is put at an empty slot, on the node that was chosen, if one was; or the
+-- slot had a file, or changed meanwhile, and the choice stays
+abbrev pub PutsEmpty : TableWorker → ℕ → ℕ → Result (Unit {0}) ServerRefusal → TableWorker → Type 0
+PutsEmpty w slot tag (Ok _) w' =
+    UsesChoice (its_start w) w.pass (its_pass w') × TriesEmpty w slot tag empty.Installed w'
+PutsEmpty w slot tag (Err Other) w' =
+    KeepsChoice w.pass w'.pass × TriesEmpty w slot tag (empty.HasFile (file_with tag)) w'
+PutsEmpty w slot tag (Err Again) w' =
+    KeepsChoice w.pass w'.pass × TriesEmpty w slot tag (empty.Lost (file_with tag)) w'
+PutsEmpty w slot tag (Err NoSlot) w' = HasNoSuchSlot w slot w'
+PutsEmpty w slot tag (Err NoBlock) w' = HasNoBlock w w'
+PutsEmpty w slot tag (Err Busy) w' = IsBusy w w'
+PutsEmpty w slot tag (Err _) w' = ⊥
+
+-- every slot had a file at one step, or nothing was done; the choice stays
+abbrev pub ReportsFull : TableWorker → ServerRefusal → TableWorker → Type 0
+ReportsFull w NoFree w' = KeepsChoice w.pass w'.pass
+    × Adds (its_opening w) (its_pass w) ([] ▷ Full) DoesNothing no_use (its_pass w')
+ReportsFull w Again w' = KeepsChoice w.pass w'.pass
+    × Adds (its_opening w) (its_pass w) [] DoesNothing no_use (its_pass w')
+ReportsFull w Busy w' = IsBusy w w'
+ReportsFull w NoBlock w' = HasNoBlock w w'
+ReportsFull w _ w' = ⊥

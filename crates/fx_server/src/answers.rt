@@ -21,13 +21,14 @@ pub enum ServerRefusal {
     /// At one step every slot had a file.
     Full,
     /// The round installed nothing, and found no step at which every slot had a file. Or the slot's
-    /// word changed at each try of a call that names a node.
+    /// word changed at each try of a call that names a node, or at the try of one that fills only
+    /// an empty slot.
     Again,
     /// A number is out of its range.
     Bad,
     /// An allocation failed.
     NoMemory,
-    /// The file at the slot is on another node.
+    /// The file at the slot is on another node, or the call fills only an empty slot.
     Other,
 }
 

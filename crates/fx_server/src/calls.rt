@@ -2,11 +2,12 @@
 ghost use Rattle.std.specs.Prelude.{◌≡◌, pos};
 ghost use Rattle.fx_lasting.specs.Passes.{nodes_of};
 ghost use Rattle.fx_server.specs.Answers.{ChoosesAs, LooksAs, PutsAnyAs, PutsAs, PutsIfAs, ReleasesAs, RemovesAs};
-ghost use Rattle.fx_server.specs.Answers.{RemovesIfAs};
+ghost use Rattle.fx_server.specs.Answers.{PutsEmptyAs, RemovesIfAs, ReportsFullAs};
 ghost use Rattle.fx_server.specs.Workers.{IsGood, its_table};
 
 use crate::numbers::{
-    answer_number, release_number, released_tag, removal_number, removal_tag, tag_or_zero,
+    answer_number, done_number, release_number, released_tag, removal_number, removal_tag,
+    tag_or_zero,
 };
 use crate::worker::TableWorker;
 
@@ -101,4 +102,22 @@ pub fn put_if(worker: &mut TableWorker, slot: u32, node: u32, tag: u64, closed: 
     let put = worker.put_if(slot, node, tag);
     *closed = removal_tag(put);
     removal_number(put)
+}
+
+/// Installs a file with this tag at a slot if it is empty.
+#[inline(always)]
+pub fn put_empty(worker: &mut TableWorker, slot: u32, tag: u64) -> i64
+    requires good { IsGood worker.old }
+    ensures placed { PutsEmptyAs worker.old slot tag result worker.new }
+{
+    done_number(worker.put_empty(slot, tag))
+}
+
+/// Checks whether every slot has a file.
+#[inline(always)]
+pub fn full(worker: &mut TableWorker) -> i64
+    requires good { IsGood worker.old }
+    ensures told { ReportsFullAs worker.old result worker.new }
+{
+    worker.full().code()
 }

@@ -36,5 +36,5 @@ pub const BAD: i64 = -8;
 /// An allocation failed.
 pub const NO_MEMORY: i64 = -9;
 
-/// The file at the slot is on another node.
+/// The file at the slot is on another node, or the call fills only an empty slot.
 pub const OTHER: i64 = -10;

@@ -5,7 +5,7 @@ ghost use Rattle.std.specs.Prelude.{◌≡◌, ◌≢◌, ◌⊎◌, length, pos
 ghost use types.Logic.{sem};
 ghost use Rattle.fx_lasting.specs.Passes.{nodes_of};
 ghost use Rattle.fx_server.specs.Answers.{ChoosesAs, LooksAs, PutsAnyAs, PutsAs, PutsIfAs, ReleasesAs, RemovesAs};
-ghost use Rattle.fx_server.specs.Answers.{RemovesIfAs};
+ghost use Rattle.fx_server.specs.Answers.{PutsEmptyAs, RemovesIfAs, ReportsFullAs};
 ghost use Rattle.fx_server.specs.Handle.{HasWorker, handle_owns};
 ghost use Rattle.fx_server.specs.Places.{OpensAs};
 ghost use Rattle.fx_server.specs.Workers.{IsGood, IsInRange, its_table};
@@ -171,4 +171,26 @@ pub unsafe extern "C" fn yacht_core_put_if(
         PutsIfAs w slot node tag result closed.new after) }
 {
     calls::put_if(&mut *(worker as *mut TableWorker), slot, node, tag, closed)
+}
+
+/// Installs a file with this tag at a slot if it is empty. It returns `DONE`, `BUSY`, `NO_SLOT`,
+/// `NO_BLOCK`, `OTHER` if the slot had a file, or `AGAIN` if it was empty and changed meanwhile.
+#[unsafe(no_mangle)]
+pub unsafe extern "C" fn yacht_core_put_empty(worker: *mut Opaque, slot: u32, tag: u64) -> i64
+    ghost w: { TableWorker }
+    requires* good { sem 𝓛 (handle_owns worker w) ∗ ⌜ IsGood w ⌝ }
+    ensures* placed { HasWorker 𝓛 worker (λ after. PutsEmptyAs w slot tag result after) }
+{
+    calls::put_empty(&mut *(worker as *mut TableWorker), slot, tag)
+}
+
+/// Checks whether every slot has a file. It returns `FULL`, or `AGAIN` if it found no step at which
+/// every slot had one, `BUSY` or `NO_BLOCK`.
+#[unsafe(no_mangle)]
+pub unsafe extern "C" fn yacht_core_full(worker: *mut Opaque) -> i64
+    ghost w: { TableWorker }
+    requires* good { sem 𝓛 (handle_owns worker w) ∗ ⌜ IsGood w ⌝ }
+    ensures* told { HasWorker 𝓛 worker (λ after. ReportsFullAs w result after) }
+{
+    calls::full(&mut *(worker as *mut TableWorker))
 }

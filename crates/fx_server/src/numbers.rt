@@ -1,6 +1,6 @@
 //! The numbers of results.
 ghost use Rattle.std.specs.Prelude.{◌≡◌};
-ghost use Rattle.fx_server.specs.Answers.{answer_number, release_number, released_tag, removal_number, removal_tag, tag_or_zero};
+ghost use Rattle.fx_server.specs.Answers.{answer_number, done_number, release_number, released_tag, removal_number, removal_tag, tag_or_zero};
 
 use crate::answers::{Removal, ServerRefusal};
 use crate::codes::{CLOSED, DONE, IN_USE};
@@ -12,6 +12,17 @@ pub fn answer_number(answer: Result<u32, ServerRefusal>) -> i64
 {
     match answer {
         Ok(number) => number as i64,
+        Err(refusal) => refusal.code(),
+    }
+}
+
+/// Returns the number of a call that returns nothing else, or the refusal's.
+#[inline(always)]
+pub fn done_number(done: Result<(), ServerRefusal>) -> i64
+    ensures { result ≡ done_number done }
+{
+    match done {
+        Ok(()) => DONE,
         Err(refusal) => refusal.code(),
     }
 }

@@ -7,12 +7,14 @@ ghost use Rattle.fx_lasting.specs.Passes.{nodes_of};
 ghost use Rattle.fx_lasting.specs.Showing.{IsSeenOf, shown_of};
 ghost use Rattle.fx_server.specs.Workers.{Chooses, IsGood, LooksUp, Notes, ReleasesHeld, Puts, PutsAny};
 ghost use Rattle.fx_server.specs.Workers.{PutsIf, RemovesFrom, RemovesIf, RetiresAs, its_opening, its_pass};
-ghost use Rattle.fx_server.specs.Workers.{its_table, refusal_for};
+ghost use Rattle.fx_server.specs.Workers.{its_table, refusal_for, PutsEmpty, ReportsFull};
 
 use crate::answers::{LookAnswer, Removal, ServerRefusal};
 use crate::shared::Shared;
 use fx_base::OpenFile;
-use fx_lasting::{LastingPass, LastingSeen, LastingTable, Miss, PutIf, TakenIf, TriedPut};
+use fx_lasting::{
+    LastingPass, LastingSeen, LastingTable, Miss, PutEmpty, PutIf, TakenIf, TriedPut,
+};
 use fx_table::{Empty, Hold, LookFault as Fault, LookUp, RealTime, Retired};
 use std::alloc::Global;
 use std::sync::Arc;
@@ -290,6 +292,66 @@ impl TableWorker {
                 file.discard();
                 Err(refusal_for(miss))
             }
+        }
+    }
+
+    /// Installs a file with this tag at a slot if it is empty.
+    ///
+    /// # Errors
+    /// `Busy`, `NoSlot` if the slot isn't in the allocation range, `NoBlock`, in this order;
+    /// `Other` if the slot had a file, `Again` if it was empty and its word changed meanwhile.
+    #[inline(always)]
+    pub fn put_empty(&mut self, slot: u32, tag: u64) -> Result<(), ServerRefusal>
+        requires good { IsGood self.old }
+        ensures good { IsGood self.new }
+        ensures table { self.new.shared ≡ self.old.shared }
+        ensures placed { PutsEmpty self.old slot tag result self.new }
+    {
+        if self.held.is_some() {
+            return Err(ServerRefusal::Busy);
+        }
+        let shared: &Shared = &self.shared;
+        let table = &shared.table;
+        if !table.allocates(slot) {
+            return Err(ServerRefusal::NoSlot);
+        }
+        if !table.installs(&self.pass) {
+            return Err(ServerRefusal::NoBlock);
+        }
+        let file = shared.file(tag);
+        match table.put_empty(&mut self.pass, slot, file) {
+            PutEmpty::Installed => Ok(()),
+            PutEmpty::HasFile(file) => {
+                file.discard();
+                Err(ServerRefusal::Other)
+            }
+            PutEmpty::Lost(file) => {
+                file.discard();
+                Err(ServerRefusal::Again)
+            }
+        }
+    }
+
+    /// Checks whether every slot has a file. Returns `Full` if at one step every slot had one,
+    /// `Again` if it found no such step; or `Busy`, `NoBlock`, in this order.
+    #[inline(always)]
+    pub fn full(&mut self) -> ServerRefusal
+        requires good { IsGood self.old }
+        ensures good { IsGood self.new }
+        ensures table { self.new.shared ≡ self.old.shared }
+        ensures told { ReportsFull self.old result self.new }
+    {
+        if self.held.is_some() {
+            return ServerRefusal::Busy;
+        }
+        let table = &self.shared.table;
+        if !table.installs(&self.pass) {
+            return ServerRefusal::NoBlock;
+        }
+        if table.is_range_full(&mut self.pass) {
+            ServerRefusal::Full
+        } else {
+            ServerRefusal::Again
         }
     }
 }

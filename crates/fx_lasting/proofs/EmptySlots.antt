@@ -1,0 +1,47 @@
+-- The calls of a caller that looks for an empty slot by itself: what their steps leave.
+use Rattle.fx_lasting.proofs.Words.{◌≡◌, ℕ, [], ◌▷◌, refl, subst, arith, Option, Some, None, Bool, true, false, File, Full}
+use Rattle.fx_lasting.proofs.Words.{Start, Sat, At, Sees, Names, slot_of, pass_in, state_after_all, node_of_number, node_in}
+use Rattle.fx_lasting.proofs.Words.{LastingTable, LastingPass, opening_of, view_of}
+use Rattle.std.specs.Prelude.{is_some}
+use Rattle.fx_table.proofs.Calls.{adds_then}
+use Rattle.fx_table.specs.Calls.{Adds, no_use}
+use Rattle.fx_table.specs.declared.values.Doing.TheVariants.{Idle as DoesNothing}
+use Rattle.fx_lasting.specs.Questions.{HasAsked}
+use Rattle.fx_lasting.specs.Vacant.{FitsSight, SeesFile, TellsFull}
+use Rattle.fx_lasting.proofs.Questions.{asked_full, asked_nothing}
+use Rattle.fx_lasting.proofs.Running.{no_name, its_name, runs_goes}
+
+-- a slot's word names a node if the slot has a file
+sight : (k : Start) (word : ℕ) (there : Option File) → Names (node_of_number k) word there → (node : Option ℕ) → node ≡ node_in word
+    → FitsSight (is_some node) there
+sight k word None names None is = refl
+sight k word (Some f) names None is = absurd (omega (arith, names.0, no_name word is))
+sight k word None names (Some n) is = absurd (omega (arith, names, its_name word n is))
+sight k word (Some f) names (Some n) is = (f, refl)
+
+-- A pass that has seen what is at a slot
+module _ {k : Start} {slot : ℕ} {st : At} {m m' : Sat} {found : ℕ} (start : m.0.start ≡ k) (here : slot_of st.word ≡ slot)
+    (saw : Sees st m found m') where
+  names_there : Names (node_of_number k) found ((state_after_all k (pass_in m').front).at slot)
+  names_there = subst (λ (z : Start × ℕ). Names (node_of_number z.0) found ((state_after_all z.0 (pass_in m').front).at z.1))
+      (λ i. (start i, here i)) saw.names
+
+  pub sees_so : (node : Option ℕ) → node ≡ node_in found → SeesFile k slot m (is_some node) m'
+  sees_so node is = (
+    record {
+      history = (pass_in m').front;
+      later = saw.goes.stepped.seen;
+      seen = ([], refl);
+      there = sight k found ((state_after_all k (pass_in m').front).at slot) names_there node is;
+    },
+    runs_goes saw.goes,
+  )
+
+-- a pass that had added nothing has asked
+pub tells_so : (t : LastingTable) {n : ℕ} (u p p' : LastingPass) (full : Bool)
+    → Adds (opening_of t.table.shared.key) (view_of u) [] DoesNothing no_use (view_of p) → HasAsked t n p full p'
+    → TellsFull (opening_of t.table.shared.key) (view_of u) full (view_of p')
+tells_so t u p p' true before asked = adds_then (opening_of t.table.shared.key) (view_of u) (view_of p) (view_of p') [] ([] ▷ Full) DoesNothing
+    DoesNothing no_use no_use before (asked_full asked before.now)
+tells_so t u p p' false before asked = adds_then (opening_of t.table.shared.key) (view_of u) (view_of p) (view_of p') [] [] DoesNothing
+    DoesNothing no_use no_use before (asked_nothing asked before.now)

@@ -1,0 +1,95 @@
+//! The calls for a caller that looks for an empty slot by itself. `put_empty` installs a file at a
+//! slot of the allocation range if it is empty, and `is_range_full` checks whether none is.
+ghost use Rattle.std.specs.Prelude.{◌≡◌, ℕ, ◌+◌, ◌<◌, ◌≤◌, true, false};
+ghost use Rattle.fx_table.specs.Pass.{IsIdle};
+ghost use Rattle.fx_lasting.specs.AtWork.{IsAtWork};
+ghost use Rattle.fx_lasting.specs.Choices.{KeepsChoice};
+ghost use Rattle.fx_lasting.specs.Laws.{IsInRange};
+ghost use Rattle.fx_lasting.specs.Layout.{block_for, groups_in};
+ghost use Rattle.fx_lasting.specs.Tables.{view_of, steps_taken, opening_of_table, IsPassOfTable};
+ghost use Rattle.fx_lasting.specs.Vacant.{HasPutEmpty, PutsEmptyChoice, SeesFile, TellsFull};
+
+use crate::answers::PutEmpty;
+use crate::kinds::Seeing;
+use crate::layout::slot_place;
+use crate::pass::LastingPass;
+use crate::table::LastingTable;
+use crate::view::View;
+use atomic_table::Seat;
+use fx_base::OpenFile;
+use fx_words::node_of;
+
+impl LastingTable {
+    /// Checks whether the slot is in the allocation range.
+    pub fn allocates(&self, slot: u32) -> bool
+        ensures inside { result ≡ true → IsInRange self.now.table.shared.key slot }
+        ensures outside { result ≡ false → IsInRange self.now.table.shared.key slot → ⊥ }
+    {
+        self.is_in_range(slot)
+    }
+
+    /// Installs a file at a slot of the allocation range (`allocates`) if it is empty, under a
+    /// number that no file has had, for an idle pass (`is_idle`) that installs files
+    /// (`numbers_left`), on the node that it has chosen, if it has (`next_node`). It makes at most
+    /// six atomic steps more than the pass's block has nodes. Otherwise nothing changes, and the
+    /// file comes back.
+    pub fn put_empty(&self, pass: &mut LastingPass, slot: u32, file: OpenFile) -> PutEmpty
+        requires fits { IsPassOfTable self.now pass.old }
+        requires idle { IsIdle (view_of pass.old) }
+        requires range { IsInRange self.now.table.shared.key slot }
+        requires numbers { 0 < (view_of pass.old).numbers_left }
+        ensures fits { IsPassOfTable self.now pass.new }
+        ensures placed { HasPutEmpty self.now.table.shared.key (view_of pass.old) slot file result
+            (view_of pass.new) }
+        ensures used { PutsEmptyChoice self.now.table.shared.key pass.old result pass.new }
+        ensures steps { let block = block_for self.now.size self.now.passes in
+            steps_taken pass.new ≤ steps_taken pass.old + (block + 6) }
+    {
+        if self.sees_file(&mut pass.seat, slot) {
+            return PutEmpty::HasFile(file);
+        }
+        let node = self.seek(&mut pass.seat, pass.number, pass.next_node);
+        let identity = file.identity();
+        self.put_in(&mut pass.seat, node, file);
+        pass.next_node = node;
+        if self.try_slot(&mut pass.seat, node, identity, slot) {
+            return PutEmpty::Installed;
+        }
+        PutEmpty::Lost(self.take_out(&mut pass.seat, node))
+    }
+
+    /// Checks whether every slot of the allocation range has a file, for an idle pass (`is_idle`)
+    /// that installs files (`numbers_left`), in at most four atomic steps more than the range has
+    /// groups. `true`: at one step of the call every slot had one (ENFILE). `false`: other passes
+    /// may be changing the range. Nothing changes, and a node that the pass has chosen stays so.
+    pub fn is_range_full(&self, pass: &mut LastingPass) -> bool
+        requires fits { IsPassOfTable self.now pass.old }
+        requires idle { IsIdle (view_of pass.old) }
+        requires numbers { 0 < (view_of pass.old).numbers_left }
+        ensures fits { IsPassOfTable self.now pass.new }
+        ensures told { TellsFull (opening_of_table self.now) (view_of pass.old) result
+            (view_of pass.new) }
+        ensures used { KeepsChoice pass.old pass.new }
+        ensures steps { let groups = groups_in self.now.range_len in
+            steps_taken pass.new ≤ steps_taken pass.old + (groups + 4) }
+    {
+        if self.is_still_full(pass) {
+            return true;
+        }
+        self.is_all_full(pass)
+    }
+
+    // Reads whether the slot has a file, in one step.
+    #[inline(always)]
+    fn sees_file(&self, seat: &mut Seat<Option<OpenFile>, View>, slot: u32) -> bool
+        requires table { seat.old.table_id ≡ self.now.table.shared.table_id }
+        requires at { (number : ℕ) × IsAtWork self.now.table.shared.key number seat.old.me }
+        requires slot { slot < self.now.size }
+        ensures table { seat.new.table_id ≡ seat.old.table_id }
+        ensures places { seat.new.me.1 ≡ seat.old.me.1 }
+        ensures saw { SeesFile self.now.table.shared.key slot seat.old.me result seat.new.me }
+    {
+        let word = self.table.shared.load::<Seeing>(seat, slot_place(slot));
+        node_of(word).is_some()
+    }
+}

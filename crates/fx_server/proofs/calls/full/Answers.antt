@@ -1,0 +1,12 @@
+use Rattle.std.proofs.Common.{rules}
+use Rattle.fx_server.proofs.calls.full.Goals as goal
+
+pub returns : goal.returns
+returns c = record {
+  told = record {
+    answer = c.full.result;
+    good = c.full.ensures.good;
+    told = c.full.ensures.told;
+    its_number = search rules;
+  };
+}

@@ -1,0 +1,51 @@
+-- `yacht_core_full` lends the worker to `full`.
+use Rattle.fx_server.proofs.Steps.{ℕ, ℤ, [], ◌∷◌, refl, w64, proved, full_share, id⊢, ftrue, flft, named, vptr, fact, tables, WpFn, ‵, raw, ◌⊛◌, some, later, prop, ◌$◌, ◌∵◌, !, qed, done, move, keep, use1, use3, split, join, fsplit, fjoin, pick, await, regoal, suffices, group, enter, of_opd, addr, stop, no_more, and_then, returns, alloc_all, pass_all, free_all, look_at, get, through, sets, lands_as, lft_new, lft_end, i64, yes, Is, shows, sint_Lawful, Ptr, RawPtr, block_ptr, in_a_block, rawptr_vals, rawptr_Tells, plain, nothing, heard, peeks, calls_at, lasts, triple_of, framed, Stays, walk_of, says, stay_dropped, Goes-dropped, ends_at}
+use Rattle.fx_server.proofs.Lending.{R, ref_own, kept, never_null, returned}
+use denote.Lend.{lends_ref, ref_back}
+use denote.Memory.{part_at}
+use Rattle.fx_server.specs.Answers.{ReportsFullAs}
+use Rattle.fx_server.specs.Handle.{HasWorker, handle_owns}
+use Rattle.fx_server.specs.Workers.{IsGood}
+use Rattle.fx_server.specs.declared.worker.TableWorker.{TableWorker}
+use Rattle.fx_server.specs.contracts.exports.yacht_core_full as f
+use Rattle.fx_server.proofs.exports.yacht_core_full.Statement.{statement}
+use Rattle.fx_server.proofs.exports.yacht_core_full.Code as code
+use Rattle.fx_server.specs.contracts.calls.full as g
+use Rattle.fx_server.proofs.calls.full.Met.{met}
+
+abbrev stayed : Stays f.ended.signature.params f.ended.kept
+stayed = (stay_dropped _ yes, tt)
+
+pub yacht_core_full_spec : {M : Type 1} → statement M
+yacht_core_full_spec 𝓤 𝓛 𝓜 𝓡 wired =
+    let c = f.clauses 𝓛 𝓜.mem 𝓡.returns in let W = walk_of 𝓛 f.ended stayed c in let 𝓣 = tables 𝓤 𝓛.H 𝓜 𝓡 𝓡.env in
+    let G = triple_of 𝓛 g.signature (g.spec 𝓛 𝓜.mem 𝓡.returns) in
+    proved 𝓛 f.ended stayed c 𝓜 𝓡
+    (Goes-dropped 𝓛 0 (plain (λ _. RawPtr)) yes (λ κs x w. refl), tt)
+    f.Key.name code.function (code.unfolded 𝓤 𝓛.H 𝓜 𝓡 wired)
+    (λ κs. (rawptr_vals, tt)) (λ κs. (rawptr_Tells, tt)) (λ κs qs bounds a w are.
+    let y : Ptr → W.Ghost = λ p. ((κs, qs, bounds, (p, tt), (rawptr_vals p, tt)), w) in
+    qed 𝓛 ((‵ ftrue ⊛ (‵ (RawPtr.own_val a.0 (rawptr_vals a.0)) ⊛ ‵ ftrue)) ∷ (‵ (handle_owns a.0 w) ⊛ raw (fact 𝓤 (IsGood w))) ∷ []) ∵
+    split ! $ move ! (1 ∷ []) $ split ! $ move ! (3 ∷ []) $ split ! $ keep ! (1 ∷ 0 ∷ []) $
+    heard ! (IsGood w) (λ good. in_a_block ! a.0 (λ p. handle_owns p w) (never_null 𝓛 w) (λ b o e.
+    regoal ! (λ p. prop (WpFn 𝓤 𝓛.H 𝓣.C 𝓣.Λ code.function (rawptr_vals p) (W.post (y p)))) e refl $
+    fsplit ! $ enter ! _ _ _ _ _ $ alloc_all ! (λ l. pass_all ! refl ((tt, tt), tt) $
+    sets ! (of_opd ! (get ! refl)) refl (tt, tt) $
+    sets ! (addr ! (through ! refl (stop !))) refl (tt, tt) $
+    lft_new ! tt (λ α. move ! (1 ∷ []) $
+    use1 𝓛 (later (some (λ (δ : ℕ). ‵ (ref_own α δ b o w) ⊛ ‵ (kept α δ b o)))) (lends_ref 𝓛 R (named 0) (α ∷ []) w b o) $ await ! tt $ pick ! (λ δ. split ! $
+    nothing ! $ move ! (1 ∷ 0 ∷ []) $ join ! $
+    nothing ! $ move ! (3 ∷ 0 ∷ []) $ join ! $ join ! $
+    let z : G.Ghost = (((α ∷ [], tt), (full_share, tt), tt, (record { ref_ptr = (b, o); ghost_name = δ; now = w }, tt), (vptr b o ∷ [], tt)), tt) in
+    use1 𝓛 (raw (G.pre z)) (qed 𝓛 (((‵ (flft (α ∷ []) full_share) ⊛ ‵ ftrue) ⊛ ‵ (ref_own α δ b o w) ⊛ ‵ ftrue) ∷ []) ∵ says ! good $ done !) $
+    calls_at ! (framed 𝓤 𝓛.H 𝓜 𝓣) G (met 𝓤 𝓛 𝓜 𝓡 (code.calls-fx_server::calls::full 𝓡.env wired)) z
+    (and_then ! (get ! refl) (no_more !)) (λ v.
+    use1 𝓛 (later (some (λ (r : ℤ). ((‵ (flft (α ∷ []) full_share) ⊛ ‵ ftrue) ⊛ ‵ (i64.own_val r (v ∷ []))) ⊛
+    some (λ (ws : TableWorker × Unit {0}). ‵ (lasts g.ended z.0.0 z.0.3 ws) ⊛ raw (fact 𝓤 (ReportsFullAs w r ws.0)))))) (id⊢ 𝓤 _) $
+    await ! tt $ pick ! (λ r. split ! $ split ! $ split ! $ lft_end ! tt $ move ! (3 ∷ []) $ pick ! (λ ws. split ! $ move ! (1 ∷ []) $ heard ! _ (λ known.
+    fsplit ! $ fsplit ! $ move ! (3 ∷ 6 ∷ 0 ∷ []) $ use3 𝓛 (later (‵ (part_at R full_share ws.0 b o))) (ref_back 𝓛 R (α ∷ []) δ ws.0 b o) $ await ! tt $ move ! (0 ∷ 5 ∷ []) $ fjoin ! $
+    move ! (4 ∷ []) $ peeks ! i64 (Is i64) (shows 𝓛 i64) r (v ∷ []) (λ is. lands_as ! refl refl ((sint_Lawful 𝓛 w64).typed r _ is).0 $
+    returns ! (look_at ! 0 refl) $ free_all ! refl $
+    suffices ! _ (ends_at 𝓛 f.ended stayed c (y (block_ptr b o)) v r (tt, tt) (tt, tt)) $
+    move ! (1 ∷ []) $ use1 𝓛 (raw (HasWorker 𝓛 (block_ptr b o) (λ after. ReportsFullAs w r after))) (returned 𝓛 (block_ptr b o) ws.0 (λ after. ReportsFullAs w r after) known) $
+    keep ! (1 ∷ 0 ∷ []) $ nothing ! $ nothing ! $ join ! $ nothing ! $ group ! 3 $ done !)))))))))))
