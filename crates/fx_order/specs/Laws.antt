@@ -1,26 +1,18 @@
--- Laws that relate orders to histories, reports to rings, and accesses to what requests intend.
-use Rattle.std.specs.Prelude.{◌≡◌, ◌⊎◌, ◌↔◌, ℕ, ◌+◌, ◌<◌, ◌≤◌, List, length, slice_get, Some}
-use Rattle.std.specs.Prelude.{Contains}
-use Rattle.std.specs.List.{AllZip}
-use Rattle.fx_base.specs.Catalogue.{FileEntry, IsCatalogue}
-use Rattle.fx_base.specs.declared.errno.Errno.TheVariants.{ENOMEM}
+-- Laws that relate orders to histories, and reports to rings.
+use Rattle.std.specs.Prelude.{◌≡◌, ◌⊎◌, ℕ, ◌+◌, ◌<◌, ◌≤◌, List, length, slice_get, Some, Contains}
+use Rattle.fx_base.specs.Catalogue.{IsCatalogue}
 use Rattle.fx_base.specs.declared.mark.Mark.TheVariants.{Submitted}
 use Rattle.fx_base.specs.Identity.{Identity}
 use Rattle.fx_plain.specs.declared.table.TheConstants.{MOST_SLOTS}
 use Rattle.fx_chain.specs.Accepted.{IsAccepted}
-use Rattle.fx_chain.specs.Completed.{Completed}
-use Rattle.fx_chain.specs.Intents.{IsOpened, answer_at_table, bytes_asked, intents_of}
-use Rattle.fx_chain.specs.Operation.{Asked, Operation}
+use Rattle.fx_chain.specs.Operation.{Asked}
 use Rattle.fx_chain.specs.Runs.{runs_of}
 use Rattle.fx_chain.specs.declared.completion.Place.{Place}
 use Rattle.fx_chain.specs.declared.fault.TheConstants.{MOST_MEMBERS}
 use Rattle.fx_chain.specs.declared.request.TheConstants.{LONGEST_UPDATE}
 use Rattle.fx_ring.specs.Ring.{RingContents, RingState, IsRing, ring_of}
 use Rattle.fx_ring.specs.Submission.{IsOneHistory, Reported}
-use Rattle.fx_order.specs.Access.{IsOf, last_finding}
 use Rattle.fx_order.specs.Order.{IsOneOrder}
-use Rattle.fx_order.specs.Requests.{IsDoneAtTable, IsRefused}
-use Rattle.fx_order.specs.declared.access.Access.{Access}
 
 -- one order leads to what one history leads to
 abbrev pub EachHistoryIsAnOrder : Type 0
@@ -92,25 +84,3 @@ NoFileThatStaysIsClosed =
     → IsOneOrder old requests report left
     → (slot : ℕ) (file : Identity) → left.at slot ≡ Some file
     → Contains report.closes.files file → ⊥
-
--- these accesses, in order, are those that the request intends, and its completion is the answer by
--- what the last of them found
-abbrev pub AsIntended : List FileEntry → Place → Operation → List Access → Completed → Type 0
-AsIntended catalogue place operation accesses c =
-    (entry : ℕ) × IsOpened catalogue operation entry
-    × AllZip IsOf (intents_of place entry operation) accesses
-    × (c ≡ answer_at_table catalogue place operation (last_finding accesses))
-
--- or the request asks for bytes, finds no memory for them, and makes no access
-abbrev pub IsIntended : List FileEntry → Place → Operation → List Access → Completed → Type 0
-IsIntended catalogue place operation accesses c =
-    ((0 < bytes_asked operation) × IsRefused place ENOMEM accesses c)
-    ⊎ AsIntended catalogue place operation accesses c
-
--- a request that isn't refused does what it intends, and nothing else
-abbrev pub EachRequestDoesAsItIntends : Type 0
-EachRequestDoesAsItIntends =
-    (catalogue : List FileEntry) (place : Place) (operation : Operation) (accesses : List Access)
-    (c : Completed)
-    → IsDoneAtTable catalogue place operation accesses c
-    ↔ IsIntended catalogue place operation accesses c

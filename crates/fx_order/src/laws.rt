@@ -1,8 +1,8 @@
-//! Laws that relate orders of requests to histories of a table, and to what requests intend, over
-//! definitions alone. Each is the contract of a function with an empty body.
+//! Laws that relate orders of requests to histories of a table, over definitions alone. Each is the
+//! contract of a function with an empty body.
 
 ghost use Rattle.fx_order.specs.Laws.{EachClosedFileIsKnown, EachHistoryIsAnOrder, EachOrderIsAHistory};
-ghost use Rattle.fx_order.specs.Laws.{EachReportLeadsToOneRing, EachRequestDoesAsItIntends, NoFileThatStaysIsClosed};
+ghost use Rattle.fx_order.specs.Laws.{EachReportLeadsToOneRing, NoFileThatStaysIsClosed};
 
 /// States that what one history of its table leads to for a submission, one order of its requests,
 /// done one at a time, leads to as well: the completions, the closes and the files at the slots
@@ -35,11 +35,4 @@ pub fn each_closed_file_is_known()
 /// States that no file that a submission leaves at a slot is among those that it closed.
 pub fn no_file_that_stays_is_closed()
     ensures { NoFileThatStaysIsClosed }
-{}
-
-/// States that a request that isn't refused makes the accesses that it intends, in order, and
-/// answers by what the last of them found. Only a request that asks for bytes may fail instead,
-/// without an access, for lack of memory. Conversely, what was done so is what the request may do.
-pub fn each_request_does_as_it_intends()
-    ensures { EachRequestDoesAsItIntends }
 {}

@@ -5,12 +5,11 @@ ghost use Rattle.std.specs.Prelude.{drop, is_some, length, take, true};
 ghost use Rattle.std.specs.List.{AllZip};
 ghost use Rattle.fx_chain.specs.Accepted.{IsWithinLimits};
 ghost use Rattle.fx_chain.specs.Completed.{completed_of};
-ghost use Rattle.fx_base.specs.declared.errno.Errno.TheVariants.{ENOMEM};
-ghost use Rattle.fx_chain.specs.Intents.{IsOpened, answer_at_table, bytes_asked, intents_of, positions_of};
+ghost use Rattle.fx_chain.specs.Intents.{IsOpened, answer_at_table, intents_of, positions_of};
 ghost use Rattle.fx_chain.specs.Operation.{asked_of, operation_of};
 ghost use Rattle.fx_chain.specs.Refusal.{refusal_of};
 ghost use Rattle.fx_order.specs.Access.{IsOf, entry_installed, last_finding};
-ghost use Rattle.fx_order.specs.Requests.{AreIntended, IsOwnEntry, IsRefused, IsRequestDone};
+ghost use Rattle.fx_order.specs.Requests.{AreIntended, IsOwnEntry, IsRefused, IsRequestDone, LacksMemory};
 ghost use Rattle.fx_order.specs.declared.access.Access.{Access as Made};
 
 use crate::access::Access;
@@ -188,8 +187,8 @@ fn is_answered(
 
 // Checks whether the request asks for bytes, makes no access and fails with ENOMEM.
 fn lacks_memory(request: &Request, answer: &Performed<'_>) -> bool
-    ensures { IsTrue result ↔ ((0 < bytes_asked (operation_of request.now.op))
-        × IsRefused answer.now.place ENOMEM answer.now.own.now (completed_of answer.now.c.now)) }
+    ensures { IsTrue result ↔ LacksMemory answer.now.place (operation_of request.now.op)
+        answer.now.own.now (completed_of answer.now.c.now) }
 {
     request.bytes_asked() > 0 && answer.is_refusal(Errno::ENOMEM)
 }
