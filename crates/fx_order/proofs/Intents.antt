@@ -1,27 +1,28 @@
 -- A request's accesses are those that it intends, and its completion is the answer by what they
 -- found.
-use Rattle.fx_order.proofs.Words.{◌≡◌, ◌⊎◌, ◌↔◌, ℕ, zero, suc, ◌+◌, ◌<◌, ℤ, pos, negsuc, List, [], ◌∷◌, ◌++◌, refl, sym, ap, ◌∙◌, inl, inr, Option, Some, None}
-use Rattle.fx_order.proofs.Words.{FileEntry, ENOMEM, Completed, Operation, Opens, Reads, Closes, Updates, Place, Slot, Any, Access, Looks, Puts, Clears}
-use Rattle.fx_order.proofs.Words.{Takes, Allocates, FindsFull, IsRefused, IsEntryDone, AreEntriesDone, IsDoneAtTable, installed}
-use Rattle.fx_order.proofs.Words.{IsCatalogue, arith, false, int_le, length, nat_tests, positions_from, positions_of, slice_get}
-use Rattle.fx_order.proofs.Words.{IsCloseDone, IsOpenDone, IsReadDone}
-use Rattle.fx_base.specs.Identity.{Identity}
-use Rattle.fx_chain.specs.Intents.{IsOpened, allocated, answer_at_table, bytes_asked, close_answer, entry_intents, intents_of, list_intents, read_answer}
-use Rattle.fx_chain.specs.declared.intent.Intent.{Intent}
-use Rattle.fx_chain.specs.declared.intent.Intent.TheVariants.{Allocate}
-use Rattle.fx_order.specs.Access.{IsOf, finding_of, last_finding}
-use Rattle.fx_order.specs.Laws.{AsIntended, IsIntended}
-use Rattle.std.specs.List.{AllZip}
-use Rattle.fx_order.proofs.ChainsFront.{first_and_rest}
-use Rattle.fx_order.proofs.Words.{Bool, IsTrue, completed, drop, refusal_of, slice_index_or, subst, take, IsRequestDone, ⊎_elim, ◌-◌, ◌≤◌}
+use Rattle.fx_order.proofs.Words.{◌≡◌, ◌↔◌, ℕ, zero, suc, ◌+◌, ◌-◌, ◌≤◌, ℤ, pos, negsuc, List, [], ◌∷◌, ◌++◌, refl, sym, ap, ◌∙◌, Some}
+use Rattle.fx_order.proofs.Words.{None, inl, inr, ⊎_elim, FileEntry, Completed, Operation, Opens, Reads, Closes, Updates, Place, Slot, Any, Access}
+use Rattle.fx_order.proofs.Words.{IsCatalogue, arith, false, int_le, length, nat_tests, positions_from, positions_of, slice_get, Bool, IsTrue}
+use Rattle.fx_order.proofs.Words.{completed, drop, refusal_of, slice_index_or, subst, take, IsRequestDone}
+use Rattle.fx_chain.specs.Intents.{IsOpened, allocated, answer_at_table, intents_of, list_intents}
 use Rattle.fx_chain.specs.declared.intent.Finding.TheVariants.{At, Free}
-use Rattle.fx_order.specs.Access.{entry_installed}
-use Rattle.fx_order.specs.Requests.{AreIntended, IsOwnEntry}
+use Rattle.fx_chain.specs.declared.intent.Intent.{Intent}
+use Rattle.fx_order.specs.Access.{IsOf, entry_installed, last_finding}
+use Rattle.fx_order.specs.Requests.{AreIntended, IsOwnEntry, LacksMemory}
+use Rattle.fx_order.proofs.ChainsFront.{first_and_rest}
+use Rattle.std.specs.List.{AllZip}
 
-zip_append : (xs ys : List Intent) (us vs : List Access) → AllZip IsOf xs us → AllZip IsOf ys vs → AllZip IsOf (xs ++ ys) (us ++ vs)
+pub zip_append : (xs ys : List Intent) (us vs : List Access) → AllZip IsOf xs us → AllZip IsOf ys vs → AllZip IsOf (xs ++ ys) (us ++ vs)
 zip_append [] ys [] vs first second = second
 zip_append (x ∷ xs) ys (u ∷ us) vs first second = (first.0, zip_append xs ys us vs first.1 second)
 zip_append xs ys us vs first second = absurd first
+
+-- the accesses of a request that intends one
+pub single : (x : Intent) (Q : List Access → Type 0) (own : List Access) → AllZip IsOf (x ∷ []) own
+    → ((a : Access) → IsOf x a → Q (a ∷ [])) → Q own
+single x Q [] all so = absurd all
+single x Q (a ∷ []) all so = so a all.0
+single x Q (a ∷ b ∷ own) all so = absurd all.1
 
 -- as many as are intended
 length_zip : (xs : List Intent) (us : List Access) → AllZip IsOf xs us → length us ≡ length xs
@@ -53,86 +54,16 @@ module _ (place : Place) where
   length-intents in_list slot (negsuc (suc n) ∷ list) =
       let skip : int_le (negsuc 0) (negsuc (suc n)) ≡ false = grind (arith, nat_tests) in rw skip (length-intents (in_list + 1) (slot + 1) list)
 
+  -- one intent for each position
+  pub as_many_intents : (entry : ℕ) (operation : Operation) → length (intents_of place entry operation) ≡ length (positions_of operation)
+  as_many_intents entry (Opens name target) = refl
+  as_many_intents entry (Reads slot off len) = refl
+  as_many_intents entry (Closes slot) = refl
+  as_many_intents entry (Updates off list) = length-intents 0 off list
+
   pub as_many : (entry : ℕ) (operation : Operation) (own : List Access) → AllZip IsOf (intents_of place entry operation) own
       → length own ≡ length (positions_of operation)
-  as_many entry (Opens name target) own all = length_zip (intents_of place entry (Opens name target)) own all
-  as_many entry (Reads slot off len) own all = length_zip (intents_of place entry (Reads slot off len)) own all
-  as_many entry (Closes slot) own all = length_zip (intents_of place entry (Closes slot)) own all
-  as_many entry (Updates off list) own all = length_zip (list_intents place 0 off list) own all ∙ length-intents 0 off list
-
-  entry_intended : (in_list slot : ℕ) (entry : ℤ) (own : List Access) → IsEntryDone place in_list slot entry own
-      → AllZip IsOf (entry_intents place in_list slot entry) own
-  entry_intended in_list slot (pos n) own x = rw x.1 ((x.0, refl), tt)
-  entry_intended in_list slot (negsuc zero) own x = rw x.1 ((x.0, refl), tt)
-  entry_intended in_list slot (negsuc (suc n)) own x = rw x tt
-
-  pub list_intended : (in_list slot : ℕ) (list : List ℤ) (own : List Access) → AreEntriesDone place in_list slot list own
-      → AllZip IsOf (list_intents place in_list slot list) own
-  list_intended in_list slot [] own x = rw x tt
-  list_intended in_list slot (entry ∷ list) own x =
-      rw x.2 (zip_append (entry_intents place in_list slot entry) (list_intents place (in_list + 1) (slot + 1) list) x.0 x.1
-      (entry_intended in_list slot entry x.0 x.3) (list_intended (in_list + 1) (slot + 1) list x.1 x.4))
-
-  list_done : (in_list slot : ℕ) (list : List ℤ) (own : List Access) → AllZip IsOf (list_intents place in_list slot list) own
-      → AreEntriesDone place in_list slot list own
-  list_done in_list slot [] [] x = refl
-  list_done in_list slot [] (a ∷ own) x = absurd x
-  list_done in_list slot (pos n ∷ list) [] x = absurd x
-  list_done in_list slot (pos n ∷ list) (a ∷ own) x =
-      (a ∷ [], own, refl, (x.0.0, ap (λ b. b ∷ []) x.0.1), list_done (in_list + 1) (slot + 1) list own x.1)
-  list_done in_list slot (negsuc zero ∷ list) [] x = absurd x
-  list_done in_list slot (negsuc zero ∷ list) (a ∷ own) x =
-      (a ∷ [], own, refl, (x.0.0, ap (λ b. b ∷ []) x.0.1), list_done (in_list + 1) (slot + 1) list own x.1)
-  list_done in_list slot (negsuc (suc n) ∷ list) own x = ([], own, refl, refl, list_done (in_list + 1) (slot + 1) list own x)
-
-module _ (catalogue : List FileEntry) (place : Place) (own : List Access) (c : Completed) where
-  pub intended : (operation : Operation) → IsDoneAtTable catalogue place operation own c → IsIntended catalogue place operation own c
-  intended (Opens name (Slot slot)) x = rw x.2.1.0 (inr (x.0, x.1, ((x.2.0, refl), tt), x.2.1.1))
-  intended (Opens name Any) (entry, named, inl y) = rw y.1.0 (inr (entry, named, (inl (y.0, refl), tt), y.1.1))
-  intended (Opens name Any) (entry, named, inr y) = rw y.0 (inr (entry, named, (inr refl, tt), y.1))
-  intended (Reads slot off len) (inl y) = inl y
-  intended (Reads slot off len) (inr (inl y)) = rw y.0 (inr (0, refl, ((None, refl), tt), y.1))
-  intended (Reads slot off len) (inr (inr y)) = rw y.1.0 (inr (0, refl, ((Some y.0, refl), tt), y.1.1))
-  intended (Closes slot) (inl y) = rw y.0 (inr (0, refl, ((None, refl), tt), y.1))
-  intended (Closes slot) (inr y) = rw y.1.0 (inr (0, refl, ((Some y.0, refl), tt), y.1.1))
-  intended (Updates off list) x = inr (0, refl, list_intended place 0 off list own x.0, x.1)
-
--- and such accesses and this answer are those of the request
-module _ (catalogue : List FileEntry) (place : Place) (c : Completed) where
-  looked : (slot off len : ℕ) (a : Access) (found : Option Identity) → a ≡ Looks slot found
-      → c ≡ read_answer catalogue place off len (Some (finding_of a)) → IsReadDone catalogue place slot off len (a ∷ []) c
-  looked slot off len a None is answer = inr (inl (ap (λ b. b ∷ []) is, rw is at answer))
-  looked slot off len a (Some file) is answer = inr (inr (file, (ap (λ b. b ∷ []) is, rw is at answer)))
-
-  took : (slot : ℕ) (a : Access) (found : Option Identity) → a ≡ Takes slot found → c ≡ close_answer place (Some (finding_of a))
-      → IsCloseDone place slot (a ∷ []) c
-  took slot a None is answer = inl (ap (λ b. b ∷ []) is, rw is at answer)
-  took slot a (Some file) is answer = inr (file, (ap (λ b. b ∷ []) is, rw is at answer))
-
-  allocated_so : (entry : ℕ) (a : Access) → IsOf (Allocate (installed place 0 entry)) a → c ≡ allocated place (Some (finding_of a))
-      → IsOpenDone place entry Any (a ∷ []) c
-  allocated_so entry a (inl x) answer = inl (x.0, (ap (λ b. b ∷ []) x.1, rw x.1 at answer))
-  allocated_so entry a (inr x) answer = inr (ap (λ b. b ∷ []) x, rw x at answer)
-
-  as_intended : (operation : Operation) (own : List Access) → AsIntended catalogue place operation own c
-      → IsDoneAtTable catalogue place operation own c
-  as_intended (Updates off list) own x = (list_done place 0 off list own x.2, x.3)
-  as_intended (Opens name (Slot slot)) (a ∷ []) x = (x.0, x.1, (x.2.0.0, (ap (λ b. b ∷ []) x.2.0.1, x.3)))
-  as_intended (Opens name Any) (a ∷ []) x = (x.0, x.1, allocated_so x.0 a x.2.0 x.3)
-  as_intended (Reads slot off len) (a ∷ []) x = looked slot off len a x.2.0.0 x.2.0.1 x.3
-  as_intended (Closes slot) (a ∷ []) x = took slot a x.2.0.0 x.2.0.1 x.3
-  as_intended (Opens name target) [] x = absurd x.2
-  as_intended (Opens name target) (a ∷ b ∷ own) x = absurd x.2.1
-  as_intended (Reads slot off len) [] x = absurd x.2
-  as_intended (Reads slot off len) (a ∷ b ∷ own) x = absurd x.2.1
-  as_intended (Closes slot) [] x = absurd x.2
-  as_intended (Closes slot) (a ∷ b ∷ own) x = absurd x.2.1
-
-  pub done : (operation : Operation) (own : List Access) → IsIntended catalogue place operation own c
-      → IsDoneAtTable catalogue place operation own c
-  done operation own (inr x) = as_intended operation own x
-  done (Reads slot off len) own (inl x) = inl x
-  done operation own (inl x) = absurd (omega (arith, x.0))
+  as_many entry operation own all = length_zip (intents_of place entry operation) own all ∙ as_many_intents entry operation
 
 -- the intents from one access on, and from the next one
 pub drop_got : {X : Type 0} (xs : List X) (i : ℕ) (x : X) → slice_get xs i ≡ Some x → drop i xs ≡ x ∷ drop (i + 1) xs
@@ -202,17 +133,17 @@ module _ (catalogue : List FileEntry) (place : Place) where
   -- a request that isn't refused, and doesn't lack memory
   module _ (size : ℕ) (operation : Operation) (own : List Access) (c : Completed) (accepted : refusal_of catalogue size operation ≡ None) where
     abbrev Lacks : Type 0
-    Lacks = (0 < bytes_asked operation) × IsRefused place ENOMEM own c
+    Lacks = LacksMemory place operation own c
 
     pub lacks : Lacks → IsRequestDone catalogue size place operation own c
-    lacks x = rw accepted (done catalogue place c operation own (inl x))
+    lacks x = rw accepted (inl x)
 
     pub not_intended : (Lacks → ⊥) → (AreIntended catalogue place operation own → ⊥) → IsRequestDone catalogue size place operation own c → ⊥
-    not_intended full other x = ⊎_elim full (λ y. other (y.0, y.1, y.2)) (intended catalogue place own c operation (rw accepted at x))
+    not_intended full other x = ⊎_elim full (λ y. other y.0) (rw accepted at x)
 
     pub as_answered : (Lacks → ⊥) → AreIntended catalogue place operation own → (b : Bool)
         → IsTrue b ↔ (c ≡ answer_at_table catalogue place operation (last_finding own)) → IsTrue b ↔ IsRequestDone catalogue size place operation own c
     as_answered full fits b told = (
-      λ yes. rw accepted (done catalogue place c operation own (inr (fits.0, fits.1, fits.2, told.0 yes))),
-      λ x. told.1 (⊎_elim (λ y. absurd (full y)) (λ y. y.3) (intended catalogue place own c operation (rw accepted at x))),
+      λ yes. rw accepted (inr (fits, told.0 yes)),
+      λ x. told.1 (⊎_elim (λ y. absurd (full y)) (λ y. y.1) (rw accepted at x)),
     )

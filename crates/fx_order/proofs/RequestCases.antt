@@ -1,36 +1,23 @@
 -- A request's accesses and completion, by its operation and its entries. A new kind of request adds
 -- its cases here.
-use Rattle.fx_order.proofs.Words.{◌≡◌, ℕ, zero, suc, ◌+◌, ◌<◌, ℤ, pos, negsuc, int_le, Bool, false, if◌then◌else◌, List, [], ◌∷◌, ◌++◌, length, refl}
-use Rattle.fx_order.proofs.Words.{sym, ap, ◌∙◌, arith, length-append, Some, slice_get, filter, leb-false, list_any, or_parts, Submitted, Closed}
-use Rattle.fx_order.proofs.Words.{Place, installed, is_bad_entry, list_installs, list_installs-cons, Access, IsEntryDone, AreEntriesDone, inl, inr}
-use Rattle.fx_order.proofs.Words.{positions_from, Option, append-nil, append_assoc, take, take_more, slice_index_or, ◌≤◌, subst, None, FileEntry}
-use Rattle.fx_order.proofs.Words.{IsCatalogue, name_at, Errno, EBADF, ENFILE, ENOMEM, refusal_of, Operation, Opens, Reads, Closes, Updates, Completed}
-use Rattle.fx_order.proofs.Words.{completed, refusal, Any, Slot, Looks, Puts, Takes, Allocates, FindsFull, gives, IsOpenDone, IsReadDone, IsCloseDone}
-use Rattle.fx_order.proofs.Words.{IsUpdateDone, IsDoneAtTable, IsRequestDone, InstallsAt, installs_of, is_long_update, LONGEST_UPDATE}
-use Rattle.fx_order.proofs.Words.{slice_get_within, positions_of, add-zero, zero-add, cases_Bool, length-take-le, int_eq, applied}
+use Rattle.fx_order.proofs.Words.{◌≡◌, ℕ, zero, suc, ◌+◌, ◌<◌, ◌≤◌, ℤ, pos, negsuc, false, if◌then◌else◌, List, [], ◌∷◌, ◌++◌, length, refl, sym, ap}
+use Rattle.fx_order.proofs.Words.{◌∙◌, arith, inl, inr, Option, Some, slice_get, slice_get_within, leb-false, list_any, or_parts, zero-add, add-zero}
+use Rattle.fx_order.proofs.Words.{int_eq, Submitted, Closed, Place, installed, is_bad_entry, list_installs, list_installs-cons, Access, FileEntry}
+use Rattle.fx_order.proofs.Words.{IsCatalogue, name_at, Errno, EBADF, ENFILE, ENOMEM, refusal_of, Operation, Opens, Reads, Closes, Updates, Target}
+use Rattle.fx_order.proofs.Words.{Completed, completed, refusal, Any, Slot, Allocates, gives, IsDoneAtTable, IsRequestDone, InstallsAt}
+use Rattle.fx_order.proofs.Words.{installs_of, is_long_update, LONGEST_UPDATE, positions_of, applied, None, either_option}
 use Rattle.fx_order.proofs.Apart.{Own, own_both, own_none, own_one, own_weaker}
-use Rattle.fx_order.proofs.Placed.{placed, placed-append}
+use Rattle.fx_order.proofs.Intents.{as_many, same_opened, single}
+use Rattle.fx_order.proofs.Placed.{placed}
+use Rattle.fx_order.specs.Access.{IsOf, finding_of, last_finding}
 use Rattle.fx_base.proofs.Entries.{entry_named}
-use Rattle.fx_chain.proofs.Intents.{length-positions}
-use Rattle.fx_chain.specs.Intents.{count_of}
-
--- the entries that aren't skips
-abbrev pub done_ones : List ℤ → List ℤ
-done_ones list = filter (λ entry. int_le (negsuc 0) entry) list
-
-entry_made : (place : Place) (in_list slot : ℕ) (entry : ℤ) (list : List ℤ) (own : List Access) → IsEntryDone place in_list slot entry own
-    → length (done_ones (entry ∷ list)) ≡ length own + length (done_ones list)
-entry_made place in_list slot (pos entry) list own x = let one = ap length x.1 in omega arith
-entry_made place in_list slot (negsuc zero) list own x = let one = ap length x.1 in omega arith
-entry_made place in_list slot (negsuc (suc n)) list own x = grind arith
-
-pub entries_made : (place : Place) (in_list slot : ℕ) (list : List ℤ) (accesses : List Access) → AreEntriesDone place in_list slot list accesses
-    → length accesses ≡ length (done_ones list)
-entries_made place in_list slot [] accesses x = ap length x
-entries_made place in_list slot (entry ∷ list) accesses x =
-    let first = entry_made place in_list slot entry list x.0 x.3 in
-    let rest = entries_made place (in_list + 1) (slot + 1) list x.1 x.4 in
-    ap length x.2 ∙ (length-append x.0 x.1 ∙ omega arith)
+use Rattle.fx_chain.proofs.Cases.{both_options}
+use Rattle.fx_chain.specs.Intents.{IsOpened, allocated, answer_at_table, close_answer, count_of, intents_of, list_intents, read_answer}
+use Rattle.fx_chain.specs.declared.intent.Finding.{Finding}
+use Rattle.fx_chain.specs.declared.intent.Finding.TheVariants.{At, Free}
+use Rattle.fx_chain.specs.declared.intent.Intent.{Intent}
+use Rattle.fx_chain.specs.declared.intent.Intent.TheVariants.{Allocate, Look, Put, Take}
+use Rattle.std.specs.List.{AllZip}
 
 -- a file of the catalogue without a tag, of a position in a request's list
 pub record IsMarked (entries : ℕ) (place : Place) (in_list : ℕ) (f : Closed) : Type 0 where
@@ -45,35 +32,37 @@ pub record IsListed (entries : ℕ) (place : Place) (low : ℕ) (list : List ℤ
   pub number : slice_get list at ≡ Some (pos file)
   pub is : IsMarked entries place (low + at) f
 
+-- the files that intents place, with their slots, for a request that completes with this number
+abbrev planned_by : Intent → ℤ → List (ℕ × Closed)
+planned_by (Put slot file) res = (slot, file) ∷ []
+planned_by (Allocate file) (pos slot) = (slot, file) ∷ []
+planned_by intent res = []
+
+abbrev planned : List Intent → ℤ → List (ℕ × Closed)
+planned [] res = []
+planned (x ∷ xs) res = planned_by x res ++ planned xs res
+
 module _ (place : Place) where
-  -- the file that an entry places, with its slot
-  abbrev entry_placed : ℕ → ℕ → ℤ → List (ℕ × Closed)
-  entry_placed in_list slot (pos entry) = (slot, installed place in_list entry) ∷ []
-  entry_placed in_list slot (negsuc n) = []
+  list_placed : (res : ℤ) (in_list slot : ℕ) (list : List ℤ) (own : List Access) → AllZip IsOf (list_intents place in_list slot list) own
+      → placed own ≡ planned (list_intents place in_list slot list) res
+  list_placed res in_list slot [] [] x = refl
+  list_placed res in_list slot [] (a ∷ own) x = absurd x
+  list_placed res in_list slot (pos n ∷ list) [] x = absurd x
+  list_placed res in_list slot (pos n ∷ list) (a ∷ own) x =
+      rw (x.0.1, list_placed res (in_list + 1) (slot + 1) list own x.1) refl
+  list_placed res in_list slot (negsuc zero ∷ list) [] x = absurd x
+  list_placed res in_list slot (negsuc zero ∷ list) (a ∷ own) x =
+      rw (x.0.1, list_placed res (in_list + 1) (slot + 1) list own x.1) refl
+  list_placed res in_list slot (negsuc (suc n) ∷ list) own x = list_placed res (in_list + 1) (slot + 1) list own x
 
-  abbrev pub list_placed : ℕ → ℕ → List ℤ → List (ℕ × Closed)
-  list_placed in_list slot [] = []
-  list_placed in_list slot (entry ∷ list) = entry_placed in_list slot entry ++ list_placed (in_list + 1) (slot + 1) list
-
-  entry_places : (in_list slot : ℕ) (entry : ℤ) (own : List Access) → IsEntryDone place in_list slot entry own
-      → placed own ≡ entry_placed in_list slot entry
-  entry_places in_list slot (pos entry) own x = ap placed x.1
-  entry_places in_list slot (negsuc zero) own x = ap placed x.1
-  entry_places in_list slot (negsuc (suc n)) own x = ap placed x
-
-  pub list_places : (in_list slot : ℕ) (list : List ℤ) (own : List Access) → AreEntriesDone place in_list slot list own
-      → placed own ≡ list_placed in_list slot list
-  list_places in_list slot [] own x = ap placed x
-  list_places in_list slot (entry ∷ list) own x =
-      ap placed x.2 ∙ (placed-append x.0 x.1
-      ∙ (λ i. entry_places in_list slot entry x.0 x.3 i ++ list_places (in_list + 1) (slot + 1) list x.1 x.4 i))
-
-  pub list_few : (in_list slot : ℕ) (list : List ℤ) → length (list_placed in_list slot list) ≡ list_installs list
-  list_few in_list slot [] = refl
-  list_few in_list slot (pos entry ∷ list) =
-      let rest = list_few (in_list + 1) (slot + 1) list in let all = list_installs-cons (pos entry) list in omega arith
-  list_few in_list slot (negsuc n ∷ list) =
-      let rest = list_few (in_list + 1) (slot + 1) list in let all = list_installs-cons (negsuc n) list in omega arith
+  list_few : (res : ℤ) (in_list slot : ℕ) (list : List ℤ) → length (planned (list_intents place in_list slot list) res) ≡ list_installs list
+  list_few res in_list slot [] = refl
+  list_few res in_list slot (pos entry ∷ list) =
+      let rest = list_few res (in_list + 1) (slot + 1) list in let all = list_installs-cons (pos entry) list in omega arith
+  list_few res in_list slot (negsuc zero ∷ list) =
+      let rest = list_few res (in_list + 1) (slot + 1) list in let all = list_installs-cons (negsuc 0) list in omega arith
+  list_few res in_list slot (negsuc (suc n) ∷ list) =
+      let rest = list_few res (in_list + 1) (slot + 1) list in let all = list_installs-cons (negsuc (suc n)) list in omega arith
 
   module _ (entries : ℕ) where
     later : (low : ℕ) (z : ℤ) (list : List ℤ) (f : Closed) → IsListed entries place (low + 1) list f → IsListed entries place low (z ∷ list) f
@@ -85,158 +74,158 @@ module _ (place : Place) where
     }
 
     -- each entry places a file of its own
-    pub list_own : (low slot : ℕ) (list : List ℤ) → list_any (is_bad_entry entries) list ≡ false
-        → Own (IsListed entries place low list) (list_placed low slot list)
-    list_own low slot [] good = own_none
-    list_own low slot (pos n ∷ list) good =
-        own_both {P = IsMarked entries place low} ((slot, installed place low n) ∷ []) (list_placed (low + 1) (slot + 1) list)
+    list_own : (res : ℤ) (low slot : ℕ) (list : List ℤ) → list_any (is_bad_entry entries) list ≡ false
+        → Own (IsListed entries place low list) (planned (list_intents place low slot list) res)
+    list_own res low slot [] good = own_none
+    list_own res low slot (pos n ∷ list) good =
+        own_both {P = IsMarked entries place low} ((slot, installed place low n) ∷ []) (planned (list_intents place (low + 1) (slot + 1) list) res)
         (λ f is. record { at = 0; file = n; number = refl; is = rw add-zero is }) (later low (pos n) list)
         (λ f g is l same. let at : low ≡ low + 1 + l.at = cc (sym is.mark ∙ (same ∙ l.is.mark)) in omega arith)
         (own_one (record { mark = refl; inside = leb-false entries n (or_parts _ _ good).0; untagged = refl }))
-        (list_own (low + 1) (slot + 1) list (or_parts _ _ good).1)
-    list_own low slot (negsuc n ∷ list) good =
-        own_weaker _ (later low (negsuc n) list) (list_own (low + 1) (slot + 1) list (or_parts _ _ good).1)
+        (list_own res (low + 1) (slot + 1) list (or_parts _ _ good).1)
+    list_own res low slot (negsuc zero ∷ list) good =
+        own_weaker _ (later low (negsuc 0) list) (list_own res (low + 1) (slot + 1) list (or_parts (is_bad_entry entries (negsuc 0)) _ good).1)
+    list_own res low slot (negsuc (suc n) ∷ list) good =
+        own_weaker _ (later low (negsuc (suc n)) list)
+        (list_own res (low + 1) (slot + 1) list (or_parts (is_bad_entry entries (negsuc (suc n))) _ good).1)
 
--- A request's accesses and completion, by its operation. A new kind of request adds its cases here.
+-- a request by its operation, or by its error
+pub unless_refused : (place : Place) (P : List Access → Completed → Type 0) (own : List Access) (c : Completed) (catalogue : List FileEntry) (size : ℕ)
+    (operation : Operation) → ((errno : Errno) → P [] (refusal place errno))
+    → (refusal_of catalogue size operation ≡ None → IsDoneAtTable catalogue place operation own c → P own c)
+    → IsRequestDone catalogue size place operation own c → P own c
+unless_refused place P own c catalogue size operation refused done given =
+    either_option {R = P own c} (refusal_of catalogue size operation) done (λ errno x. rw (x.0, x.1) (refused errno)) given
 
-module _ (place : Place) (P : List Access → Completed → Type 0) (own : List Access) (c : Completed) where
-  same : (l : List Access) (d : Completed) → P l d → (own ≡ l) × (c ≡ d) → P own c
-  same l d so is = subst (λ (z : List Access × Completed). P z.0 z.1) (λ i. (sym is.0 i, sym is.1 i)) so
+-- The answer is an error, the bytes of a file, or a number.
 
-  -- a request by its operation, or by its error
-  pub unless_refused : (catalogue : List FileEntry) (size : ℕ) (operation : Operation) → ((errno : Errno) → P [] (refusal place errno))
-      → (refusal_of catalogue size operation ≡ None → IsDoneAtTable catalogue place operation own c → P own c)
-      → IsRequestDone catalogue size place operation own c → P own c
-  unless_refused catalogue size operation refused done = grind arith
+module _ (catalogue : List FileEntry) (place : Place) (Q : Completed → Type 0) where
+  read_so : (off len : ℕ) (found : Option Finding) → Q (refusal place EBADF) → ((file : Closed) → Q (gives catalogue place file off len))
+      → Q (read_answer catalogue place off len found)
+  read_so off len (Some (At (Some file))) missed given = given file
+  read_so off len found missed given = missed
 
-  pub puts : (entry slot : ℕ) → ((removed : Option Closed) → P (Puts slot (installed place 0 entry) removed ∷ []) (completed place (pos 0) []))
-      → IsOpenDone place entry (Slot slot) own c → P own c
-  puts entry slot put x = same _ _ (put x.0) x.1
+  close_so : (found : Option Finding) → Q (refusal place EBADF) → Q (completed place (pos 0) []) → Q (close_answer place found)
+  close_so (Some (At (Some file))) missed taken = taken
+  close_so found missed taken = missed
 
-  pub allocates : (entry : ℕ) → ((slot : ℕ) → P (Allocates slot (installed place 0 entry) ∷ []) (completed place (pos slot) []))
-      → P (FindsFull ∷ []) (refusal place ENFILE) → IsOpenDone place entry Any own c → P own c
-  allocates entry free full (inl y) = same _ _ (free y.0) y.1
-  allocates entry free full (inr y) = same _ _ full y
+  open_so : (found : Option Finding) → Q (refusal place ENFILE) → ((slot : ℕ) → Q (completed place (pos slot) [])) → Q (allocated place found)
+  open_so (Some (Free slot)) full free = free slot
+  open_so found full free = full
 
-  pub reads : (catalogue : List FileEntry) (slot off len : ℕ) → P [] (refusal place ENOMEM) → P (Looks slot None ∷ []) (refusal place EBADF)
-      → ((file : Closed) → P (Looks slot (Some file) ∷ []) (gives catalogue place file off len))
-      → IsReadDone catalogue place slot off len own c → P own c
-  reads catalogue slot off len full missed found (inl y) = same _ _ full y.1
-  reads catalogue slot off len full missed found (inr (inl z)) = same _ _ missed z
-  reads catalogue slot off len full missed found (inr (inr z)) = same _ _ (found z.0) z.1
-
-  pub closes : (slot : ℕ) → P (Takes slot None ∷ []) (refusal place EBADF)
-      → ((file : Closed) → P (Takes slot (Some file) ∷ []) (completed place (pos 0) [])) → IsCloseDone place slot own c → P own c
-  closes slot missed found (inl y) = same _ _ missed y
-  closes slot missed found (inr y) = same _ _ (found y.0) y.1
-
-  pub updates : (off : ℕ) (list : List ℤ) → (AreEntriesDone place 0 off list own → P own (completed place (pos (length list)) []))
-      → IsUpdateDone place off list own c → P own c
-  updates off list applied x = same own _ (applied x.0) (refl, x.1)
-
--- the accesses of a request are all of its operation's, but none if a read finds no memory
-abbrev AreMade : Operation → List Access → Completed → Type 0
-AreMade operation own c = length own ≡ (if int_eq c.res (negsuc 11) then 0 else length (positions_of operation))
+-- no answer is that of a request without memory
+pub has_memory : (catalogue : List FileEntry) (place : Place) (operation : Operation) (found : Option Finding)
+    → int_eq (answer_at_table catalogue place operation found).res (negsuc 11) ≡ false
+has_memory catalogue place (Opens name (Slot slot)) found = refl
+has_memory catalogue place (Opens name Any) found = open_so catalogue place (λ d. int_eq d.res (negsuc 11) ≡ false) found refl (λ _. refl)
+has_memory catalogue place (Reads slot off len) found =
+    read_so catalogue place (λ d. int_eq d.res (negsuc 11) ≡ false) off len found refl (λ _. refl)
+has_memory catalogue place (Closes slot) found = close_so catalogue place (λ d. int_eq d.res (negsuc 11) ≡ false) found refl refl
+has_memory catalogue place (Updates off list) found = refl
 
 module _ (catalogue : List FileEntry) (place : Place) where
-  are_made : (operation : Operation) (own : List Access) (c : Completed) → IsDoneAtTable catalogue place operation own c → AreMade operation own c
-  are_made (Opens name (Slot slot)) own c x = puts place (AreMade (Opens name (Slot slot))) own c x.0 slot (λ _. refl) x.2
-  are_made (Opens name Any) own c x = allocates place (AreMade (Opens name Any)) own c x.0 (λ _. refl) refl x.2
-  are_made (Reads slot off len) own c x = reads place (AreMade (Reads slot off len)) own c catalogue slot off len refl refl (λ _. refl) x
-  are_made (Closes slot) own c x = closes place (AreMade (Closes slot)) own c slot refl (λ _. refl) x
-  are_made (Updates off list) own c x = grind (arith, entries_made, length-positions)
+  -- the accesses of a request are all of its operation's, but none if it lacks memory
+  are_made : (operation : Operation) (own : List Access) (c : Completed) → IsDoneAtTable catalogue place operation own c
+      → length own ≡ (if int_eq c.res (negsuc 11) then 0 else length (positions_of operation))
+  are_made operation own c (inl x) = rw (x.1.0, x.1.1) refl
+  are_made operation own c (inr x) = rw (x.1, has_memory catalogue place operation (last_finding own)) (as_many place x.0.0 operation own x.0.2)
 
-  -- as many as are counted, unless a read finds no memory
+  -- as many as are counted, unless it lacks memory
   pub counted : (size : ℕ) (operation : Operation) (own : List Access) (c : Completed) → IsRequestDone catalogue size place operation own c
       → length own ≡ (if int_eq c.res (negsuc 11) then 0 else count_of catalogue size operation)
   counted size operation own c = grind (arith, are_made)
 
   pub few_made : (size : ℕ) (operation : Operation) (own : List Access) (c : Completed) → IsRequestDone catalogue size place operation own c
       → length own ≤ length (positions_of operation)
-  few_made size operation own c = grind (arith, are_made)
+  few_made size operation own c =
+      unless_refused place (λ l _. length l ≤ length (positions_of operation)) own c catalogue size operation (λ _. omega arith) (λ _. at_table)
+    where
+      at_table : IsDoneAtTable catalogue place operation own c → length own ≤ length (positions_of operation)
+      at_table (inl x) = rw x.1.0 (omega arith)
+      at_table (inr x) = let many = as_many place x.0.0 operation own x.0.2 in omega arith
 
-  -- the completion is an error, the bytes of a file, or a number
   module _ (size : ℕ) (Q : Completed → Type 0) (own : List Access) (c : Completed) (failed : (errno : Errno) → Q (refusal place errno))
       (given : (file : Closed) (off len : ℕ) → Q (gives catalogue place file off len))
       (number : (n : ℕ) → n ≤ size → Q (completed place (pos n) []))
-      (allocated : (slot : ℕ) (file : Closed) → own ≡ Allocates slot file ∷ [] → Q (completed place (pos slot) [])) where
-    at_table_so : (operation : Operation) → refusal_of catalogue size operation ≡ None → IsDoneAtTable catalogue place operation own c → Q c
-    at_table_so (Opens name (Slot slot)) accepted x = puts place (λ _. Q) own c x.0 slot (λ _. number 0 (omega arith)) x.2
-    at_table_so (Opens name Any) accepted x =
-        allocates place (λ l d. l ≡ own → Q d) own c x.0 (λ slot is. allocated slot (installed place 0 x.0) (sym is)) (λ _. failed ENFILE) x.2 refl
-    at_table_so (Reads slot off len) accepted x =
-        reads place (λ _. Q) own c catalogue slot off len (failed ENOMEM) (failed EBADF) (λ file. given file off len) x
-    at_table_so (Closes slot) accepted x = closes place (λ _. Q) own c slot (failed EBADF) (λ _. number 0 (omega arith)) x
-    at_table_so (Updates off list) accepted x = grind arith
+      (free : (slot : ℕ) (file : Closed) → own ≡ Allocates slot file ∷ [] → Q (completed place (pos slot) [])) where
+    free_so : {file : Closed} (a : Access) → IsOf (Allocate file) a → own ≡ a ∷ [] → c ≡ allocated place (Some (finding_of a)) → Q c
+    free_so {file} a (inl x) is answer = rw (rw x.1 at answer) (free x.0 file (rw x.1 at is))
+    free_so a (inr x) is answer = rw (rw x at answer) (failed ENFILE)
 
+    at_table_so : (operation : Operation) → refusal_of catalogue size operation ≡ None → IsDoneAtTable catalogue place operation own c → Q c
+    at_table_so operation accepted (inl x) = rw x.1.1 (failed ENOMEM)
+    at_table_so (Opens name (Slot slot)) accepted (inr x) = rw x.1 (number 0 (omega arith))
+    at_table_so (Opens name Any) accepted (inr x) =
+        single (Allocate (installed place 0 x.0.0)) (λ l. own ≡ l → c ≡ allocated place (last_finding l) → Q c) own x.0.2
+        (λ a is same said. free_so a is same said) refl x.1
+    at_table_so (Reads slot off len) accepted (inr x) =
+        rw x.1 (read_so catalogue place Q off len (last_finding own) (failed EBADF) (λ file. given file off len))
+    at_table_so (Closes slot) accepted (inr x) = rw x.1 (close_so catalogue place Q (last_finding own) (failed EBADF) (number 0 (omega arith)))
+    at_table_so (Updates off list) accepted (inr x) =
+        let fits = (applied (length catalogue) size off list accepted).fits in rw x.1 (number (length list) (omega arith))
+
+    -- the completion is an error, the bytes of a file, or a number
     pub completion_so : (operation : Operation) → IsRequestDone catalogue size place operation own c → Q c
     completion_so operation = unless_refused place (λ _. Q) own c catalogue size operation failed (at_table_so operation)
 
--- the catalogue entry that a request opens, if it opens one
-abbrev IsEntryOf : List FileEntry → Operation → ℕ → Type 0
-IsEntryOf catalogue (Opens name target) entry = name_at catalogue entry ≡ Some name
-IsEntryOf catalogue operation entry = Unit {0}
+  -- the completion has the request's place
+  pub request_place : (size : ℕ) (operation : Operation) (own : List Access) (c : Completed) → IsRequestDone catalogue size place operation own c
+      → c.place ≡ place
+  request_place size operation own c =
+      completion_so size (λ d. d.place ≡ place) own c (λ _. refl) (λ _ _ _. refl) (λ _ _. refl) (λ _ _ _. refl) operation
 
 module _ (catalogue : List FileEntry) (size : ℕ) (place : Place) where
-  -- the files that a request places that completes with this number, and their slots
-  abbrev files_of : ℕ → Operation → ℕ → List (ℕ × Closed)
-  files_of entry (Opens name (Slot slot)) n = (slot, installed place 0 entry) ∷ []
-  files_of entry (Opens name Any) n = (n, installed place 0 entry) ∷ []
-  files_of entry (Updates off list) n = list_placed place 0 off list
-  files_of entry operation n = []
+  -- the files that a request places are those of its intents, by the entry that it opens
+  abbrev ArePlanned : Operation → List Access → Completed → Type 0
+  ArePlanned operation own c =
+      (entry : ℕ) × IsOpened catalogue operation entry × (placed own ≡ planned (intents_of place entry operation) c.res)
 
-  -- a request that fails places none
-  abbrev files_so : ℕ → Operation → ℤ → List (ℕ × Closed)
-  files_so entry operation (pos n) = files_of entry operation n
-  files_so entry operation (negsuc n) = []
+  free_planned : {file : Closed} (a : Access) (c : Completed) → IsOf (Allocate file) a → c ≡ allocated place (Some (finding_of a))
+      → placed (a ∷ []) ≡ planned (Allocate file ∷ []) c.res
+  free_planned a c (inl x) answer = rw (rw x.1 at answer, x.1) refl
+  free_planned a c (inr x) answer = rw (rw x at answer, x) refl
 
-  abbrev So : ℕ → Operation → List Access → Completed → Type 0
-  So entry operation l d = (d.place ≡ place) × (placed l ≡ files_so entry operation d.res)
-
-  placed_so : (operation : Operation) (own : List Access) (c : Completed) → IsDoneAtTable catalogue place operation own c
-      → (entry : ℕ) × IsEntryOf catalogue operation entry × So entry operation own c
-  placed_so (Opens name (Slot slot)) own c x = grind arith
-  placed_so (Opens name Any) own c x = grind arith
-  placed_so (Reads slot off len) own c x = grind arith
-  placed_so (Closes slot) own c x = (0, tt, closes place (So 0 (Closes slot)) own c slot (refl, refl) (λ _. (refl, refl)) x)
-  placed_so (Updates off list) own c x = grind (arith, list_places)
+  are_planned : (operation : Operation) (own : List Access) (c : Completed) → IsDoneAtTable catalogue place operation own c → ArePlanned operation own c
+  are_planned (Opens name (Slot slot)) own c (inr x) = (
+    x.0.0,
+    x.0.1,
+    single (Put slot (installed place 0 x.0.0)) (λ l. placed l ≡ (slot, installed place 0 x.0.0) ∷ []) own x.0.2 (λ a is. rw is.1 refl),
+  )
+  are_planned (Opens name Any) own c (inr x) = (
+    x.0.0,
+    x.0.1,
+    single (Allocate (installed place 0 x.0.0))
+        (λ l. c ≡ allocated place (last_finding l) → placed l ≡ planned (Allocate (installed place 0 x.0.0) ∷ []) c.res) own x.0.2
+        (λ a is said. free_planned a c is said) x.1,
+  )
+  are_planned (Reads slot off len) own c (inr x) = (x.0.0, x.0.1, single (Look slot) (λ l. placed l ≡ []) own x.0.2 (λ a is. rw is.1 refl))
+  are_planned (Closes slot) own c (inr x) = (x.0.0, x.0.1, single (Take slot) (λ l. placed l ≡ []) own x.0.2 (λ a is. rw is.1 refl))
+  are_planned (Updates off list) own c (inr x) = (x.0.0, x.0.1, list_placed place c.res 0 off list own x.0.2)
+  are_planned (Reads slot off len) own c (inl x) = (0, refl, ap placed x.1.0)
+  are_planned operation own c (inl x) = absurd (omega (arith, x.0))
 
   -- by the completion alone, if no name is twice in the catalogue
-  same_files : IsCatalogue catalogue → (operation : Operation) (e f : ℕ) → IsEntryOf catalogue operation e → IsEntryOf catalogue operation f
-      → (res : ℤ) → files_so e operation res ≡ files_so f operation res
-  same_files is operation e f x y (negsuc n) = refl
-  same_files is (Opens name target) e f x y (pos n) = ap (λ k. files_of k (Opens name target) n) (is.distinct e f name x y)
-  same_files is operation e f x y (pos n) = refl
-
   pub placed_same : IsCatalogue catalogue → (operation : Operation) (one other : List Access) (c : Completed)
       → IsRequestDone catalogue size place operation one c → IsRequestDone catalogue size place operation other c → placed one ≡ placed other
-  placed_same is operation one other c = grind (arith, placed_so)
+  placed_same is operation one other c x y = both_options {R = placed one ≡ placed other} (refusal_of catalogue size operation)
+      (λ done too.
+      let p = are_planned operation one c done in
+      let q = are_planned operation other c too in
+      p.2 ∙ (ap (λ (entry : ℕ). planned (intents_of place entry operation) c.res) (same_opened is operation p.0 q.0 p.1 q.1) ∙ sym q.2))
+      (λ errno done too. ap placed (done.0 ∙ sym too.0)) x y
 
   -- no more than the request's need of numbers
-  few_of : (entry : ℕ) (operation : Operation) (n : ℕ) → length (files_of entry operation n) ≤ installs_of operation
-  few_of entry (Opens name (Slot slot)) n = omega arith
-  few_of entry (Opens name Any) n = omega arith
-  few_of entry (Updates off list) n = let all = list_few place 0 off list in omega arith
-  few_of entry operation n = omega arith
-
-  few_so : (entry : ℕ) (operation : Operation) (res : ℤ) → length (files_so entry operation res) ≤ installs_of operation
-  few_so entry operation (pos n) = few_of entry operation n
-  few_so entry operation (negsuc n) = omega arith
+  few_of : (entry : ℕ) (operation : Operation) (res : ℤ) → length (planned (intents_of place entry operation) res) ≤ installs_of operation
+  few_of entry (Opens name (Slot slot)) res = omega arith
+  few_of entry (Opens name Any) (pos n) = omega arith
+  few_of entry (Opens name Any) (negsuc n) = omega arith
+  few_of entry (Updates off list) res = let all = list_few place res 0 off list in omega arith
+  few_of entry operation res = omega arith
 
   pub few_placed : (operation : Operation) (own : List Access) (c : Completed) → IsRequestDone catalogue size place operation own c
       → length (placed own) ≤ installs_of operation
-  few_placed operation own c = grind (arith, placed_so, few_so)
-
-  abbrev entries : ℕ
-  entries = length catalogue
-
-  own_of : (operation : Operation) (entry n : ℕ) → IsEntryOf catalogue operation entry → refusal_of catalogue size operation ≡ None
-      → Own (λ f. (at : ℕ) × InstallsAt operation at × IsMarked entries place at f) (files_of entry operation n)
-  own_of (Opens name (Slot slot)) entry n named accepted = grind (arith, entry_named)
-  own_of (Opens name Any) entry n named accepted = grind (arith, entry_named)
-  own_of (Updates off list) entry n named accepted =
-      own_weaker _ (λ f l. (l.at, (l.file, l.number), rw zero-add at l.is)) (list_own place entries 0 off list (applied entries size off list accepted).good)
-  own_of operation entry n named accepted = own_none
+  few_placed operation own c = unless_refused place (λ l _. length (placed l) ≤ installs_of operation) own c catalogue size operation
+      (λ _. omega arith) (λ _ x. let p = are_planned operation own c x in rw p.2 (few_of p.0 operation c.res))
 
   -- the file is one that the request installed, which completed so
   pub record IsInstalled (operation : Operation) (c : Completed) (f : Closed) : Type 0 where
@@ -247,18 +236,53 @@ module _ (catalogue : List FileEntry) (size : ℕ) (place : Place) where
     pub res : ℕ
     pub accepted : c.res ≡ pos res
 
-  own_so : (operation : Operation) (entry : ℕ) (c : Completed) → IsEntryOf catalogue operation entry → refusal_of catalogue size operation ≡ None
-      → c.place ≡ place → (res : ℤ) → c.res ≡ res → Own (IsInstalled operation c) (files_so entry operation res)
-  own_so operation entry c named accepted here (pos n) is = grind (arith, own_of)
-  own_so operation entry c named accepted here (negsuc n) is = own_none
+  open_own : (name : List ℕ) (target : Target) (entry slot n : ℕ) {c : Completed} → name_at catalogue entry ≡ Some name
+      → c ≡ completed place (pos n) [] → Own (IsInstalled (Opens name target) c) ((slot, installed place 0 entry) ∷ [])
+  open_own name target entry slot n {c} named answer = own_one {P = IsInstalled (Opens name target) c} (record {
+    at = 0;
+    listed = refl;
+    is = record { mark = refl; inside = entry_named catalogue entry name named; untagged = refl };
+    here = ap (λ (d : Completed). d.place) answer;
+    res = n;
+    accepted = ap (λ (d : Completed). d.res) answer;
+  })
+
+  free_own : (name : List ℕ) (entry : ℕ) (a : Access) {c : Completed} → name_at catalogue entry ≡ Some name
+      → IsOf (Allocate (installed place 0 entry)) a → c ≡ allocated place (Some (finding_of a))
+      → Own (IsInstalled (Opens name Any) c) (placed (a ∷ []))
+  free_own name entry a named (inl x) answer = rw x.1 (open_own name Any entry x.0 x.0 named (rw x.1 at answer))
+  free_own name entry a named (inr x) answer = rw x own_none
+
+  each_at_table : (operation : Operation) (own : List Access) (c : Completed) → refusal_of catalogue size operation ≡ None
+      → IsDoneAtTable catalogue place operation own c → Own (IsInstalled operation c) (placed own)
+  each_at_table operation own c accepted (inl x) = rw x.1.0 own_none
+  each_at_table (Opens name (Slot slot)) own c accepted (inr x) =
+      single (Put slot (installed place 0 x.0.0)) (λ l. Own (IsInstalled (Opens name (Slot slot)) c) (placed l)) own x.0.2
+      (λ a is. rw is.1 (open_own name (Slot slot) x.0.0 slot 0 x.0.1 x.1))
+  each_at_table (Opens name Any) own c accepted (inr x) =
+      single (Allocate (installed place 0 x.0.0)) (λ l. c ≡ allocated place (last_finding l) → Own (IsInstalled (Opens name Any) c) (placed l))
+      own x.0.2 (λ a is said. free_own name x.0.0 a x.0.1 is said) x.1
+  each_at_table (Reads slot off len) own c accepted (inr x) =
+      single (Look slot) (λ l. Own (IsInstalled (Reads slot off len) c) (placed l)) own x.0.2 (λ a is. rw is.1 own_none)
+  each_at_table (Closes slot) own c accepted (inr x) =
+      single (Take slot) (λ l. Own (IsInstalled (Closes slot) c) (placed l)) own x.0.2 (λ a is. rw is.1 own_none)
+  each_at_table (Updates off list) own c accepted (inr x) =
+      rw (list_placed place c.res 0 off list own x.0.2) (own_weaker (planned (list_intents place 0 off list) c.res)
+      (λ f l. record {
+        at = l.at;
+        listed = (l.file, l.number);
+        is = rw zero-add at l.is;
+        here = ap (λ (d : Completed). d.place) x.1;
+        res = length list;
+        accepted = ap (λ (d : Completed). d.res) x.1;
+      })
+      (list_own place (length catalogue) c.res 0 off list (applied (length catalogue) size off list accepted).good))
 
   -- each file that a request places is one of its own
   pub each_placed : (operation : Operation) (own : List Access) (c : Completed) → IsRequestDone catalogue size place operation own c
       → Own (IsInstalled operation c) (placed own)
   each_placed operation own c = unless_refused place (λ l d. Own (IsInstalled operation d) (placed l)) own c catalogue size operation
-      (λ _. own_none) (λ accepted x.
-      let p = placed_so operation own c x in
-      subst (Own (IsInstalled operation c)) (sym p.2.1) (own_so operation p.0 c p.1 accepted p.2.0 c.res refl))
+      (λ _. own_none) (each_at_table operation own c)
 
 -- a list of the greatest length has no later position
 pub listed_short : (operation : Operation) (at : ℕ) → is_long_update operation ≡ false → InstallsAt operation at → at < LONGEST_UPDATE

@@ -1,15 +1,20 @@
 -- A request's accesses, and the steps that they are: each explains the answers that the other does.
 -- A new kind of request adds its cases here.
-use Rattle.fx_order.proofs.Words.{◌≡◌, ℕ, ◌+◌, ◌-◌, ◌<◌, ◌≤◌, ◌==◌, true, false, List, [], ◌∷◌, ◌++◌, length, map, refl, sym, ◌∙◌, arith, Option}
+use Rattle.fx_order.proofs.Words.{◌≡◌, ℕ, ◌+◌, ◌-◌, ◌<◌, ◌≤◌, ◌==◌, true, false, List, [], ◌∷◌, ◌++◌, length, map, refl, sym, ◌∙◌, arith, Option, subst}
 use Rattle.fx_order.proofs.Words.{Some, None, ReleasesItsOwn, IsSome, if◌then◌else◌, option_to_list, Closed, File, Event, Action, Look, Release, Put}
 use Rattle.fx_order.proofs.Words.{Clear, Take, Allocate, Full, State, IsSettled, ◌▷◌, ◌▷▷◌, state_after, AllowsAll, AllReleaseTheirOwn, held_by}
 use Rattle.fx_order.proofs.Words.{close_of, closes_in, identity_of, by_equality, Looks, Puts, Clears, Takes, Allocates, FindsFull, Permits}
 use Rattle.fx_order.proofs.Words.{table_with, file_removed_by, Access, table_after, closed_by, Allows, after, with_removed, ap, inl, inr, zero, suc}
 use Rattle.fx_order.proofs.Words.{ℤ, pos, negsuc, same_options, refusal_of, IsDoneAtTable, AnswersAtTable, TakesAt, file_told, append_assoc}
 use Rattle.fx_order.proofs.Words.{append-nil, FileEntry, Errno, ENOMEM, Refuses, MayClose, OpensAt, ReadsAt, AppliesEntry, AppliesList, Answers}
-use Rattle.fx_order.proofs.Words.{Completed, Operation, Opens, Reads, Closes, Updates, Place, Target, Slot, Any, IsRefused, IsOpenDone, IsReadDone}
-use Rattle.fx_order.proofs.Words.{IsCloseDone, IsEntryDone, AreEntriesDone, IsRequestDone, same_cases, action_of, part_of_chain, next_member}
-use Rattle.fx_order.proofs.Words.{Explains, severs, first_member, Asked, ExplainsParts, accesses_of_chain, ChainAccess, IsChainDone, AreChainsDone}
+use Rattle.fx_order.proofs.Words.{Completed, Operation, Opens, Reads, Closes, Updates, Place, Slot, Any, IsRefused, IsRequestDone, installed}
+use Rattle.fx_order.proofs.Words.{same_cases, action_of, part_of_chain, next_member, Explains, severs, first_member, Asked, ExplainsParts}
+use Rattle.fx_order.proofs.Words.{accesses_of_chain, ChainAccess, IsChainDone, AreChainsDone}
+use Rattle.fx_chain.specs.Intents.{IsOpened, allocated, answer_at_table, close_answer, entry_intents, intents_of, list_intents, open_intent, read_answer}
+use Rattle.fx_chain.specs.declared.intent.Intent.TheVariants.{Allocate as AllocateAt, Look as LookAt, Take as TakeAt}
+use Rattle.fx_order.specs.Access.{IsOf, finding_of, last_finding}
+use Rattle.fx_order.proofs.Intents.{single, zip_append}
+use Rattle.std.specs.List.{AllZip}
 use Rattle.fx_order.proofs.Accesses.{accesses_by, at_itself, shown, accesses_in, accesses_in-then, order_in, accesses_of_chain-order_in}
 use Rattle.fx_order.proofs.Placed.{placed_by}
 
@@ -140,105 +145,150 @@ pub none_done : {accesses : List Access} {events : List Action} → accesses ≡
 none_done is all = rw is at all
 
 -- one access
-one_done : {access : Access} {accesses : List Access} (events : List Action) → accesses ≡ access ∷ [] → AllDo accesses events → Does access events
-one_done {access} events is all = grind arith
+one_done : (a : Access) (events : List Action) → AllDo (a ∷ []) events → Does a events
+one_done a events all = subst (Does a) (sym (all.2 ∙ ap (λ (l : List Action). l ++ all.0) all.4)) all.3
 
 closes_at_once : (steps : List Action) (x : Option File) {events : List Action} → events ≡ steps ▷▷ close_of x → MayClose steps x events
 closes_at_once steps None is = is
 closes_at_once steps (Some f) is = inr is
 
-module _ (accesses : List Access) (events : List Action) (all : AllDo accesses events) (place : Place) where
-  entry_applied : (in_list slot : ℕ) (entry : ℤ) → IsEntryDone place in_list slot entry accesses → AppliesEntry place in_list slot entry events
-  entry_applied in_list slot (pos entry) x = grind arith
-  entry_applied in_list slot (negsuc zero) x = let does = one_done events x.1 all in (does.0, closes_at_once ([] ▷ Clear slot does.0) does.0 does.2)
-  entry_applied in_list slot (negsuc (suc n)) x = none_done x all
+-- The steps of the accesses that a request intends are those that its answer needs.
 
-list_applied : (accesses : List Access) (events : List Action) → AllDo accesses events → (place : Place) (in_list slot : ℕ) (list : List ℤ)
-    → AreEntriesDone place in_list slot list accesses → AppliesList place in_list slot list events
-list_applied accesses events all place in_list slot [] x = none_done x all
-list_applied accesses events all place in_list slot (entry ∷ list) x =
-    let two : Parted x.0 x.1 events = parted x.0 (rw x.2 at all) in
-    let own = entry_applied x.0 two.first two.do_first place in_list slot entry x.3 in
-    let others = list_applied x.1 two.last two.do_last place (in_list + 1) (slot + 1) list x.4 in
-    (two.first, two.last, two.whole, own, others)
+put_steps : {slot : ℕ} {file : Closed} {a : Access} (events : List Action) → (removed : Option Closed) × (a ≡ Puts slot file removed) → Does a events
+    → (f : File) × (replaced : Option File) × (f.identity ≡ file) × MayClose ([] ▷ Put slot f replaced) replaced events
+put_steps {slot} {file} events is does =
+    let d : Does (Puts slot file is.0) events = rw is.1 at does in (d.0, d.1, d.2, closes_at_once ([] ▷ Put slot d.0 d.1) d.1 d.4)
+
+list_applied : (place : Place) (in_list slot : ℕ) (list : List ℤ) (own : List Access) (events : List Action) → AllDo own events
+    → AllZip IsOf (list_intents place in_list slot list) own → AppliesList place in_list slot list events
+list_applied place in_list slot [] [] events all x = all
+list_applied place in_list slot [] (a ∷ own) events all x = absurd x
+list_applied place in_list slot (pos n ∷ list) [] events all x = absurd x
+list_applied place in_list slot (pos n ∷ list) (a ∷ own) events all x =
+    (all.0, all.1, all.2, put_steps all.0 x.0 all.3, list_applied place (in_list + 1) (slot + 1) list own all.1 all.4 x.1)
+list_applied place in_list slot (negsuc zero ∷ list) [] events all x = absurd x
+list_applied place in_list slot (negsuc zero ∷ list) (a ∷ own) events all x =
+    let does : Does (Clears slot x.0.0) all.0 = rw x.0.1 at all.3 in (
+      all.0,
+      all.1,
+      all.2,
+      (does.0, closes_at_once ([] ▷ Clear slot does.0) does.0 does.2),
+      list_applied place (in_list + 1) (slot + 1) list own all.1 all.4 x.1,
+    )
+list_applied place in_list slot (negsuc (suc n) ∷ list) own events all x =
+    ([], events, sym (append-nil events), refl, list_applied place (in_list + 1) (slot + 1) list own events all x)
+
+module _ (catalogue : List FileEntry) (place : Place) (events : List Action) (c : Completed) where
+  free_steps : (entry : ℕ) (a : Access) → IsOf (AllocateAt (installed place 0 entry)) a → Does a events → c ≡ allocated place (Some (finding_of a))
+      → OpensAt place entry Any events c
+  free_steps entry a (inl x) does answer =
+      let d : Does (Allocates x.0 (installed place 0 entry)) events = rw x.1 at does in inl (x.0, d.0, d.1, d.2, rw x.1 at answer)
+  free_steps entry a (inr x) does answer = inr (rw x at does, rw x at answer)
+
+  read_steps : (slot off len : ℕ) (a : Access) (found : Option Closed) → a ≡ Looks slot found → Does a events
+      → c ≡ read_answer catalogue place off len (Some (finding_of a)) → ReadsAt catalogue place slot off len events c
+  read_steps slot off len a None is does answer =
+      let d : Does (Looks slot None) events = rw is at does in
+      let none = no_file d.0 (sym d.1) in
+      inr (inl (d.2 ∙ ap (λ (o : Option File). [] ▷ Look slot o ▷▷ release_of o) none, rw is at answer))
+  read_steps slot off len a (Some file) is does answer =
+      let d : Does (Looks slot (Some file)) events = rw is at does in
+      let (f, there, same) = file_told d.0 file d.1 in
+      inr (inr (f, inl (d.2 ∙ ap (λ (o : Option File). [] ▷ Look slot o ▷▷ release_of o) there), rw same (rw is at answer)))
+
+  take_steps : (slot : ℕ) (a : Access) (found : Option Closed) → a ≡ Takes slot found → Does a events
+      → c ≡ close_answer place (Some (finding_of a)) → TakesAt place slot events c
+  take_steps slot a None is does answer =
+      let d : Does (Takes slot None) events = rw is at does in
+      let none = no_file d.0 (sym d.1) in
+      inl (d.2 ∙ ap (λ (o : Option File). [] ▷ Take slot o ▷▷ close_of o) none, rw is at answer)
+  take_steps slot a (Some file) is does answer =
+      let d : Does (Takes slot (Some file)) events = rw is at does in
+      let (f, there, same) = file_told d.0 file d.1 in
+      inr (f, inr (d.2 ∙ ap (λ (o : Option File). [] ▷ Take slot o ▷▷ close_of o) there), rw is at answer)
 
 module _ (catalogue : List FileEntry) (size : ℕ) (place : Place) (accesses : List Access) (events : List Action) (all : AllDo accesses events)
     (c : Completed) where
   refused : (errno : Errno) → IsRefused place errno accesses c → Refuses place errno events c
   refused errno x = (none_done x.0 all, x.1)
 
-  opened : (entry : ℕ) (target : Target) → IsOpenDone place entry target accesses c → OpensAt place entry target events c
-  opened entry (Slot slot) x = grind arith
-  opened entry Any (inl y) = let does = one_done events y.1.0 all in inl (y.0, does.0, does.1, does.2, y.1.1)
-  opened entry Any (inr y) = inr (one_done events y.0 all, y.1)
-
-  read : (slot off len : ℕ) → IsReadDone catalogue place slot off len accesses c → ReadsAt catalogue place slot off len events c
-  read slot off len (inl y) = inl (y.0, refused ENOMEM y.1)
-  read slot off len (inr (inl z)) = grind arith
-  read slot off len (inr (inr z)) = grind arith
-
-  emptied : (slot : ℕ) → IsCloseDone place slot accesses c → TakesAt place slot events c
-  emptied slot (inl y) = grind arith
-  emptied slot (inr y) =
-      let does = one_done events y.1.0 all in
-      let there = file_told does.0 y.0 does.1 in
-      inr (there.0, inr (does.2 ∙ ap (λ (o : Option File). [] ▷ Take slot o ▷▷ close_of o) there.1), y.1.1)
-
   at_table : (operation : Operation) → IsDoneAtTable catalogue place operation accesses c → AnswersAtTable catalogue place operation events c
-  at_table (Opens name target) x = (x.0, x.1, opened x.0 target x.2)
-  at_table (Reads slot off len) x = read slot off len x
-  at_table (Closes slot) x = emptied slot x
-  at_table (Updates off list) x = (list_applied accesses events all place 0 off list x.0, x.1)
+  at_table (Opens name (Slot slot)) (inr x) = (
+    x.0.0,
+    x.0.1,
+    single (open_intent (Slot slot) (installed place 0 x.0.0)) (λ l. AllDo l events → OpensAt place x.0.0 (Slot slot) events c) accesses x.0.2
+        (λ a is does. let p = put_steps events is (one_done a events does) in (p.0, p.1, p.2, p.3, x.1)) all,
+  )
+  at_table (Opens name Any) (inr x) = (
+    x.0.0,
+    x.0.1,
+    single (AllocateAt (installed place 0 x.0.0)) (λ l. AllDo l events → c ≡ allocated place (last_finding l) → OpensAt place x.0.0 Any events c)
+        accesses x.0.2 (λ a is does said. free_steps catalogue place events c x.0.0 a is (one_done a events does) said) all x.1,
+  )
+  at_table (Reads slot off len) (inr x) =
+      single (LookAt slot)
+      (λ l. AllDo l events → c ≡ read_answer catalogue place off len (last_finding l) → ReadsAt catalogue place slot off len events c) accesses x.0.2
+      (λ a is does said. read_steps catalogue place events c slot off len a is.0 is.1 (one_done a events does) said) all x.1
+  at_table (Closes slot) (inr x) =
+      single (TakeAt slot) (λ l. AllDo l events → c ≡ close_answer place (last_finding l) → TakesAt place slot events c) accesses x.0.2
+      (λ a is does said. take_steps catalogue place events c slot a is.0 is.1 (one_done a events does) said) all x.1
+  at_table (Updates off list) (inr x) = (list_applied place 0 off list accesses events all x.0.2, x.1)
+  at_table (Reads slot off len) (inl x) = inl (x.0, refused ENOMEM x.1)
+  at_table operation (inl x) = absurd (omega (arith, x.0))
 
   -- the steps of accesses that explain an answer explain it
   pub answered : (operation : Operation) → IsRequestDone catalogue size place operation accesses c → Answers catalogue size place operation events c
   answered operation = same_options (refusal_of catalogue size operation) (at_table operation) refused
+
+-- The accesses of steps that an answer needs are those that the request intends.
 
 accesses_may_close : (steps : List Action) (removed : Option File) (events : List Action) → MayClose steps removed events
     → accesses_in events ≡ accesses_in steps
 accesses_may_close steps None events is = ap accesses_in is
 accesses_may_close steps (Some f) events closes = grind (arith, append-nil)
 
-module _ (place : Place) (in_list slot : ℕ) where
-  entry_done : (entry : ℤ) (events : List Action) → AppliesEntry place in_list slot entry events
-      → IsEntryDone place in_list slot entry (accesses_in events)
-  entry_done (pos entry) events x = grind (arith, accesses_may_close)
-  entry_done (negsuc zero) events x = (identity_of x.0, accesses_may_close ([] ▷ Clear slot x.0) x.0 events x.1)
-  entry_done (negsuc (suc n)) events x = ap accesses_in x
+entry_intended : (place : Place) (in_list slot : ℕ) (entry : ℤ) (events : List Action) → AppliesEntry place in_list slot entry events
+    → AllZip IsOf (entry_intents place in_list slot entry) (accesses_in events)
+entry_intended place in_list slot (pos entry) events x =
+    rw (accesses_may_close ([] ▷ Put slot x.0 x.1) x.1 events x.3) ((identity_of x.1, ap (λ (f : Closed). Puts slot f (identity_of x.1)) x.2), tt)
+entry_intended place in_list slot (negsuc zero) events x =
+    rw (accesses_may_close ([] ▷ Clear slot x.0) x.0 events x.1) ((identity_of x.0, refl), tt)
+entry_intended place in_list slot (negsuc (suc n)) events x = rw x tt
 
-list_done : (place : Place) (in_list slot : ℕ) (list : List ℤ) (events : List Action) → AppliesList place in_list slot list events
-    → AreEntriesDone place in_list slot list (accesses_in events)
-list_done place in_list slot [] events x = ap accesses_in x
-list_done place in_list slot (entry ∷ list) events x =
-    let own = entry_done place in_list slot entry x.0 x.3 in
-    let others = list_done place (in_list + 1) (slot + 1) list x.1 x.4 in
-    (accesses_in x.0, accesses_in x.1, ap accesses_in x.2 ∙ accesses_in-then x.0 x.1, own, others)
+list_intended : (place : Place) (in_list slot : ℕ) (list : List ℤ) (events : List Action) → AppliesList place in_list slot list events
+    → AllZip IsOf (list_intents place in_list slot list) (accesses_in events)
+list_intended place in_list slot [] events x = rw x tt
+list_intended place in_list slot (entry ∷ list) events x =
+    rw (ap accesses_in x.2 ∙ accesses_in-then x.0 x.1)
+    (zip_append (entry_intents place in_list slot entry) (list_intents place (in_list + 1) (slot + 1) list) (accesses_in x.0) (accesses_in x.1)
+    (entry_intended place in_list slot entry x.0 x.3) (list_intended place (in_list + 1) (slot + 1) list x.1 x.4))
 
 module _ (catalogue : List FileEntry) (size : ℕ) (place : Place) (events : List Action) (c : Completed) where
   refusal_done : (errno : Errno) → Refuses place errno events c → IsRefused place errno (accesses_in events) c
   refusal_done errno refuses = (ap accesses_in refuses.0, refuses.1)
 
-  open_done : (entry : ℕ) (target : Target) → OpensAt place entry target events c → IsOpenDone place entry target (accesses_in events) c
-  open_done entry (Slot slot) x =
-      let put = entry_done place 0 slot (pos entry) events (x.0, x.1, x.2, x.3) in (put.0, (put.1, x.4))
-  open_done entry Any (inl y) = inl (y.0, (ap accesses_in y.3 ∙ (λ i. Allocates y.0 (y.2 i) ∷ []), y.4))
-  open_done entry Any (inr y) = inr (ap accesses_in y.0, y.1)
-
-  read_done : (slot off len : ℕ) → ReadsAt catalogue place slot off len events c → IsReadDone catalogue place slot off len (accesses_in events) c
-  read_done slot off len (inl y) = inl (y.0, refusal_done ENOMEM y.1)
-  read_done slot off len (inr (inl z)) = inr (inl (ap accesses_in z.0, z.1))
-  read_done slot off len (inr (inr z)) = grind arith
-
-  close_done : (slot : ℕ) → TakesAt place slot events c → IsCloseDone place slot (accesses_in events) c
-  close_done slot (inl y) = inl (ap accesses_in y.0, y.1)
-  close_done slot (inr y) = inr (y.0.identity, (accesses_may_close ([] ▷ Take slot (Some y.0)) (Some y.0) events y.1, y.2))
+  -- one access, which the request intends, and its answer
+  one_done_so : (operation : Operation) (entry : ℕ) {a : Access} → accesses_in events ≡ a ∷ [] → IsOpened catalogue operation entry
+      → AllZip IsOf (intents_of place entry operation) (a ∷ []) → c ≡ answer_at_table catalogue place operation (Some (finding_of a))
+      → IsDoneAtTable catalogue place operation (accesses_in events) c
+  one_done_so operation entry is opened fits answer = rw is (inr ((entry, opened, fits), answer))
 
   at_table_done : (operation : Operation) → AnswersAtTable catalogue place operation events c
       → IsDoneAtTable catalogue place operation (accesses_in events) c
-  at_table_done (Opens name target) x = (x.0, x.1, open_done x.0 target x.2)
-  at_table_done (Reads slot off len) x = read_done slot off len x
-  at_table_done (Closes slot) x = close_done slot x
-  at_table_done (Updates off list) x = (list_done place 0 off list events x.0, x.1)
+  at_table_done (Opens name (Slot slot)) (entry, named, (f, replaced, same, may, answer)) =
+      inr ((entry, named, entry_intended place 0 slot (pos entry) events (f, replaced, same, may)), answer)
+  at_table_done (Opens name Any) (entry, named, inl y) =
+      one_done_so (Opens name Any) entry (ap accesses_in y.3) named (inl (y.0, ap (λ (f : Closed). Allocates y.0 f) y.2), tt) y.4
+  at_table_done (Opens name Any) (entry, named, inr y) = one_done_so (Opens name Any) entry (ap accesses_in y.0) named (inr refl, tt) y.1
+  at_table_done (Reads slot off len) (inl y) = inl (y.0, refusal_done ENOMEM y.1)
+  at_table_done (Reads slot off len) (inr (inl z)) = one_done_so (Reads slot off len) 0 (ap accesses_in z.0) refl ((None, refl), tt) z.1
+  at_table_done (Reads slot off len) (inr (inr z)) =
+      one_done_so (Reads slot off len) 0 (accesses_may_close ([] ▷ Look slot (Some z.0) ▷ Release z.0) (Some z.0) events z.1) refl
+      ((Some z.0.identity, refl), tt) z.2
+  at_table_done (Closes slot) (inl y) = one_done_so (Closes slot) 0 (ap accesses_in y.0) refl ((None, refl), tt) y.1
+  at_table_done (Closes slot) (inr y) =
+      one_done_so (Closes slot) 0 (accesses_may_close ([] ▷ Take slot (Some y.0)) (Some y.0) events y.1) refl ((Some y.0.identity, refl), tt) y.2
+  at_table_done (Updates off list) x = inr ((0, refl, list_intended place 0 off list events x.0), x.1)
 
   -- the accesses of steps that explain an answer explain it
   pub request_done : (operation : Operation) → Answers catalogue size place operation events c

@@ -34,8 +34,7 @@ pub use Rattle.fx_order.specs.Access.{Allocates, Clears, FindsFull, Looks, Permi
 pub use Rattle.fx_order.specs.Access.{accesses_of_chain, file_removed_by, files_removed_in, table_after, table_with, IsAt, with_file}
 pub use Rattle.fx_order.specs.Laws.{AreKnown, IsOfNext}
 pub use Rattle.fx_order.specs.Order.{IsOneOrder, IsOrderOf, ring_left, table_of}
-pub use Rattle.fx_order.specs.Requests.{AreChainsDone, AreEntriesDone, IsChainDone, IsCloseDone, IsEntryDone, IsOpenDone, IsReadDone, IsRefused}
-pub use Rattle.fx_order.specs.Requests.{IsDoneAtTable, IsRequestDone, IsUpdateDone}
+pub use Rattle.fx_order.specs.Requests.{AreChainsDone, IsChainDone, IsDoneAtTable, IsRefused, IsRequestDone}
 pub use Rattle.fx_order.specs.Slots.{ring_of_slots, table_of_slots, ring_with_slots}
 pub use Rattle.fx_order.specs.declared.access.Access.{Access}
 pub use Rattle.fx_order.specs.declared.access.ChainAccess.{ChainAccess}
