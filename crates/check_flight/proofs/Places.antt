@@ -1,8 +1,7 @@
 -- The places of a chain's completions.
 use Rattle.check_flight.proofs.Words.{◌≡◌, ℕ, ◌+◌, ◌<◌, List, [], ◌∷◌, length, refl, sym, ap, ◌∙◌, arith, suc, zero, Access, Asked, Contains}
-use Rattle.check_flight.proofs.Words.{Completed, FileEntry, IsChainDone, IsRequestDone, Place, canceled, either_way, next_member, slice_index_or}
-use Rattle.check_flight.proofs.Words.{Opens, Closes, Updates, Reads, Operation, Slot, Any, unless_refused, severs, IsDoneAtTable, moved}
-use Rattle.check_outcomes.proofs.Words.{allocates, closes, puts, reads}
+use Rattle.check_flight.proofs.Words.{Completed, FileEntry, IsChainDone, Place, canceled, either_way, moved, next_member, request_place, severs}
+use Rattle.check_flight.proofs.Words.{slice_index_or}
 
 -- each completion is at the place after the one before
 abbrev pub AreAt : Place → List Completed → Type 0
@@ -14,25 +13,13 @@ canceled_at place [] = tt
 canceled_at place (request ∷ requests) = (refl, canceled_at (next_member place) requests)
 
 module _ (catalogue : List FileEntry) (size : ℕ) where
-  request_at : (place : Place) (operation : Operation) (own : List Access) (c : Completed) → IsRequestDone catalogue size place operation own c
-      → c.place ≡ place
-  request_at place operation own c = unless_refused place (λ _ (d : Completed). d.place ≡ place) own c catalogue size operation (λ _. refl)
-      (λ _. table_at operation)
-    where
-      table_at : (operation : Operation) → IsDoneAtTable catalogue place operation own c → c.place ≡ place
-      table_at (Opens name (Slot slot)) x = puts place (λ _ (d : Completed). d.place ≡ place) own c x.0 slot (λ _. refl) x.2
-      table_at (Opens name Any) x = allocates place (λ _ (d : Completed). d.place ≡ place) own c x.0 (λ _. refl) refl x.2
-      table_at (Reads slot off len) x = reads place (λ _ (d : Completed). d.place ≡ place) own c catalogue slot off len refl refl (λ _. refl) x
-      table_at (Closes slot) x = closes place (λ _ (d : Completed). d.place ≡ place) own c slot refl (λ _. refl) x
-      table_at (Updates off list) x = ap (λ (d : Completed). d.place) x.1
-
   pub chain_at : (place : Place) (requests : List Asked) (accesses : List Access) (cs : List Completed)
       → IsChainDone catalogue size place requests accesses cs → AreAt place cs
   chain_at place [] accesses cs x = rw x.1 tt
   chain_at place (request ∷ requests) accesses cs x =
       let (own, others, c, later, are, whole, done, on) = x in
       rw whole (
-        request_at place request.operation own c done,
+        request_place catalogue place size request.operation own c done,
         either_way (severs request c) (λ _ y. rw y.1 (canceled_at (next_member place) requests))
             (λ _. chain_at (next_member place) requests others later) on,
       )

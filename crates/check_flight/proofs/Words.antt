@@ -10,7 +10,7 @@ pub use Rattle.check_outcomes.proofs.Words.{false≢true, file_removed_by, if◌
 pub use Rattle.check_outcomes.proofs.Words.{ne_eqb, next_member, nil_from_length, over, rest_at, rules_of, run_at, settled_at}
 pub use Rattle.check_outcomes.proofs.Words.{severs, slice_index_or, step, step_of, subst, table_of, table_with, ◌==◌}
 pub use Rattle.check_outcomes.proofs.Words.{Contains-append_left, Contains-append_right, Contains-push, contains_head, option_to_list, RingState}
-pub use Rattle.check_outcomes.proofs.Words.{Opens, Closes, Updates, Reads, Operation, Slot, Any, IsDoneAtTable, unless_refused, ChainAccess}
+pub use Rattle.check_outcomes.proofs.Words.{ChainAccess, request_place}
 pub use Rattle.check_outcomes.proofs.Words.{get_or_append_left, get_or_at}
 pub use Rattle.std.proofs.lemmas.List.Elements.{Contains-append_cases}
 pub use Rattle.check_outcomes.proofs.Playing.{OfChain, steps_on}

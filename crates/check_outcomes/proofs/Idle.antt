@@ -1,11 +1,13 @@
 -- Idle chains, which have only reads left.
 use Rattle.check_outcomes.proofs.Words.{◌≡◌, inl, inr, ◌==◌, ◌&&◌, not, Bool, true, false, if◌then◌else◌, List, [], ◌∷◌, length, refl, sym, ap, ◌∙◌}
 use Rattle.check_outcomes.proofs.Words.{arith, Some, false≢true, Asked, Place, asked_of, Request, all_asked, ℕ, ◌⊎◌, ⊎_elim, nil_from_length, eq-eqb}
-use Rattle.check_outcomes.proofs.Words.{Option, None, All, All-nil, All-cons, All-append, FileEntry, Completed, Operation, Reads, ECANCELED, refusal}
+use Rattle.check_outcomes.proofs.Words.{Option, All, All-nil, All-cons, All-append, FileEntry, Completed, Operation, Reads, ECANCELED, refusal}
 use Rattle.check_outcomes.proofs.Words.{AllByRecursion, next_member, canceled, severs, IsRequestDone, IsChainDone, either_way, list_all, are_reads}
 use Rattle.check_outcomes.proofs.Words.{has_none, is_read, Rest, said_by, asks_from, rest_for, is_state_idle, Claimed, PlayedSubmission, and_from}
-use Rattle.check_outcomes.proofs.Words.{and_parts, cases_eq, eqb-true, le-leb, ne_eqb, AreIdle, IsLeft, Access, Looks, Identity, rest_at, reads}
-use Rattle.check_outcomes.proofs.Words.{unless_refused}
+use Rattle.check_outcomes.proofs.Words.{and_parts, cases_eq, eqb-true, le-leb, ne_eqb, AreIdle, IsLeft, Access, Looks, Identity, rest_at}
+use Rattle.check_outcomes.proofs.Words.{IsDoneAtTable, request_place, unless_refused}
+use Rattle.fx_chain.specs.declared.intent.Intent.TheVariants.{Look}
+use Rattle.fx_order.proofs.Intents.{single}
 
 pub over_idle : (submission : PlayedSubmission) (rest : Rest) → rest.requests ≡ [] → is_state_idle submission rest ≡ true
 over_idle submission rest none = rw none
@@ -59,9 +61,6 @@ idle_some submission (request ∷ requests) place made some silent = rw (ne_eqb 
 abbrev pub IsLook : Access → Type 0
 IsLook a = (slot : ℕ) × (found : Option Identity) × (a ≡ Looks slot found)
 
-look : (slot : ℕ) (found : Option Identity) → All IsLook (Looks slot found ∷ [])
-look slot found = All-cons IsLook (Looks slot found) [] (slot, found, refl) (All-nil IsLook)
-
 -- what holds of each completion of one of these requests
 abbrev HoldsOf : (Completed → Type 0) → ℕ → Place → List Asked → Type 0
 HoldsOf P made place requests = (c : Completed) → IsLeft (rest_at place requests made) c.place → P c
@@ -83,13 +82,19 @@ canceled_so P {made} place (request ∷ requests) so = (
 )
 
 module _ (catalogue : List FileEntry) (size : ℕ) where
+  looks : {place : Place} (own : List Access) (c : Completed) (operation : Operation) → is_read operation ≡ true
+      → IsDoneAtTable catalogue place operation own c → All IsLook own
+  looks own c (Reads slot off len) is (inr x) =
+      single (Look slot) (All IsLook) own x.0.2 (λ a looked. All-cons IsLook a [] (slot, looked.0, looked.1) (All-nil IsLook))
+  looks own c operation is (inl x) = rw x.1.0 (All-nil IsLook)
+  looks own c operation isnt (inr x) = absurd (false≢true isnt)
+
   read_done : {place : Place} (own : List Access) (c : Completed) (operation : Operation) → is_read operation ≡ true
       → IsRequestDone catalogue size place operation own c → All IsLook own × (c.place ≡ place)
-  read_done {place} own c (Reads slot off len) is =
-      unless_refused place (λ l d. All IsLook l × (d.place ≡ place)) own c catalogue size (Reads slot off len) (λ _. (All-nil IsLook, refl))
-      (λ _. reads place (λ l d. All IsLook l × (d.place ≡ place)) own c catalogue slot off len (All-nil IsLook, refl) (look slot None, refl)
-      (λ file. (look slot (Some file), refl)))
-  read_done own c operation isnt = absurd (false≢true isnt)
+  read_done {place} own c operation is done = (
+    unless_refused place (λ l _. All IsLook l) own c catalogue size operation (λ _. All-nil IsLook) (λ _. looks own c operation is) done,
+    request_place catalogue place size operation own c done,
+  )
 
   pub reads_done : (P : Completed → Type 0) {made : ℕ} (place : Place) (requests : List Asked) (accesses : List Access) (cs : List Completed)
       → HoldsOf P made place requests → are_reads requests ≡ true

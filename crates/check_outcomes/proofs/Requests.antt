@@ -1,21 +1,20 @@
 -- What each request does at the table: how many accesses it makes, and its answer if no allocation
 -- fails; what each access was to be; and the slots that it reaches.
-use Rattle.check_outcomes.proofs.Words.{◌≡◌, ℕ, zero, suc, ◌+◌, ◌<◌, ◌≤◌, ℤ, pos, negsuc, List, [], ◌∷◌, ◌++◌, length, refl, sym, ap, ◌∙◌}
-use Rattle.check_outcomes.proofs.Words.{Option, Some, None, arith, inl, inr, ⊎_elim, All, IsCatalogue, slice_get}
-use Rattle.check_outcomes.proofs.Words.{All-nil, All-cons, All-append, FileEntry, Errno, MatchOption}
-use Rattle.check_outcomes.proofs.Words.{Completed, Operation, Opens, Reads, Closes, Updates, Place, Slot, Any, Table, installed}
-use Rattle.check_outcomes.proofs.Words.{refusal_of, IsRefused, IsRequestDone, IsDoneAtTable, IsEntryDone, AreEntriesDone}
-use Rattle.check_outcomes.proofs.Words.{Access, HasMemory, rules_of, Allocates, Clears, FindsFull, Looks, Puts, Takes, allocates}
-use Rattle.check_outcomes.proofs.Words.{closes, puts, reads, Intends, IsNextAccess}
+use Rattle.check_outcomes.proofs.Words.{◌≡◌, ℕ, zero, suc, ◌+◌, ◌≤◌, ℤ, pos, negsuc, List, [], ◌∷◌, ◌++◌, length, refl, ap, ◌∙◌, Option, Some, None}
+use Rattle.check_outcomes.proofs.Words.{arith, inl, inr, All, IsCatalogue, slice_get, All-nil, All-cons, FileEntry, Errno, MatchOption}
+use Rattle.check_outcomes.proofs.Words.{Completed, Operation, Opens, Reads, Closes, Updates, Place, Slot, Any, Table, refusal_of, IsRefused}
+use Rattle.check_outcomes.proofs.Words.{IsRequestDone, IsDoneAtTable, Access, HasMemory, Identity, rules_of, Intends, IsNextAccess, installed}
 use Rattle.check_outcomes.proofs.ChainAccesses.{AreRight, last_of}
 use Rattle.check_outcomes.proofs.Commuting.{ComesTo}
 use Rattle.fx_chain.proofs.Cases.{both_options}
-use Rattle.fx_chain.specs.Intents.{IsIntent, IsOpened, MayReach, answer_at_table, answer_of, count_of, count_or_none, intents_of, positions_of, refusal_or}
+use Rattle.fx_chain.specs.Intents.{IsIntent, IsOpened, MayReach, answer_at_table, answer_of, count_of, count_or_none, intents_of, list_intents}
+use Rattle.fx_chain.specs.Intents.{positions_of, refusal_or}
 use Rattle.fx_chain.specs.declared.intent.Finding.{Finding}
 use Rattle.fx_chain.specs.declared.intent.Intent.{Intent}
-use Rattle.fx_order.proofs.Intents.{intended, as_many, same_opened, zip_at}
-use Rattle.fx_order.specs.Laws.{IsIntended}
-use Rattle.fx_order.specs.Access.{finding_of, last_finding}
+use Rattle.fx_chain.specs.declared.intent.Intent.TheVariants.{Allocate, Look, Put, Take}
+use Rattle.fx_order.proofs.Intents.{as_many, same_opened, single, zip_at}
+use Rattle.fx_order.specs.Access.{IsOf, finding_of, last_finding}
+use Rattle.std.specs.List.{AllZip}
 use Rattle.std.specs.Prelude.{option_map}
 
 -- so many accesses, and this answer
@@ -33,18 +32,17 @@ finding-last (a ∷ []) = refl
 finding-last (a ∷ b ∷ own) = finding-last (b ∷ own)
 
 module _ (catalogue : List FileEntry) (size : ℕ) (place : Place) (own : List Access) (c : Completed) (memory : HasMemory c) where
-  at_table : (operation : Operation) → IsIntended catalogue place operation own c
+  at_table : (operation : Operation) → IsDoneAtTable catalogue place operation own c
       → Says own c (length (positions_of operation)) (answer_at_table catalogue place operation (option_map finding_of (last_of own)))
   at_table operation (inl x) = absurd (memory (ap (λ (d : Completed). d.res) x.1.1))
   at_table operation (inr x) = (
-    as_many place x.0 operation own x.2,
-    x.3 ∙ ap (λ (found : Option Finding). answer_at_table catalogue place operation found) (finding-last own),
+    as_many place x.0.0 operation own x.0.2,
+    x.1 ∙ ap (λ (found : Option Finding). answer_at_table catalogue place operation found) (finding-last own),
   )
 
   says : (operation : Operation) → IsRequestDone catalogue size place operation own c
       → Says own c (count_of catalogue size operation) (answer_of catalogue size place operation (option_map finding_of (last_of own)))
-  says operation = by_refusal own place (refusal_of catalogue size operation)
-      (λ x. at_table operation (intended catalogue place own c operation x))
+  says operation = by_refusal own place (refusal_of catalogue size operation) (at_table operation)
 
 -- each request is done so
 pub are_right : (catalogue : List FileEntry) (size : ℕ) → AreRight catalogue size (rules_of catalogue size)
@@ -59,19 +57,19 @@ one Q a so = All-cons Q a [] so (All-nil Q)
 
 module _ (catalogue : List FileEntry) (catalogued : IsCatalogue catalogue) (size : ℕ) (place : Place) (operation : Operation) (a : Access) where
   meant_here : (entry : ℕ) (front behind : List Access) (c : Completed) → IsOpened catalogue operation entry
-      → IsIntended catalogue place operation (front ++ a ∷ behind) c
+      → IsDoneAtTable catalogue place operation (front ++ a ∷ behind) c
       → Intends (slice_get (intents_of place entry operation) (length front)) a
   meant_here entry front behind c opened (inl x) = absurd (never_empty front behind a x.1.0)
   meant_here entry front behind c opened (inr x) =
-      let same : x.0 ≡ entry = same_opened catalogued operation x.0 entry x.1 opened in
-      let at = zip_at (intents_of place entry operation) front a behind (rw same at x.2) in
+      let same : x.0.0 ≡ entry = same_opened catalogued operation x.0.0 entry x.0.1 opened in
+      let at = zip_at (intents_of place entry operation) front a behind (rw same at x.0.2) in
       rw at.1 at.2
 
   -- an access that the request makes next is the one that it intends
   pub meant : (made : ℕ) (intent : Option Intent) → IsIntent catalogue size place operation made intent
       → IsNextAccess catalogue size place operation made a → Intends intent a
   meant made intent is (front, behind, c, long, done) = both_options {R = Intends intent a} (refusal_of catalogue size operation)
-      (λ x y. rw (x.2, ← long) (meant_here x.0 front behind c x.1 (intended catalogue place (front ++ a ∷ behind) c operation y)))
+      (λ x y. rw (x.2, ← long) (meant_here x.0 front behind c x.1 y))
       (λ errno x y. absurd (never_empty front behind a y.0)) is done
 
 module _ (table : Table) where
@@ -79,36 +77,34 @@ module _ (table : Table) where
   abbrev pub Comes : Operation → Access → Type 0
   Comes operation a = (slot : ℕ) → ComesTo table.range a slot → MayReach table.range operation slot
 
-  module _ (place : Place) (off : ℕ) (all : List ℤ) where
-    entry_comes : (in_list slot : ℕ) (entry : ℤ) (own : List Access) → off ≤ slot → slot < off + length all → IsEntryDone place in_list slot entry own
-        → All (Comes (Updates off all)) own
-    entry_comes in_list slot (negsuc (suc n)) own low high x = rw x (All-nil (Comes (Updates off all)))
-    entry_comes in_list slot (negsuc zero) own low high x =
-        rw x.1 (one (Comes (Updates off all)) (Clears slot x.0) (λ at is. rw is (low, high)))
-    entry_comes in_list slot (pos n) own low high x =
-        rw x.1 (one (Comes (Updates off all)) (Puts slot (installed place in_list n) x.0) (λ at is. rw is (low, high)))
+  entries_come : (place : Place) (off : ℕ) (all : List ℤ) (in_list slot : ℕ) (list : List ℤ) (own : List Access) → off ≤ slot
+      → slot + length list ≤ off + length all → AllZip IsOf (list_intents place in_list slot list) own → All (Comes (Updates off all)) own
+  entries_come place off all in_list slot [] [] low high x = All-nil (Comes (Updates off all))
+  entries_come place off all in_list slot [] (a ∷ own) low high x = absurd x
+  entries_come place off all in_list slot (pos n ∷ list) [] low high x = absurd x
+  entries_come place off all in_list slot (pos n ∷ list) (a ∷ own) low high x =
+      All-cons (Comes (Updates off all)) a own (rw x.0.1 (λ s is. rw is (low, omega arith)))
+      (entries_come place off all (in_list + 1) (slot + 1) list own (omega arith) (omega arith) x.1)
+  entries_come place off all in_list slot (negsuc zero ∷ list) [] low high x = absurd x
+  entries_come place off all in_list slot (negsuc zero ∷ list) (a ∷ own) low high x =
+      All-cons (Comes (Updates off all)) a own (rw x.0.1 (λ s is. rw is (low, omega arith)))
+      (entries_come place off all (in_list + 1) (slot + 1) list own (omega arith) (omega arith) x.1)
+  entries_come place off all in_list slot (negsuc (suc n) ∷ list) own low high x =
+      entries_come place off all (in_list + 1) (slot + 1) list own (omega arith) (omega arith) x
 
-    entries_come : (in_list slot : ℕ) (list : List ℤ) (own : List Access) → off ≤ slot → slot + length list ≤ off + length all
-        → AreEntriesDone place in_list slot list own → All (Comes (Updates off all)) own
-    entries_come in_list slot [] own low high x = rw x (All-nil (Comes (Updates off all)))
-    entries_come in_list slot (entry ∷ list) own low high x =
-        rw x.2 (All-append (Comes (Updates off all)) x.0 x.1 (entry_comes in_list slot entry x.0 low (omega arith) x.3)
-        (entries_come (in_list + 1) (slot + 1) list x.1 (omega arith) (omega arith) x.4))
+  any_comes : {file : Identity} (name : List ℕ) (a : Access) → IsOf (Allocate file) a → Comes (Opens name Any) a
+  any_comes name a (inl x) = rw x.1 (λ s comes. (comes.1, comes.2))
+  any_comes name a (inr x) = rw x (λ s comes. comes)
 
   pub all_come : (catalogue : List FileEntry) (place : Place) (own : List Access) (c : Completed) (operation : Operation)
       → IsDoneAtTable catalogue place operation own c → All (Comes operation) own
-  all_come catalogue place own c (Opens name (Slot slot)) x =
-      let P : Access → Type 0 = Comes (Opens name (Slot slot)) in
-      puts place (λ l _. All P l) own c x.0 slot (λ removed. one P (Puts slot (installed place 0 x.0) removed) (λ at is. is)) x.2
-  all_come catalogue place own c (Opens name Any) x =
-      let P : Access → Type 0 = Comes (Opens name Any) in
-      allocates place (λ l _. All P l) own c x.0
-      (λ slot. one P (Allocates slot (installed place 0 x.0)) (λ at comes. (comes.1, comes.2))) (one P FindsFull (λ at comes. comes)) x.2
-  all_come catalogue place own c (Reads slot off len) x =
-      let P : Access → Type 0 = Comes (Reads slot off len) in
-      reads place (λ l _. All P l) own c catalogue slot off len (All-nil P) (one P (Looks slot None) (λ at is. is))
-      (λ file. one P (Looks slot (Some file)) (λ at is. is)) x
-  all_come catalogue place own c (Closes slot) x =
-      let P : Access → Type 0 = Comes (Closes slot) in
-      closes place (λ l _. All P l) own c slot (one P (Takes slot None) (λ at is. is)) (λ file. one P (Takes slot (Some file)) (λ at is. is)) x
-  all_come catalogue place own c (Updates off list) x = entries_come place off list 0 off list own (omega arith) (omega arith) x.0
+  all_come catalogue place own c operation (inl x) = rw x.1.0 (All-nil (Comes operation))
+  all_come catalogue place own c (Opens name (Slot slot)) (inr x) =
+      single (Put slot (installed place 0 x.0.0)) (All (Comes (Opens name (Slot slot)))) own x.0.2 (λ a is. one (Comes (Opens name (Slot slot))) a (rw is.1 (λ s there. there)))
+  all_come catalogue place own c (Opens name Any) (inr x) =
+      single (Allocate (installed place 0 x.0.0)) (All (Comes (Opens name Any))) own x.0.2 (λ a is. one (Comes (Opens name Any)) a (any_comes name a is))
+  all_come catalogue place own c (Reads slot off len) (inr x) =
+      single (Look slot) (All (Comes (Reads slot off len))) own x.0.2 (λ a is. one (Comes (Reads slot off len)) a (rw is.1 (λ s there. there)))
+  all_come catalogue place own c (Closes slot) (inr x) =
+      single (Take slot) (All (Comes (Closes slot))) own x.0.2 (λ a is. one (Comes (Closes slot)) a (rw is.1 (λ s there. there)))
+  all_come catalogue place own c (Updates off list) (inr x) = entries_come place off list 0 off list own (omega arith) (omega arith) x.0.2

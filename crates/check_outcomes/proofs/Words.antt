@@ -1,7 +1,7 @@
 -- The names that most proofs of this crate use.
 pub use Rattle.fx_base.specs.Identity.{Identity}
 pub use Rattle.fx_order.proofs.Accesses.{at_itself, not_own, of_chain, own_first}
-pub use Rattle.fx_order.proofs.RequestCases.{allocates, closes, puts, reads, unless_refused, entries_made}
+pub use Rattle.fx_order.proofs.RequestCases.{request_place, unless_refused}
 pub use Rattle.fx_order.specs.declared.access.Access.{Access}
 pub use Rattle.fx_order.specs.declared.access.Access.TheVariants.{Allocates, Clears, FindsFull, Looks, Puts, Takes}
 pub use Rattle.fx_order.specs.declared.access.ChainAccess.{ChainAccess}
@@ -50,7 +50,7 @@ pub use Rattle.fx_order.proofs.Words.{filter, cond, cases_lt, file_removed_by, f
 pub use Rattle.fx_order.proofs.Words.{IsPermutation-cons, IsPermutation-sym, IsPermutation-trans, IsPermutation-middle, option_to_list, get_or-map}
 pub use Rattle.fx_order.proofs.Words.{get_or_from_slice_get, IfOk, Result, zero, ℤ, pos, negsuc, int_le, nat_tests, either_option}
 pub use Rattle.fx_order.proofs.Words.{Contains-append_right, Errno, Opens, Closes, Updates, Slot, Any, IsCatalogue, name_at, installed, refusal_of}
-pub use Rattle.fx_order.proofs.Words.{IsRefused, IsDoneAtTable, IsEntryDone, AreEntriesDone, All-weaker, either_case, table_of, take, drop}
+pub use Rattle.fx_order.proofs.Words.{IsRefused, IsDoneAtTable, All-weaker, either_case, table_of, take, drop}
 pub use Rattle.fx_order.proofs.Words.{map-append, take_all, take-append-drop, slice_get, slice_get_within, All-map, rules, to_z, of_z, w32}
 pub use Rattle.fx_order.proofs.Words.{operation_of, IfOk-weaker, ◌*◌, drop-map, ◌↔◌}
 pub use Rattle.std.proofs.lemmas.List.Elements.{All-from_recursion, Contains-append_left, Contains-push, All-push}

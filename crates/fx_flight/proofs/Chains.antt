@@ -6,7 +6,7 @@ use Rattle.fx_base.specs.Catalogue.{FileEntry}
 use Rattle.fx_base.specs.declared.errno.Errno.TheVariants.{ECANCELED}
 use Rattle.fx_chain.proofs.Cases.{both_ways, either_way}
 use Rattle.fx_chain.specs.Completed.{refusal}
-use Rattle.fx_order.proofs.RequestCases.{completion_so, counted}
+use Rattle.fx_order.proofs.RequestCases.{counted, request_place}
 use Rattle.std.proofs.Common.{Bool, true, false}
 use Rattle.std.specs.Bool.{MatchBool}
 
@@ -49,11 +49,6 @@ module _ (catalogue : List FileEntry) (size : ℕ) where
       let tail : canceled (next_member place) requests ≡ front ++ c ∷ rest = cc in
       omega (arith, canceled_place (next_member place) requests front c rest tail)
 
-  request_place : (place : Place) (request : Asked) (own : List Access) (c : Completed)
-      → IsRequestDone catalogue size place request.operation own c → c.place ≡ place
-  request_place place request own c x =
-      completion_so catalogue place size (λ d. d.place ≡ place) own c (λ _. refl) (λ _ _ _. refl) (λ _ _. refl) (λ _ _ _. refl) request.operation x
-
   -- an answer is that of the member whose number it has
   pub answer_place : (place : Place) (requests : List Asked) (accesses : List Access) (cs front : List Completed) (c : Completed)
       (rest : List Completed) → IsChainDone catalogue size place requests accesses cs → cs ≡ front ++ c ∷ rest
@@ -62,7 +57,7 @@ module _ (catalogue : List FileEntry) (size : ℕ) where
   answer_place place [] accesses cs (d ∷ front) c rest x is = let none : [] ≡ d ∷ (front ++ c ∷ rest) = sym x.1 ∙ is in absurd (cc)
   answer_place place (request ∷ requests) accesses cs [] c rest x is =
       let same : x.2 ≡ c = cc (x.5, is) in
-      omega (arith, ap (λ (d : Completed). d.place.member) same, ap (λ (p : Place). p.member) (request_place place request x.0 x.2 x.6))
+      omega (arith, ap (λ (d : Completed). d.place.member) same, ap (λ (p : Place). p.member) (request_place catalogue place size request.operation x.0 x.2 x.6))
   answer_place place (request ∷ requests) accesses cs (d ∷ front) c rest x is =
       let tail : x.3 ≡ front ++ c ∷ rest = cc (x.5, is) in
       either_way {R = c.place.member ≡ place.member + length (d ∷ front)} (severs request x.2)
@@ -85,7 +80,7 @@ module _ (catalogue : List FileEntry) (size : ℕ) where
   answer_chain place [] accesses cs (d ∷ front) c rest x is = let none : [] ≡ d ∷ (front ++ c ∷ rest) = sym x.1 ∙ is in absurd (cc)
   answer_chain place (request ∷ requests) accesses cs [] c rest x is =
       let same : x.2 ≡ c = cc (x.5, is) in
-      sym (ap (λ (d : Completed). d.place.chain) same) ∙ ap (λ (p : Place). p.chain) (request_place place request x.0 x.2 x.6)
+      sym (ap (λ (d : Completed). d.place.chain) same) ∙ ap (λ (p : Place). p.chain) (request_place catalogue place size request.operation x.0 x.2 x.6)
   answer_chain place (request ∷ requests) accesses cs (d ∷ front) c rest x is =
       let tail : x.3 ≡ front ++ c ∷ rest = cc (x.5, is) in
       either_way {R = c.place.chain ≡ place.chain} (severs request x.2)
