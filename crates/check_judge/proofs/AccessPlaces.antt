@@ -1,5 +1,5 @@
 -- The places of accesses: of a chain, of all chains, and of an order.
-use Rattle.check_judge.proofs.Words.{◌≡◌, ℕ, ◌+◌, ◌<◌, true, List, [], ◌∷◌, ◌++◌, All, length, Option, refl, sym, ap, ◌∙◌, arith, append-nil}
+use Rattle.check_judge.proofs.Words.{◌≡◌, ℕ, ◌+◌, ◌<◌, false, true, List, [], ◌∷◌, ◌++◌, All, length, Option, refl, sym, ap, ◌∙◌, arith, append-nil}
 use Rattle.check_judge.proofs.Words.{append_assoc, length-append, length-map, map, slice_index_or, take, length-take-le, take_more, All-append}
 use Rattle.check_judge.proofs.Words.{All-map, All-nil, FileEntry, Completed, next_member, severs, Asked, Operation, Place, IsChainDone, IsRequestDone}
 use Rattle.check_judge.proofs.Words.{Access, IsChainListed, place_at, AccessPlace, own_places, either_case, drop, zero, suc, Some, slice_get}
@@ -73,6 +73,22 @@ module _ (catalogue : List FileEntry) (size : ℕ) (place : Place) (request : As
         own,
         first x.0 (rw same at x.6),
         (x.0, x.1, [], x.2, x.3, x.4, x.5, sym (append-nil own), x.6, rw severed (over.0, refl, over.1)),
+      )
+
+  pub going_put : {accesses : List Access} {new : List AccessPlace} → severs request c ≡ false
+      → ((others : List Access) → IsChainDone catalogue size (next_member place) requests others cs
+      → IsPut catalogue size (next_member place) requests others cs mid new)
+      → IsChainDone catalogue size place (request ∷ requests) accesses (c ∷ cs)
+      → IsPut catalogue size place (request ∷ requests) accesses (c ∷ cs) old new
+  going_put on rest x =
+      let same : x.2 ≡ c = cc (x.5) in
+      let after : x.3 ≡ cs = cc (x.5) in
+      let severed = ap (severs request) same ∙ on in
+      let later = rest x.1 (rw (severed, after) at x.7) in
+      let own = own_places place request.operation x.0 in (
+        own ++ later.0,
+        later.1 ∙ (ap (λ (l : List AccessPlace). l ++ later.0) (first x.0 (rw same at x.6)) ∙ append_assoc old own later.0),
+        (x.0, x.1, later.0, c, cs, x.4, refl, refl, rw same at x.6, rw on later.2),
       )
 
 -- The places of all chains, a list for each.

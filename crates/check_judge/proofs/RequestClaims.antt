@@ -1,26 +1,35 @@
--- The claims of requests, case by case, and the accesses that fit them.
+-- The claims of requests, by what they intend, and the accesses that fit them.
 use Rattle.check_judge.proofs.Words.{◌≡◌, List, [], ◌∷◌, ◌++◌, Result, Ok, Err, Vec, AllZip, Closed, Access, Fits, Tells, Claim, Stop, Refuted, refl}
-use Rattle.check_judge.proofs.Words.{sym, ap, subst, ◌∙◌, append_assoc, append-nil, ℕ, ◌+◌, ◌<◌, ℤ, length, drop, drop_more, get_or, add_assoc, Place}
-use Rattle.check_judge.proofs.Words.{IsEntryDone, AreEntriesDone, ◌||◌, true, All, Contains, Option, Some, ◌⊎◌, inl, inr, map, None, IsSome}
-use Rattle.check_judge.proofs.Words.{if◌then◌else◌, is_some, All-head, All-tail, All-map, All-weaker, changed_at, by_equality, unchanged, eq-eqb}
-use Rattle.check_judge.proofs.Words.{ne_eqb, and_from, cases_Bool, list_all-from_AllPass, same_Some, same_size, Table, Permits, table_with}
-use Rattle.check_judge.proofs.Words.{file_removed_by, Looks, Allocates, FindsFull, LeavesSo, Wanted, touched, found_by, left_by, allows, cell_at}
-use Rattle.check_judge.proofs.Words.{cells_after, cell_with, suits, may_leave, is_same, is_taken, IsCell, ShowsFile, has_slot, Cell, At, Full, Wants}
-use Rattle.check_judge.proofs.Words.{Leaves, Same, Empty, File, Resident, arith, nat_abs, int_lt, Bool, false, pos, negsuc, slice_index_or, FileEntry}
-use Rattle.check_judge.proofs.Words.{name_at, installed, Completed, completed, refusal, Opens, Slot, Any, IsOpenDone, IsReadDone, IsCloseDone}
-use Rattle.check_judge.proofs.Words.{IsDoneAtTable, gives, Puts, Takes, EBADF, ENFILE, ENOMEM, Target}
-use Rattle.check_search.specs.Residents.{IsResident}
-use Rattle.check_search.specs.declared.claim.Wants.TheVariants.{Anything, Nothing, NothingToTake, Something, Bytes}
+use Rattle.check_judge.proofs.Words.{sym, ap, subst, ◌∙◌, append_assoc, append-nil, ℕ, ◌+◌, ◌<◌, ℤ, zero, suc, length, drop, Place, ◌||◌, true}
+use Rattle.check_judge.proofs.Words.{All, Contains, Option, Some, ◌⊎◌, inl, inr, ⊎_elim, map, None, IsSome, if◌then◌else◌, is_some, All-head}
+use Rattle.check_judge.proofs.Words.{All-tail, All-map, All-weaker, changed_at, by_equality, unchanged, eq-eqb, ne_eqb, and_from, cases_Bool}
+use Rattle.check_judge.proofs.Words.{list_all-from_AllPass, same_Some, same_size, Table, Permits, table_with, file_removed_by, Looks, Allocates}
+use Rattle.check_judge.proofs.Words.{FindsFull, Takes, LeavesSo, Wanted, touched, found_by, left_by, allows, cell_at, cells_after, cell_with, suits}
+use Rattle.check_judge.proofs.Words.{may_leave, is_same, is_taken, IsCell, ShowsFile, has_slot, Cell, At, Full, Wants, Leaves, Same, Empty, File}
+use Rattle.check_judge.proofs.Words.{Resident, arith, int_lt, false, pos, negsuc, slice_get, FileEntry, bytes_at, installed, Completed, completed}
+use Rattle.check_judge.proofs.Words.{refusal, Operation, Opens, Slot, Any, ENOMEM, AllByRecursion, IsAllocationInRange, IsAnsweredBy}
+use Rattle.check_judge.proofs.Words.{IsDoneAtTable, IsRequestDone, Possibly, true≢false}
+use Rattle.check_judge.specs.Claims.{IsDecided, IsMade, TellsOne}
+use Rattle.check_search.specs.declared.claim.Wants.TheVariants.{Something}
+use Rattle.fx_base.proofs.Entries.{entry_named}
+use Rattle.fx_chain.specs.Intents.{IsOpened, answer_at_table, bytes_asked, intents_of, list_intents}
+use Rattle.fx_chain.specs.Operation.{Closes, Reads, Updates}
+use Rattle.fx_chain.specs.Refusal.{refusal_of}
+use Rattle.fx_chain.specs.declared.intent.Finding.{Finding}
+use Rattle.fx_chain.specs.declared.intent.Finding.TheVariants.{At as FoundAt}
+use Rattle.fx_chain.specs.declared.intent.Intent.{Intent}
+use Rattle.fx_chain.specs.declared.intent.Intent.TheVariants.{Allocate, Look, Take}
+use Rattle.fx_order.proofs.Intents.{drop_got, single}
+use Rattle.fx_order.proofs.RequestCases.{has_memory}
+use Rattle.fx_order.specs.Access.{IsOf, finding_of, last_finding}
+use Rattle.std.proofs.lemmas.Bool.Decides.{nat_tests}
+use Rattle.std.specs.Ordering.{int_eq}
 
 pub tells_so : (P Q : List Access → Type 0) (closes : List Closed) (r : Result (Vec Claim) Stop) → ((own : List Access) → P own → Q own)
     → Tells Q closes r → Tells P closes r
 tells_so P Q closes (Ok claims) so tells = λ own done. tells own (so own done)
 tells_so P Q closes (Err (Refuted reason)) so tells = λ own done. tells own (so own done)
 tells_so P Q closes r so tells = tt
-
--- a single access
-abbrev pub IsOne : List Closed → Claim → List Access → Type 0
-IsOne closes claim own = (access : Access) × (own ≡ access ∷ []) × Fits closes claim access
 
 all_zip_append : {A B : Type 0} (R : A → B → Type 0) (xs ys : List A) (us vs : List B) → AllZip R xs us → AllZip R ys vs
     → AllZip R (xs ++ ys) (us ++ vs)
@@ -67,22 +76,40 @@ module _ {closes : List Closed} {Whole Left : List Access → Type 0} where
       let all : p.own ≡ accesses = sym (p.whole ∙ ap (λ (l : List Access). p.own ++ l) (none p.others p.left) ∙ append-nil p.own) in
       subst (AllZip (Fits closes) claims) all p.told
 
--- The claims of the entries of an update, one after another.
+-- The claims of a request's accesses, one after another.
 
--- the accesses of the list are those of these claims, and those of the entries that are left
-abbrev pub EntriesTold : List Closed → Place → ℕ → List ℤ → ℕ → List Claim → Type 0
-EntriesTold closes place off list i claims =
-    Front closes (AreEntriesDone place 0 off list) claims (AreEntriesDone place i (off + i) (drop i list))
+-- the accesses are those of these claims, and those of the intents that are left
+abbrev pub IntentsTold : List Closed → (Intent → Access → Type 0) → List Intent → ℕ → List Claim → Type 0
+IntentsTold closes R xs made claims = Front closes (AllZip R xs) claims (AllZip R (drop made xs))
 
--- one more entry, with the claims that it has
-pub one_told : {closes : List Closed} (place : Place) (off : ℕ) (list : List ℤ) {i : ℕ} {own : List Claim} → i < length list → (d : ℤ)
-    → ((accesses : List Access) → IsEntryDone place i (off + i) (get_or list i d) accesses → AllZip (Fits closes) own accesses)
-    → Front closes (AreEntriesDone place i (off + i) (drop i list)) own (AreEntriesDone place (i + 1) (off + (i + 1)) (drop (i + 1) list))
-one_told place off list {i} within d each = record {
-  each = λ accesses done.
-      let next : AreEntriesDone place i (off + i) (get_or list i d ∷ drop (i + 1) list) accesses = rw (drop_more list i d within) at done in
-      record { own = next.0; others = next.1; whole = next.2; told = each next.0 next.3; left = rw (add_assoc off i 1) at next.4 };
-}
+-- no intent is left
+pub none_left : (R : Intent → Access → Type 0) {xs : List Intent} (others : List Access) → xs ≡ [] → AllZip R xs others → others ≡ []
+none_left R [] none left = refl
+none_left R (a ∷ others) none left = absurd (subst (λ (xs : List Intent). AllZip R xs (a ∷ others)) none left)
+
+module _ (R : Intent → Access → Type 0) (xs : List Intent) (made : ℕ) (x : Intent) (got : slice_get xs made ≡ Some x) where
+  -- the next access
+  next_made : (accesses : List Access) → AllZip R (drop made xs) accesses
+      → (a : Access) × (others : List Access) × (accesses ≡ a ∷ others) × R x a × AllZip R (drop (made + 1) xs) others
+  next_made accesses fits = parts accesses (subst (λ (l : List Intent). AllZip R l accesses) (drop_got xs made x got) fits)
+    where
+      parts : (accesses : List Access) → AllZip R (x ∷ drop (made + 1) xs) accesses
+          → (a : Access) × (others : List Access) × (accesses ≡ a ∷ others) × R x a × AllZip R (drop (made + 1) xs) others
+      parts [] fits = absurd fits
+      parts (a ∷ others) fits = (a, others, refl, fits.0, fits.1)
+
+  pub one_told : (closes : List Closed) (claim : Claim) → TellsOne (R x) closes (Ok claim) → Front closes (AllZip R (drop made xs)) (claim ∷ []) (AllZip R (drop (made + 1) xs))
+  one_told closes claim tells = record {
+    each = λ accesses done.
+        let n = next_made accesses done in
+        record { own = n.0 ∷ []; others = n.1; whole = n.2; told = (tells n.0 n.3, tt); left = n.4 };
+  }
+
+  pub one_stops : {closes : List Closed} {Whole : List Access → Type 0} {claims : List Claim} (stop : Stop) → Front closes Whole claims (AllZip R (drop made xs))
+      → TellsOne (R x) closes (Err stop) → Tells Whole closes (Err stop)
+  one_stops (Refuted reason) front none = λ own done.
+      let p = front.each own done in let n = next_made p.others p.left in none n.0 n.3
+  one_stops stop front tells = tt
 
 -- A claim of an access may be made where the access may, and leaves the same files.
 
@@ -189,66 +216,118 @@ module _ (closes : List Closed) where
     cells_follow (At slot wants (File resident)) fits = all_kept (Some resident) fits.0 (rw fits.2.1.1 fits.2.1.2)
     cells_follow Full fits = rw fits all
 
--- The claims of requests, case by case.
+-- The claims of requests, by what they intend.
 
-same_res : {place other : Place} {x y : ℤ} {got found : List ℕ} {c : Completed} → c ≡ completed place x got → c ≡ completed other y found → x ≡ y
-same_res is too = ap (λ (d : Completed). d.res) (sym is ∙ too)
+not_negative : (n : ℕ) → int_lt (pos n) (pos 0) ≡ false
+not_negative n = grind (arith, nat_tests)
 
--- a success isn't a failure
-never_both : {place : Place} {n m : ℕ} {got : List ℕ} {c : Completed} → c ≡ completed place (pos n) got → c ≡ completed place (negsuc m) [] → ⊥
-never_both is too = let e = same_res is too in absurd (cc)
+-- how the answer of a request depends on what its accesses find
+module _ (catalogue : List FileEntry) (place : Place) (entry : ℕ) where
+  abbrev answer : Operation → Option Finding → Completed
+  answer operation found = answer_at_table catalogue place operation found
 
-module _ (place : Place) (closes : List Closed) (c : Completed) (own : List Access) where
-  -- opens
-  pub open_here : {entry slot : ℕ} {resident : Resident} → IsResident closes (installed place 0 entry) resident
-      → IsOpenDone place entry (Slot slot) own c → IsOne closes (At slot Anything (File resident)) own
-  open_here {entry} {slot} is made =
-      (Puts slot (installed place 0 entry) made.0, made.1.0, (refl, tt, (refl, (installed place 0 entry, refl, is))))
+  -- an intent, if there is one
+  abbrev IsDecidedAt : (Option Finding → Completed) → Option Intent → Type 0
+  IsDecidedAt by None = Unit {0}
+  IsDecidedAt by (Some x) = IsDecided place by x
 
-  pub any_full : (entry : ℕ) → c ≡ refusal place ENFILE → IsOpenDone place entry Any own c → IsOne closes Full own
-  any_full entry failed (inl made) = absurd (never_both made.1.1 failed)
-  any_full entry failed (inr full) = (FindsFull, full.0, refl)
+  list_decided : (by : Option Finding → Completed) → ((found : Option Finding) → by found ≡ by None) → (in_list slot : ℕ) (list : List ℤ) (made : ℕ)
+      → IsDecidedAt by (slice_get (list_intents place in_list slot list) made)
+  list_decided by same in_list slot [] made = tt
+  list_decided by same in_list slot (pos n ∷ list) zero = same
+  list_decided by same in_list slot (pos n ∷ list) (suc made) = list_decided by same (in_list + 1) (slot + 1) list made
+  list_decided by same in_list slot (negsuc zero ∷ list) zero = same
+  list_decided by same in_list slot (negsuc zero ∷ list) (suc made) = list_decided by same (in_list + 1) (slot + 1) list made
+  list_decided by same in_list slot (negsuc (suc n) ∷ list) made = list_decided by same (in_list + 1) (slot + 1) list made
 
-  pub any_here : {entry slot : ℕ} {resident : Resident} → c ≡ completed place (pos slot) []
-      → IsResident closes (installed place 0 entry) resident → IsOpenDone place entry Any own c
-      → IsOne closes (At slot Nothing (File resident)) own
-  any_here {entry} {slot} is file (inl made) =
-      let res = same_res made.1.1 is in
-      let same : made.0 ≡ slot = cc in
-      (Allocates made.0 (installed place 0 entry), made.1.0, (ap Some same, refl, (refl, (installed place 0 entry, refl, file))))
-  any_here is file (inr full) = absurd (never_both is full.1)
+  all_decided : (operation : Operation) (made : ℕ) → IsDecidedAt (answer operation) (slice_get (intents_of place entry operation) made)
+  all_decided (Opens name (Slot slot)) zero = λ _. refl
+  all_decided (Opens name Any) zero = (refl, refl, λ _. refl)
+  all_decided (Reads slot off len) zero = (refl, λ file. (refl, not_negative (length (bytes_at catalogue file.entry off len))))
+  all_decided (Closes slot) zero = (refl, λ _. refl)
+  all_decided (Updates off list) made = list_decided (answer (Updates off list)) (λ _. refl) 0 off list made
+  all_decided operation (suc made) = tt
 
-  -- closes
-  pub close_missed : {slot : ℕ} → c ≡ refusal place EBADF → IsCloseDone place slot own c → IsOne closes (At slot NothingToTake Same) own
-  close_missed {slot} is (inl missed) = (Takes slot None, missed.0, (refl, refl, refl))
-  close_missed is (inr taken) = absurd (never_both taken.1.1 is)
+  pub decided : (operation : Operation) (made : ℕ) {x : Intent} → slice_get (intents_of place entry operation) made ≡ Some x
+      → IsDecided place (answer operation) x
+  decided operation made got = subst (IsDecidedAt (answer operation)) got (all_decided operation made)
 
-  pub close_here : {slot : ℕ} → c ≡ completed place (pos 0) [] → IsCloseDone place slot own c → IsOne closes (At slot Something Empty) own
-  close_here is (inl missed) = absurd (never_both is missed.1)
-  close_here {slot} is (inr taken) = (Takes slot (Some taken.0), taken.1.0, (refl, (taken.0, refl), (refl, refl)))
+  -- one access, or the answer doesn't depend on what is found
+  shape : (operation : Operation) → ((x : Intent) × (intents_of place entry operation ≡ x ∷ [])) ⊎ ((found : Option Finding) → answer operation found ≡ answer operation None)
+  shape (Opens name (Slot slot)) = inr (λ _. refl)
+  shape (Opens name Any) = inl (Allocate (installed place 0 entry), refl)
+  shape (Reads slot off len) = inl (Look slot, refl)
+  shape (Closes slot) = inl (Take slot, refl)
+  shape (Updates off list) = inr (λ _. refl)
 
-  -- reads
-  module _ (catalogue : List FileEntry) (slot off len : ℕ) where
-    pub read_missed : c ≡ refusal place EBADF → IsReadDone catalogue place slot off len own c → IsOne closes (At slot Nothing Same) own
-    read_missed is (inl refused) = let res = same_res refused.1.1 is in let e : ◌≡◌ {A = ℕ} 11 8 = cc in absurd (omega (arith, e))
-    read_missed is (inr (inl missed)) = (Looks slot None, missed.0, (refl, refl, refl))
-    read_missed is (inr (inr found)) = absurd (never_both found.1.1 is)
+  -- so the completion is the answer by what each access found
+  module _ (size : ℕ) (range : ℕ × ℕ) (operation : Operation) (c : Completed) where
+    abbrev AreMade : List Intent → List Access → Type 0
+    AreMade xs own = AllZip (IsMade size range (answer operation) c) xs own
 
-    -- neither of the two refusals
-    pub read_found : (fits : List Bool) → ((0 < len) → c ≡ refusal place ENOMEM → ⊥) → (c ≡ refusal place EBADF → ⊥)
-        → ((file : Closed) → c ≡ gives catalogue place file off len → slice_index_or fits file.entry true ≡ true)
-        → IsReadDone catalogue place slot off len own c → IsOne closes (At slot (Bytes fits) Same) own
-    read_found fits memory there told (inl refused) = absurd (memory refused.0 refused.1.1)
-    read_found fits memory there told (inr (inl missed)) = absurd (there missed.1)
-    read_found fits memory there told (inr (inr found)) =
-        (Looks slot (Some found.0), found.1.0, (refl, (found.0, refl, told found.0 found.1.1), refl))
+    same_made : ((found : Option Finding) → c ≡ answer operation found) → (xs : List Intent) (own : List Access)
+        → AllByRecursion (IsAllocationInRange size range) own → AllZip IsOf xs own → AreMade xs own
+    same_made said [] [] inside fits = tt
+    same_made said (x ∷ xs) (a ∷ own) inside fits =
+        ((fits.0, inside.0, said (Some (finding_of a))), same_made said xs own inside.1 fits.1)
+    same_made said [] (a ∷ own) inside fits = absurd fits
+    same_made said (x ∷ xs) [] inside fits = absurd fits
 
--- a name is that of one entry
-pub named_entry : (catalogue : List FileEntry) (place : Place) {name : List ℕ} (target : Target) (c : Completed) (own : List Access) {entry : ℕ}
-    → ((other : ℕ) → name_at catalogue other ≡ Some name → other ≡ entry)
-    → IsDoneAtTable catalogue place (Opens name target) own c → IsOpenDone place entry target own c
-named_entry catalogue place target c own is opened = rw (is opened.0 opened.1) at opened.2
+    pub all_made : (own : List Access) → Possibly size range (IsAnsweredBy catalogue place entry operation c) own
+        → AreMade (intents_of place entry operation) own
+    all_made own done = ⊎_elim
+        (λ one. subst (λ (xs : List Intent). AreMade xs own) (sym one.1)
+        (single one.0 (λ l. AllByRecursion (IsAllocationInRange size range) l → c ≡ answer operation (last_finding l) → AreMade (one.0 ∷ []) l) own
+        (subst (λ (xs : List Intent). AllZip IsOf xs own) one.1 done.1.0) (λ a is inside said. ((is, inside.0, said), tt)) done.0 done.1.1))
+        (λ same. same_made (λ found. done.1.1 ∙ (same (last_finding own) ∙ sym (same found))) (intents_of place entry operation) own done.0 done.1.0)
+        (shape operation)
 
-pub not_below : (z : ℤ) → int_lt z (pos 0) ≡ false → z ≡ pos (nat_abs z)
-not_below (pos n) is = refl
-not_below (negsuc n) is = absurd (cc)
+-- the answer depends on the entry alone of a file that is found
+pub by_entry : (catalogue : List FileEntry) (place : Place) (operation : Operation) (f g : Closed) → f.entry ≡ g.entry
+    → answer_at_table catalogue place operation (Some (FoundAt (Some f))) ≡ answer_at_table catalogue place operation (Some (FoundAt (Some g)))
+by_entry catalogue place (Opens name (Slot slot)) f g same = refl
+by_entry catalogue place (Opens name Any) f g same = refl
+by_entry catalogue place (Reads slot off len) f g same =
+    ap (λ (e : ℕ). completed place (pos (length (bytes_at catalogue e off len))) (bytes_at catalogue e off len)) same
+by_entry catalogue place (Closes slot) f g same = refl
+by_entry catalogue place (Updates off list) f g same = refl
+
+-- a request that takes a file and doesn't fail
+pub take_told : (by : Option Finding → Completed) (c : Completed) (place : Place) (size : ℕ) (range : ℕ × ℕ) (closes : List Closed) {slot : ℕ}
+    → IsDecided place by (Take slot) → int_lt c.res (pos 0) ≡ false → (other : Closed) (a : Access) → IsMade size range by c (Take slot) a
+    → Fits closes (At slot Something Empty) a × (c ≡ by (Some (FoundAt (Some other))))
+take_told by c place size range closes {slot} d high other a made = taken made.0.0 made.0.1 (rw made.0.1 at made.2)
+  where
+    taken : (found : Option Closed) → a ≡ Takes slot found → c ≡ by (Some (FoundAt found))
+        → Fits closes (At slot Something Empty) a × (c ≡ by (Some (FoundAt (Some other))))
+    taken None is said =
+        absurd (true≢false (sym d.0 ∙ (ap (λ (e : Completed). int_lt e.res (pos 0)) (sym said) ∙ high)))
+    taken (Some file) is said = (rw is (refl, (file, refl), (refl, refl)), said ∙ (d.1 file ∙ sym (d.1 other)))
+
+-- a request that isn't refused, by the entry that it opens
+module _ (catalogue : List FileEntry) (place : Place) (entry : ℕ) (c : Completed) (own : List Access) (size : ℕ) (operation : Operation)
+    (accepted : refusal_of catalogue size operation ≡ None) where
+  pub answered_by : ((0 < bytes_asked operation) × (c ≡ refusal place ENOMEM) → ⊥)
+      → ((other : ℕ) → IsOpened catalogue operation other → other ≡ entry) → IsRequestDone catalogue size place operation own c
+      → IsAnsweredBy catalogue place entry operation c own
+  answered_by full only done = by_cases (rw accepted at done)
+    where
+      by_cases : IsDoneAtTable catalogue place operation own c → IsAnsweredBy catalogue place entry operation c own
+      by_cases (inl x) = absurd (full (x.0, x.1.1))
+      by_cases (inr x) = (subst (λ (e : ℕ). AllZip IsOf (intents_of place e operation) own) (only x.0.0 x.0.1) x.0.2, x.1)
+
+  -- without memory
+  pub none_made : c ≡ refusal place ENOMEM → IsRequestDone catalogue size place operation own c → own ≡ []
+  none_made lacks done = by_cases (rw accepted at done)
+    where
+      by_cases : IsDoneAtTable catalogue place operation own c → own ≡ []
+      by_cases (inl x) = x.1.0
+      by_cases (inr x) =
+          let has = has_memory catalogue place operation (last_finding own) in
+          absurd (true≢false (ap (λ (d : Completed). int_eq d.res (negsuc 11)) (sym lacks ∙ x.1) ∙ has))
+
+-- an entry of the catalogue alone has the name of a request
+pub only_so : (catalogue : List FileEntry) (operation : Operation) (entry : ℕ) → IsOpened catalogue operation entry
+    → ((k : ℕ) → k < length catalogue → IsOpened catalogue operation k → k ≡ entry) → (other : ℕ) → IsOpened catalogue operation other → other ≡ entry
+only_so catalogue (Opens name target) entry is each other named = each other (entry_named catalogue other name named) named
+only_so catalogue operation entry is each other opened = opened ∙ sym is

@@ -1,18 +1,17 @@
 -- The names that most proofs of this crate use.
 pub use Rattle.fx_base.specs.Catalogue.{FileEntry, name_at, bytes_at, part_of}
 pub use Rattle.fx_base.specs.declared.open_file.Closed.{Closed}
-pub use Rattle.fx_chain.proofs.EntryKinds.{minus_one, unsigned}
 pub use Rattle.fx_chain.specs.Accepted.{IsAccepted, members_of, IsChain}
 pub use Rattle.fx_chain.specs.Answers.{installed}
 pub use Rattle.fx_chain.specs.Completed.{Completed, all_completed, completed, completed_of, next_member, refusal, negated}
 pub use Rattle.fx_chain.specs.Explains.{canceled, first_member, severs}
-pub use Rattle.fx_chain.specs.Operation.{Asked, Opens, all_asked, asked_of, Operation}
+pub use Rattle.fx_chain.specs.Operation.{Asked, Opens, Operation, all_asked, asked_of, operation_of}
 pub use Rattle.fx_chain.specs.declared.completion.Completion.{Completion}
 pub use Rattle.fx_chain.specs.declared.completion.Place.{Place}
 pub use Rattle.fx_chain.specs.declared.request.Request.{Request}
 pub use Rattle.fx_chain.specs.declared.request.Target.TheVariants.{Any, Slot}
 pub use Rattle.check_judge.specs.Chains.{AreDone, TellsChains, TellsMember}
-pub use Rattle.check_judge.specs.Claims.{AreClaims, Fits, LeavesSo, IsAllocationInRange, Possibly, Tells, Wanted, found_by, left_by, touched}
+pub use Rattle.check_judge.specs.Claims.{AreClaims, Fits, IsAllocationInRange, IsAnsweredBy, LeavesSo, Possibly, Tells, Wanted, found_by, left_by, touched}
 pub use Rattle.check_search.specs.Machine.{Ends, HasNoEnd, IsEndOfClaims, Standing, allows, cell_at, cell_with, cells_after, is_same, is_staying}
 pub use Rattle.check_search.specs.Machine.{is_taken, may_leave, may_stay, next, suits}
 pub use Rattle.check_judge.specs.Played.{HasNoOrder, IsCell, IsOutcome, ShowsFile}
@@ -36,9 +35,8 @@ pub use Rattle.fx_order.specs.Access.{Permits, PermitsAll, Table, accesses_of, a
 pub use Rattle.fx_order.specs.Access.{table_with}
 pub use Rattle.fx_order.specs.declared.access.Access.TheVariants.{Allocates, FindsFull, Looks, Puts, Takes}
 pub use Rattle.fx_order.specs.Order.{IsOneOrder, table_of, IsOrderOf, ring_left}
-pub use Rattle.fx_order.specs.Requests.{AreChainsDone, AreEntriesDone, IsChainDone, IsCloseDone, IsEntryDone, IsOpenDone, IsReadDone, IsRequestDone}
+pub use Rattle.fx_order.specs.Requests.{AreChainsDone, IsChainDone, IsDoneAtTable, IsRequestDone}
 pub use Rattle.fx_chain.specs.Intents.{gives, positions_of}
-pub use Rattle.fx_order.specs.Requests.{IsDoneAtTable}
 pub use Rattle.fx_order.specs.Slots.{ring_with_slots, table_of_slots}
 pub use Rattle.fx_order.specs.declared.access.Access.{Access}
 pub use Rattle.fx_order.specs.declared.access.ChainAccess.{ChainAccess}
@@ -121,7 +119,7 @@ pub use Rattle.fx_ring.specs.declared.ring.TheConstants.{MOST_SUBMISSIONS, MOST_
 pub use Rattle.fx_script.specs.Play.{Prints, PrintsEnd, PrintsReport, PrintsAll}
 pub use Rattle.fx_script.specs.Text.{report_text}
 pub use Rattle.std.proofs.Math.Seq.{drop-append_seam, take-append_seam, take-length, take-add}
-pub use Rattle.std.proofs.lemmas.Bool.Decides.{Decides-eqb}
+pub use Rattle.std.proofs.lemmas.Bool.Decides.{Decides-eqb, not_from_Decides}
 pub use Rattle.std.proofs.lemmas.Slice.Eq.{starts_is, slice_eq-Decides}
 pub use Rattle.fx_order.proofs.RequestCases.{completion_so, each_placed, few_made}
 pub use Rattle.std.proofs.lemmas.List.Sorted.{Contains-permutation, IsPermutation-sym}

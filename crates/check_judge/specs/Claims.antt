@@ -1,11 +1,22 @@
 -- Claims: what completions imply for the accesses that were made, one claim for each access.
-use Rattle.std.specs.Prelude.{◌≡◌, ℕ, ◌+◌, ◌<◌, ◌≤◌, true, List, slice_get, slice_index_or, Option}
-use Rattle.std.specs.Prelude.{Some, None, Result, Ok, Err}
+use Rattle.std.specs.Prelude.{◌≡◌, ℕ, ◌+◌, ◌<◌, ◌≤◌, pos, int_lt, true, false, List, [], slice_get}
+use Rattle.std.specs.Prelude.{slice_index_or, Option, Some, None, Result, Ok, Err}
 use Rattle.std.specs.Global.{Vec}
 use Rattle.std.specs.List.{AllZip, AllByRecursion}
 use Rattle.fx_base.specs.Identity.{Identity}
+use Rattle.fx_base.specs.Catalogue.{FileEntry}
 use Rattle.fx_base.specs.declared.open_file.Closed.{Closed}
-use Rattle.fx_order.specs.Access.{file_removed_by, accesses_of_chain}
+use Rattle.fx_chain.specs.Completed.{Completed, completed}
+use Rattle.fx_chain.specs.Intents.{answer_at_table, intents_of}
+use Rattle.fx_chain.specs.Operation.{Operation}
+use Rattle.fx_chain.specs.declared.completion.Place.{Place}
+use Rattle.fx_chain.specs.declared.intent.Finding.{Finding}
+use Rattle.fx_chain.specs.declared.intent.Finding.TheVariants.{At as FoundAt, Free}
+use Rattle.fx_chain.specs.declared.intent.Finding.TheVariants.{Full as FoundFull}
+use Rattle.fx_chain.specs.declared.intent.Intent.{Intent}
+use Rattle.fx_chain.specs.declared.intent.Intent.TheVariants.{Allocate, Look, Take}
+use Rattle.fx_order.specs.Access.{IsOf, file_removed_by, accesses_of_chain, finding_of}
+use Rattle.fx_order.specs.Access.{last_finding}
 use Rattle.fx_order.specs.declared.access.Access.TheVariants.{Looks, Puts, Clears, Takes, Allocates}
 use Rattle.fx_order.specs.declared.access.Access.TheVariants.{FindsFull}
 use Rattle.fx_order.specs.declared.access.Access.{Access}
@@ -93,6 +104,44 @@ IsAllocationInRange size range _ = Unit {0}
 abbrev pub Possibly : ℕ → ℕ × ℕ → (List Access → Type 0) → List Access → Type 0
 Possibly size range IsDone accesses =
     AllByRecursion (IsAllocationInRange size range) accesses × IsDone accesses
+
+-- the accesses are those that a request intends that opens this entry, and the completion is the
+-- answer by what they found
+abbrev pub IsAnsweredBy : List FileEntry → Place → ℕ → Operation → Completed → List Access → Type 0
+IsAnsweredBy catalogue place entry operation c accesses =
+    AllZip IsOf (intents_of place entry operation) accesses
+    × (c ≡ answer_at_table catalogue place operation (last_finding accesses))
+
+-- the access was intended, this table may permit it, and the completion is the answer by what it
+-- found
+abbrev pub IsMade : ℕ → ℕ × ℕ → (Option Finding → Completed) → Completed → Intent → Access
+    → Type 0
+IsMade size range answer c intent access =
+    IsOf intent access × IsAllocationInRange size range access
+    × (c ≡ answer (Some (finding_of access)))
+
+-- how the answer depends on what an access found: a request fails that found no file or no empty
+-- slot, and a change answers the same
+abbrev pub IsDecided : Place → (Option Finding → Completed) → Intent → Type 0
+IsDecided place answer (Look slot) =
+    (int_lt (answer (Some (FoundAt None))).res (pos 0) ≡ true)
+    × ((file : Identity) → ((answer (Some (FoundAt (Some file)))).place ≡ place)
+    × (int_lt (answer (Some (FoundAt (Some file)))).res (pos 0) ≡ false))
+IsDecided place answer (Take slot) =
+    (int_lt (answer (Some (FoundAt None))).res (pos 0) ≡ true)
+    × ((file : Identity) → answer (Some (FoundAt (Some file))) ≡ completed place (pos 0) [])
+IsDecided place answer (Allocate file) =
+    (int_lt (answer (Some FoundFull)).res (pos 0) ≡ true)
+    × (answer (Some FoundFull) ≡ answer (Some (FoundAt None)))
+    × ((slot : ℕ) → answer (Some (Free slot)) ≡ completed place (pos slot) [])
+IsDecided place answer intent = (found : Option Finding) → answer found ≡ answer None
+
+-- this is the claim of each access that was made so, or none was
+abbrev pub TellsOne : (Access → Type 0) → List Closed → Result Claim Stop → Type 0
+TellsOne IsDone closes (Ok claim) = (access : Access) → IsDone access → Fits closes claim access
+TellsOne IsDone closes (Err (Refuted reason)) = (access : Access) → IsDone access → ⊥
+TellsOne IsDone closes (Err Unknown) = Unit {0}
+TellsOne IsDone closes (Err NoMemory) = Unit {0}
 
 -- the claims of each chain, the first one's first, are those of its accesses of an order
 abbrev pub AreClaims : List Closed → List (Vec Claim) → List ChainAccess → Type 0

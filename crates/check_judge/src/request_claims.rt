@@ -1,93 +1,22 @@
-//! The claims of one request, from its completion.
-ghost use Rattle.std.specs.Prelude.{◌≡◌, ◌<◌, ◌≤◌, ◌+◌, ◌^◌, IsTrue, List, None, false, length, ◌↔◌, ◌∷◌, [], IfOk, slice_index_or, true, ℕ, Some};
-ghost use Rattle.std.specs.List.{AllZip, list_any};
-ghost use Rattle.std.specs.Option.{option_to_list};
-ghost use Rattle.fx_chain.specs.Completed.{completed_of};
-ghost use Rattle.fx_chain.specs.Intents.{gives};
-ghost use Rattle.fx_chain.specs.Operation.{Updates, Opens, asked_of, operation_of};
-ghost use Rattle.fx_chain.specs.Refusal.{is_bad_entry, refusal_of};
-ghost use Rattle.fx_order.specs.Requests.{AreEntriesDone, IsEntryDone, IsUpdateDone, IsRefused, IsOpenDone, IsReadDone, IsCloseDone, IsDoneAtTable, IsRequestDone};
-ghost use Rattle.fx_order.specs.declared.access.Access.{Access as OneAccess};
-ghost use Rattle.check_judge.specs.Claims.{Fits, Tells, Possibly};
-ghost use Rattle.fx_base.specs.Catalogue.{name_at};
+//! The claims of one request, from its completion: one for each access that it intends.
+ghost use Rattle.std.specs.Prelude.{◌≡◌, ◌<◌, ◌≤◌, ◌+◌, ◌↔◌, IfOk, IfSome, IsTrue, List, None, Some, slice_index_or, true, ℕ};
+ghost use Rattle.fx_base.specs.declared.errno.Errno.TheVariants.{ENOMEM};
 ghost use Rattle.fx_base.specs.declared.open_file.Closed.{Closed as FileAt};
 ghost use Rattle.fx_chain.specs.Accepted.{IsWithinLimits};
-ghost use Rattle.fx_chain.specs.declared.request.Target.TheVariants.{Slot, Any};
+ghost use Rattle.fx_chain.specs.Completed.{completed_of, refusal};
+ghost use Rattle.fx_chain.specs.Intents.{IsOpened, answer_at_table, bytes_asked};
+ghost use Rattle.fx_chain.specs.Operation.{asked_of, operation_of};
+ghost use Rattle.fx_chain.specs.Refusal.{refusal_of};
+ghost use Rattle.fx_chain.specs.declared.intent.Finding.TheVariants.{At as FoundAt};
+ghost use Rattle.fx_order.specs.Requests.{IsRefused, IsRequestDone};
+ghost use Rattle.fx_order.specs.declared.access.Access.{Access as OneAccess};
+ghost use Rattle.check_judge.specs.Claims.{Fits, IsAnsweredBy, IsDecided, IsMade, Possibly, Tells, TellsOne};
 
 use crate::judgement::{Reason, Stop};
 use check_search::{Claim, Leaves, Wants, resident_for};
-use fx_base::{Catalogue, Closed, Errno, MOST_ENTRIES, NoMemory};
-use fx_chain::{Completion, LONGEST_READ, LONGEST_UPDATE, Op, Place, Request, Target, refusal_of};
+use fx_base::{Catalogue, Closed, Errno, NoMemory};
+use fx_chain::{Completion, Finding, Intent, Place, Request, answer_of, intent_by, refusal_of};
 use std::alloc::Global;
-
-// Returns the claim of an entry at a position in its list and at a slot, or `None` if the entry is
-// a skip.
-fn claim_of_entry(
-    setting: &ClaimSetting<'_>,
-    place: Place,
-    at: (u32, u32),
-    entry: i32,
-) -> Option<Claim>
-    requires few { length setting.now.catalogue.now ≤ MOST_ENTRIES }
-    requires good { is_bad_entry (length setting.now.catalogue.now) entry ≡ false }
-    ensures { (accesses : List OneAccess) → IsEntryDone place at.0 at.1 entry accesses
-        → AllZip (Fits setting.now.closes.now) (option_to_list result) accesses }
-{
-    let (in_list, slot) = at;
-    if entry >= 0 {
-        let file = resident_for(setting.closes, place.installed(in_list, entry as u8));
-        return Some(Claim::At(slot, Wants::Anything, Leaves::File(file)));
-    }
-    if entry > -2 {
-        return Some(Claim::At(slot, Wants::Anything, Leaves::Empty));
-    }
-    None
-}
-
-// Returns the claims of the entries of a list, from a slot on.
-fn claims_of_entries(
-    alloc: Global,
-    setting: &ClaimSetting<'_>,
-    place: Place,
-    off: u32,
-    list: &[i32],
-) -> Result<Vec<Claim>, Stop>
-    requires few { off + length list.now < 2 ^ 32 }
-    requires entries { length setting.now.catalogue.now ≤ MOST_ENTRIES }
-    requires good { list_any (is_bad_entry (length setting.now.catalogue.now)) list.now ≡ false }
-    ensures { Tells (λ own. AreEntriesDone place 0 off list.now own) setting.now.closes.now result }
-{
-    let mut claims = Vec::new(alloc);
-    for i in 0..list.len() {
-        if let Some(claim) = claim_of_entry(setting, place, (i as u32, off + i as u32), list[i]) {
-            claims.push(claim)?;
-        }
-    }
-    Ok(claims)
-}
-
-/// Returns the claims of an update.
-pub(crate) fn claims_of_update(
-    alloc: Global,
-    setting: &ClaimSetting<'_>,
-    place: Place,
-    update: (u32, &[i32]),
-    c: &Completion,
-) -> Result<Vec<Claim>, Stop>
-    requires short { length update.1.now ≤ LONGEST_UPDATE }
-    requires size { setting.now.size < 2 ^ 32 }
-    requires entries { length setting.now.catalogue.now ≤ MOST_ENTRIES }
-    requires accepted { refusal_of setting.now.catalogue.now setting.now.size
-        (Updates update.0 update.1.now) ≡ None }
-    ensures { Tells (λ own. IsUpdateDone place update.entry.0 update.entry.1.now own
-        (completed_of c.now)) setting.now.closes.now result }
-{
-    let (off, list) = update;
-    if !c.is_answer(place, list.len() as i32, &[]) {
-        return Err(Stop::Refuted(Reason::Member(place)));
-    }
-    claims_of_entries(alloc, setting, place, off, list)
-}
 
 /// The values that are known when claims are derived.
 #[derive(Clone, Copy)]
@@ -101,6 +30,17 @@ pub(crate) struct ClaimSetting<'a> {
     pub closes: &'a [Closed],
 }
 
+// A request that isn't refused, its place, the catalogue entry that it opens, and its completion.
+#[derive(Drop)]
+struct Answered<'a> {
+    alloc: Global,
+    setting: ClaimSetting<'a>,
+    place: Place,
+    entry: u8,
+    request: &'a Request,
+    c: &'a Completion,
+}
+
 // Returns the claims of a refused request.
 fn refused(alloc: Global, place: Place, errno: Errno, c: &Completion) -> Result<Vec<Claim>, Stop>
     ensures { (closes : List FileAt)
@@ -112,33 +52,40 @@ fn refused(alloc: Global, place: Place, errno: Errno, c: &Completion) -> Result<
     Ok(Vec::new(alloc))
 }
 
-// Returns a single claim.
-fn one(alloc: Global, claim: Claim) -> Result<Vec<Claim>, Stop>
-    ensures { (closes : List FileAt) → Tells (λ own. (access : OneAccess)
-        × (own ≡ access ∷ []) × Fits closes claim access) closes result }
+// Checks whether the completion is the answer of a request whose last access found this file, or
+// none, at its slot.
+fn is_answer(it: &Answered<'_>, file: Option<Closed>) -> Result<bool, NoMemory>
+    requires limits { IsWithinLimits (asked_of it.now.request.now) }
+    requires accepted { refusal_of it.now.setting.catalogue.now it.now.setting.size
+        (operation_of it.now.request.now.op) ≡ None }
+    ensures { IfOk result (λ yes. IsTrue yes ↔ (completed_of it.now.c.now
+        ≡ answer_at_table it.now.setting.catalogue.now it.now.place
+        (operation_of it.now.request.now.op) (Some (FoundAt file)))) }
 {
-    let mut claims = Vec::new(alloc);
-    claims.push(claim)?;
-    Ok(claims)
+    let (catalogue, size, found) = (it.setting.catalogue, it.setting.size, Finding::At(file));
+    let due = answer_of(it.alloc, catalogue, size, it.place, it.request, Some(found))?;
+    Ok(it.c.is_answer(due.place, due.res, &due.got))
 }
 
-// Returns the claims of an open at a slot.
-fn claims_of_open_at(
-    alloc: Global,
-    setting: &ClaimSetting<'_>,
-    place: Place,
-    opened: (u8, u32),
-    c: &Completion,
-) -> Result<Vec<Claim>, Stop>
-    ensures { Tells (λ own. IsOpenDone place opened.0 (Slot opened.1) own (completed_of c.now))
-        setting.now.closes.now result }
+// Checks for each catalogue entry whether the completion is the answer by a file of it.
+#[tactic(auto, using(crate::proofs::RequestClaims::by_entry))]
+fn fits_of(it: &Answered<'_>) -> Result<[bool; 256], NoMemory>
+    requires limits { IsWithinLimits (asked_of it.now.request.now) }
+    requires accepted { refusal_of it.now.setting.catalogue.now it.now.setting.size
+        (operation_of it.now.request.now.op) ≡ None }
+    ensures { IfOk result (λ fits. (file : FileAt) → completed_of it.now.c.now
+        ≡ answer_at_table it.now.setting.catalogue.now it.now.place
+        (operation_of it.now.request.now.op) (Some (FoundAt (Some file)))
+        → slice_index_or fits file.entry true ≡ true) }
 {
-    let (entry, slot) = opened;
-    if !c.is_answer(place, 0, &[]) {
-        return Err(Stop::Refuted(Reason::Member(place)));
+    let mut fits = [true; 256];
+    for entry in 0..it.setting.catalogue.len() {
+        let fit = is_answer(it, Some(it.place.installed(0, entry as u8)))?;
+        if !fit {
+            fits[entry as usize] = false;
+        }
     }
-    let file = resident_for(setting.closes, place.installed(0, entry));
-    one(alloc, Claim::At(slot, Wants::Anything, Leaves::File(file)))
+    Ok(fits)
 }
 
 // Checks whether a slot is one of the table and of its allocation range.
@@ -150,142 +97,149 @@ fn is_in_range(setting: &ClaimSetting<'_>, slot: u32) -> bool
     slot < setting.size && first <= slot && (slot as u64) < first as u64 + len as u64
 }
 
-// Returns the claims of an open at any slot.
-fn claims_of_open_any(
-    alloc: Global,
-    setting: &ClaimSetting<'_>,
-    place: Place,
-    entry: u8,
-    c: &Completion,
-) -> Result<Vec<Claim>, Stop>
-    ensures { Tells (Possibly setting.now.size setting.now.range (λ own.
-        IsOpenDone place entry Any own (completed_of c.now))) setting.now.closes.now result }
+// Returns a claim of an access, if the completion is the answer by this file, or none, at its slot.
+fn claim_by(
+    it: &Answered<'_>,
+    intent: Intent,
+    file: Option<Closed>,
+    claim: Claim,
+) -> Result<Claim, Stop>
+    requires limits { IsWithinLimits (asked_of it.now.request.now) }
+    requires accepted { refusal_of it.now.setting.catalogue.now it.now.setting.size
+        (operation_of it.now.request.now.op) ≡ None }
+    requires fits { (access : OneAccess) → IsMade it.now.setting.size it.now.setting.range
+        (answer_at_table it.now.setting.catalogue.now it.now.place
+        (operation_of it.now.request.now.op)) (completed_of it.now.c.now) intent access
+        → Fits it.now.setting.closes.now claim access × (completed_of it.now.c.now
+        ≡ answer_at_table it.now.setting.catalogue.now it.now.place
+        (operation_of it.now.request.now.op) (Some (FoundAt file))) }
+    ensures { TellsOne (IsMade it.now.setting.size it.now.setting.range (answer_at_table
+        it.now.setting.catalogue.now it.now.place (operation_of it.now.request.now.op))
+        (completed_of it.now.c.now) intent) it.now.setting.closes.now result }
 {
-    if c.is_refusal(place, Errno::ENFILE) {
-        return one(alloc, Claim::Full);
+    let due = is_answer(it, file)?;
+    if !due {
+        return Err(Stop::Refuted(Reason::Member(it.place)));
     }
-    if c.res < 0 || !c.is_answer(place, c.res, &[]) {
-        return Err(Stop::Refuted(Reason::Member(place)));
-    }
-    let slot = c.res as u32;
-    if !is_in_range(setting, slot) {
-        return Err(Stop::Refuted(Reason::Member(place)));
-    }
-    let file = resident_for(setting.closes, place.installed(0, entry));
-    one(alloc, Claim::At(slot, Wants::Nothing, Leaves::File(file)))
+    Ok(claim)
 }
 
-// Checks for each catalogue entry whether it has the bytes that a read returned.
-fn fits_of(
-    alloc: Global,
-    catalogue: &Catalogue,
-    place: Place,
-    read: (u32, u32),
-    c: &Completion,
-) -> Result<[bool; 256], NoMemory>
-    requires { read.1 ≤ LONGEST_READ }
-    ensures { IfOk result (λ fits. (file : FileAt)
-        → completed_of c.now ≡ gives catalogue.now place file read.0 read.1
-        → slice_index_or fits file.entry true ≡ true) }
+// Returns the claim of an access by its intent and the completion.
+fn claim_of(it: &Answered<'_>, intent: Intent) -> Result<Claim, Stop>
+    requires limits { IsWithinLimits (asked_of it.now.request.now) }
+    requires accepted { refusal_of it.now.setting.catalogue.now it.now.setting.size
+        (operation_of it.now.request.now.op) ≡ None }
+    requires decided { IsDecided it.now.place (answer_at_table it.now.setting.catalogue.now
+        it.now.place (operation_of it.now.request.now.op)) intent }
+    ensures { TellsOne (IsMade it.now.setting.size it.now.setting.range (answer_at_table
+        it.now.setting.catalogue.now it.now.place (operation_of it.now.request.now.op))
+        (completed_of it.now.c.now) intent) it.now.setting.closes.now result }
 {
-    let (off, len) = read;
-    let mut fits = [true; 256];
-    let mut got = Vec::new(alloc);
-    for entry in 0..catalogue.len() {
-        got.clear();
-        got.reserve(len as usize)?;
-        let res = catalogue.read_into(entry as u8, off, len, &mut got);
-        if !c.is_answer(place, res as i32, &got) {
-            fits[entry as usize] = false;
+    let (place, c) = (it.place, it.c);
+    match intent {
+        Intent::Put(slot, file) => {
+            let leaves = Leaves::File(resident_for(it.setting.closes, file));
+            claim_by(it, intent, None, Claim::At(slot, Wants::Anything, leaves))
+        }
+        Intent::Clear(slot) => {
+            claim_by(
+                it,
+                intent,
+                None,
+                Claim::At(slot, Wants::Anything, Leaves::Empty),
+            )
+        }
+        Intent::Look(slot) => {
+            if c.res < 0 {
+                return claim_by(
+                    it,
+                    intent,
+                    None,
+                    Claim::At(slot, Wants::Nothing, Leaves::Same),
+                );
+            }
+            if c.place != place {
+                return Err(Stop::Refuted(Reason::Member(place)));
+            }
+            let fits = fits_of(it)?;
+            Ok(Claim::At(slot, Wants::Bytes(fits), Leaves::Same))
+        }
+        Intent::Take(slot) => {
+            if c.res < 0 {
+                let claim = Claim::At(slot, Wants::NothingToTake, Leaves::Same);
+                return claim_by(it, intent, None, claim);
+            }
+            let file = Some(place.installed(0, 0));
+            let claim = Claim::At(slot, Wants::Something, Leaves::Empty);
+            claim_by(it, intent, file, claim)
+        }
+        Intent::Allocate(file) => {
+            if c.res < 0 {
+                return claim_by(it, intent, None, Claim::Full);
+            }
+            let slot = c.res as u32;
+            if !c.is_answer(place, c.res, &[]) || !is_in_range(&it.setting, slot) {
+                return Err(Stop::Refuted(Reason::Member(place)));
+            }
+            let resident = resident_for(it.setting.closes, file);
+            Ok(Claim::At(slot, Wants::Nothing, Leaves::File(resident)))
         }
     }
-    Ok(fits)
 }
 
-// Returns the claims of a read.
-fn claims_of_read(
-    alloc: Global,
-    setting: &ClaimSetting<'_>,
-    place: Place,
-    read: (u32, u32, u32),
-    c: &Completion,
-) -> Result<Vec<Claim>, Stop>
-    requires { read.2 ≤ LONGEST_READ }
-    ensures { Tells (λ own. IsReadDone setting.now.catalogue.now place read.0 read.1 read.2 own
-        (completed_of c.now)) setting.now.closes.now result }
+// Returns the claims of the accesses that a request intends.
+fn claims_of_intents(it: &Answered<'_>) -> Result<Vec<Claim>, Stop>
+    requires limits { IsWithinLimits (asked_of it.now.request.now) }
+    requires accepted { refusal_of it.now.setting.catalogue.now it.now.setting.size
+        (operation_of it.now.request.now.op) ≡ None }
+    ensures { Tells (Possibly it.now.setting.size it.now.setting.range (IsAnsweredBy
+        it.now.setting.catalogue.now it.now.place it.now.entry
+        (operation_of it.now.request.now.op) (completed_of it.now.c.now)))
+        it.now.setting.closes.now result }
 {
-    let (slot, off, len) = read;
-    if len > 0 && c.is_refusal(place, Errno::ENOMEM) {
-        return Ok(Vec::new(alloc));
+    let (catalogue, size) = (it.setting.catalogue, it.setting.size);
+    let accesses = it.request.accesses();
+    if accesses == 0 {
+        let due = is_answer(it, None)?;
+        if !due {
+            return Err(Stop::Refuted(Reason::Member(it.place)));
+        }
     }
-    if c.is_refusal(place, Errno::EBADF) {
-        return one(alloc, Claim::At(slot, Wants::Nothing, Leaves::Same));
+    let mut claims = Vec::new(it.alloc);
+    for made in 0..accesses {
+        let Some(intent) = intent_by(catalogue, size, it.place, it.entry, it.request, made) else {
+            return Err(Stop::Unknown);
+        };
+        let claim = match claim_of(it, intent) {
+            Ok(claim) => claim,
+            Err(stop) => return Err(stop),
+        };
+        claims.push(claim)?;
     }
-    if c.place != place || c.res < 0 {
-        return Err(Stop::Refuted(Reason::Member(place)));
-    }
-    let fits = fits_of(alloc, setting.catalogue, place, (off, len), c)?;
-    one(alloc, Claim::At(slot, Wants::Bytes(fits), Leaves::Same))
+    Ok(claims)
 }
 
-// Returns the claims of a close.
-fn claims_of_close(
-    alloc: Global,
-    setting: &ClaimSetting<'_>,
-    place: Place,
-    slot: u32,
-    c: &Completion,
-) -> Result<Vec<Claim>, Stop>
-    ensures { Tells (λ own. IsCloseDone place slot own (completed_of c.now))
-        setting.now.closes.now result }
+// Returns the catalogue entry that the request opens, 0 unless it is an open, or `None` unless one
+// entry alone has the name.
+fn only_opened(catalogue: &Catalogue, request: &Request) -> Option<u8>
+    ensures { IfSome result (λ entry. (other : ℕ)
+        → IsOpened catalogue.now (operation_of request.now.op) other → other ≡ entry) }
 {
-    if c.is_refusal(place, Errno::EBADF) {
-        return one(alloc, Claim::At(slot, Wants::NothingToTake, Leaves::Same));
-    }
-    if !c.is_answer(place, 0, &[]) {
-        return Err(Stop::Refuted(Reason::Member(place)));
-    }
-    one(alloc, Claim::At(slot, Wants::Something, Leaves::Empty))
-}
-
-// Checks whether an entry is the only one that has this name.
-fn is_only(catalogue: &Catalogue, name: &str, entry: u8) -> bool
-    ensures { IsTrue result → ((other : ℕ)
-        → name_at catalogue.now other ≡ Some name.now → other ≡ entry) }
-{
+    let entry = request.opened(catalogue)?;
     for other in 0..catalogue.len() {
-        if other != entry as u32 && catalogue.name_of(other as u8) == name {
-            return false;
+        if other != entry as u32 && request.is_opened(catalogue, other as u8) {
+            return None;
         }
     }
-    true
+    Some(entry)
 }
 
-// Returns the claims of an open.
-fn claims_of_open(
-    alloc: Global,
-    setting: &ClaimSetting<'_>,
-    place: Place,
-    opened: (&str, Target),
-    c: &Completion,
-) -> Result<Vec<Claim>, Stop>
-    requires accepted { refusal_of setting.now.catalogue.now setting.now.size
-        (Opens opened.0.now opened.1) ≡ None }
-    ensures { Tells (Possibly setting.now.size setting.now.range (λ own. IsDoneAtTable
-        setting.now.catalogue.now place (Opens opened.entry.0.now opened.entry.1) own
-        (completed_of c.now))) setting.now.closes.now result }
+// Checks whether the request asks for bytes and fails with ENOMEM.
+fn lacks_memory(place: Place, request: &Request, c: &Completion) -> bool
+    ensures { IsTrue result ↔ ((0 < bytes_asked (operation_of request.now.op))
+        × (completed_of c.now ≡ refusal place ENOMEM)) }
 {
-    let (name, target) = opened;
-    let Some(entry) = setting.catalogue.find(name) else {
-        unreachable!();
-    };
-    if !is_only(setting.catalogue, name, entry) {
-        return Err(Stop::Unknown);
-    }
-    match target {
-        Target::Slot(slot) => claims_of_open_at(alloc, setting, place, (entry, slot), c),
-        Target::Any => claims_of_open_any(alloc, setting, place, entry, c),
-    }
+    request.bytes_asked() > 0 && c.is_refusal(place, Errno::ENOMEM)
 }
 
 /// Returns the claims of a request.
@@ -304,14 +258,18 @@ pub(crate) fn claims_of_request(
     if let Some(errno) = refusal_of(setting.catalogue, setting.size, request) {
         return refused(alloc, place, errno, c);
     }
-    match &request.op {
-        Op::Open { name, target } => {
-            claims_of_open(alloc, setting, place, (name.as_str(), *target), c)
-        }
-        Op::Read { slot, off, len } => {
-            claims_of_read(alloc, setting, place, (*slot, *off, *len), c)
-        }
-        Op::Close { slot } => claims_of_close(alloc, setting, place, *slot, c),
-        Op::Update { off, list } => claims_of_update(alloc, setting, place, (*off, list), c),
+    if lacks_memory(place, request, c) {
+        return Ok(Vec::new(alloc));
     }
+    let Some(entry) = only_opened(setting.catalogue, request) else {
+        return Err(Stop::Unknown);
+    };
+    claims_of_intents(&Answered {
+        alloc,
+        setting: *setting,
+        place,
+        entry,
+        request,
+        c,
+    })
 }
