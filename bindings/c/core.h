@@ -22,5 +22,7 @@ int64_t yacht_core_take(yacht_core *worker, uint32_t slot, uint64_t *closed);
 int64_t yacht_core_take_if(yacht_core *worker, uint32_t slot, uint32_t node, uint64_t *closed);
 int64_t yacht_core_put_if(yacht_core *worker, uint32_t slot, uint32_t node, uint64_t tag,
                           uint64_t *closed);
+int64_t yacht_core_put_empty(yacht_core *worker, uint32_t slot, uint64_t tag);
+int64_t yacht_core_full(yacht_core *worker);
 
 #endif

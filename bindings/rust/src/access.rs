@@ -32,6 +32,7 @@ mod table;
 #[cfg(test)]
 mod tests;
 mod values;
+mod with;
 
 pub(crate) use self::core::{MOST_INSTALLING, MOST_SLOTS, MOST_WORKERS};
 pub use self::guard::{Guard, OwnedGuard};

@@ -60,6 +60,22 @@ pub struct NoSlot {
     pub slots: u32,
 }
 
+/// At one moment every slot had a value.
+///
+/// ```
+/// let table = yachtbanyan::Table::<u64>::with_slots(1)?;
+/// let handle = table.handle()?;
+/// handle.insert_with(|key| u64::from(key.slot()))?;
+/// let error = handle.insert_with(|_| 7).unwrap_err();
+/// assert_eq!((error.slots, error.to_string()), (1, "the only slot has a value".to_string()));
+/// # Ok::<(), Box<dyn std::error::Error>>(())
+/// ```
+#[derive(Clone, Copy, Debug, PartialEq, Eq)]
+pub struct Full {
+    /// The number of slots.
+    pub slots: u32,
+}
+
 /// The reason why a look-up returns no guard.
 ///
 /// ```
@@ -189,8 +205,7 @@ impl<T> fmt::Display for Refused<T> {
 impl fmt::Display for Reason {
     fn fmt(&self, f: &mut fmt::Formatter<'_>) -> fmt::Result {
         match *self {
-            Reason::Full { slots: 1 } => f.write_str("the only slot has a value"),
-            Reason::Full { slots } => write!(f, "all {slots} slots have values"),
+            Reason::Full { slots } => Full { slots }.fmt(f),
             Reason::Again => f.write_str("other threads are filling or emptying slots"),
             Reason::Empty { slot } => GetError::Empty { slot }.fmt(f),
             Reason::Stale { slot } => GetError::Stale { slot }.fmt(f),
@@ -242,6 +257,15 @@ impl fmt::Display for NoSlot {
             f,
             "slot {slot} is out of range: the table has slots 0 to {last}"
         )
+    }
+}
+
+impl fmt::Display for Full {
+    fn fmt(&self, f: &mut fmt::Formatter<'_>) -> fmt::Result {
+        match self.slots {
+            1 => f.write_str("the only slot has a value"),
+            slots => write!(f, "all {slots} slots have values"),
+        }
     }
 }
 
@@ -305,5 +329,6 @@ impl<T> Error for Refused<T> {}
 impl Error for OpenError {}
 impl Error for NoSeat {}
 impl Error for NoSlot {}
+impl Error for Full {}
 impl Error for GetError {}
 impl Error for RemoveError {}

@@ -1,9 +1,11 @@
 //! Calls by key: whatever a slot has, a key finds the value that it was made for, or none. Expected
 //! answers are worked out by hand, from the table in docs/BINDINGS.md.
 use std::collections::{BTreeSet, HashSet};
+use std::panic::{catch_unwind, AssertUnwindSafe};
 use std::sync::atomic::{AtomicUsize, Ordering::SeqCst};
+use std::sync::Arc;
 use yachtbanyan::{
-    GetError, Handle, Key, NoSeat, NoSlot, Old, Options, Reason, Refused, RemoveError, Table,
+    Full, GetError, Handle, Key, NoSeat, NoSlot, Old, Options, Reason, Refused, RemoveError, Table,
 };
 
 const EMPTY: GetError = GetError::Empty { slot: 0 };
@@ -247,4 +249,124 @@ fn a_thousand_values_are_found_by_their_keys() {
             assert_eq!(*handle.get(*key).unwrap(), added + number as u32);
         }
     }
+}
+
+#[test]
+fn a_value_that_is_made_from_its_key_has_it() {
+    let table = Table::<Key>::with_slots(3).unwrap();
+    let handle = table.handle().unwrap();
+    let mut keys: Vec<Key> = Vec::new();
+    for _ in 0..3 {
+        let mut given = None;
+        let key = handle.insert_with(|key| *given.insert(key)).unwrap();
+        assert_eq!(given, Some(key));
+        keys.push(key);
+    }
+    let slots: BTreeSet<u32> = keys.iter().map(|it| it.slot()).collect();
+    assert_eq!(slots, BTreeSet::from([0, 1, 2]));
+    let full = handle.insert_with(|_| panic!("every slot has a value"));
+    assert_eq!(full, Err(Full { slots: 3 }));
+    for key in keys {
+        assert_eq!(*handle.get(key).unwrap(), key);
+        assert_eq!(handle.remove(key), Ok(Old::Unused(key)));
+        let new = handle.insert_with(|key| key).unwrap();
+        assert_eq!(new.slot(), key.slot());
+        assert_eq!(*handle.get(new).unwrap(), new);
+        assert!(matches!(handle.get(key), Err(GetError::Stale { .. })));
+    }
+}
+
+#[test]
+fn a_value_whose_slot_is_lost_is_dropped_and_made_again() {
+    let table = Table::<Arc<u32>>::with_slots(2).unwrap();
+    let (handle, other) = (table.handle().unwrap(), table.handle().unwrap());
+    let (mut keys, mut made) = (Vec::new(), Vec::new());
+    let key = handle.insert_with(|key| {
+        if keys.is_empty() {
+            other.replace_at(key.slot(), Arc::new(7)).unwrap();
+        }
+        keys.push(key);
+        made.push(Arc::new(8));
+        made[keys.len() - 1].clone()
+    });
+    assert_eq!((keys.len(), key), (2, Ok(keys[1])));
+    assert_eq!(
+        (Arc::strong_count(&made[0]), Arc::strong_count(&made[1])),
+        (1, 2)
+    );
+    assert_ne!(keys[0].slot(), keys[1].slot());
+    // the key that was lost is no value's
+    assert!(matches!(handle.get(keys[0]), Err(GetError::Stale { .. })));
+    assert_eq!(**handle.get_at(keys[0].slot()).unwrap(), 7);
+    assert_eq!(**handle.get(keys[1]).unwrap(), 8);
+}
+
+#[test]
+fn a_value_whose_slot_was_the_last_one_is_dropped() {
+    let (table, handle) = one_slot();
+    let other = table.handle().unwrap();
+    let mut calls = 0;
+    let full = handle.insert_with(|key| {
+        calls += 1;
+        other.replace_at(key.slot(), 7).unwrap();
+        8
+    });
+    assert_eq!((full, calls), (Err(Full { slots: 1 }), 1));
+    assert_eq!(handle.remove_at(0), Ok(Old::Unused(7)));
+}
+
+#[test]
+fn a_slot_that_is_empty_again_keeps_its_key() {
+    let (table, handle) = one_slot();
+    let other = table.handle().unwrap();
+    let mut keys = Vec::new();
+    let key = handle.insert_with(|key| {
+        keys.push(key);
+        other.insert(7).unwrap();
+        assert_eq!(other.remove_at(0), Ok(Old::Unused(7)));
+        8
+    });
+    assert_eq!(keys, [key.unwrap()]);
+    assert_eq!(*handle.get(keys[0]).unwrap(), 8);
+}
+
+#[test]
+fn a_function_that_makes_a_value_may_use_the_handle_or_panic() {
+    let table = Table::<u32>::with_slots(2).unwrap();
+    let handle = table.handle().unwrap();
+    let mut inner = None;
+    let panics = catch_unwind(AssertUnwindSafe(|| {
+        handle.insert_with(|_| {
+            inner = Some(handle.insert(7).unwrap());
+            panic!("after an insertion")
+        })
+    }));
+    assert!(panics.is_err());
+    assert_eq!((handle.len(), *handle.get(inner.unwrap()).unwrap()), (1, 7));
+    let key = handle.insert_with(|_| 8).unwrap();
+    assert_eq!((handle.len(), *handle.get(key).unwrap()), (2, 8));
+}
+
+/// Four threads have at most one value each, and four slots: so `Full` is no answer.
+#[test]
+fn four_threads_make_values_from_keys() {
+    let table = Options::new(4).handles(4).open::<Key>().unwrap();
+    std::thread::scope(|scope| {
+        for _ in 0..4 {
+            let handle = table.handle().unwrap();
+            scope.spawn(move || {
+                for _ in 0..500 {
+                    let made = handle.insert_with(|key| key);
+                    // the stand-in says so without the care of the core
+                    if cfg!(yachtbanyan_stand_in) && made.is_err() {
+                        continue;
+                    }
+                    let key = made.unwrap();
+                    assert_eq!(*handle.get(key).unwrap(), key);
+                    assert!(handle.remove(key).is_ok());
+                }
+            });
+        }
+    });
+    assert!(table.handle().unwrap().is_empty());
 }

@@ -76,4 +76,6 @@ unsafe extern "C" {
         tag: u64,
         closed: *mut u64,
     ) -> i64;
+    pub(crate) fn yacht_core_put_empty(worker: *mut Core, slot: u32, tag: u64) -> i64;
+    pub(crate) fn yacht_core_full(worker: *mut Core) -> i64;
 }

@@ -10,7 +10,9 @@ use crate::errors::{GetError, NoSeat, NoSlot, Reason, Refused};
 use crate::iter::Iter;
 use crate::key::Key;
 use crate::old::Old;
+use std::cell::Cell;
 use std::fmt;
+use std::num::NonZeroU64;
 
 /// The access of one thread at a time to a [`Table`]: it looks slots up, and installs and removes
 /// values. It is `Send`, but not `Sync`.
@@ -57,16 +59,22 @@ pub struct Handle<T> {
     pub(super) reader: Reader<T>,
     installer: Installer,
     pub(super) spare: Spare<T>,
+    /// The slot at which the handle begins to look for an empty one: that which it emptied last, or
+    /// the one after that which it filled last by `insert_with`.
+    pub(super) begin: Cell<u32>,
 }
 
 impl<T> Handle<T> {
     /// Makes a handle of the seats that the caller claimed, which have the same number.
     pub(super) fn new(table: Table<T>, own: Place) -> Handle<T> {
         let installer = table.values().seats.installer(own.number);
+        // apart from the other handles
+        let begin = Cell::new(67 * own.number % table.slots());
         Handle {
             reader: Reader::new(table, own, Some(installer)),
             installer,
             spare: Spare::default(),
+            begin,
         }
     }
 
@@ -75,12 +83,17 @@ impl<T> Handle<T> {
         (self.reader.table().values(), self.installer.core)
     }
 
+    /// Returns the number of the next value.
+    #[inline]
+    pub(super) fn next_number(&self) -> Option<NonZeroU64> {
+        // SAFETY: the seat is this handle's (one user), and the reader keeps the table.
+        unsafe { self.installer.next_number() }
+    }
+
     /// Stores a value that the handle installs.
     #[inline]
     pub(super) fn store(&self, value: T) -> Box<Stored<T>> {
-        // SAFETY: the seat is this handle's (one user), and the reader keeps the table.
-        let number = unsafe { self.installer.next_number() };
-        storage::put(&self.spare, (number, value))
+        storage::put(&self.spare, (self.next_number(), value))
     }
 
     /// Gives a value back that isn't installed.
@@ -221,8 +234,9 @@ impl<T> Handle<T> {
     pub fn remove_at(&self, slot: u32) -> Result<Old<T>, NoSlot> {
         let (values, core) = self.parts();
         // SAFETY: the seat is this handle's (one user), and holds nothing between two calls.
-        let old = unsafe { values.remove_at(core, slot) };
-        Ok(old?.map(|it| storage::take(&self.spare, it)))
+        let old = unsafe { values.remove_at(core, slot) }?;
+        self.begin.set(slot);
+        Ok(old.map(|it| storage::take(&self.spare, it)))
     }
 
     /// Checks whether a slot has a value. A slot that the table hasn't has none. It is a look-up,

@@ -254,6 +254,7 @@ impl<T> Handle<T> {
         let (guard, (_, core)) = (self.get(key)?, self.parts());
         // SAFETY: the seat is this handle's (one user), and holds nothing between two calls.
         let old = unsafe { guard.take_out(core) }?;
+        self.begin.set(key.slot());
         Ok(old.map(|it| storage::take(&self.spare, it)))
     }
 }

@@ -66,6 +66,35 @@ impl Table {
         self.subtract((word >> 32) as usize - 1, (1 << 32) - (word & TAKES))
     }
 
+    // Fills a slot if it is empty. Returns the number of the result.
+    fn fill(&self, slot: usize, word: u64) -> i64 {
+        let it = &self.slots[slot];
+        let old = it.load(SeqCst);
+        if old >> 32 != 0 {
+            return OTHER;
+        }
+        #[cfg(test)]
+        if super::tests::is_overtaken() {
+            return AGAIN;
+        }
+        if it.compare_exchange(old, word, SeqCst, SeqCst).is_err() {
+            return AGAIN;
+        }
+        self.changes.fetch_add(1, SeqCst);
+        DONE
+    }
+
+    // Checks whether every slot has a file.
+    fn full(&self) -> i64 {
+        let before = self.changes.load(SeqCst);
+        let all = self.slots.iter().all(|it| it.load(SeqCst) >> 32 != 0);
+        if all && self.changes.load(SeqCst) == before {
+            FULL
+        } else {
+            AGAIN
+        }
+    }
+
     // Exchanges the word of a slot once if it names this node. Returns the old word, or the number
     // of the reason.
     fn exchange(&self, slot: u32, node: u32, word: u64) -> Result<u64, i64> {
@@ -355,4 +384,35 @@ pub(crate) unsafe fn yacht_core_put_if(
             answer(it.table.retire(old), IN_USE, unsafe { &mut *closed })
         }
     }
+}
+
+pub(crate) unsafe fn yacht_core_put_empty(handle: *mut Core, slot: u32, tag: u64) -> i64 {
+    let it = unsafe { worker(handle) };
+    if it.held.is_some() {
+        return BUSY;
+    }
+    if slot as usize >= it.table.slots.len() {
+        return NO_SLOT;
+    }
+    let Some(word) = it.begin(tag) else {
+        return NO_BLOCK;
+    };
+    let number = it.table.fill(slot as usize, word);
+    if number == DONE {
+        it.next = None;
+    } else {
+        it.take_back(word);
+    }
+    number
+}
+
+pub(crate) unsafe fn yacht_core_full(handle: *mut Core) -> i64 {
+    let it = unsafe { worker(handle) };
+    if it.held.is_some() {
+        return BUSY;
+    }
+    if it.first.is_none() {
+        return NO_BLOCK;
+    }
+    it.table.full()
 }

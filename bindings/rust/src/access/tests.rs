@@ -209,6 +209,22 @@ fn a_call_by_key_tries_again_while_look_ups_are_counted() {
     assert!(scene.handle.get(third).is_ok() && OVERTAKEN.get() == 0);
 }
 
+#[cfg(yachtbanyan_stand_in)]
+#[test]
+fn a_value_is_made_again_if_its_empty_slot_changes() {
+    let scene = Scene::new();
+    let mut keys = Vec::new();
+    OVERTAKEN.set(3);
+    let key = scene.handle.insert_with(|key| {
+        keys.push(key);
+        Counted(scene.drops.clone(), None)
+    });
+    assert_eq!((keys.len(), keys.last().copied()), (4, key.ok()));
+    assert_eq!((scene.drops.load(SeqCst), scene.handle.len()), (3, 1));
+    keys.dedup();
+    assert_eq!(keys.len(), 4);
+}
+
 #[test]
 fn a_seat_that_has_used_its_numbers_up_uses_none_again() {
     let table = Options::new(1).handles(2).open().unwrap();

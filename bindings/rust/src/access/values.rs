@@ -1,7 +1,7 @@
 //! The values of a table, and the calls of the core on them.
 use super::core::{self, Core};
 use super::seats::Seats;
-use crate::errors::{GetError, NoSlot, OpenError, Reason};
+use crate::errors::{Full, GetError, NoSlot, OpenError, Reason};
 use crate::old::Old;
 use crate::options::Options;
 use std::marker::PhantomData;
@@ -90,8 +90,13 @@ impl<T> Values<T> {
 
     /// Returns the reason why a value isn't installed if every slot has one.
     pub(super) fn is_full(&self) -> Reason {
-        let slots = self.slots;
+        let Full { slots } = self.full();
         Reason::Full { slots }
+    }
+
+    /// Returns the error of a call that found every slot full.
+    pub(super) fn full(&self) -> Full {
+        Full { slots: self.slots }
     }
 
     /// Looks a slot up. If it finds a value, the seat holds that value until `release`.
@@ -255,6 +260,36 @@ impl<T> Values<T> {
             }
             std::thread::yield_now();
         }
+    }
+
+    /// Installs a value at a slot if it is empty. Returns the value if it isn't, or if it changed
+    /// meanwhile.
+    ///
+    /// # Safety
+    /// As of `replace_at`. The slot is one of the table.
+    pub(super) unsafe fn insert_at(
+        &self,
+        core: *mut Core,
+        slot: u32,
+        value: Box<T>,
+    ) -> Result<(), Box<T>> {
+        // SAFETY: as the caller ensures.
+        let tag = unsafe { self.prepare(core, value) };
+        // SAFETY: no other call uses the core's worker meanwhile.
+        match unsafe { core::yacht_core_put_empty(core, slot, tag) } {
+            core::DONE => Ok(()),
+            // SAFETY: the core installed nothing, so the value is still this call's (`placed`).
+            _ => Err(unsafe { value_of(tag) }),
+        }
+    }
+
+    /// Checks whether at one moment during the call every slot had a value.
+    ///
+    /// # Safety
+    /// As of `replace_at`.
+    pub(super) unsafe fn finds_full(&self, core: *mut Core) -> bool {
+        // SAFETY: no other call uses the core's worker meanwhile.
+        unsafe { core::yacht_core_full(core) == core::FULL }
     }
 
     /// Empties a slot. Returns what was there.

@@ -1,0 +1,77 @@
+//! Installations of a value that is made from its key.
+use super::handle::Handle;
+use super::storage;
+use crate::errors::Full;
+use crate::key::Key;
+
+impl<T> Handle<T> {
+    /// Makes a value from its key, and installs it at a free slot. Returns the key. So what names
+    /// the value elsewhere, as an event loop, has its key before anybody finds the value.
+    ///
+    /// It looks for a slot that is empty, calls `make` with the key that a value gets there, and
+    /// installs the value if the slot is still empty. If another thread was faster, the value is
+    /// dropped, and the call looks again: `make` is called again, with another key. No value ever
+    /// gets a key that was lost. The call looks up the slots that it passes, as
+    /// [`Handle::contains`]. Like [`Handle::insert`], it may wait as long as one other thread is
+    /// stopped within its own insert, replace or remove.
+    ///
+    /// `make` may call this handle. If it panics, nothing is installed.
+    ///
+    /// # Errors
+    /// [`Full`] if at one moment during the call every slot had a value. If `make` was called
+    /// before, what it made was dropped.
+    ///
+    /// ```
+    /// use yachtbanyan::{Key, Table};
+    ///
+    /// struct Connection {
+    ///     registered: u64,
+    /// }
+    ///
+    /// // such as `epoll_ctl`, with this data
+    /// fn register(data: u64) -> Connection {
+    ///     Connection { registered: data }
+    /// }
+    ///
+    /// let table = Table::<Connection>::with_slots(16)?;
+    /// let handle = table.handle()?;
+    /// let key = handle.insert_with(|key| register(key.to_bits().unwrap()))?;
+    /// let event = handle.get(key)?.registered;
+    /// assert_eq!(Key::from_bits(event), key);
+    /// # Ok::<(), Box<dyn std::error::Error>>(())
+    /// ```
+    pub fn insert_with(&self, mut make: impl FnMut(Key) -> T) -> Result<Key, Full> {
+        loop {
+            let Some(slot) = self.find_empty() else {
+                let (values, core) = self.parts();
+                // SAFETY: the seat is this handle's (one user), and holds nothing between two
+                // calls.
+                if unsafe { values.finds_full(core) } {
+                    return Err(values.full());
+                }
+                std::thread::yield_now();
+                continue;
+            };
+            let number = self.next_number();
+            let key = Key::new(slot, number);
+            let stored = storage::put(&self.spare, (number, make(key)));
+            let (values, core) = self.parts();
+            // SAFETY: as above. The slot was looked up, so it is one of the table.
+            match unsafe { values.insert_at(core, slot, stored) } {
+                Ok(()) => {
+                    self.begin.set((slot + 1) % values.slots());
+                    return Ok(key);
+                }
+                Err(stored) => drop(storage::take(&self.spare, stored)),
+            }
+        }
+    }
+
+    /// Returns a slot that was empty when it was looked at, or `None` if none was.
+    fn find_empty(&self) -> Option<u32> {
+        let (slots, first) = (self.table().slots(), self.begin.get());
+        (first..slots)
+            .chain(0..first)
+            .find(|&it| !self.contains(it))
+    }
+}
