@@ -136,6 +136,17 @@ int yacht_try_insert(yacht_handle *handle, void *value);
 int yacht_insert_key(yacht_handle *handle, void *value, yacht_key *key);
 int yacht_try_insert_key(yacht_handle *handle, void *value, yacht_key *key);
 
+/* Returns a value for this key. It may use other handles of the table. */
+typedef void *yacht_make(yacht_key key, void *with);
+
+/* Makes a value from its key, installs it at a free slot, and writes the key to *key. It calls
+ * `make` with the key that a value gets at a slot that was empty. If another thread fills the slot
+ * meanwhile, the value is dropped, and `make` is called again, with another key. It may wait as
+ * yacht_insert.
+ * Returns the slot; or YACHT_FULL, YACHT_BUSY, YACHT_READER or YACHT_BAD_ARGUMENT, this also if
+ * `make` returns NULL: then it has installed and written nothing. */
+int yacht_insert_with(yacht_handle *handle, yacht_make *make, void *with, yacht_key *key);
+
 /* Installs a value, not NULL, at a slot, in place of the value there.
  * Returns YACHT_DONE if the slot was empty, YACHT_DROPPED or YACHT_IN_USE; or YACHT_NO_SLOT,
  * YACHT_BUSY, YACHT_READER or YACHT_BAD_ARGUMENT: then the caller still owns the value. */

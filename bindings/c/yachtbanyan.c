@@ -3,7 +3,8 @@
  * A hold names a node of the table, and `by_node` has the pointer of the value whose file has that
  * node, and its number. Both are written before the core installs the file: the core chooses the
  * node, which no open file has (fx_lasting::laws, chosen_nodes_are_free), and installs the file on
- * it (fx_server, PutsAt, PutsAny and PutsIf). So who holds the file reads what was written for it.
+ * it (fx_server, PutsAt, PutsAny, PutsIf and PutsEmpty). So who holds the file reads what was
+ * written for it.
  *
  * A call by key holds the file at the key's slot by a second worker, and compares its number with
  * the key's meanwhile. While it is held no other file is on its node (held_nodes_name_files). So
@@ -41,7 +42,8 @@ struct yacht_handle {
     void *held;    /* or NULL */
     uint64_t next; /* the number of the next value that it installs, or 0 if all were used */
     uint32_t node, slot; /* of what it holds */
-    char apart[128 - 5 * sizeof(void *) - sizeof(uint64_t) - 2 * sizeof(uint32_t)];
+    uint32_t begin;      /* where it begins to look for an empty slot */
+    char apart[128 - 5 * sizeof(void *) - sizeof(uint64_t) - 3 * sizeof(uint32_t)];
 };
 
 struct yacht_table {
@@ -105,6 +107,7 @@ int yacht_open(yacht_table **table, uint32_t slots, uint32_t handles, uint32_t r
     for (uint32_t i = 0; i < handles + readers; i++) {
         yacht_handle handle = {cores[i], .table = it, .by_node = it->by_node, .next = i + 1};
         if (i < handles) handle.holds = cores[handles + readers + i];
+        handle.begin = 67 * i % slots; /* apart from the other handles */
         it->all[i] = handle;
     }
     free(cores);
@@ -210,17 +213,20 @@ static uint64_t next_number(yacht_handle *handle) {
     return number;
 }
 
-/* writes the pointer and the number to the place of the next installed file; returns YACHT_DONE, or
- * why there is no such place */
+/* writes the pointer and the number to the place of the next installed file */
+static void place_next(yacht_handle *handle, int64_t node, void *value, uint64_t number) {
+    atomic_store_explicit(&handle->by_node[node].value, value, memory_order_relaxed);
+    atomic_store_explicit(&handle->by_node[node].number, number, memory_order_relaxed);
+    release(value);
+}
+
+/* does so with the next number; returns YACHT_DONE, or why there is no such place */
 static int prepare(yacht_handle *handle, void *value, uint64_t *number) {
     if (!value) return YACHT_BAD_ARGUMENT;
     if (handle->held) return YACHT_BUSY;
     int64_t node = yacht_core_next(handle->core);
     if (node < 0) return (int)node;
-    *number = next_number(handle);
-    atomic_store_explicit(&handle->by_node[node].value, value, memory_order_relaxed);
-    atomic_store_explicit(&handle->by_node[node].number, *number, memory_order_relaxed);
-    release(value);
+    place_next(handle, node, value, *number = next_number(handle));
     return YACHT_DONE;
 }
 
@@ -256,6 +262,42 @@ int yacht_try_insert_key(yacht_handle *handle, void *value, yacht_key *key) {
     return insert(handle, value, key, 1);
 }
 
+/* returns a slot that was empty when it was looked at, or the number of slots if none was */
+static uint32_t find_empty(yacht_handle *handle) {
+    uint32_t slots = handle->table->slots;
+    for (uint32_t i = 0; i < slots; i++) {
+        uint32_t slot = (handle->begin + i) % slots;
+        found it = look(handle, handle->core, slot);
+        end(handle, it);
+        if (!it.place) return slot;
+    }
+    return slots;
+}
+
+int yacht_insert_with(yacht_handle *handle, yacht_make *make, void *with, yacht_key *key) {
+    if (!make || !key) return YACHT_BAD_ARGUMENT;
+    if (!handle->holds) return YACHT_READER;
+    if (handle->held) return YACHT_BUSY;
+    for (;;) {
+        yacht_key its = {.slot = find_empty(handle)};
+        if (its.slot == handle->table->slots) {
+            if (yacht_core_full(handle->core) == YACHT_FULL) return YACHT_FULL;
+            sched_yield();
+            continue;
+        }
+        its.number = next_number(handle);
+        void *value = make(its, with);
+        if (!value) return YACHT_BAD_ARGUMENT;
+        place_next(handle, yacht_core_next(handle->core), value, its.number);
+        if (yacht_core_put_empty(handle->core, its.slot, tag_of(value)) == YACHT_DONE) {
+            handle->begin = (its.slot + 1) % handle->table->slots;
+            *key = its;
+            return (int)its.slot;
+        }
+        drop_value(handle->table, value);
+    }
+}
+
 int yacht_replace_at(yacht_handle *handle, uint32_t slot, void *value) {
     uint64_t closed = 0, number;
     int error = slot < handle->table->slots ? prepare(handle, value, &number) : YACHT_NO_SLOT;
@@ -269,6 +311,7 @@ int yacht_remove_at(yacht_handle *handle, uint32_t slot) {
     uint64_t closed = 0;
     if (!handle->holds) return YACHT_READER;
     int64_t answer = yacht_core_take(handle->core, slot, &closed);
+    if (answer >= 0) handle->begin = slot;
     if (answer == YACHT_DROPPED) drop_value(handle->table, value_of(closed));
     return (int)answer;
 }
@@ -298,6 +341,7 @@ int yacht_remove(yacht_handle *handle, yacht_key key) {
     if (error) return error;
     for (;;) {
         int64_t answer = yacht_core_take_if(handle->core, key.slot, (uint32_t)it.answer, &closed);
+        if (answer >= 0) handle->begin = key.slot;
         if (answer != YACHT_AGAIN) return end_hold(handle, it, answer);
         sched_yield();
     }

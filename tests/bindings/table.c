@@ -153,6 +153,47 @@ static void calls_by_key(yacht_handle *a, yacht_handle *b, yacht_handle *reader)
     WANT(yacht_remove(b, third) == YACHT_DROPPED && dropped[11] == 1);
 }
 
+/* what `make` returns first and then, and what it does first */
+typedef struct making {
+    yacht_handle *other;
+    int calls, keep;
+    yacht_key keys[2];
+} making;
+
+static void *make(yacht_key key, void *with) {
+    making *it = with;
+    WANT(it->calls < 2);
+    it->keys[it->calls] = key;
+    if (it->calls++ == 0 && it->other) WANT(yacht_replace_at(it->other, key.slot, &dropped[14]) == YACHT_DONE);
+    return it->keep ? &dropped[11 + it->calls] : NULL;
+}
+
+static void made_from_keys(void) {
+    yacht_table *table;
+    yacht_key key = {0, 9};
+    void *value = NULL;
+    WANT(yacht_open(&table, 2, 2, 1, drop, &drops) == YACHT_DONE);
+    yacht_handle *a = yacht_handle_of(table, 0), *b = yacht_handle_of(table, 1), *reader = yacht_reader_of(table, 0);
+    making none = {0}, lost = {.other = b, .keep = 1}, last = {.other = b, .keep = 1};
+    WANT(yacht_insert_with(a, NULL, &none, &key) == YACHT_BAD_ARGUMENT && yacht_insert_with(a, make, &none, NULL) == YACHT_BAD_ARGUMENT);
+    WANT(yacht_insert_with(reader, make, &none, &key) == YACHT_READER && !none.calls);
+    WANT(yacht_insert_with(a, make, &none, &key) == YACHT_BAD_ARGUMENT && none.calls == 1 && key.slot == 9);
+    /* a's numbers are 1, 3, 5..; the first was for nothing; b fills slot 0, for which a made
+     * &dropped[12] */
+    drops = 0;
+    WANT(yacht_insert_with(a, make, &lost, &key) == 1 && lost.calls == 2 && key.slot == 1 && key.number == 5);
+    WANT(lost.keys[0].slot == 0 && lost.keys[0].number == 3 && lost.keys[1].slot == 1 && lost.keys[1].number == 5);
+    WANT(drops == 1 && dropped[12] == 1 && yacht_get(a, lost.keys[0], &value) == YACHT_STALE);
+    WANT(yacht_get(a, key, &value) == YACHT_DONE && value == &dropped[13]);
+    WANT(yacht_insert_with(a, make, &last, &key) == YACHT_BUSY && yacht_release(a) == YACHT_DONE);
+    WANT(yacht_insert_with(a, make, &last, &key) == YACHT_FULL && !last.calls);
+    WANT(yacht_remove_at(a, 0) == YACHT_DROPPED && dropped[14] == 1);
+    /* b fills the last slot */
+    WANT(yacht_insert_with(a, make, &last, &key) == YACHT_FULL && last.calls == 1 && last.keys[0].slot == 0 && dropped[12] == 2);
+    yacht_free(table);
+    WANT(drops == 5 && dropped[13] == 1 && dropped[14] == 2);
+}
+
 static void bits(void) {
     yacht_key key = yacht_key_from_bits(UINT64_MAX);
     WANT(key.slot == 4095 && key.number == UINT64_MAX >> 12 && yacht_key_to_bits(key) == UINT64_MAX);
@@ -214,6 +255,7 @@ int main(void) {
     each_answer();
     drops_that_install();
     keys();
+    made_from_keys();
     words();
     refused_openings();
     return report("table");
