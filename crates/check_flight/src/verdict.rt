@@ -14,7 +14,7 @@ use crate::player::is_flight;
 use crate::propose::propose;
 use crate::refute::{first_state, push_call, refute};
 use check_search::Limits;
-use fx_base::{Catalogue, NoMemory};
+use fx_base::{Catalogue, Errno, NoMemory};
 use fx_flight::{LogEvent, LogFault, fault_of_log};
 use fx_order::{OrderSetting, Slots};
 use std::alloc::Global;
@@ -115,8 +115,20 @@ fn has_flight(
     is_flight(&log, slots, &plan)
 }
 
+// Checks whether a request of the log lacked memory (-12).
+fn lacks_memory(events: &[LogEvent]) -> bool {
+    for event in events {
+        if let LogEvent::Done(c) = event
+            && c.res == -Errno::ENOMEM.code()
+        {
+            return true;
+        }
+    }
+    false
+}
+
 /// Judges the events of a log whose table has these slots at first: its size is constant, and no
-/// file of it is closed. Looks aren't judged: a log with one is undecided.
+/// file of it is closed. A log with a look, or with an answer -12, is undecided.
 ///
 /// # Errors
 /// `NoMemory` if an allocation fails.
@@ -142,6 +154,9 @@ pub fn judge_events(
 {
     if let Some(fault) = fault_of_log(alloc, events)? {
         return Ok(FlightVerdict::Faulty(fault));
+    }
+    if lacks_memory(events) {
+        return Ok(FlightVerdict::Undecided);
     }
     if has_flight(alloc, catalogue, slots, events, room_for(slots, limits))? {
         return Ok(FlightVerdict::Legal);
