@@ -29,6 +29,7 @@ mod seats;
 mod stand_in;
 mod storage;
 mod table;
+mod table_keys;
 #[cfg(test)]
 mod tests;
 mod values;
