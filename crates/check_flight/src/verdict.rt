@@ -24,8 +24,8 @@ use std::alloc::Global;
 pub enum FlightVerdict {
     /// The events aren't a log.
     Faulty(LogFault),
-    /// The log has no flight in which each request finds memory. Up to and with the event at this
-    /// position, from 0, it has none either.
+    /// Up to and with the event at this position, from 0, the log has no flight in which each
+    /// request finds memory.
     NotLegal {
         /// The position of the event.
         at: usize,
