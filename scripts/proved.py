@@ -96,15 +96,15 @@ def take_back(room, name):
 
 
 def mark_libraries(room, gate):
-    """Gives the libraries that the gate made the mark of their sources, which `rt lib` leaves beside one and the gate doesn't:
-    by it `rt` knows that they needn't be proved for a crate above. A kit that has no such marks proves them."""
+    """Gives the libraries that the gate made, or has kept, the mark of their sources, which `rt lib` leaves beside one and the gate
+    doesn't: by it `rt` knows that they needn't be proved for a crate above. A kit that has no such marks proves them."""
     sys.path.insert(0, os.path.dirname(os.path.realpath(shutil.which("rt"))))
     try:
         import rtlib
 
         for crate in rtlib.crates_below(f"{room}/crates"):
             library = f"{crate.folder}/out/rlib"
-            if os.path.isdir(library) and os.stat(library).st_mtime > gate.began:
+            if os.path.isdir(library) and gate.has_proved(crate.name):
                 if os.path.exists(f"{library}/stamp"):
                     os.remove(f"{library}/stamp")
                 write(f"{library}/stamp", crate.stamp())
