@@ -109,24 +109,28 @@ static void break_question(struct state *s, struct pass *it, int who) {
 }
 
 /* An allocation: a pass that found the range full first decides whether it still is. Else it tries
- * one slot, and then each slot of each group that isn't full, from that slot's group on. If none is
- * empty, the pass returns its node and asks. */
+ * one slot, and then each slot of each group that isn't full, from that slot's group on, by a step
+ * of its number. If none is empty, the pass returns its node and asks. */
 
-enum step next_of_scan(struct pass *it) {
+/* The steps from group to group: primes above the greatest number of groups. */
+static const int steps[] = {67, 71, 73, 79, 83, 89, 97, 101};
+
+enum step next_of_scan(struct pass *it, int who) {
+    int number = who + 1, step = wrong == step_leads_through_one_group ? groups() : steps[number % 8];
     bool is_begun = it->next > 0, is_over = it->next == groups();
-    int from = group_of(it->from) + it->next;
+    int group = (group_of(it->from) + it->next * step) % groups();
     if (is_begun && it->step != PEEK_GROUP && it->slot + 1 < family->slots && group_of(it->slot + 1) == group_of(it->slot)) {
         it->slot++;
         return PEEK;
     }
-    it->slot = is_over ? it->from : from % groups() * family->group_len;
+    it->slot = is_over ? it->from : group * family->group_len;
     it->next = is_over ? 0 : it->next + 1;
     return is_over ? after_scan() : PEEK_GROUP;
 }
 
-static void peek_group(const struct state *s, struct pass *it) {
+static void peek_group(const struct state *s, struct pass *it, int who) {
     bool skips = is_full(s, group_of(it->slot)) || (wrong == group_is_skipped_too_early && s->count[group_of(it->slot)] > 0);
-    it->step = skips ? next_of_scan(it) : PEEK;
+    it->step = skips ? next_of_scan(it, who) : PEEK;
 }
 
 static void answer(const struct state *s, struct pass *it, bool is_full) {
@@ -176,7 +180,7 @@ void take_step_of_range(struct state *s, struct pass *it, int who) {
     case RAISE: raise(s, it, who); break;
     case RAISE_EARLY: s->count[group_of(it->slot)]++; it->step = SWAP; break;
     case LOWER_LATE: s->count[group_of(it->slot)]--; end_change(it, who); break;
-    case PEEK_GROUP: peek_group(s, it); break;
+    case PEEK_GROUP: peek_group(s, it, who); break;
     case DECIDE_FIRST: decide_first(s, it, who); break;
     case BEGIN: begin_question(s, it, who); break;
     case ASK: ask(s, it, who); break;

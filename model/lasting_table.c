@@ -314,9 +314,9 @@ enum step after_scan(void) {
     return block ? REST_UNUSED : BEGIN;
 }
 
-static void peek(struct state *s, struct pass *it) {
+static void peek(struct state *s, struct pass *it, int who) {
     if (s->named[it->slot]) {
-        it->step = next_of_scan(it);
+        it->step = next_of_scan(it, who);
         return;
     }
     it->takes = s->takes[it->slot];
@@ -324,7 +324,7 @@ static void peek(struct state *s, struct pass *it) {
     it->step = EXCHANGE;
 }
 
-static void exchange(struct state *s, struct pass *it) {
+static void exchange(struct state *s, struct pass *it, int who) {
     bool wins = s->named[it->slot] == 0 && s->takes[it->slot] == it->takes && s->heat[it->slot] == it->heat;
     it->takes = it->heat = 0;
     if (wins) {
@@ -332,7 +332,7 @@ static void exchange(struct state *s, struct pass *it) {
         it->next = 0;
         it->step = RAISE;
     } else {
-        it->step = next_of_scan(it);
+        it->step = next_of_scan(it, who);
     }
 }
 
@@ -504,8 +504,8 @@ bool take_step(void *state, int who, int nth) {
     case VISIT: visit(s, it, who); break;
     case MARK_HOLD: mark_hold(s, it, who); break;
     case RETIRE: retire(s, it); break;
-    case PEEK: peek(s, it); break;
-    case EXCHANGE: exchange(s, it); break;
+    case PEEK: peek(s, it, who); break;
+    case EXCHANGE: exchange(s, it, who); break;
     default: take_step_of_range(s, it, who); break;
     }
     note_changes(s);

@@ -39,6 +39,7 @@ enum step {
     X(one_bit_is_cleared_alone) X(raise_before_the_fill) X(lower_after_the_swap) X(no_lower) X(raise_in_another_group) \
     X(empty_removal_is_not_raised) X(replaced_slot_is_counted) X(old_full_is_kept) X(bit_is_set_after_the_visits) \
     X(one_bit_for_all_askers) X(last_group_is_not_visited) X(group_is_skipped_too_early) \
+    X(step_leads_through_one_group) \
     X(node_is_not_compared) X(node_is_compared_before_a_swap) X(found_word_is_not_compared) X(old_word_is_expected_again) \
     X(missed_removal_is_not_raised) X(lower_after_the_exchange) X(file_of_the_node_is_not_held)
 enum wrong { TABLES(AS_MEMBER) WRONG_TABLES, WRONG_RANGES = question_is_loaded_once, WRONG_KEYS = node_is_not_compared };
@@ -112,7 +113,7 @@ void take_step_of_range(struct state *s, struct pass *it, int who);
 /* Notes for each pass whether it meets a change of the range. */
 void note_changes(struct state *s);
 /* The step of a scan after a slot or a group that is full. */
-enum step next_of_scan(struct pass *it);
+enum step next_of_scan(struct pass *it, int who);
 /* The first step of a removal, and the step after its swap or that of an installation, or IDLE. */
 enum step first_of_removal(void);
 enum step after_swap(const struct pass *it, bool was_empty);

@@ -215,6 +215,31 @@ static void keys(void) {
     WANT(drops == 12 && dropped[10] == 1 && !dropped[15]);
 }
 
+/* nobody else changes the table: each handle finds the only empty slot, by groups of four slots at
+ * each distance from the one that it filled last */
+static int misses(yacht_table *table, yacht_handle *last, uint32_t groups, uint32_t number) {
+    int missed = 0;
+    for (uint32_t group = 0, far = 0; far < groups; far++) {
+        group = (group + far) % groups;
+        yacht_remove_at(last, 4 * group);
+        missed += yacht_try_insert(yacht_handle_of(table, number), &dropped[0]) != (int)(4 * group);
+    }
+    return missed;
+}
+
+static void an_empty_slot_is_found(void) {
+    int missed = 0;
+    for (uint32_t groups = 1; groups <= 64; groups++) {
+        yacht_table *table;
+        if (yacht_open(&table, 4 * groups, 9, 0, drop, &drops) != YACHT_DONE) abort();
+        yacht_handle *last = yacht_handle_of(table, 8);
+        for (uint32_t slot = 0; slot < 4 * groups; slot++) yacht_replace_at(last, slot, &dropped[0]);
+        for (uint32_t number = 0; number < 8; number++) missed += misses(table, last, groups, number);
+        yacht_free(table);
+    }
+    WANT(missed == 0);
+}
+
 static void words(void) {
     WANT(!strcmp(yacht_strerror(YACHT_DONE), "done"));
     WANT(!strcmp(yacht_strerror(YACHT_DROPPED), "the old value was dropped"));
@@ -256,6 +281,7 @@ int main(void) {
     drops_that_install();
     keys();
     made_from_keys();
+    an_empty_slot_is_found();
     words();
     refused_openings();
     return report("table");

@@ -65,6 +65,9 @@ pub struct Pass {
     emptied: Emptied,
 }
 
+// The steps by which passes go from group to group.
+const STEPS: [usize; 8] = [67, 71, 73, 79, 83, 89, 97, 101];
+
 const NO_SLOT: usize = usize::MAX;
 
 /// The slots that a pass emptied last, in a ring, and the slot after the one that it filled last.
@@ -75,11 +78,11 @@ struct Emptied {
 }
 
 impl Emptied {
-    fn new(next: usize) -> Emptied {
+    fn new() -> Emptied {
         Emptied {
             slots: [NO_SLOT; 8],
             top: 0,
-            next,
+            next: NO_SLOT,
         }
     }
 
@@ -292,16 +295,32 @@ impl LastingWords {
         (first..first + self.len_of(group)).find(|it| self.try_slot(*it, word))
     }
 
-    // Tries the slot at which the pass begins, and then each group once.
+    // The slot at which a pass begins, if it neither emptied nor filled one: the first one of a
+    // group of its own, from the last group down.
+    fn first_slot(&self, number: usize) -> usize {
+        let groups = self.groups.len();
+        (groups - number % groups) % groups * self.group_size
+    }
+
+    // Tries the slot at which the pass begins, and then each group once, by the pass's step.
     fn scan(&self, pass: &mut Pass, word: u64) -> Option<usize> {
-        let first = pass.emptied.take_last() % self.slots.len();
+        let (number, groups) = (pass.number + 1, self.groups.len());
+        let first = match pass.emptied.take_last() {
+            slot if slot < self.slots.len() => slot,
+            _ => self.first_slot(number),
+        };
         if self.try_slot(first, word) {
             return Some(first);
         }
-        let (group, groups) = (first / self.group_size, self.groups.len());
-        (group..groups)
-            .chain(0..group)
-            .find_map(|it| self.try_group(it, word))
+        let mut group = first / self.group_size;
+        let step = STEPS[number % 8] % groups;
+        for _ in 0..groups {
+            if let Some(slot) = self.try_group(group, word) {
+                return Some(slot);
+            }
+            group = (group + step) % groups;
+        }
+        None
     }
 
     // Checks whether the pass's question is still there.
@@ -359,7 +378,7 @@ impl Table for LastingWords {
             next: 0,
             listed: false,
             sure: false,
-            emptied: Emptied::new(67 * (thread + 1) % self.slots.len()),
+            emptied: Emptied::new(),
         }
     }
 

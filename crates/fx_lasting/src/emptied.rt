@@ -1,7 +1,7 @@
 //! The slots of the allocation range that a pass emptied last. An allocation begins its scan at the
 //! one that it emptied last, or else after the slot that it filled last, so that passes which fill
-//! and empty slots of their own don't meet. A pass that has filled none begins at a slot that its
-//! number says.
+//! and empty slots of their own don't meet. A pass that has filled none begins at a group of its
+//! own.
 
 // The number of slots that are kept.
 const KEPT: u32 = 8;

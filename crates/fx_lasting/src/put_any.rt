@@ -24,6 +24,11 @@ use fx_words::{node_of, slot_word};
 use std::sync::Wait;
 use std::thread;
 
+// The steps by which passes go from group to group. Each is a prime above MOST_GROUPS, so it leads
+// through all groups, whatever their number. Passes that find the same groups full have different
+// steps, and so they come to different groups that aren't full.
+const STEPS: [u32; 8] = [67, 71, 73, 79, 83, 89, 97, 101];
+
 impl LastingTable {
     /// Installs a file at an empty slot of the allocation range, under a number that no file has
     /// had, for an idle pass (`is_idle`) that installs files (`numbers_left`), on the node that it
@@ -152,7 +157,7 @@ impl LastingTable {
 
     // Installs the file at a slot of the range that is empty when the scan reaches it, and returns
     // that slot. The scan begins at `from`, if that is in the range, and goes once over the groups
-    // that aren't full.
+    // that aren't full, by the step of its pass.
     fn scan(
         &self,
         seat: &mut Seat<Option<OpenFile>, View>,
@@ -179,11 +184,13 @@ impl LastingTable {
         if self.try_slot(seat, node, file, first) {
             return Some(first);
         }
+        let groups = groups_in(self.range_len);
+        let step = step_of(number, groups);
         let mut group = self.group_of(first);
-        for _ in 0..groups_in(self.range_len) {
+        for _ in 0..groups {
             match self.try_group(seat, node, file, group) {
                 Some(slot) => return Some(slot),
-                None => group = self.group_after(group),
+                None => group = (group + step) % groups,
             }
         }
         None
@@ -224,20 +231,8 @@ impl LastingTable {
         None
     }
 
-    // Returns the group after this one; the last one's is the first.
-    fn group_after(&self, group: u32) -> u32
-        requires { group < groups_in self.now.range_len }
-        ensures { result < groups_in self.now.range_len }
-    {
-        if group + 1 < groups_in(self.range_len) {
-            group + 1
-        } else {
-            0
-        }
-    }
-
-    // Returns `from` if it is a slot of the range. A pass that has filled no slot begins apart from
-    // others.
+    // Returns `from` if it is a slot of the range. A pass that has filled no slot begins at a group
+    // of its own, from the last one down: the first slots of a range are often full.
     fn first_slot(&self, from: u32, number: u32) -> u32
         requires some { 0 < self.now.range_len }
         requires number { number ≤ MOST_PASSES }
@@ -246,7 +241,9 @@ impl LastingTable {
         if self.range_start <= from && from < self.range_start + self.range_len {
             from
         } else {
-            self.range_start + 67 * number % self.range_len
+            let groups = groups_in(self.range_len);
+            let group = (groups - number % groups) % groups;
+            self.range_start + group * group_size(self.range_len)
         }
     }
 
@@ -281,4 +278,12 @@ impl LastingTable {
         self.raise(seat, slot, true, true);
         true
     }
+}
+
+// Returns the step by which a pass goes from group to group, of `groups` groups.
+fn step_of(number: u32, groups: u32) -> u32
+    requires { 0 < groups }
+    ensures { result < groups }
+{
+    STEPS[(number % 8) as usize] % groups
 }

@@ -34,18 +34,18 @@ returns-in-Some-clause-found c = let s = c.loop.invariant.still in let len = c.a
     allocated_within (omega (
       arith,
       groups_most len (c.loop.counter + 1) (s.0 + group_steps len) (groups_in len)
-          (omega (arith, c.loop-test.true, c.groups_in-end.ensures)) (group_more len c.loop.counter s.0 s.1),
+          (omega (arith, c.loop-test.true, c.groups_in-groups.ensures)) (group_more len c.loop.counter s.0 s.1),
     ))
     (allocated_then (first_still (goal.at.returns-in-Some-clause-found c).Else-try_slot) (allocated_then s.2 c.in-Some.ensures.found))
 
 pub loop-preserved : goal.loop-preserved
 loop-preserved c = let s = c.loop.invariant.still in let len = c.args.self.now.range_len in record {
   table = c.try_group.ensures.table ∙ c.loop.invariant.table;
-  group = c.group_after-group.ensures;
+  group = omega arith;
   still = (s.0 + group_steps len, group_more len c.loop.counter s.0 s.1, still_then s.2 (c.try_group.ensures.none c.in-None.is));
 }
 
 pub returns-clause-none : goal.returns-clause-none
 returns-clause-none c none = let s = c.loop.invariant.still in let len = c.args.self.now.range_len in
-    still_within (omega (arith, groups_most len c.loop.counter s.0 (groups_in len) (omega (arith, c.loop.auto.counter-end, c.groups_in-end.ensures)) s.1))
+    still_within (omega (arith, groups_most len c.loop.counter s.0 (groups_in len) (omega (arith, c.loop.auto.counter-end, c.groups_in-groups.ensures)) s.1))
     (still_then (first_still (goal.at.returns-clause-none c).Else-try_slot) s.2)
