@@ -215,6 +215,8 @@ static void keys(void) {
     WANT(drops == 12 && dropped[10] == 1 && !dropped[15]);
 }
 
+static void leave(void *value, void *with) { (void)value, (void)with; }
+
 /* nobody else changes the table: each handle finds the only empty slot, by groups of four slots at
  * each distance from the one that it filled last */
 static int misses(yacht_table *table, yacht_handle *last, uint32_t groups, uint32_t number) {
@@ -231,7 +233,7 @@ static void an_empty_slot_is_found(void) {
     int missed = 0;
     for (uint32_t groups = 1; groups <= 64; groups++) {
         yacht_table *table;
-        if (yacht_open(&table, 4 * groups, 9, 0, drop, &drops) != YACHT_DONE) abort();
+        if (yacht_open(&table, 4 * groups, 9, 0, leave, NULL) != YACHT_DONE) abort();
         yacht_handle *last = yacht_handle_of(table, 8);
         for (uint32_t slot = 0; slot < 4 * groups; slot++) yacht_replace_at(last, slot, &dropped[0]);
         for (uint32_t number = 0; number < 8; number++) missed += misses(table, last, groups, number);
