@@ -21,6 +21,21 @@ pub(super) fn of_hold<T>(last: Option<Box<Stored<T>>>) -> Old<Box<Stored<T>>> {
     last.map_or(Old::InUse, Old::Unused)
 }
 
+// Returns the fate of a value whose seat removed it, or tried to, and then ended its hold. If it
+// was not removed, what the end of the hold closed is dropped.
+fn of_removal<T>(
+    removed: Result<(), impl Into<RemoveError>>,
+    last: Option<Box<Stored<T>>>,
+) -> Result<Old<Box<Stored<T>>>, RemoveError> {
+    match removed {
+        Ok(()) => Ok(of_hold(last)),
+        Err(error) => {
+            drop_last(last);
+            Err(error.into())
+        }
+    }
+}
+
 impl<T> Reader<T> {
     /// Returns a guard of the value with this key. It is a look-up, as [`Reader::get_at`].
     ///
@@ -93,14 +108,7 @@ impl<T> Guard<'_, T> {
         let values = self.reader.table().values();
         // SAFETY: as the caller ensures, and this guard's seat holds the file.
         let removed = unsafe { values.remove_held(core, self.slot(), self.node()) };
-        let last = self.end();
-        match removed {
-            Ok(()) => Ok(of_hold(last)),
-            Err(error) => {
-                drop_last(last);
-                Err(error.into())
-            }
-        }
+        of_removal(removed, self.end())
     }
 
     // Removes the value by a seat for this call. The seat is given back before a value is dropped.
@@ -111,14 +119,7 @@ impl<T> Guard<'_, T> {
         // SAFETY: the seat is this call's (one user), and this guard's seat holds the file.
         let removed = unsafe { values.remove_held(call.core(), self.slot(), self.node()) };
         drop(call);
-        let last = self.end();
-        match removed {
-            Ok(()) => Ok(of_hold(last)),
-            Err(error) => {
-                drop_last(last);
-                Err(error.into())
-            }
-        }
+        of_removal(removed, self.end())
     }
 }
 
@@ -141,14 +142,7 @@ impl<T> OwnedGuard<T> {
     /// ```
     pub fn remove(self) -> Result<Old<T>, RemoveError> {
         let removed = self.remove_held();
-        let last = self.end();
-        match removed {
-            Ok(()) => Ok(of_hold(last).map(|it| it.1)),
-            Err(error) => {
-                drop_last(last);
-                Err(error)
-            }
-        }
+        Ok(of_removal(removed, self.end())?.map(|it| it.1))
     }
 
     fn remove_held(&self) -> Result<(), RemoveError> {
