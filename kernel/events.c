@@ -1,8 +1,34 @@
+#define _GNU_SOURCE
 #include "events.h"
 
+#include <fcntl.h>
+#include <sys/stat.h>
 #include <unistd.h>
 
 #include "script.h"
+
+int make_folder(const char *path)
+{
+	if (mkdir(path, 0700))
+		die(path);
+	int opened = open(path, O_PATH | O_DIRECTORY);
+	if (opened < 0)
+		die(path);
+	return opened;
+}
+
+void make_file(int folder, const char *name, const void *bytes, size_t size)
+{
+	int made = openat(folder, name, O_WRONLY | O_CREAT | O_EXCL, 0600);
+	if (made < 0 || write(made, bytes, size) != (ssize_t)size || close(made))
+		die("a file of the catalogue");
+}
+
+void watch_folder(int events, const char *path)
+{
+	if (inotify_add_watch(events, path, IN_OPEN | IN_CLOSE | IN_ONLYDIR) < 0)
+		die("no watch on the folder");
+}
 
 void read_events(int events, void (*note)(const struct inotify_event *event))
 {

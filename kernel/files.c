@@ -9,7 +9,6 @@
 #include <stdio.h>
 #include <stdlib.h>
 #include <string.h>
-#include <sys/stat.h>
 #include <unistd.h>
 
 /* A close that takes more than ten seconds is an error. */
@@ -76,13 +75,9 @@ static int fresh_folder(const char *name)
 {
 	char path[PATH_MAX + 16];
 	snprintf(path, sizeof path, "%s/%s", folder, name);
-	if (mkdir(path, 0700))
-		die(path);
-	int opened = open(path, O_PATH | O_DIRECTORY);
-	if (opened < 0)
-		die(path);
-	if (!strcmp(name, "links") && inotify_add_watch(events, path, IN_OPEN | IN_CLOSE | IN_ONLYDIR) < 0)
-		die("no watch on the folder");
+	int opened = make_folder(path);
+	if (!strcmp(name, "links"))
+		watch_folder(events, path);
 	return opened;
 }
 
@@ -90,9 +85,7 @@ static void write_entry(unsigned entry, const struct entry *file)
 {
 	char name[NAME_BYTES];
 	name_of_entry(entry, name);
-	int made = openat(catalogue, name, O_WRONLY | O_CREAT | O_EXCL, 0600);
-	if (made < 0 || write(made, file->bytes, file->size) != (ssize_t)file->size || close(made))
-		die("a file of the catalogue");
+	make_file(catalogue, name, file->bytes, file->size);
 }
 
 int open_files(const struct script *script)

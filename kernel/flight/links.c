@@ -52,20 +52,7 @@ static int new_folder(const char *name)
 {
 	char path[PATH_BYTES];
 	snprintf(path, sizeof path, "%s/%s", folder, name);
-	if (mkdir(path, 0700))
-		die(path);
-	int made = open(path, O_PATH | O_DIRECTORY);
-	if (made < 0)
-		die(path);
-	return made;
-}
-
-static void write_entry(int entry)
-{
-	int made = openat(entries, name_of(entry), O_WRONLY | O_CREAT | O_EXCL, 0600);
-	ssize_t size = strlen(contents[entry]);
-	if (made < 0 || write(made, contents[entry], size) != size || close(made))
-		die("a file of the catalogue");
+	return make_folder(path);
 }
 
 int make_catalogue(int pipes)
@@ -81,10 +68,9 @@ int make_catalogue(int pipes)
 	entries = new_folder("entries");
 	links = new_folder("links");
 	snprintf(path, sizeof path, "%s/links", folder);
-	if (inotify_add_watch(events, path, IN_OPEN | IN_CLOSE | IN_ONLYDIR) < 0)
-		die("no watch on the folder");
+	watch_folder(events, path);
 	for (int entry = 0; !pipes && entry < FILES; entry++)
-		write_entry(entry);
+		make_file(entries, name_of(entry), contents[entry], strlen(contents[entry]));
 	return 1;
 }
 

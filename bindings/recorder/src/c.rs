@@ -210,10 +210,6 @@ impl Handle for CKeyedHandle<'_> {
         (answer == DONE).then(|| CGuard { value, handle })
     }
 
-    fn put(&self, _: usize, _: Value) {
-        unreachable!("the table chooses its keys");
-    }
-
     fn put_any(&self, value: Value) -> Result<usize, Value> {
         let mut key = RawKey { number: 0, slot: 0 };
         // SAFETY: the handle is this thread's, the value is the library's from now on, and `key` is

@@ -42,8 +42,11 @@ pub trait Handle {
     /// Returns a hold of the value at a slot, or `None` if the slot is empty.
     fn get(&self, slot: usize) -> Option<Self::Guard<'_>>;
 
-    /// Puts a value at a slot. A value that was there is dropped by its last user.
-    fn put(&self, slot: usize, value: Value);
+    /// Puts a value at a slot. A value that was there is dropped by its last user. A table that
+    /// chooses its slots has no such call.
+    fn put(&self, _slot: usize, _value: Value) {
+        unreachable!("the table chooses its slots");
+    }
 
     /// Puts a value at an empty slot and returns the slot.
     ///

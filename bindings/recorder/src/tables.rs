@@ -61,10 +61,6 @@ impl Handle for KeyedHandle {
         self.0.get(Key::from_bits(key as u64)).ok()
     }
 
-    fn put(&self, _: usize, _: Value) {
-        unreachable!("the table chooses its keys");
-    }
-
     fn put_any(&self, value: Value) -> Result<usize, Value> {
         let key = self.0.insert(value).expect("a slot for each value");
         Ok(key.to_bits().expect("a key of 64 bits") as usize)

@@ -136,6 +136,18 @@ impl Worker {
         Some((node as u64 + 1) << 32)
     }
 
+    // Makes a node for the tag, to be installed at a slot. Returns the word that installs it, or
+    // the number of the reason why there is none.
+    fn begin_at(&mut self, slot: u32, tag: u64) -> Result<u64, i64> {
+        if self.held.is_some() {
+            return Err(BUSY);
+        }
+        if slot as usize >= self.table.slots.len() {
+            return Err(NO_SLOT);
+        }
+        self.begin(tag).ok_or(NO_BLOCK)
+    }
+
     // Makes the node of a word that was not installed free again. It stays chosen.
     fn take_back(&self, word: u64) {
         self.table.nodes[(word >> 32) as usize - 1].store(0, SeqCst);
@@ -284,14 +296,9 @@ pub(crate) unsafe fn yacht_core_put(
     closed: *mut u64,
 ) -> i64 {
     let it = unsafe { worker(handle) };
-    if it.held.is_some() {
-        return BUSY;
-    }
-    if slot as usize >= it.table.slots.len() {
-        return NO_SLOT;
-    }
-    let Some(word) = it.begin(tag) else {
-        return NO_BLOCK;
+    let word = match it.begin_at(slot, tag) {
+        Ok(word) => word,
+        Err(number) => return number,
     };
     it.next = None;
     it.table.changes.fetch_add(1, SeqCst);
@@ -365,14 +372,9 @@ pub(crate) unsafe fn yacht_core_put_if(
     closed: *mut u64,
 ) -> i64 {
     let it = unsafe { worker(handle) };
-    if it.held.is_some() {
-        return BUSY;
-    }
-    if slot as usize >= it.table.slots.len() {
-        return NO_SLOT;
-    }
-    let Some(word) = it.begin(tag) else {
-        return NO_BLOCK;
+    let word = match it.begin_at(slot, tag) {
+        Ok(word) => word,
+        Err(number) => return number,
     };
     match it.table.exchange(slot, node, word) {
         Err(number) => {
@@ -388,14 +390,9 @@ pub(crate) unsafe fn yacht_core_put_if(
 
 pub(crate) unsafe fn yacht_core_put_empty(handle: *mut Core, slot: u32, tag: u64) -> i64 {
     let it = unsafe { worker(handle) };
-    if it.held.is_some() {
-        return BUSY;
-    }
-    if slot as usize >= it.table.slots.len() {
-        return NO_SLOT;
-    }
-    let Some(word) = it.begin(tag) else {
-        return NO_BLOCK;
+    let word = match it.begin_at(slot, tag) {
+        Ok(word) => word,
+        Err(number) => return number,
     };
     let number = it.table.fill(slot as usize, word);
     if number == DONE {

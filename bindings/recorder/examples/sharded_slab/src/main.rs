@@ -35,10 +35,6 @@ impl Handle for SlabHandle<'_> {
         self.0.get(key).map(Guard)
     }
 
-    fn put(&self, _: usize, _: Value) {
-        unreachable!("a slab chooses its keys");
-    }
-
     fn put_any(&self, value: Value) -> Result<usize, Value> {
         Ok(self.0.insert(value).expect("room in the slab"))
     }
