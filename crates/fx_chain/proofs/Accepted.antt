@@ -4,16 +4,13 @@ use Rattle.fx_chain.proofs.Words.{None, false, ltb-false, sum_by-cons, append-ni
 use Rattle.fx_chain.proofs.Words.{IsWithinLimits, Operation, Updates, Asked, runs_of, weight_of, take-append-drop, all_weights, fault_behind}
 use Rattle.fx_chain.proofs.Words.{first_fault, or_later, is_long_update, CutFault, MOST_MEMBERS, MAX_CHAINS, inl, map, flat_map, take_at, drop_at}
 use Rattle.fx_chain.proofs.Words.{All-nil, All-cons, All-take, All-drop, IsShortRun, IsChain, members_of, chains_from, chains_of, but_last}
-use Rattle.fx_chain.proofs.Words.{all_installs, CHAIN_NUMBERS, ◌<◌, ◌==◌, ◌||◌, nat_lt, Bool, true, ℤ, if◌then◌else◌, list_any, FileEntry, Opens}
-use Rattle.fx_chain.proofs.Words.{Reads, ◌⊎◌, inr, HasNoFault, IsFirstFault, fault_of, drop-cons, leb-false, ENOENT, EBADF, refusal_of, slot_refusal}
-use Rattle.fx_chain.proofs.Words.{target_refusal, list_refusal, Target}
+use Rattle.fx_chain.proofs.Words.{all_installs, CHAIN_NUMBERS, ◌<◌, ◌==◌, ◌||◌, nat_lt, ℤ, list_any, ◌⊎◌, inr, HasNoFault, IsFirstFault, fault_of}
+use Rattle.fx_chain.proofs.Words.{drop-cons, slot_refusal, list_refusal}
 use Rattle.fx_chain.specs.declared.fault.CutKind.{CutKind}
 use Rattle.fx_chain.specs.declared.request.TheConstants.{LONGEST_UPDATE}
-use Rattle.fx_chain.proofs.Counted.{AreCounts, IsFine, counted_none, counted_step, fault_behind-counted, fine, all_installs-push, passed}
+use Rattle.fx_chain.proofs.Counted.{AreCounts, IsFine, counted_none, counted_step, fault_behind-counted, fine, all_installs-push}
 use Rattle.std.proofs.lemmas.List.{length-append}
 use Rattle.fx_chain.proofs.Runs.{IsLinked, IsOver, HasMembers, are_runs, IsClosed, IsClosed-append, but_last-last, open_run-closed}
-use Rattle.std.specs.Prelude.{nat_le}
-use Rattle.fx_base.specs.AddFault.{has_name}
 use Rattle.fx_chain.specs.Refusal.{is_bad_entry}
 use Rattle.std.specs.Option.{MatchOption}
 
@@ -174,22 +171,9 @@ members-are-runs requests = map-members_of requests [] (runs_of requests) (sym (
 
 -- The properties of requests that aren't refused.
 
-or_else : {X : Type 0} (b : Bool) (rest : Option X) (x : X) → (if b then rest else Some x) ≡ None → (b ≡ true) × (rest ≡ None)
-or_else true rest x none = (refl, none)
-or_else false rest x none = cc
-
--- an open
-pub opens : (catalogue : List FileEntry) (size : ℕ) (name : List ℕ) (target : Target) → refusal_of catalogue size (Opens name target) ≡ None
-    → (has_name name catalogue ≡ true) × (target_refusal size target ≡ None)
-opens catalogue size name target none = or_else (has_name name catalogue) (target_refusal size target) ENOENT none
-
 -- a slot that an open fills or a close empties
 pub inside : (size slot : ℕ) → slot_refusal size slot ≡ None → slot < size
 inside size slot none = grind arith
-
--- a slot that a read looks up
-pub reads : (catalogue : List FileEntry) (size slot off len : ℕ) → refusal_of catalogue size (Reads slot off len) ≡ None → slot < size
-reads catalogue size slot off len none = leb-false size slot (passed (nat_le size slot) EBADF None none).0
 
 -- the list of an update
 pub record IsApplied (entries size off : ℕ) (list : List ℤ) : Type 0 where

@@ -1,23 +1,10 @@
 -- The entries of an update, by their sign, and how a list of them goes on.
-use Rattle.fx_chain.proofs.Words.{◌≡◌, ℕ, zero, suc, ◌+◌, ◌<◌, true, false, ℤ, pos, negsuc, int_le, int_lt, List, [], ◌∷◌, ◌++◌, length, filter, take}
-use Rattle.fx_chain.proofs.Words.{drop, refl, sym, ◌∙◌, slice_index_or, arith, nat_abs, ltb-true, le-leb, append-nil, length-take-le, take_more}
-use Rattle.fx_chain.proofs.Words.{filter-append, Action, ◌▷▷◌, AppliesEntry, AppliesList, is_bad_entry, Opening, PlayerView, ActsSo, entry_installs}
-use Rattle.fx_chain.proofs.Words.{list_installs, Place, drop-cons}
+use Rattle.fx_chain.proofs.Words.{◌≡◌, ℕ, zero, suc, ◌+◌, ◌<◌, true, false, ℤ, pos, negsuc, int_le, int_lt, List, [], ◌∷◌, ◌++◌, length, take, drop}
+use Rattle.fx_chain.proofs.Words.{refl, sym, ◌∙◌, slice_index_or, arith, le-leb, append-nil, length-take-le, take_more, filter-append, Action, ◌▷▷◌}
+use Rattle.fx_chain.proofs.Words.{AppliesEntry, AppliesList, is_bad_entry, Opening, PlayerView, ActsSo, entry_installs, list_installs, Place}
+use Rattle.fx_chain.proofs.Words.{drop-cons}
 use Rattle.std.proofs.lemmas.List.{append_assoc, length-append}
 use Rattle.fx_chain.proofs.ActsInTurn.{so_then}
-
--- an entry of 0 or more is the number that it reads as
-pub unsigned : (z : ℤ) → int_le (pos 0) z ≡ true → z ≡ pos (nat_abs z)
-unsigned (pos n) is = refl
-unsigned (negsuc n) is = cc
-
-pub minus_one : (z : ℤ) → int_le (pos 0) z ≡ false → int_lt (negsuc 1) z ≡ true → z ≡ negsuc 0
-minus_one (pos n) low high = let e : true ≡ false = sym (le-leb 0 n (omega arith)) ∙ low in cc
-minus_one (negsuc zero) low high = refl
-minus_one (negsuc (suc n)) low high = let lt = ltb-true (suc n) 1 high in absurd (omega arith)
-
-abbrev installing : List ℤ → List ℤ
-installing list = filter (λ entry. int_le (pos 0) entry) list
 
 -- a list with an entry before it, and one with an entry after it
 pub list_installs-cons : (z : ℤ) (list : List ℤ) → list_installs (z ∷ list) ≡ entry_installs z + list_installs list

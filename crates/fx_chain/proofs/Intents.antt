@@ -1,9 +1,25 @@
--- The entries of an update that aren't skips: their positions, and their number.
+-- The names of a catalogue; and the entries of an update that aren't skips: their positions, and
+-- their number.
 use Rattle.fx_chain.proofs.Words.{◌≡◌, ℕ, suc, ◌+◌, ◌<◌, ℤ, negsuc, int_le, Bool, if◌then◌else◌, List, [], ◌∷◌, ◌++◌}
 use Rattle.fx_chain.proofs.Words.{length, filter, refl, Option, Some, arith, take, take_more, length-take-le, append-nil, append_assoc}
 use Rattle.fx_chain.proofs.Words.{slice_index_or, cases_Bool, inl, inr}
+use Rattle.fx_chain.proofs.Words.{FileEntry, true, zero}
+use Rattle.fx_base.specs.AddFault.{has_name}
+use Rattle.fx_base.specs.Catalogue.{name_at}
 use Rattle.std.proofs.Common.{add-zero}
+use Rattle.std.proofs.lemmas.Slice.Eq.{bytes_eq-Decides}
+use Rattle.std.specs.Str.{bytes_eq}
 use Rattle.fx_chain.specs.Intents.{positions_from}
+
+-- the name of an entry is one of the catalogue
+pub has_its_name : (catalogue : List FileEntry) (entry : ℕ) (name : List ℕ) → name_at catalogue entry ≡ Some name → has_name name catalogue ≡ true
+has_its_name [] entry name is = absurd (cc)
+has_its_name (x ∷ xs) zero name is =
+    let same : x.name ≡ name = cc in let here : bytes_eq x.name name ≡ true = (bytes_eq-Decides x.name name).1 same in rw here refl
+has_its_name (x ∷ xs) (suc entry) name is = elim (cases_Bool (bytes_eq x.name name)) [
+  | inl here ↦ rw here refl
+  | inr other ↦ rw (other, has_its_name xs entry name is) refl
+]
 
 -- the position of an entry that isn't a skip
 abbrev position_at : ℕ → ℤ → List (Option ℕ)

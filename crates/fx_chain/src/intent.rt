@@ -2,19 +2,20 @@
 //! finds: how many, in what order, at which slots. [`crate::answer_of`] returns the answer by what
 //! they found. With the refusals, the player and the limits, no other code has to distinguish the
 //! kinds of requests.
-ghost use Rattle.std.specs.Prelude.{◌≡◌, ◌+◌, ◌<◌, ◌≤◌, ◌^◌, ◌↔◌, ℕ, IfNone, IfOk, IfSome, IsTrue, List, Option, false};
-ghost use Rattle.std.specs.Prelude.{filter, int_le, is_some, length, negsuc, slice_get, true};
+ghost use Rattle.std.specs.Prelude.{◌≡◌, ◌+◌, ◌<◌, ◌≤◌, ◌^◌, ◌↔◌, ℕ, IfNone, IfOk, IfSome, IsTrue, List, None, OnOk, Option, Some, false};
+ghost use Rattle.std.specs.Prelude.{filter, int_le, length, negsuc, slice_get};
 ghost use Rattle.std.specs.List.{list_any};
 ghost use Rattle.fx_base.specs.Catalogue.{FileEntry};
+ghost use Rattle.fx_base.specs.declared.errno.Errno.TheVariants.{ENOENT};
 ghost use Rattle.fx_chain.specs.Intents.{InstallsAt, IsIntent, IsOpened, MayReach, answer_at_table, bytes_asked, bytes_read};
-ghost use Rattle.fx_chain.specs.Intents.{count_of, intent_by, is_read, list_intents, open_intent, positions_from, positions_of};
+ghost use Rattle.fx_chain.specs.Intents.{count_of, intent_by, intents_of, is_read, list_intents, open_intent, positions_from, positions_of};
 ghost use Rattle.fx_chain.specs.Operation.{operation_of};
 ghost use Rattle.fx_chain.specs.Refusal.{is_bad_entry, refusal_of};
 ghost use Rattle.fx_chain.specs.declared.completion.Place.{Place as In};
 ghost use Rattle.fx_chain.specs.declared.intent.Finding.{Finding as What};
 
 use crate::completion::Place;
-use crate::refusal::refusal_of;
+use crate::refusal::{refusal_of, refusal_of_opened};
 use crate::request::{Op, Request, Target};
 use fx_base::{Catalogue, Closed, MOST_ENTRIES, NoMemory};
 use std::alloc::Global;
@@ -151,7 +152,7 @@ impl Request {
     pub fn opened(&self, catalogue: &Catalogue) -> Option<u8>
         ensures some { IfSome result (IsOpened catalogue.now (operation_of self.now.op)) }
         ensures none { IfNone result ((size : ℕ)
-            → is_some (refusal_of catalogue.now size (operation_of self.now.op)) ≡ true) }
+            → refusal_of catalogue.now size (operation_of self.now.op) ≡ Some ENOENT) }
     {
         match &self.op {
             Op::Open { name, target: _ } => catalogue.find(name),
@@ -171,8 +172,30 @@ impl Request {
         }
     }
 
-    /// Returns the bytes that the request reads of a file of a catalogue entry, none unless it is a
-    /// read.
+    /// Replaces the bytes of a buffer by those that the request reads of a file of a catalogue
+    /// entry, none unless it is a read. It allocates only if the buffer has no room for them.
+    ///
+    /// # Errors
+    /// `NoMemory` if an allocation fails.
+    pub fn read_into(
+        &self,
+        catalogue: &Catalogue,
+        entry: u8,
+        into: &mut Vec<u8>,
+    ) -> Result<(), NoMemory>
+        ensures { OnOk result (into.new.items
+            ≡ bytes_read catalogue.now (operation_of self.now.op) entry) }
+    {
+        into.clear();
+        if let Op::Read { slot: _, off, len } = &self.op {
+            into.reserve_exact(*len as usize)?;
+            catalogue.read_into(entry, *off, *len, into);
+        }
+        Ok(())
+    }
+
+    /// Returns the bytes that the request reads of a file of a catalogue entry, as
+    /// [`Request::read_into`] does.
     ///
     /// # Errors
     /// `NoMemory` if an allocation fails.
@@ -186,10 +209,7 @@ impl Request {
             got.items ≡ bytes_read catalogue.now (operation_of self.now.op) entry) }
     {
         let mut got = Vec::new(alloc);
-        if let Op::Read { slot: _, off, len } = &self.op {
-            got.reserve_exact(*len as usize)?;
-            catalogue.read_into(entry, *off, *len, &mut got);
-        }
+        self.read_into(catalogue, entry, &mut got)?;
         Ok(got)
     }
 
@@ -292,6 +312,34 @@ fn list_intent(
     Some(Intent::Clear(slot))
 }
 
+// Returns what a request that isn't refused intends after `made` accesses. An open opens this
+// catalogue entry.
+fn intent_at(
+    catalogue: &Catalogue,
+    place: Place,
+    entry: u8,
+    request: &Request,
+    made: usize,
+) -> Option<Intent>
+    requires { (size : ℕ) × (size < 2 ^ 32)
+        × (refusal_of catalogue.now size (operation_of request.now.op) ≡ None) }
+    ensures { result ≡ slice_get (intents_of place entry (operation_of request.now.op)) made }
+{
+    let only = match &request.op {
+        Op::Open { name: _, target } => open_intent(*target, place.installed(0, entry)),
+        Op::Read {
+            slot,
+            off: _,
+            len: _,
+        } => Intent::Look(*slot),
+        Op::Close { slot } => Intent::Take(*slot),
+        Op::Update { off, list } => {
+            return list_intent(place, catalogue.len(), (0, *off), list, made);
+        }
+    };
+    (made == 0).then_some(only)
+}
+
 /// Returns the access that a request intends at a table of `size` slots after `made` others, or
 /// `None` if it intends no other. An open opens this catalogue entry. A refused request
 /// ([`refusal_of`]) intends no access.
@@ -308,19 +356,7 @@ pub fn intent_by(
     if refusal_of(catalogue, size, request).is_some() {
         return None;
     }
-    let only = match &request.op {
-        Op::Open { name: _, target } => open_intent(*target, place.installed(0, entry)),
-        Op::Read {
-            slot,
-            off: _,
-            len: _,
-        } => Intent::Look(*slot),
-        Op::Close { slot } => Intent::Take(*slot),
-        Op::Update { off, list } => {
-            return list_intent(place, catalogue.len(), (0, *off), list, made);
-        }
-    };
-    (made == 0).then_some(only)
+    intent_at(catalogue, place, entry, request, made)
 }
 
 /// Returns the same of the catalogue entry that the request opens ([`Request::opened`]).
@@ -334,5 +370,8 @@ pub fn intent_of(
     ensures { IsIntent catalogue.now size place (operation_of request.now.op) made result }
 {
     let entry = request.opened(catalogue)?;
-    intent_by(catalogue, size, place, entry, request, made)
+    if refusal_of_opened(catalogue.len(), size, request).is_some() {
+        return None;
+    }
+    intent_at(catalogue, place, entry, request, made)
 }

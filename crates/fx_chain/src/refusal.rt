@@ -1,6 +1,8 @@
 //! The errors of requests that are refused before they reach the table.
-ghost use Rattle.std.specs.Prelude.{◌≡◌, ◌≤◌, length};
+ghost use Rattle.std.specs.Prelude.{◌≡◌, ◌≤◌, List, length, ℕ};
 ghost use Rattle.std.specs.List.{list_any};
+ghost use Rattle.fx_base.specs.Catalogue.{FileEntry};
+ghost use Rattle.fx_chain.specs.Intents.{IsOpened};
 ghost use Rattle.fx_chain.specs.Operation.{operation_of};
 ghost use Rattle.fx_chain.specs.Refusal.{is_bad_entry, refusal_of, slot_refusal, target_refusal, list_refusal};
 
@@ -64,6 +66,26 @@ fn list_refusal(entries: u32, size: u32, off: u32, list: &[i32]) -> Option<Errno
     None
 }
 
+// Returns the error of a request at a catalogue of `entries` entries. If it is an open, an entry
+// has its name.
+#[tactic(auto, using(crate::proofs::Intents::has_its_name))]
+pub(crate) fn refusal_of_opened(entries: u32, size: u32, request: &Request) -> Option<Errno>
+    ensures { (catalogue : List FileEntry) (entry : ℕ) → length catalogue ≡ entries
+        → IsOpened catalogue (operation_of request.now.op) entry
+        → result ≡ refusal_of catalogue size (operation_of request.now.op) }
+{
+    match &request.op {
+        Op::Open { name: _, target } => target_refusal(size, *target),
+        Op::Read {
+            slot,
+            off: _,
+            len: _,
+        } => (*slot >= size).then_some(Errno::EBADF),
+        Op::Close { slot } => slot_refusal(size, *slot),
+        Op::Update { off, list } => list_refusal(entries, size, *off, list),
+    }
+}
+
 /// Returns the error of a request that a table of `size` slots refuses whatever is at its slots, or
 /// `None` if it doesn't (a read may still fail with ENOMEM). The first error that applies counts
 /// (io_uring_prep_openat(3), io_uring_enter(2), io_uring_prep_close(3),
@@ -76,19 +98,8 @@ pub fn refusal_of(catalogue: &Catalogue, size: u32, request: &Request) -> Option
     ensures entries { length catalogue.now ≤ MOST_ENTRIES }
 {
     let entries = catalogue.len();
-    match &request.op {
-        Op::Open { name, target } => {
-            if catalogue.find(name).is_none() {
-                return Some(Errno::ENOENT);
-            }
-            target_refusal(size, *target)
-        }
-        Op::Read {
-            slot,
-            off: _,
-            len: _,
-        } => (*slot >= size).then_some(Errno::EBADF),
-        Op::Close { slot } => slot_refusal(size, *slot),
-        Op::Update { off, list } => list_refusal(entries, size, *off, list),
+    if request.opened(catalogue).is_none() {
+        return Some(Errno::ENOENT);
     }
+    refusal_of_opened(entries, size, request)
 }

@@ -89,9 +89,9 @@ abbrev pub PlacesOnce : List (ℕ × Closed) → Type 0
 PlacesOnce [] = Unit {0}
 PlacesOnce (p ∷ l) = PlacesOnce l × ((s : ℕ) (g : Closed) → Has l s g → p.1.mark ≢ g.mark)
 
-pub once_behind : (xs ys : List (ℕ × Closed)) → PlacesOnce (xs ++ ys) → PlacesOnce ys
-once_behind [] ys once = once
-once_behind (x ∷ xs) ys once = once_behind xs ys once.0
+pub once_after : (xs ys : List (ℕ × Closed)) → PlacesOnce (xs ++ ys) → PlacesOnce ys
+once_after [] ys once = once
+once_after (x ∷ xs) ys once = once_after xs ys once.0
 
 pub once_between : (xs ys : List (ℕ × Closed)) (s o : ℕ) (f g : Closed) → PlacesOnce (xs ++ ys) → Has xs s f → Has ys o g → f.mark ≢ g.mark
 once_between [] ys s o f g once first later same = absurd first
@@ -101,9 +101,9 @@ once_between (x ∷ xs) ys s o f g once (inr first) later same = once_between xs
 -- lists in which no mark is placed twice, nor one of the first in the second
 pub once_then : (xs ys : List (ℕ × Closed)) → PlacesOnce xs → PlacesOnce ys
     → ((s o : ℕ) (f g : Closed) → Has xs s f → Has ys o g → f.mark ≢ g.mark) → PlacesOnce (xs ++ ys)
-once_then [] ys first behind apart = behind
-once_then (x ∷ xs) ys first behind apart = (
-  once_then xs ys first.0 behind (λ s o f g one. apart s o f g (inr one)),
+once_then [] ys first second apart = second
+once_then (x ∷ xs) ys first second apart = (
+  once_then xs ys first.0 second (λ s o f g one. apart s o f g (inr one)),
   λ o g has. ⊎_elim (λ one. first.1 o g one) (λ later. apart x.0 o x.1 g (inl refl) later) (has_either xs ys o g has),
 )
 
@@ -122,7 +122,7 @@ own_weaker l weaker own = (λ s f has. weaker f (own.0 s f has), own.1)
 
 pub own_both : {P Q R : Closed → Type 0} (xs ys : List (ℕ × Closed)) → ((f : Closed) → P f → R f) → ((f : Closed) → Q f → R f)
     → ((f g : Closed) → P f → Q g → f.mark ≢ g.mark) → Own P xs → Own Q ys → Own R (xs ++ ys)
-own_both xs ys left right apart first behind = grind (arith, has_either, once_then)
+own_both xs ys left right apart first second = grind (arith, has_either, once_then)
 
 slot_of : {slot s : ℕ} {file f : Closed} → Has ((slot, file) ∷ []) s f → s ≡ slot
 slot_of (inl here) = λ i. (sym here i).0
@@ -156,7 +156,7 @@ module _ (t : Table) (x : Access) (xs : List Access) (apart : IsApart t (placed_
         (step_from t x is);
     unlike = λ s o f g is later. ⊎_elim (λ was. later_unlike o g was later)
         (λ new. once_between (placed_by x) (placed xs) s o f g apart.once new later) (step_from t x is);
-    once = once_behind (placed_by x) (placed xs) apart.once;
+    once = once_after (placed_by x) (placed xs) apart.once;
   }
 
   -- the file that it removed is at no slot then, and isn't placed again
@@ -165,7 +165,7 @@ module _ (t : Table) (x : Access) (xs : List Access) (apart : IsApart t (placed_
   gone g may is s f (inl now) =
       let e = emptied t x g may is in
       ⊎_elim
-      (λ other same. other.0 (apart.distinct s e.slot f g other.1 e.was (sym same))) (λ new. here_unlike s f e.was new) (e.behind s f now)
+      (λ other same. other.0 (apart.distinct s e.slot f g other.1 e.was (sym same))) (λ new. here_unlike s f e.was new) (e.after s f now)
   gone g may is s f (inr later) = let e = emptied t x g may is in later_unlike s f e.was later
 
 -- a removed file is at no slot afterwards

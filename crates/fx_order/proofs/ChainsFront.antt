@@ -31,8 +31,8 @@ both_parts P (x ∷ xs) ys all = let rest = both_parts P xs ys all.1 in ((all.0,
 module _ (catalogue : List FileEntry) (size : ℕ) (place : Place) (request : Asked) (requests : List Asked) (accesses : List Access)
     (c : Completed) (cs : List Completed) (made : ℕ) where
   -- the accesses of the other members
-  abbrev Behind : List Access → Type 0
-  Behind others = MatchBool (severs request c) ((others ≡ []) × (cs ≡ canceled (next_member place) requests))
+  abbrev IsRest : List Access → Type 0
+  IsRest others = MatchBool (severs request c) ((others ≡ []) × (cs ≡ canceled (next_member place) requests))
       (IsChainDone catalogue size (next_member place) requests others cs)
 
   abbrev IsMade : Type 0
@@ -44,7 +44,7 @@ module _ (catalogue : List FileEntry) (size : ℕ) (place : Place) (request : As
   -- the two parts of a chain that was done so
   member_parts : IsMade → IsDone
       → IsRequestDone catalogue size place request.operation (take (min made (length accesses)) accesses) c
-      × Behind (drop (min made (length accesses)) accesses)
+      × IsRest (drop (min made (length accesses)) accesses)
   member_parts counts x =
       let same : c ≡ x.2 = cc (x.5) in
       let rest : cs ≡ x.3 = cc (x.5) in

@@ -143,7 +143,7 @@ module _ (catalogue : List FileEntry) (place : Place) where
 
     pub as_answered : (Lacks → ⊥) → AreIntended catalogue place operation own → (b : Bool)
         → IsTrue b ↔ (c ≡ answer_at_table catalogue place operation (last_finding own)) → IsTrue b ↔ IsRequestDone catalogue size place operation own c
-    as_answered full fits b told = (
-      λ yes. rw accepted (inr (fits, told.0 yes)),
-      λ x. told.1 (⊎_elim (λ y. absurd (full y)) (λ y. y.1) (rw accepted at x)),
+    as_answered full fits b same = (
+      λ yes. rw accepted (inr (fits, same.0 yes)),
+      λ x. same.1 (⊎_elim (λ y. absurd (full y)) (λ y. y.1) (rw accepted at x)),
     )

@@ -107,7 +107,7 @@ pub record IsEmptied (t : Table) (x : Access) (g : Closed) : Type 0 where
   pub slot : ℕ
   pub inside : slot < t.size
   pub was : t.at slot ≡ Some g
-  pub behind : (s : ℕ) (f : Closed) → (table_with t x).at s ≡ Some f → ((s ≢ slot) × (t.at s ≡ Some f)) ⊎ Has (placed_by x) s f
+  pub after : (s : ℕ) (f : Closed) → (table_with t x).at s ≡ Some f → ((s ≢ slot) × (t.at s ≡ Some f)) ⊎ Has (placed_by x) s f
 
 emptied_at : {t : Table} {x : Access} {slot : ℕ} {removed new : Option Closed} {g : Closed} → IsAt t slot removed → removed ≡ Some g
     → ((s : ℕ) (f : Closed) → (table_with t x).at s ≡ Some f → (with_file t slot new).at s ≡ Some f)

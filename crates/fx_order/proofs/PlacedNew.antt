@@ -4,7 +4,7 @@ use Rattle.fx_order.proofs.Words.{All-head, All-tail, FileEntry, Closed, IsWithi
 use Rattle.fx_order.proofs.Words.{LONGEST_UPDATE, Asked, Place, accesses_of, accesses_of_chain, Access, ChainAccess, IsChainDone, AreChainsDone}
 use Rattle.fx_order.proofs.Words.{InstallsAt, both_ways, IsCatalogue, by_equality, drop-append_seam, take-append_seam}
 use Rattle.fx_order.proofs.Accesses.{of_chain, own_first}
-use Rattle.fx_order.proofs.Apart.{Own, PlacesOnce, once_behind, once_between, once_then, own_both, own_none}
+use Rattle.fx_order.proofs.Apart.{Own, PlacesOnce, once_after, once_between, once_then, own_both, own_none}
 use Rattle.fx_order.proofs.ChainsFront.{chain_at, front_is, length-done}
 use Rattle.fx_order.proofs.RequestCases.{IsMarked, each_placed, listed_short, placed_same}
 use Rattle.fx_order.proofs.Placed.{Has, has_either, has_left, has_right, placed, placed_by, placed-append}
@@ -105,7 +105,7 @@ module _ (entries : ℕ) (B : ℕ → ℕ → Type 0) (submission chains : ℕ) 
       let p = parted x order c in
       let own = subst (Own (IsOfChain c)) p.1 (each c low high) in
       let rest = placed (accesses_of_chain c order) in
-      (λ s f has. own.0 s f (has_right p.0 rest s f has), once_behind p.0 rest own.1)
+      (λ s f has. own.0 s f (has_right p.0 rest s f has), once_after p.0 rest own.1)
 
   -- the files that an order places, the chain of the access places
   pub has_in_chain : (order : List ChainAccess) → All IsInside order → (s : ℕ) (f : Closed) → Has (placed (accesses_of order)) s f

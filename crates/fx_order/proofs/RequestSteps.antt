@@ -1,7 +1,7 @@
 -- A request's accesses, and the steps that they are: each explains the answers that the other does.
 -- A new kind of request adds its cases here.
-use Rattle.fx_order.proofs.Words.{◌≡◌, ℕ, ◌+◌, ◌-◌, ◌<◌, ◌≤◌, ◌==◌, true, false, List, [], ◌∷◌, ◌++◌, length, map, refl, sym, ◌∙◌, arith, Option, subst}
-use Rattle.fx_order.proofs.Words.{Some, None, ReleasesItsOwn, IsSome, if◌then◌else◌, option_to_list, Closed, File, Event, Action, Look, Release, Put}
+use Rattle.fx_order.proofs.Words.{◌≡◌, ℕ, ◌+◌, ◌-◌, ◌<◌, ◌≤◌, ◌==◌, true, false, List, [], ◌∷◌, ◌++◌, length, map, refl, sym, ◌∙◌, arith, Option}
+use Rattle.fx_order.proofs.Words.{subst, Some, None, ReleasesItsOwn, if◌then◌else◌, option_to_list, Closed, File, Event, Action, Look, Release, Put}
 use Rattle.fx_order.proofs.Words.{Clear, Take, Allocate, Full, State, IsSettled, ◌▷◌, ◌▷▷◌, state_after, AllowsAll, AllReleaseTheirOwn, held_by}
 use Rattle.fx_order.proofs.Words.{close_of, closes_in, identity_of, by_equality, Looks, Puts, Clears, Takes, Allocates, FindsFull, Permits}
 use Rattle.fx_order.proofs.Words.{table_with, file_removed_by, Access, table_after, closed_by, Allows, after, with_removed, ap, inl, inr, zero, suc}
@@ -61,10 +61,6 @@ pub no_file : (x : Option File) → None ≡ identity_of x → x ≡ None
 no_file None is = refl
 no_file (Some f) is = absurd (cc)
 
-some_file : (x : Option File) → IsSome (identity_of x) → IsSome x
-some_file None is = absurd (cc is)
-some_file (Some f) is = refl
-
 module _ (st : State) (number : ℕ) (settled : IsSettled st) where
   -- a step that leaves the holds, and the close of what it took from its slot
   at_once : {access : Access} (a : Action) (x : Option File) → Does access ([] ▷ a ▷▷ close_of x) → Allows st a
@@ -97,8 +93,8 @@ module _ (st : State) (number : ℕ) (settled : IsSettled st) where
         closes = refl;
       }
 
-  fresh_behind : (n : ℕ) → number + 1 ≤ n → (if n == number then false else st.fresh n) ≡ st.fresh n
-  fresh_behind n le = by_equality n number (λ b. (if b then false else st.fresh n) ≡ st.fresh n) (λ same. absurd (omega arith)) (λ _. refl)
+  fresh_after : (n : ℕ) → number + 1 ≤ n → (if n == number then false else st.fresh n) ≡ st.fresh n
+  fresh_after n le = by_equality n number (λ b. (if b then false else st.fresh n) ≡ st.fresh n) (λ same. absurd (omega arith)) (λ _. refl)
 
   abbrev new : Closed → File
   new file = record { number = number; identity = file }
@@ -109,14 +105,14 @@ module _ (st : State) (number : ℕ) (settled : IsSettled st) where
   done (Puts slot file removed) fresh may =
       let x = st.at slot in
       at_once (Put slot (new file) x) x (new file, x, refl, sym may.1, refl) (may.0, fresh (omega arith), refl)
-      refl refl refl fresh_behind (λ _. tt) refl (sym may.1)
+      refl refl refl fresh_after (λ _. tt) refl (sym may.1)
   done (Clears slot removed) fresh may =
       let x = st.at slot in at_once (Clear slot x) x (x, sym may.1, refl) (may.0, refl) refl refl refl (λ n _. refl) (λ _. tt) refl (sym may.1)
   done (Takes slot removed) fresh may =
       let x = st.at slot in at_once (Take slot x) x (x, sym may.1, refl) (may.0, refl) refl refl refl (λ n _. refl) (λ _. tt) refl (sym may.1)
   done (Allocates slot file) fresh may =
       at_once (Allocate slot (new file)) None (new file, refl, refl) (may.0.0, may.1, no_file (st.at slot) may.0.1, fresh (omega arith))
-      refl refl refl fresh_behind (λ _. tt) refl refl
+      refl refl refl fresh_after (λ _. tt) refl refl
   done FindsFull fresh may = grind arith
 
 -- A request's accesses, and the steps that they are: each explains the answers that the other does.

@@ -9,13 +9,13 @@ use Rattle.fx_order.specs.declared.submission_report.SubmissionReport.{Submissio
 
 -- the report; its list of closes may have any room
 abbrev pub report_of : SubmissionReport → ℕ → Reported
-report_of told room = record {
-  submission = told.submissions + 1;
-  completions = all_completed told.completions.now;
-  closes = record { files = told.closes.now; room = room };
+report_of given room = record {
+  submission = given.submissions + 1;
+  completions = all_completed given.completions.now;
+  closes = record { files = given.closes.now; room = room };
 }
 
 -- the ring before it, with these slots, after this number of accepted registrations and updates
 abbrev pub ring_before : SubmissionReport → Slots → ℕ → RingState
-ring_before told slots registrations =
-    ring_of_slots told.catalogue.now slots told.submissions registrations
+ring_before given slots registrations =
+    ring_of_slots given.catalogue.now slots given.submissions registrations

@@ -1,8 +1,9 @@
 //! Checking a request's accesses and completion: the accesses are those that it intends, and its
 //! completion is the answer by what they found.
-ghost use Rattle.std.specs.Prelude.{◌≡◌, ◌<◌, ◌+◌, ◌^◌, ◌↔◌, IfNone, IfOk, IfSome, IsTrue, List, None, ℕ};
-ghost use Rattle.std.specs.Prelude.{drop, is_some, length, take, true};
+ghost use Rattle.std.specs.Prelude.{◌≡◌, ◌<◌, ◌+◌, ◌^◌, ◌↔◌, IfNone, IfOk, IfSome, IsTrue, List, None, Some, ℕ};
+ghost use Rattle.std.specs.Prelude.{drop, length, take};
 ghost use Rattle.std.specs.List.{AllZip};
+ghost use Rattle.fx_base.specs.declared.errno.Errno.TheVariants.{ENOENT};
 ghost use Rattle.fx_chain.specs.Accepted.{IsWithinLimits};
 ghost use Rattle.fx_chain.specs.Completed.{completed_of};
 ghost use Rattle.fx_chain.specs.Intents.{IsOpened, answer_at_table, intents_of, positions_of};
@@ -124,7 +125,7 @@ fn entry_opened(catalogue: &Catalogue, request: &Request, accesses: &[Access]) -
     ensures own { IfSome result (λ entry.
         IsOwnEntry catalogue.now (operation_of request.now.op) accesses.now entry) }
     ensures none { IfNone result ((size : ℕ)
-        → is_some (refusal_of catalogue.now size (operation_of request.now.op)) ≡ true) }
+        → refusal_of catalogue.now size (operation_of request.now.op) ≡ Some ENOENT) }
 {
     match entry_installed(accesses) {
         Some(entry) if request.is_opened(catalogue, entry) => Some(entry),
