@@ -4,13 +4,13 @@ use Rattle.check_outcomes.proofs.Words.{Completed, length-map, Asked, runs_of, f
 use Rattle.check_outcomes.proofs.Words.{false, false≢true, Chain, members_of, ⊎_elim, ◌≤◌, subst, Contains, Some, Completion, Place, all_completed}
 use Rattle.check_outcomes.proofs.Words.{completed_of, ring_of_slots, IsOneOrder, RingState, ring_of, Reported, recursion_from_All, IsAccepted}
 use Rattle.check_outcomes.proofs.Words.{IsOrderOf, RingContents, ring_left, suc, ◌∷◌, ◌++◌, Closed, Vec, all_asked, Slots, contains_map, Rest}
-use Rattle.check_outcomes.proofs.Words.{settled_at, Parts, StaysIn, AreAtStart, AreAllBy, IsAtStart, IsFirstState, IsStateExploredBy, said_by, states_of, told_by}
-use Rattle.check_outcomes.proofs.Words.{told_states, settled_in, AreToldClosed, is_state_idle, parts_by_numbers, rules_in, runs_in, view_in, Claimed}
+use Rattle.check_outcomes.proofs.Words.{settled_at, Parts, StaysIn, AreAtStart, AreAllBy, IsAtStart, IsFirstState, IsStateExploredBy, said_by, states_of, recorded_by}
+use Rattle.check_outcomes.proofs.Words.{recorded_states, settled_in, AreRecordedClosed, is_state_idle, parts_by_numbers, rules_in, runs_in, view_in, Claimed}
 use Rattle.check_outcomes.proofs.Words.{PlayState, has_none, is_idle_at, PlayedSubmission, cases_Bool, AreParts, AreClosed, ArePartsIn}
 use Rattle.check_outcomes.proofs.Words.{HasReadsAloneIn, IsTurnOfPart, IsTurnOfReader, ChainAccess, each_history_is_an_order, HasMemory, AreAllStates}
-use Rattle.check_outcomes.proofs.Words.{StateView, IsReportBy, MayReport, IsPossibleIn, IsPossible, IsToldAt, OfEach, says, PossibleAnswer}
-use Rattle.check_outcomes.proofs.Words.{PossibleReport, contains_mapped, HasEnd, ring_at, IsAnswer, HasEachAnswer, HasEachEnd, ring_behind, told_from}
-use Rattle.check_outcomes.proofs.Words.{IsConfirmedPlay, ToldState, told_state_of, all_told, answers_of, HasEachReport, IsOverIn, HasReport, IsToldOf}
+use Rattle.check_outcomes.proofs.Words.{StateView, IsReportBy, MayReport, IsPossibleIn, IsPossible, IsRecordedAt, OfEach, says, PossibleAnswer}
+use Rattle.check_outcomes.proofs.Words.{PossibleReport, contains_mapped, HasEnd, ring_at, IsAnswer, HasEachAnswer, HasEachEnd, ring_behind, recorded_from}
+use Rattle.check_outcomes.proofs.Words.{IsConfirmedPlay, RecordedState, recorded_state_of, all_recorded, answers_of, HasEachReport, IsOverIn, HasReport, IsRecordedOf}
 use Rattle.check_outcomes.proofs.Words.{TellsOf, IsOver, All-from_recursion, All-map, get_or_from_slice_get, slice_get-get_or}
 use Rattle.check_outcomes.specs.declared.parts.PartNumbers.{PartNumbers}
 use Rattle.check_outcomes.proofs.Idle.{are_idle, none_for, none_left, over_idle}
@@ -18,7 +18,7 @@ use Rattle.check_outcomes.proofs.Lists.{each_run}
 use Rattle.check_outcomes.proofs.Viewing.{less_one}
 use Rattle.fx_ring.specs.Submission.{reported}
 use Rattle.check_outcomes.proofs.First.{all_said}
-use Rattle.check_outcomes.proofs.ToldStates.{each_report_is_listed}
+use Rattle.check_outcomes.proofs.RecordedStates.{each_report_is_listed}
 use Rattle.fx_order.proofs.Histories.{each_order_is_a_history}
 use Rattle.fx_plain.specs.declared.table.TheConstants.{MOST_SLOTS}
 use Rattle.fx_base.specs.CloseListView.{CloseListView}
@@ -56,12 +56,12 @@ module _ {claimed : Claimed} (many : length (runs_in claimed.submission.now) ≡
       let explored = All-contains (IsStateExploredBy claimed) claimed.found.now.states.items here each inside (chain - 1) (omega arith) in
       rw (is, number) (λ turn awake a next may. (explored turn awake a next may).is)
 
-  -- and with what is told
-  told_closed : IsTrue claimed.submission.now.tells → AreToldClosed claimed.submission.now.catalogue.now claimed.submission.now.size
-      (parts_by claimed) (length (runs_in claimed.submission.now)) (told_states claimed)
-  told_closed tells state there chain low high =
+  -- and with what is recorded
+  recorded_closed : IsTrue claimed.submission.now.tells → AreRecordedClosed claimed.submission.now.catalogue.now claimed.submission.now.size
+      (parts_by claimed) (length (runs_in claimed.submission.now)) (recorded_states claimed)
+  recorded_closed tells state there chain low high =
       let sub = claimed.submission.now in
-      let (here, inside, is) = contains_map (told_by claimed) claimed.found.now.states.items state there in
+      let (here, inside, is) = contains_map (recorded_by claimed) claimed.found.now.states.items state there in
       let number : chain ≡ chain - 1 + 1 = omega arith in
       let explored = All-contains (IsStateExploredBy claimed) claimed.found.now.states.items here each inside (chain - 1) (omega arith) in
       let rest : Rest = (view_in sub here).rests (chain - 1 + 1) in
@@ -69,7 +69,7 @@ module _ {claimed : Claimed} (many : length (runs_in claimed.submission.now) ≡
       (λ awake. (explored (record {
         part = λ other from to less. idles here other (turn.part other from to less);
         reader = λ alone other from less same. idles here other (turn.reader alone other from less same);
-      }) awake a next may).told tells)
+      }) awake a next may).recorded tells)
       (cases_Bool (idle_by claimed rest)))
     where
       idles : (here : PlayState) (other : ℕ) → has_none ((view_in claimed.submission.now here).rests other) ≡ true
@@ -90,10 +90,10 @@ abbrev settled_by : Claimed → ℕ → List Asked → List Completed × Rest
 settled_by claimed chain run = settled_at (rules_in claimed.submission.now) (first_member claimed.submission.now.number chain) run
 
 -- the chains are at their start
-starts : (claimed : Claimed) (first : PlayState) {told : List (Vec Completion)} (Begins : ℕ → List Completed → Type 0)
+starts : (claimed : Claimed) (first : PlayState) {recorded : List (Vec Completion)} (Begins : ℕ → List Completed → Type 0)
     → length (runs_in claimed.submission.now) ≡ length claimed.submission.now.chains.now
     → ((i : ℕ) → i < length claimed.submission.now.chains.now
-    → IsAtStart claimed.submission.now told first.chains.items i)
+    → IsAtStart claimed.submission.now recorded first.chains.items i)
     → ((i : ℕ) → i < length claimed.submission.now.chains.now → Begins (i + 1) (settled_in claimed.submission.now i).0)
     → AreAtStart (rules_in claimed.submission.now) Begins claimed.submission.now.number 1 (runs_in claimed.submission.now)
     (view_in claimed.submission.now first).rests
@@ -104,25 +104,25 @@ starts claimed first Begins many start begins =
     (λ _ _ _ one others. (one.0, one.1, others)) 1 (runs_in claimed.submission.now)
     (λ k few. (begins k (omega arith), rw (less_one k) (start k (omega arith)).rest))
 
--- what a chain was told is said, if all of it is
-said_at : (P : Completed → Type 0) (told : List (Vec Completion)) → All (λ own. All (λ c. P (completed_of c)) own.items) told
-    → (i : ℕ) → i < length told → AllByRecursion P (slice_index_or (answers_of told) i [])
-said_at P told all i within =
+-- the answers of a chain are said, if all of it is
+said_at : (P : Completed → Type 0) (recorded : List (Vec Completion)) → All (λ own. All (λ c. P (completed_of c)) own.items) recorded
+    → (i : ℕ) → i < length recorded → AllByRecursion P (slice_index_or (answers_of recorded) i [])
+said_at P recorded all i within =
     let f : Vec Completion → List Completed = λ v. all_completed v.items in
-    let here = slice_index_or (answers_of told) i [] in
-    let low : i < length (answers_of told) = omega (arith, length-map told f) in
-    let (own, inside, is) = contains_map f told here
-    (i, low, get_or_from_slice_get (answers_of told) i here here (slice_get-get_or (answers_of told) i [] low)) in
-    let its = All-contains (λ own. All (λ c. P (completed_of c)) own.items) told own all inside in
+    let here = slice_index_or (answers_of recorded) i [] in
+    let low : i < length (answers_of recorded) = omega (arith, length-map recorded f) in
+    let (own, inside, is) = contains_map f recorded here
+    (i, low, get_or_from_slice_get (answers_of recorded) i here here (slice_get-get_or (answers_of recorded) i [] low)) in
+    let its = All-contains (λ own. All (λ c. P (completed_of c)) own.items) recorded own all inside in
     rw is (recursion_from_All P (map completed_of own.items) (All-map P completed_of own.items its))
 
-pub all_by : {claimed : Claimed} {slots : Slots} {first : PlayState} (told : List (Vec Completion))
-    → length (runs_in claimed.submission.now) ≡ length claimed.submission.now.chains.now → IsFirstState claimed.submission.now slots told first
-    → All (λ own. All (λ c. said_by claimed (completed_of c)) own.items) told
-    → Contains (states_of claimed) (view_in claimed.submission.now first) → Contains (told_states claimed) (told_by claimed first)
+pub all_by : {claimed : Claimed} {slots : Slots} {first : PlayState} (recorded : List (Vec Completion))
+    → length (runs_in claimed.submission.now) ≡ length claimed.submission.now.chains.now → IsFirstState claimed.submission.now slots recorded first
+    → All (λ own. All (λ c. said_by claimed (completed_of c)) own.items) recorded
+    → Contains (states_of claimed) (view_in claimed.submission.now first) → Contains (recorded_states claimed) (recorded_by claimed first)
     → claimed.submission.now.size ≡ length slots.at.items → ArePartsIn claimed.submission.now slots claimed.found.now.numbers
     → All (IsStateExploredBy claimed) claimed.found.now.states.items → AreAllBy claimed slots
-all_by {claimed} {slots} {first} told many start listed inside among size in_parts each =
+all_by {claimed} {slots} {first} recorded many start listed inside among size in_parts each =
     let sub = claimed.submission.now in
     record {
       are = λ submissions registrations number. record {
@@ -132,24 +132,24 @@ all_by {claimed} {slots} {first} told many start listed inside among size in_par
         first = view_in sub first;
         begins = record {
           table = start.table;
-          chains = rw (← size, ← number) (starts claimed first (λ _ told. AllByRecursion (said_by claimed) told) many start.chains
-              (λ i few. let at = start.chains i few in rw (← at.told_is) (said_at (said_by claimed) told listed i at.there)));
+          chains = rw (← size, ← number) (starts claimed first (λ _ recorded. AllByRecursion (said_by claimed) recorded) many start.chains
+              (λ i few. let at = start.chains i few in rw (← at.recorded_is) (said_at (said_by claimed) recorded listed i at.there)));
         };
         inside = inside;
         closed = rw (← size) (closed_all many each);
       };
-      told = λ tells submissions registrations number. record {
+      recorded = λ tells submissions registrations number. record {
         parts = parts_by claimed;
         apart = parts_in claimed slots many in_parts;
-        first = told_by claimed first;
+        first = recorded_by claimed first;
         begins = record {
           table = start.table;
           removed = start.removed;
-          chains = rw (← size, ← number) (starts claimed first (λ chain told. (told_by claimed first).told chain ≡ told) many start.chains
-              (λ i few. rw (less_one i, start.kept tells) (start.chains i few).told_is));
+          chains = rw (← size, ← number) (starts claimed first (λ chain recorded. (recorded_by claimed first).recorded chain ≡ recorded) many start.chains
+              (λ i few. rw (less_one i, start.kept tells) (start.chains i few).recorded_is));
         };
         inside = among;
-        closed = rw (← size) (told_closed many each tells);
+        closed = rw (← size) (recorded_closed many each tells);
       };
     }
 
@@ -208,14 +208,14 @@ answers_by {answers} asked are all submissions registrations number =
 
 -- and all rings that are left
 pub ends_by : {claimed : Claimed} {slots : Slots} (reports : List PossibleReport) → AreAllBy claimed slots
-    → All (IsToldAt claimed.submission.now reports) claimed.found.now.states.items → All (IsPossibleIn claimed.submission.now slots) reports
+    → All (IsRecordedAt claimed.submission.now reports) claimed.found.now.states.items → All (IsPossibleIn claimed.submission.now slots) reports
     → OfEach claimed.submission.now slots (λ old requests. HasEachEnd old requests reports)
-ends_by {claimed} {slots} reports all told each submissions registrations number ring left report same may =
+ends_by {claimed} {slots} reports all recorded each submissions registrations number ring left report same may =
     let sub = claimed.submission.now in
     let old = ring_of_slots sub.catalogue.now slots submissions registrations in
     let end = (shown (said_by claimed) (all.are submissions registrations number) same may).1 in
     let (here, inside, is) = contains_map (view_in sub) claimed.found.now.states.items end.state end.inside in
-    let telling = All-contains (IsToldAt sub reports) claimed.found.now.states.items here told inside (rw is at end.over) in
+    let telling = All-contains (IsRecordedAt sub reports) claimed.found.now.states.items here recorded inside (rw is at end.over) in
     let its = All-contains (IsPossibleIn sub slots) reports telling.0 each telling.1 submissions registrations number in
     rw (end.leaves ∙ ring_same old telling.0.slots telling.0.order.items end.state its.by.leaves
     (ap (λ (v : StateView). v.table) is ∙ sym telling.2.table))
@@ -223,16 +223,16 @@ ends_by {claimed} {slots} reports all told each submissions registrations number
 
 -- What was looked through shows all reports.
 
--- what the chains were told, one after another
-told_all : (told : ℕ → List Completed) (chain : ℕ) (runs : List (List Asked)) (answers : List (List Completed)) → length answers ≡ length runs
-    → ((k : ℕ) → k < length answers → told (k + chain) ≡ slice_index_or answers k []) → told_from told chain runs ≡ all_told answers
-told_all told chain [] [] many each = refl
-told_all told chain [] (own ∷ others) many each = absurd (omega arith)
-told_all told chain (run ∷ runs) [] many each = absurd (omega arith)
-told_all told chain (run ∷ runs) (own ∷ others) many each =
+-- what the chains answered, one after another
+recorded_all : (recorded : ℕ → List Completed) (chain : ℕ) (runs : List (List Asked)) (answers : List (List Completed)) → length answers ≡ length runs
+    → ((k : ℕ) → k < length answers → recorded (k + chain) ≡ slice_index_or answers k []) → recorded_from recorded chain runs ≡ all_recorded answers
+recorded_all recorded chain [] [] many each = refl
+recorded_all recorded chain [] (own ∷ others) many each = absurd (omega arith)
+recorded_all recorded chain (run ∷ runs) [] many each = absurd (omega arith)
+recorded_all recorded chain (run ∷ runs) (own ∷ others) many each =
     let here : 0 + chain ≡ chain = omega arith in
     let first = rw here at (each 0 (omega arith)) in
-    let rest = told_all told (chain + 1) runs others (omega arith) (λ k few.
+    let rest = recorded_all recorded (chain + 1) runs others (omega arith) (λ k few.
     let on : k + (chain + 1) ≡ suc k + chain = omega arith in
     rw on (each (suc k) (omega arith))) in
     λ i. first i ++ rest i
@@ -254,42 +254,42 @@ same_report submission completions same none =
 -- a report that tells of the state that a history comes to tells of the history's
 tells_of : {sub : PlayedSubmission} {old : RingState} {submissions : ℕ} (here : PlayState) (report : Reported) (left : RingState) {possible : PossibleReport}
     → sub.number ≡ submissions + 1 → old.submissions ≡ submissions → length (runs_in sub) ≡ length sub.chains.now
-    → (one : IsOneOrder old (all_asked sub.requests.now) report left) (states : List ToldState)
-    → (has : HasReport old (all_asked sub.requests.now) states report left) → has.here ≡ told_state_of sub.number (runs_in sub) here
-    → IsTrue sub.tells → IsToldOf sub here possible → IsPossible old (all_asked sub.requests.now) possible → TellsOf old report left possible
+    → (one : IsOneOrder old (all_asked sub.requests.now) report left) (states : List RecordedState)
+    → (has : HasReport old (all_asked sub.requests.now) states report left) → has.here ≡ recorded_state_of sub.number (runs_in sub) here
+    → IsTrue sub.tells → IsRecordedOf sub here possible → IsPossible old (all_asked sub.requests.now) possible → TellsOf old report left possible
 tells_of {sub} {old} here report left {possible} number counted many one states has is tells leaves its =
-    let told = leaves.told tells in
+    let recorded = leaves.recorded tells in
     let answers = here.telling.answers.items in
     let same_many = length-map answers (λ (v : Vec Completion). all_completed v.items) in
-    let all = told_all (told_state_of sub.number (runs_in sub) here).told 1 (runs_in sub) (answers_of answers) (omega (arith, told.chains))
+    let all = recorded_all (recorded_state_of sub.number (runs_in sub) here).recorded 1 (runs_in sub) (answers_of answers) (omega (arith, recorded.chains))
     (λ k few. ap (λ (n : ℕ). slice_index_or (answers_of answers) n []) (less_one k)) in
     record {
-      submission = one.is.submission ∙ (ap (λ (n : ℕ). n + 1) counted ∙ (sym number ∙ sym told.submission_is));
-      completions = has.completions ∙ (ap (λ (h : ToldState). told_from h.told 1 (runs_in sub)) is ∙ (all ∙ sym told.completions));
-      closes = rw (told.closes) (rw is at has.closes);
+      submission = one.is.submission ∙ (ap (λ (n : ℕ). n + 1) counted ∙ (sym number ∙ sym recorded.submission_is));
+      completions = has.completions ∙ (ap (λ (h : RecordedState). recorded_from h.recorded 1 (runs_in sub)) is ∙ (all ∙ sym recorded.completions));
+      closes = rw (recorded.closes) (rw is at has.closes);
       leaves = has.leaves ∙ ring_same old possible.slots possible.order.items has.here.state its.by.leaves
-          (ap (λ (h : ToldState). h.state.table) is ∙ sym leaves.table);
+          (ap (λ (h : RecordedState). h.state.table) is ∙ sym leaves.table);
     }
 
 pub reports_by : {claimed : Claimed} {slots : Slots} (reports : List PossibleReport) → AreAllBy claimed slots
-    → All (IsToldAt claimed.submission.now reports) claimed.found.now.states.items → All (IsPossibleIn claimed.submission.now slots) reports
+    → All (IsRecordedAt claimed.submission.now reports) claimed.found.now.states.items → All (IsPossibleIn claimed.submission.now slots) reports
     → IsTrue claimed.submission.now.tells → OfEach claimed.submission.now slots (λ old requests. HasEachReport old requests reports)
-reports_by {claimed} {slots} reports all told each tells submissions registrations number ring left report same may =
+reports_by {claimed} {slots} reports all recorded each tells submissions registrations number ring left report same may =
     let sub = claimed.submission.now in
     let old = ring_of_slots sub.catalogue.now slots submissions registrations in
     let requests = all_asked sub.requests.now in
     let one = subst (λ (r : RingState). IsOneOrder r requests report (ring_of left)) same
     (each_history_is_an_order ring left requests report may.history) in
-    let has = each_report_is_listed old requests (told_states claimed) (all.told tells submissions registrations number) report (ring_of left)
+    let has = each_report_is_listed old requests (recorded_states claimed) (all.recorded tells submissions registrations number) report (ring_of left)
     may.memory one in
-    let (here, inside, is) = contains_map (told_by claimed) claimed.found.now.states.items has.here has.inside in
+    let (here, inside, is) = contains_map (recorded_by claimed) claimed.found.now.states.items has.here has.inside in
     let over : IsOverIn sub here = λ chain low high.
     let rest : Rest = (view_in sub here).rests chain in
-    over_idle sub rest (none_for rest (subst (λ (h : ToldState). IsOver has_none (length (runs_in sub)) h.state) is has.over chain low high)) in
-    let telling = All-contains (IsToldAt sub reports) claimed.found.now.states.items here told inside over in
+    over_idle sub rest (none_for rest (subst (λ (h : RecordedState). IsOver has_none (length (runs_in sub)) h.state) is has.over chain low high)) in
+    let telling = All-contains (IsRecordedAt sub reports) claimed.found.now.states.items here recorded inside over in
     let its = All-contains (IsPossibleIn sub slots) reports telling.0 each telling.1 submissions registrations number in (
       telling.0,
       telling.1,
       tells_of here report (ring_of left) number (λ _. submissions) (as_many requests sub.chains.now sub.runs)
-          one (told_states claimed) has is tells telling.2 its,
+          one (recorded_states claimed) has is tells telling.2 its,
     )

@@ -55,20 +55,20 @@ module _ (catalogue : List FileEntry) (size : ℕ) (rules : Rules) (right : AreR
     pub ready : IsReady now.1.place now.1.requests now.1.made
     pub rest_is : IsRest now.1 accesses later
 
-  pub told_first : (told : List Completed) {now : List Completed × Rest} {accesses : List Access} {cs final : List Completed} → final ≡ told ++ cs
-      → Goes now accesses cs → Goes (told ++ now.0, now.1) accesses final
-  told_first told {now} whole goes = record {
+  pub recorded_first : (recorded : List Completed) {now : List Completed × Rest} {accesses : List Access} {cs final : List Completed} → final ≡ recorded ++ cs
+      → Goes now accesses cs → Goes (recorded ++ now.0, now.1) accesses final
+  recorded_first recorded {now} whole goes = record {
     later = goes.later;
-    whole = whole ∙ (λ i. told ++ goes.whole i) ∙ sym (append_assoc told now.0 goes.later);
+    whole = whole ∙ (λ i. recorded ++ goes.whole i) ∙ sym (append_assoc recorded now.0 goes.later);
     memory = goes.memory;
     ready = goes.ready;
     rest_is = goes.rest_is;
   }
 
-  over_now : {told cs : List Completed} {accesses : List Access} → accesses ≡ [] → cs ≡ told → Goes (told, over) accesses cs
-  over_now {told} none is = record {
+  over_now : {recorded cs : List Completed} {accesses : List Access} → accesses ≡ [] → cs ≡ recorded → Goes (recorded, over) accesses cs
+  over_now {recorded} none is = record {
     later = [];
-    whole = is ∙ sym (append-nil told);
+    whole = is ∙ sym (append-nil recorded);
     memory = tt;
     ready = refl;
     rest_is = record { front = []; made = refl; done = (none, refl) };
@@ -82,7 +82,7 @@ module _ (catalogue : List FileEntry) (size : ℕ) (rules : Rules) (right : AreR
       → (IsChainDone catalogue size (next_member place) requests others cs → Goes (settled_at rules (next_member place) requests) others cs)
       → Behind place request requests c others cs → Goes (behind rules place request requests c) others (c ∷ cs)
   goes_behind place request requests {c} goes = either_way (severs request c) (λ cut x. rw cut (over_now x.0 (λ i. c ∷ x.1 i)))
-      (λ on x. rw on (told_first (c ∷ []) refl (goes x)))
+      (λ on x. rw on (recorded_first (c ∷ []) refl (goes x)))
 
   pub settles : (place : Place) (requests : List Asked) {accesses : List Access} {cs : List Completed} → AllByRecursion HasMemory cs
       → IsChainDone catalogue size place requests accesses cs → Goes (settled_at rules place requests) accesses cs
@@ -106,7 +106,7 @@ module _ (catalogue : List FileEntry) (size : ℕ) (rules : Rules) (right : AreR
         rest_is = record { front = []; made = refl; done = x };
       })
 
-  -- no access is left: the chain is over, and was told whole
+  -- no access is left: the chain is over, and all of it is recorded
   pub ends : {place : Place} (requests : List Asked) {made : ℕ} {cs : List Completed} → AllByRecursion HasMemory cs → IsReady place requests made
       → IsRest (rest_at place requests made) [] cs → (requests ≡ []) × (cs ≡ [])
   ends [] memory ready is = (refl, is.done.1)

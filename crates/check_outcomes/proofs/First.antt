@@ -3,26 +3,26 @@ use Rattle.check_outcomes.proofs.Words.{◌≡◌, ℕ, ◌+◌, ◌<◌, ◌≤
 use Rattle.check_outcomes.proofs.Words.{⊎_elim, inr, FileEntry, Completed, Asked, runs_of, first_member, Table, accesses_of, accesses_of_chain}
 use Rattle.check_outcomes.proofs.Words.{AreChainsDone, IsOneOrder, table_after, AllByRecursion, RingState, Reported, eq-eqb, ChainAccess, cases_eq}
 use Rattle.check_outcomes.proofs.Words.{ne_eqb, at_itself, HasMemory, Rest, rules_of, settled_at, AreAllStates, AreAtStart, HasEnd, IsListed}
-use Rattle.check_outcomes.proofs.Words.{StateView, EachOutcomeIsListed, told_from, both_parts}
+use Rattle.check_outcomes.proofs.Words.{StateView, EachOutcomeIsListed, recorded_from, both_parts}
 use Rattle.check_outcomes.proofs.Requests.{are_right}
 use Rattle.check_outcomes.proofs.ChainAccesses.{settles}
 use Rattle.check_outcomes.proofs.TurnByTurn.{order_in_turn}
 use Rattle.check_outcomes.proofs.Playing.{OfChain, Comes, both_said, runs_on}
 
 -- the same of each chain, the same whole
-pub told_same : (f g : ℕ → List Completed) (chain : ℕ) (runs : List (List Asked)) → ((q : ℕ) → chain ≤ q → q < chain + length runs → f q ≡ g q)
-    → told_from f chain runs ≡ told_from g chain runs
-told_same f g chain [] same = refl
-told_same f g chain (run ∷ runs) same =
-    λ i. same chain (omega arith) (omega arith) i ++ told_same f g (chain + 1) runs (λ q low high. same q (omega arith) (omega arith)) i
+pub recorded_same : (f g : ℕ → List Completed) (chain : ℕ) (runs : List (List Asked)) → ((q : ℕ) → chain ≤ q → q < chain + length runs → f q ≡ g q)
+    → recorded_from f chain runs ≡ recorded_from g chain runs
+recorded_same f g chain [] same = refl
+recorded_same f g chain (run ∷ runs) same =
+    λ i. same chain (omega arith) (omega arith) i ++ recorded_same f g (chain + 1) runs (λ q low high. same q (omega arith) (omega arith)) i
 
-all_told : (P : Completed → Type 0) (told : ℕ → List Completed) (chain : ℕ) (runs : List (List Asked))
-    → ((q : ℕ) → chain ≤ q → q < chain + length runs → AllByRecursion P (told q)) → AllByRecursion P (told_from told chain runs)
-all_told P told chain [] each = tt
-all_told P told chain (run ∷ runs) each = both_said P (told chain) (told_from told (chain + 1) runs) (each chain (omega arith) (omega arith))
-    (all_told P told (chain + 1) runs (λ q low high. each q (omega arith) (omega arith)))
+all_recorded : (P : Completed → Type 0) (recorded : ℕ → List Completed) (chain : ℕ) (runs : List (List Asked))
+    → ((q : ℕ) → chain ≤ q → q < chain + length runs → AllByRecursion P (recorded q)) → AllByRecursion P (recorded_from recorded chain runs)
+all_recorded P recorded chain [] each = tt
+all_recorded P recorded chain (run ∷ runs) each = both_said P (recorded chain) (recorded_from recorded (chain + 1) runs) (each chain (omega arith) (omega arith))
+    (all_recorded P recorded (chain + 1) runs (λ q low high. each q (omega arith) (omega arith)))
 
--- each chain is at its first request that comes to the table, and `Begins` has what it was told up
+-- each chain is at its first request that comes to the table, and `Begins` has what it answered up
 -- to there
 module _ (catalogue : List FileEntry) (size submission : ℕ) (order : List ChainAccess) (rests : ℕ → Rest) (Begins : ℕ → List Completed → Type 0) where
   abbrev settled : ℕ → List Asked → List Completed × Rest
@@ -30,7 +30,7 @@ module _ (catalogue : List FileEntry) (size submission : ℕ) (order : List Chai
 
   -- how a chain goes on to this
   abbrev Own : ℕ → List Completed → Type 0
-  Own q final = (told : List Completed) × Begins q told × OfChain catalogue size (rests q) told final (accesses_of_chain q order)
+  Own q final = (recorded : List Completed) × Begins q recorded × OfChain catalogue size (rests q) recorded final (accesses_of_chain q order)
 
   -- the list of a chain in front of those of the others
   abbrev put : ℕ → List Completed → (ℕ → List Completed) → ℕ → List Completed
@@ -38,7 +38,7 @@ module _ (catalogue : List FileEntry) (size submission : ℕ) (order : List Chai
 
   pub record Found (chain : ℕ) (runs : List (List Asked)) (completions : List Completed) : Type 0 where
     pub finals : ℕ → List Completed
-    pub whole : completions ≡ told_from finals chain runs
+    pub whole : completions ≡ recorded_from finals chain runs
     pub each : (q : ℕ) → chain ≤ q → q < chain + length runs → Own q (finals q)
 
   pub find : (chain : ℕ) (runs : List (List Asked)) (completions : List Completed) → AllByRecursion HasMemory completions
@@ -51,7 +51,7 @@ module _ (catalogue : List FileEntry) (size submission : ℕ) (order : List Chai
       let f = find (chain + 1) runs others mem.1 done start in
       let goes = settles catalogue size (rules_of catalogue size) (are_right catalogue size) (first_member submission chain) run mem.0 made in
       let all = put chain own f.finals in
-      let same = told_same f.finals all (chain + 1) runs (λ q low high. rw (ne_eqb q chain (λ at. omega arith))) in
+      let same = recorded_same f.finals all (chain + 1) runs (λ q low high. rw (ne_eqb q chain (λ at. omega arith))) in
       record {
         finals = all;
         whole = rw (at_itself chain own (f.finals chain), ← same, ← f.whole) whole;
@@ -68,7 +68,7 @@ pub all_said : (idle : Rest → Bool) (says : Completed → Type 0) (old : RingS
 all_said idle says old requests states all report left memory any =
     let runs = runs_of requests in
     let one = order_in_turn all.parts old requests report left all.apart any in
-    let f = find old.catalogue old.size report.submission one.order all.first.rests (λ _ told. AllByRecursion says told) 1 runs report.completions memory one.is.done (rw one.is.submission all.begins.chains) in
+    let f = find old.catalogue old.size report.submission one.order all.first.rests (λ _ recorded. AllByRecursion says recorded) 1 runs report.completions memory one.is.done (rw one.is.submission all.begins.chains) in
     let comes : Comes old.catalogue old.size says idle all.idling (length runs) f.finals all.first one.order = record {
       permitted = rw all.begins.table one.is.permitted;
       within = one.is.chains;
@@ -76,7 +76,7 @@ all_said idle says old requests states all report left memory any =
     } in
     let (end, inside, run) = runs_on old.catalogue old.size says idle all.idling (length runs) f.finals all.parts all.closed one.order one.by
     all.inside comes in (
-      rw f.whole (all_told says f.finals 1 runs (λ q low high. run.said q low (omega arith))),
+      rw f.whole (all_recorded says f.finals 1 runs (λ q low high. run.said q low (omega arith))),
       record {
         state = end;
         inside = inside;

@@ -38,7 +38,7 @@ are_idle claimed = record {
       (λ some. absurd (false≢true (sym some.2 ∙ rw asked (asked_left left)))) (idle_cases claimed.submission.now rest is);
 }
 
--- where it is told what reads answer, a chain that is idle is over
+-- where the answers of reads are recorded, a chain that is idle is over
 pub none_left : (submission : PlayedSubmission) (rest : Rest) → submission.tells ≡ true → is_state_idle submission rest ≡ true → rest.requests ≡ []
 none_left submission rest tells is = ⊎_elim (λ none. none) (λ some. absurd (false≢true (sym some.0 ∙ tells))) (idle_cases submission rest is)
 
@@ -50,7 +50,7 @@ pub all_reads : (requests : List Request) → list_all (λ request. is_read (ask
 all_reads [] = refl
 all_reads (request ∷ requests) = λ i. is_read (asked_of request).operation && all_reads requests i
 
--- where some are left, it is told by these
+-- where some are left, these decide it
 pub idle_some : (submission : PlayedSubmission) (requests : List Asked) (place : Place) (made : ℕ) → (length requests ≡ 0 → ⊥) → submission.tells ≡ false
     → is_state_idle submission (rest_for place requests made) ≡ (are_reads requests && not (asks_from submission.asked place))
 idle_some submission [] place made some silent = absurd (some refl)

@@ -8,6 +8,6 @@ pub mod Words
 pub mod Lists
 pub mod Viewing
 pub mod Idle
-pub mod ToldStates
+pub mod RecordedStates
 pub mod First
 pub mod AllReports

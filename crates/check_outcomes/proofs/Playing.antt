@@ -6,35 +6,35 @@ use Rattle.check_outcomes.proofs.Words.{Parts, AreClosed, IsOver, StateView, Are
 use Rattle.check_outcomes.proofs.InTurn.{IsInTurn, OrderGoesOn, first_within, its_first, past_first, has_turn}
 use Rattle.check_outcomes.proofs.Idle.{IsLook, reads_done}
 use Rattle.check_outcomes.proofs.Requests.{are_right}
-use Rattle.check_outcomes.proofs.ChainAccesses.{Goes, ends, steps, told_first}
+use Rattle.check_outcomes.proofs.ChainAccesses.{Goes, ends, steps, recorded_first}
 
 pub both_said : {X : Type 0} (P : X → Type 0) (xs ys : List X) → AllByRecursion P xs → AllByRecursion P ys → AllByRecursion P (xs ++ ys)
 both_said P [] ys one other = other
 both_said P (x ∷ xs) ys one other = (one.0, both_said P xs ys one.1 other)
 
 module _ (catalogue : List FileEntry) (size : ℕ) where
-  -- a chain goes on from its place, where it was told this, by these accesses, to what it tells in
+  -- a chain goes on from its place, where it answered this, by these accesses, to its answers in
   -- the end
   abbrev pub OfChain : Rest → List Completed → List Completed → List Access → Type 0
-  OfChain rest told final accesses = Goes catalogue size (rules_of catalogue size) (are_right catalogue size) (told, rest) accesses final
+  OfChain rest recorded final accesses = Goes catalogue size (rules_of catalogue size) (are_right catalogue size) (recorded, rest) accesses final
 
   -- its first access is one that it may make next, and leads to what is left of it
-  pub steps_on : (rest : Rest) (told final : List Completed) (a : Access) (accesses : List Access) → OfChain rest told final (a ∷ accesses)
+  pub steps_on : (rest : Rest) (recorded final : List Completed) (a : Access) (accesses : List Access) → OfChain rest recorded final (a ∷ accesses)
       → IsNext catalogue size rest a
-      × OfChain (step (rules_of catalogue size) rest a).1 (told ++ (step (rules_of catalogue size) rest a).0) final accesses
-  steps_on rest told final a accesses of =
+      × OfChain (step (rules_of catalogue size) rest a).1 (recorded ++ (step (rules_of catalogue size) rest a).0) final accesses
+  steps_on rest recorded final a accesses of =
       let (next, goes) = steps catalogue size (rules_of catalogue size) (are_right catalogue size) rest.requests of.memory of.ready of.rest_is in
-      (next, told_first catalogue size (rules_of catalogue size) (are_right catalogue size) told of.whole goes)
+      (next, recorded_first catalogue size (rules_of catalogue size) (are_right catalogue size) recorded of.whole goes)
 
   -- without an access that is left it is over
-  pub told_whole : (rest : Rest) (told final : List Completed) → OfChain rest told final [] → (rest.requests ≡ []) × (final ≡ told)
-  told_whole rest told final of =
+  pub recorded_whole : (rest : Rest) (recorded final : List Completed) → OfChain rest recorded final [] → (rest.requests ≡ []) × (final ≡ recorded)
+  recorded_whole rest recorded final of =
       let (none, nothing) = ends catalogue size (rules_of catalogue size) (are_right catalogue size) rest.requests of.memory of.ready of.rest_is in
-      (none, of.whole ∙ (rw nothing (append-nil told)))
+      (none, of.whole ∙ (rw nothing (append-nil recorded)))
 
   -- where nothing but reads is left of it, each of its accesses looks at a slot
-  pub as_reader : {rest : Rest} {told final : List Completed} {accesses : List Access} → are_reads rest.requests ≡ true
-      → OfChain rest told final accesses → All IsLook accesses
+  pub as_reader : {rest : Rest} {recorded final : List Completed} {accesses : List Access} → are_reads rest.requests ≡ true
+      → OfChain rest recorded final accesses → All IsLook accesses
   as_reader {rest} {accesses = accesses} are of =
       let all = (reads_done catalogue size (λ _. Unit {0}) {made = 0} rest.place rest.requests (of.rest_is.front ++ accesses) of.later (λ _ _. tt) are
       of.rest_is.done).0 in
@@ -44,16 +44,17 @@ module _ (catalogue : List FileEntry) (size : ℕ) where
       behind [] l all = all
       behind (x ∷ front) l all = behind front l (All-tail IsLook x (front ++ l) all)
 
--- an idle chain is left alone: what it told and may tell is said, and its accesses look at slots
+-- an idle chain is left alone: what it answered and may answer is said, and its accesses look at
+-- slots
 pub record OfIdle (says : Completed → Type 0) (idle : Rest → Bool) (rest : Rest) (final : List Completed) (accesses : List Access) : Type 0 where
   pub is_idle : idle rest ≡ true
   pub looks : All IsLook accesses
   pub said : AllByRecursion says final
 
 module _ (catalogue : List FileEntry) (size : ℕ) (says : Completed → Type 0) (idle : Rest → Bool) (idling : AreIdle says idle) where
-  -- what it was told is said
+  -- what it answered is said
   abbrev pub IsSaid : Rest → List Completed → List Access → Type 0
-  IsSaid rest final accesses = (told : List Completed) × AllByRecursion says told × OfChain catalogue size rest told final accesses
+  IsSaid rest final accesses = (recorded : List Completed) × AllByRecursion says recorded × OfChain catalogue size rest recorded final accesses
 
   abbrev pub Plays : Rest → List Completed → List Access → Type 0
   Plays rest final accesses = OfIdle says idle rest final accesses ⊎ IsSaid rest final accesses
@@ -62,13 +63,13 @@ module _ (catalogue : List FileEntry) (size : ℕ) (says : Completed → Type 0)
   as_idle : {rest : Rest} {final : List Completed} {accesses : List Access} → idle rest ≡ true → Plays rest final accesses
       → OfIdle says idle rest final accesses
   as_idle is (inl of) = of
-  as_idle {rest} {final} {accesses} is (inr (told, said, of)) =
+  as_idle {rest} {final} {accesses} is (inr (recorded, said, of)) =
       let later = (reads_done catalogue size says rest.place rest.requests (of.rest_is.front ++ accesses) of.later
       (λ c. idling.said rest c is) (idling.reads rest is) of.rest_is.done).1 in
       record {
         is_idle = is;
         looks = as_reader catalogue size (idling.reads rest is) of;
-        said = rw of.whole (both_said says told of.later said later);
+        said = rw of.whole (both_said says recorded of.later said later);
       }
 
   -- and one that isn't
@@ -81,13 +82,13 @@ module _ (catalogue : List FileEntry) (size : ℕ) (says : Completed → Type 0)
   reading : {rest : Rest} {final : List Completed} {accesses : List Access} → are_reads rest.requests ≡ true → Plays rest final accesses
       → All IsLook accesses
   reading are (inl of) = of.looks
-  reading are (inr (told, said, of)) = as_reader catalogue size are of
+  reading are (inr (recorded, said, of)) = as_reader catalogue size are of
 
   -- without an access that is left it is idle, and all that it tells is said
   ended : {rest : Rest} {final : List Completed} → Plays rest final [] → (idle rest ≡ true) × AllByRecursion says final
   ended (inl of) = (of.is_idle, of.said)
-  ended {rest} {final} (inr (told, said, of)) =
-      let (none, whole) = told_whole catalogue size rest told final of in (idling.over rest none, rw whole said)
+  ended {rest} {final} (inr (recorded, said, of)) =
+      let (none, whole) = recorded_whole catalogue size rest recorded final of in (idling.over rest none, rw whole said)
 
   module _ (chains : ℕ) (finals : ℕ → List Completed) where
     abbrev Each : StateView → ℕ → List Access → Type 0
@@ -103,10 +104,10 @@ module _ (catalogue : List FileEntry) (size : ℕ) (says : Completed → Type 0)
         × (AllByRecursion says (step (rules_of catalogue size) (state.rests x.chain) x.access).0
         → IsSaid (step (rules_of catalogue size) (state.rests x.chain) x.access).1 (finals x.chain) (accesses_of_chain x.chain order))
     next_one {state} {x} awake comes =
-        let (told, said, of) = as_chain awake (its_first chains comes) in
-        let (next, on) = steps_on catalogue size _ told _ x.access _ of in
+        let (recorded, said, of) = as_chain awake (its_first chains comes) in
+        let (next, on) = steps_on catalogue size _ recorded _ x.access _ of in
         let now = (step (rules_of catalogue size) (state.rests x.chain) x.access).0 in
-        (next, λ saying. (told ++ now, both_said says told now said saying, on))
+        (next, λ saying. (recorded ++ now, both_said says recorded now said saying, on))
 
     -- the access of an idle chain looks at a slot, and the order goes on without it
     goes_by : {state : StateView} {x : ChainAccess} {order : List ChainAccess} → idle (state.rests x.chain) ≡ true → Comes state (x ∷ order)

@@ -2,14 +2,14 @@
 use Rattle.check_outcomes.proofs.Words.{◌≡◌, ℕ, ◌-◌, ◌<◌, ◌≤◌, List, [], ◌∷◌, ◌++◌, length, map, take, drop, refl, sym, ap, ◌∙◌, arith}
 use Rattle.check_outcomes.proofs.Words.{slice_index_or, false≢true, Vec, Completed, Completion, all_completed, completed_of, map-append, take_all}
 use Rattle.check_outcomes.proofs.Words.{get_or-map, take-append-drop, suc, ◌+◌, ◌==◌, false, Option, Some, None, append-nil, append_assoc, severs}
-use Rattle.check_outcomes.proofs.Words.{Asked, Place, next_member, canceled, eq-eqb, All, length-map, not, ◌&&◌, Contains, IsTrue, table_of_slots}
-use Rattle.check_outcomes.proofs.Words.{first_member, Request, all_asked, asked_of, get_or_from_slice_get, recursion_from_All}
-use Rattle.check_outcomes.proofs.Words.{slice_get, slice_get_within, All-map, slice_set, length-drop, map-set, all_told, answers_of, Access, Rules}
-use Rattle.check_outcomes.proofs.Words.{Settles, gone_on, moved, rest_for, settled_at, Progress, ne_eqb, drop-drop, StepsChain, list_all, asks_from}
-use Rattle.check_outcomes.proofs.Words.{rest_in, LeadsOn, IsStepTo, are_reads, has_reads_at, is_idle_at, not_begun, rules_in, runs_in, told_state_of}
-use Rattle.check_outcomes.proofs.Words.{view_in, IsExploredBy, said_by, states_of, told_by, told_states, PlayedSubmission, Claimed, PlayState}
-use Rattle.check_outcomes.proofs.Words.{is_read, IsToldOn, run_at, view_of_state, get_or-set_other, get_or-set_same, and_parts, drop_all}
-use Rattle.check_outcomes.proofs.Words.{IsAtStart, below_more, get_or_append_left, get_or_at, length-append, settled_in}
+use Rattle.check_outcomes.proofs.Words.{Asked, Place, next_member, eq-eqb, All, length-map, not, ◌&&◌, Contains, IsTrue, table_of_slots, first_member}
+use Rattle.check_outcomes.proofs.Words.{Request, all_asked, asked_of, get_or_from_slice_get, recursion_from_All, slice_get, slice_get_within, All-map}
+use Rattle.check_outcomes.proofs.Words.{slice_set, length-drop, map-set, all_recorded, answers_of, Access, Rules, Settles, gone_on, moved, rest_for}
+use Rattle.check_outcomes.proofs.Words.{settled_at, Progress, ne_eqb, drop-drop, StepsChain, list_all, asks_from, rest_in, LeadsOn, IsStepTo}
+use Rattle.check_outcomes.proofs.Words.{are_reads, has_reads_at, is_idle_at, not_begun, rules_in, runs_in, recorded_state_of, view_in, IsExploredBy}
+use Rattle.check_outcomes.proofs.Words.{said_by, states_of, recorded_by, recorded_states, PlayedSubmission, Claimed, PlayState, is_read, IsRecordedOn, run_at}
+use Rattle.check_outcomes.proofs.Words.{view_of_state, get_or-set_other, get_or-set_same, and_parts, IsAtStart, below_more, get_or_append_left}
+use Rattle.check_outcomes.proofs.Words.{get_or_at, length-append, settled_in}
 use Rattle.std.proofs.Common.{Bool, true, rules}
 use Rattle.std.specs.Cmp.Lexicographic.{pointwise}
 use Rattle.fx_chain.specs.contracts.completion.CompletionPartialEq.TheImpl.{eq-value as eq_of_completion}
@@ -39,17 +39,17 @@ set_answers before all {i} {old} mine own same within is adds =
     rw (get_or-map f before i old [] within, ← is) (map-set f all i mine ∙ (λ j. slice_set (same j) i (adds j)))
 
 -- a list is cut where the first chain's answers end
-pub cut_told : (cs : List Completion) {n m : ℕ} {own : Vec Completion} {others answers : List (Vec Completion)} → n ≡ m → answers ≡ own ∷ others
-    → all_completed (take n cs) ≡ all_completed own.items → all_completed (take (length cs - m) (drop m cs)) ≡ all_told (answers_of others)
-    → all_completed cs ≡ all_told (answers_of answers)
-cut_told cs {n} {m} same is front back =
+pub cut_recorded : (cs : List Completion) {n m : ℕ} {own : Vec Completion} {others answers : List (Vec Completion)} → n ≡ m → answers ≡ own ∷ others
+    → all_completed (take n cs) ≡ all_completed own.items → all_completed (take (length cs - m) (drop m cs)) ≡ all_recorded (answers_of others)
+    → all_completed cs ≡ all_recorded (answers_of answers)
+cut_recorded cs {n} {m} same is front back =
     let all : length (drop m cs) ≤ length cs - m = omega (arith, length-drop m cs) in
     rw (is, ← front, ← back, take_all (length cs - m) (drop m cs) all, same)
     (ap all_completed (sym (take-append-drop m cs)) ∙ map-append completed_of (take m cs) (drop m cs))
 
 -- How a chain goes on, counted in members that are done.
 
--- what was told, and one answer behind it
+-- what was recorded, and one answer behind it
 pub pushed : (before : List Completion) {after : List Completion} (c : Completion) {d : Completed} → after ≡ before ++ c ∷ [] → completed_of c ≡ d
     → all_completed after ≡ all_completed before ++ d ∷ []
 pushed before c is same = rw (is, ← same) (map-append completed_of before (c ∷ []))
@@ -66,7 +66,7 @@ settled_on rules {place = place} {passed = passed} none goes =
     let more : 1 + passed ≡ suc passed = omega arith in
     let few = goes.within in
     record {
-      told = rw none goes.told;
+      recorded = rw none goes.recorded;
       rest = rw (none, ← moved_on place passed, more) goes.rest;
       within = omega arith;
     }
@@ -74,32 +74,24 @@ settled_on rules {place = place} {passed = passed} none goes =
 -- a request that answers, and those behind it
 module _ (rules : Rules) (place : Place) (request : Asked) (last : Option Access) {requests : List Asked} {c : Completed}
     {before middle after : List Completed} {passed : ℕ} (answers : c ≡ rules.answer place request last) (first : middle ≡ before ++ c ∷ []) where
-  pub gone_cut : severs request c ≡ true → after ≡ middle ++ canceled (next_member place) requests → passed ≡ length requests
-      → Settles (gone_on rules place request requests last) (next_member place) requests before after passed
-  gone_cut cut whole all = record {
-    told = rw (← answers, cut) (rw (first, append_assoc) at whole);
-    rest = rw (← answers, cut, drop_all passed requests (omega arith)) refl;
-    within = omega arith;
-  }
-
   pub gone_past : severs request c ≡ false
       → Settles (settled_at rules (next_member place) requests) (next_member place) requests middle after passed
       → Settles (gone_on rules place request requests last) (next_member place) requests before after passed
   gone_past on settles = record {
-    told = rw (← answers, on) (rw (first, append_assoc) at settles.told);
+    recorded = rw (← answers, on) (rw (first, append_assoc) at settles.recorded);
     rest = rw (← answers, on) settles.rest;
     within = settles.within;
   }
 
 module _ {rules : Rules} {place : Place} {run : List Asked} {progress : Progress} {a : Access} where
   pub steps_over : {before : List Completed} → drop progress.done run ≡ [] → StepsChain rules place run progress a before before progress
-  steps_over {before} none = record { told = rw none (sym (append-nil before)); rest = rw none refl }
+  steps_over {before} none = record { recorded = rw none (sym (append-nil before)); rest = rw none refl }
 
   module _ {request : Asked} {requests : List Asked} (is : drop progress.done run ≡ request ∷ requests) where
     pub steps_more : {before : List Completed} {next : Progress} → (rules.count request ≡ progress.made + 1 → ⊥)
         → next.done ≡ progress.done → next.made ≡ progress.made + 1 → StepsChain rules place run progress a before before next
     steps_more {before} more done made = record {
-      told = rw (is, ne_eqb _ _ more) (sym (append-nil before));
+      recorded = rw (is, ne_eqb _ _ more) (sym (append-nil before));
       rest = rw (done, made, is, ne_eqb _ _ more) refl;
     }
 
@@ -113,7 +105,7 @@ module _ {rules : Rules} {place : Place} {run : List Asked} {progress : Progress
         let left : drop next.done run ≡ drop passed requests =
         rw (← sum) (sym (drop-drop (suc passed) progress.done run) ∙ ap (drop (suc passed)) is) in
         record {
-          told = rw (is, eq-eqb _ _ last) goes.told;
+          recorded = rw (is, eq-eqb _ _ last) goes.recorded;
           rest = rw (is, eq-eqb _ _ last)
               ((λ i. rest_for (record place { member = place_is i }) (left i) (made i)) ∙ sym goes.rest);
         }
@@ -139,8 +131,8 @@ among submission runs states there state k is table chains =
     inside_at (view_of_state submission runs) states (slice_get_within states k there is)
     (sym (get_or_from_slice_get states k there there is)) (same_view submission runs there state table chains)
 
--- whether a chain is idle of which some members are left, where nothing is told: by whether these
--- are reads and are asked for
+-- whether a chain is idle of which some members are left, where nothing is recorded: by whether
+-- these are reads and are asked for
 pub idle_some_here : (submission : PlayedSubmission) (state : PlayState) (i : ℕ) (own left : List Request) {progress : Progress} {reads asks : Bool}
     → all_asked own ≡ slice_index_or (runs_in submission) i [] → slice_index_or state.chains.items i not_begun ≡ progress
     → all_asked left ≡ drop progress.done (all_asked own) → (length left ≡ 0 → ⊥) → submission.tells ≡ false
@@ -176,56 +168,56 @@ module _ (xs : List (Vec Completion)) (x : Vec Completion) where
       rw (map-append f xs (x ∷ [])) (get_or_at (answers_of xs) (f x) [] [] i (omega (arith, length-map xs f)))
 
 -- one more chain is at its first access, where its requests settle
-pub start_more : {submission : PlayedSubmission} {told : List (Vec Completion)} {chains : List Progress} {i : ℕ} → length told ≡ i
-    → length chains ≡ i → ((k : ℕ) → k < i → IsAtStart submission told chains k) → (mine : Vec Completion) {done : ℕ}
+pub start_more : {submission : PlayedSubmission} {recorded : List (Vec Completion)} {chains : List Progress} {i : ℕ} → length recorded ≡ i
+    → length chains ≡ i → ((k : ℕ) → k < i → IsAtStart submission recorded chains k) → (mine : Vec Completion) {done : ℕ}
     → Settles (settled_in submission i) (first_member submission.number (i + 1)) (slice_index_or (runs_in submission) i []) []
     (all_completed mine.items) done
-    → (k : ℕ) → k < i + 1 → IsAtStart submission (told ++ mine ∷ []) (chains ++ record { done = done; made = 0 } ∷ []) k
-start_more {submission} {told} {chains} {i} many same each mine {done} settles =
+    → (k : ℕ) → k < i + 1 → IsAtStart submission (recorded ++ mine ∷ []) (chains ++ record { done = done; made = 0 } ∷ []) k
+start_more {submission} {recorded} {chains} {i} many same each mine {done} settles =
     let own : Progress = record { done = done; made = 0 } in
-    let all = length-append told (mine ∷ []) in
-    below_more (IsAtStart submission (told ++ mine ∷ []) (chains ++ own ∷ [])) i
+    let all = length-append recorded (mine ∷ []) in
+    below_more (IsAtStart submission (recorded ++ mine ∷ []) (chains ++ own ∷ [])) i
     (λ k low.
     let before = each k low in
     record {
       there = omega (arith, all);
-      told_is = before_it told mine k (omega arith) ∙ before.told_is;
+      recorded_is = before_it recorded mine k (omega arith) ∙ before.recorded_is;
       rest = rw (get_or_append_left chains (own ∷ []) not_begun k (omega arith)) before.rest;
     }) (record {
       there = omega (arith, all);
-      told_is = at_it told mine i many ∙ settles.told;
+      recorded_is = at_it recorded mine i many ∙ settles.recorded;
       rest = rw (get_or_at chains own [] not_begun i same) (sym settles.rest);
     })
 
--- what a chain answers comes behind what it was told, and what the others were told stays
+-- what a chain answers follows what it answered before, and the answers of the others stay
 leads_on : {submission : PlayedSubmission} {state : PlayState} {i : ℕ} {a : Access} {own : List Completed} {next : PlayState}
-    → IsStepTo submission state i a own next → IsToldOn state.telling i a own next.telling
-    → LeadsOn (rules_in submission) (told_state_of submission.number (runs_in submission) state) (i + 1) a
-    (told_state_of submission.number (runs_in submission) next)
+    → IsStepTo submission state i a own next → IsRecordedOn state.telling i a own next.telling
+    → LeadsOn (rules_in submission) (recorded_state_of submission.number (runs_in submission) state) (i + 1) a
+    (recorded_state_of submission.number (runs_in submission) next)
 leads_on {state} {i} {own} to on =
     let before : List (List Completed) = answers_of state.telling.answers.items in
     let many = length-map state.telling.answers.items (λ (v : Vec Completion). all_completed v.items) in
     record {
       leads = to.leads;
-      own = rw (← to.told, less_one i, on.answers) (get_or-set_same before i (slice_index_or before i [] ++ own) [] (omega (arith, on.there)));
+      own = rw (← to.recorded, less_one i, on.answers) (get_or-set_same before i (slice_index_or before i [] ++ own) [] (omega (arith, on.there)));
       others = λ other low apart. rw on.answers (get_or-set_other before i (other - 1) _ [] (λ same. apart (omega arith)));
       removed = on.removed;
     }
 
 -- an access is explored that leads to a state of the list, with answers that are said
-pub explored : {claimed : Claimed} {state : PlayState} {i : ℕ} {a : Access} (told : List Completion) {next : PlayState}
-    → IsStepTo claimed.submission.now state i a (all_completed told) next
-    → All (λ c. said_by claimed (completed_of c)) told
+pub explored : {claimed : Claimed} {state : PlayState} {i : ℕ} {a : Access} (recorded : List Completion) {next : PlayState}
+    → IsStepTo claimed.submission.now state i a (all_completed recorded) next
+    → All (λ c. said_by claimed (completed_of c)) recorded
     → Contains (states_of claimed) (view_in claimed.submission.now next)
-    → (IsTrue claimed.submission.now.tells → IsToldOn state.telling i a (all_completed told) next.telling)
-    → Contains (told_states claimed) (told_by claimed next)
+    → (IsTrue claimed.submission.now.tells → IsRecordedOn state.telling i a (all_completed recorded) next.telling)
+    → Contains (recorded_states claimed) (recorded_by claimed next)
     → IsExploredBy claimed state i a
-explored {claimed} told {next} to said inside on among = record {
+explored {claimed} recorded {next} to said inside on among = record {
   is = record {
-    said = rw (← to.told) (recursion_from_All (said_by claimed) (map completed_of told) (All-map (said_by claimed) completed_of told said));
+    said = rw (← to.recorded) (recursion_from_All (said_by claimed) (map completed_of recorded) (All-map (said_by claimed) completed_of recorded said));
     next = view_in claimed.submission.now next;
     inside = inside;
     leads = to.leads;
   };
-  told = λ tells. (told_by claimed next, among, leads_on to (on tells));
+  recorded = λ tells. (recorded_by claimed next, among, leads_on to (on tells));
 }

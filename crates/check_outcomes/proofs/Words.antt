@@ -8,20 +8,20 @@ pub use Rattle.fx_order.specs.declared.access.ChainAccess.{ChainAccess}
 pub use Rattle.check_outcomes.specs.Idle.{AreIdle, IsLeft, are_reads, has_none}
 pub use Rattle.fx_chain.specs.Intents.{is_read}
 pub use Rattle.check_outcomes.specs.Nodes.{AreAllStates, AreAtStart, AreClosed, EachOutcomeIsListed, HasEnd, HasTurn, IsListed, IsOver, StateView}
-pub use Rattle.check_outcomes.specs.Nodes.{told_from, ring_at}
+pub use Rattle.check_outcomes.specs.Nodes.{recorded_from, ring_at}
 pub use Rattle.check_outcomes.specs.Parts.{AreParts, Parts, StaysIn}
 pub use Rattle.check_outcomes.specs.Rests.{HasMemory, IsNext, IsNextOf, Rest, Rules, behind, over, rest_at, rules_of, settled_at, step, step_of}
 pub use Rattle.std.proofs.lemmas.Bool.{and_parts, cases_Bool, cases_eq, ne_eqb, and_from, eqb-true, le-leb, not-false}
 pub use Rattle.check_outcomes.specs.Listed.{AreAllBy, IsAnswerIn, IsAtStart, IsExploredBy, IsExploredInTurn, IsConfirmedPlay, IsPossibleIn}
-pub use Rattle.check_outcomes.specs.Listed.{IsStateExploredBy, IsToldAt, IsToldOf, OfEach, report_of_play, said_by, says, settled_in, states_of}
-pub use Rattle.check_outcomes.specs.Listed.{IsFirstState, told_by, told_states}
+pub use Rattle.check_outcomes.specs.Listed.{IsStateExploredBy, IsRecordedAt, IsRecordedOf, OfEach, report_of_play, said_by, says, settled_in, states_of}
+pub use Rattle.check_outcomes.specs.Listed.{IsFirstState, recorded_by, recorded_states}
 pub use Rattle.check_outcomes.specs.Outcomes.{HasEachAnswer, HasEachEnd, HasEachReport, IsAnswer, IsPossible, IsReportBy, MayReport, TellsOf}
 pub use Rattle.check_outcomes.specs.Outcomes.{ring_behind}
-pub use Rattle.check_outcomes.specs.Reports.{AreToldClosed, EachReportIsListed, HasReport, LeadsOn, ToldState}
+pub use Rattle.check_outcomes.specs.Reports.{AreRecordedClosed, EachReportIsListed, HasReport, LeadsOn, RecordedState}
 pub use Rattle.check_outcomes.specs.Stands.{Settles, StepsChain, asks_from, gone_on, moved, rest_for, rest_in}
-pub use Rattle.check_outcomes.specs.Tellings.{IsToldOn, all_told, answers_of}
+pub use Rattle.check_outcomes.specs.Tellings.{IsRecordedOn, all_recorded, answers_of}
 pub use Rattle.check_outcomes.specs.Views.{ArePartsIn, IsInPart, IsOverIn, IsStepTo, is_state_idle, is_idle_at, not_begun, parts_by_numbers, rules_in}
-pub use Rattle.check_outcomes.specs.Views.{HasReadsAloneIn, IsTurnOfPart, IsTurnOfReader, has_reads_at, run_at, runs_in, told_state_of, view_in}
+pub use Rattle.check_outcomes.specs.Views.{HasReadsAloneIn, IsTurnOfPart, IsTurnOfReader, has_reads_at, run_at, runs_in, recorded_state_of, view_in}
 pub use Rattle.check_outcomes.specs.Views.{view_of_state}
 pub use Rattle.check_outcomes.specs.declared.submission.Progress.{Progress}
 pub use Rattle.check_outcomes.specs.declared.closed.Claimed.{Claimed}

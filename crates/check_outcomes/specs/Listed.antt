@@ -13,12 +13,12 @@ use Rattle.fx_order.specs.declared.slots.Slots.{Slots}
 use Rattle.fx_order.specs.Access.{Permits}
 use Rattle.check_outcomes.specs.Rests.{Rest, settled_at}
 use Rattle.check_outcomes.specs.Nodes.{AreAllStates, IsExplored, StateView}
-use Rattle.check_outcomes.specs.Reports.{AreAllTold, LeadsOn, ToldState}
+use Rattle.check_outcomes.specs.Reports.{AreAllRecorded, LeadsOn, RecordedState}
 use Rattle.check_outcomes.specs.Stands.{rest_in}
-use Rattle.check_outcomes.specs.Tellings.{all_told, answers_of}
+use Rattle.check_outcomes.specs.Tellings.{all_recorded, answers_of}
 use Rattle.check_outcomes.specs.Views.{HasTurnIn, IsNextIn, IsOverIn, is_state_idle, is_idle_at}
 use Rattle.check_outcomes.specs.Views.{not_begun, rules_in}
-use Rattle.check_outcomes.specs.Views.{runs_in, told_state_of, view_in}
+use Rattle.check_outcomes.specs.Views.{runs_in, recorded_state_of, view_in}
 use Rattle.fx_ring.specs.Ring.{RingContents, RingState, ring_of}
 use Rattle.fx_ring.specs.Submission.{Reported}
 use Rattle.fx_ring.specs.declared.report.Report.{Report}
@@ -44,24 +44,24 @@ said_by claimed = says claimed.submission.now.asked claimed.answers.now
 abbrev pub states_of : Claimed → List StateView
 states_of claimed = map (view_in claimed.submission.now) claimed.found.now.states.items
 
-abbrev pub told_by : Claimed → PlayState → ToldState
-told_by claimed state =
-    told_state_of claimed.submission.now.number (runs_in claimed.submission.now) state
+abbrev pub recorded_by : Claimed → PlayState → RecordedState
+recorded_by claimed state =
+    recorded_state_of claimed.submission.now.number (runs_in claimed.submission.now) state
 
-abbrev pub told_states : Claimed → List ToldState
-told_states claimed = map (told_by claimed) claimed.found.now.states.items
+abbrev pub recorded_states : Claimed → List RecordedState
+recorded_states claimed = map (recorded_by claimed) claimed.found.now.states.items
 
--- an access leads to one of the states, and so does what is told on the way
-abbrev pub IsToldBy : Claimed → PlayState → ℕ → Access → Type 0
-IsToldBy claimed state i a =
-    (next : ToldState) × Contains (told_states claimed) next
-    × LeadsOn (rules_in claimed.submission.now) (told_by claimed state) (i + 1) a next
+-- an access leads to one of the states, and so does what is recorded on the way
+abbrev pub IsRecordedBy : Claimed → PlayState → ℕ → Access → Type 0
+IsRecordedBy claimed state i a =
+    (next : RecordedState) × Contains (recorded_states claimed) next
+    × LeadsOn (rules_in claimed.submission.now) (recorded_by claimed state) (i + 1) a next
 
--- an access is explored, and so is what is told on the way, where the submission keeps it
+-- an access is explored, and so is what is recorded on the way, where the submission keeps it
 pub record IsExploredBy (claimed : Claimed) (state : PlayState) (i : ℕ) (a : Access) : Type 0 where
   pub is : IsExplored (rules_in claimed.submission.now) (said_by claimed) (states_of claimed)
       (view_in claimed.submission.now state) (i + 1) a
-  pub told : IsTrue claimed.submission.now.tells → IsToldBy claimed state i a
+  pub recorded : IsTrue claimed.submission.now.tells → IsRecordedBy claimed state i a
 
 -- the chain's accesses are explored in its turn, unless it is idle
 abbrev pub IsExploredInTurn : Claimed → PlayState → ℕ → Type 0
@@ -81,25 +81,25 @@ settled_in submission i =
     settled_at (rules_in submission) (first_member submission.number (i + 1))
     (slice_index_or (runs_in submission) i [])
 
--- a chain is at its first access, and this is what the chains were told before, by their numbers
+-- a chain is at its first access, and this is what the chains answered before, by their numbers
 -- from 0
-pub record IsAtStart (submission : PlayedSubmission) (told : List (Vec Completion))
+pub record IsAtStart (submission : PlayedSubmission) (recorded : List (Vec Completion))
     (chains : List Progress) (i : ℕ) : Type 0 where
-  pub there : i < length told
-  pub told_is : slice_index_or (answers_of told) i [] ≡ (settled_in submission i).0
+  pub there : i < length recorded
+  pub recorded_is : slice_index_or (answers_of recorded) i [] ≡ (settled_in submission i).0
   pub rest : rest_in (first_member submission.number (i + 1))
       (slice_index_or (runs_in submission) i []) (slice_index_or chains i not_begun)
       ≡ (settled_in submission i).1
 
--- the first state of the submission at these slots, and what the chains were told before, which the
+-- the first state of the submission at these slots, and what the chains answered before, which the
 -- state has, if the submission keeps it
 pub record IsFirstState (submission : PlayedSubmission) (slots : Slots)
-    (told : List (Vec Completion)) (state : PlayState) : Type 0 where
+    (recorded : List (Vec Completion)) (state : PlayState) : Type 0 where
   pub table : table_of_slots state.slots ≡ table_of_slots slots
   pub chains : (i : ℕ) → i < length submission.chains.now
-      → IsAtStart submission told state.chains.items i
+      → IsAtStart submission recorded state.chains.items i
   pub kept : IsTrue submission.tells
-      → answers_of state.telling.answers.items ≡ answers_of told
+      → answers_of state.telling.answers.items ≡ answers_of recorded
   pub removed : state.telling.removed.items ≡ []
 
 -- the states are all of the submission at these slots, and what is answered at the place is said
@@ -108,10 +108,10 @@ pub record AreAllBy (claimed : Claimed) (slots : Slots) : Type 0 where
       → AreAllStates (is_state_idle claimed.submission.now) (said_by claimed)
       (ring_of_slots claimed.submission.now.catalogue.now slots submissions registrations)
       (all_asked claimed.submission.now.requests.now) (states_of claimed)
-  pub told : IsTrue claimed.submission.now.tells → (submissions registrations : ℕ)
-      → claimed.submission.now.number ≡ submissions + 1 → AreAllTold
+  pub recorded : IsTrue claimed.submission.now.tells → (submissions registrations : ℕ)
+      → claimed.submission.now.number ≡ submissions + 1 → AreAllRecorded
       (ring_of_slots claimed.submission.now.catalogue.now slots submissions registrations)
-      (all_asked claimed.submission.now.requests.now) (told_states claimed)
+      (all_asked claimed.submission.now.requests.now) (recorded_states claimed)
 
 -- of a submission at these slots, whatever was registered before
 abbrev pub OfEach : PlayedSubmission → Slots → (RingState → List Asked → Type 0) → Type 0
@@ -148,22 +148,23 @@ abbrev pub IsPossibleIn : PlayedSubmission → Slots → PossibleReport → Type
 IsPossibleIn submission slots possible = OfEach submission slots (λ old requests.
     IsPossible old requests possible)
 
--- a report has what was told on the way to a state
+-- a report has what was recorded on the way to a state
 pub record IsReportOf (submission : PlayedSubmission) (state : PlayState) (report : Report)
     : Type 0 where
   pub submission_is : report.submission ≡ submission.number
   pub completions : all_completed report.completions.items
-      ≡ all_told (answers_of state.telling.answers.items)
+      ≡ all_recorded (answers_of state.telling.answers.items)
   pub chains : length state.telling.answers.items ≡ length submission.chains.now
   pub closes : report.closes.files ≡ state.telling.removed.items
 
--- a report leaves the table of a state, and has what was told, where the submission keeps it
-pub record IsToldOf (submission : PlayedSubmission) (state : PlayState) (possible : PossibleReport)
-    : Type 0 where
+-- a report leaves the table of a state, and has what was recorded, where the submission keeps it
+pub record IsRecordedOf (submission : PlayedSubmission) (state : PlayState)
+    (possible : PossibleReport) : Type 0 where
   pub table : table_of_slots possible.slots ≡ table_of_slots state.slots
-  pub told : IsTrue submission.tells → IsReportOf submission state possible.report
+  pub recorded : IsTrue submission.tells → IsReportOf submission state possible.report
 
 -- where the state is over, one of the reports tells of it
-abbrev pub IsToldAt : PlayedSubmission → List PossibleReport → PlayState → Type 0
-IsToldAt submission reports state = IsOverIn submission state
-    → (possible : PossibleReport) × Contains reports possible × IsToldOf submission state possible
+abbrev pub IsRecordedAt : PlayedSubmission → List PossibleReport → PlayState → Type 0
+IsRecordedAt submission reports state = IsOverIn submission state
+    → (possible : PossibleReport) × Contains reports possible
+    × IsRecordedOf submission state possible

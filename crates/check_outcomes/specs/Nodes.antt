@@ -90,7 +90,8 @@ AreAtStart rules Begins submission chain (run ∷ runs) rests =
 pub record IsFirst (says : Completed → Type 0) (old : RingState) (requests : List Asked)
     (state : StateView) : Type 0 where
   pub table : state.table ≡ table_of old
-  pub chains : AreAtStart (rules_of old.catalogue old.size) (λ _ told. AllByRecursion says told)
+  pub chains : AreAtStart (rules_of old.catalogue old.size)
+      (λ _ recorded. AllByRecursion says recorded)
       (old.submissions + 1) 1 (runs_of requests) state.rests
 
 -- the list has the first state, and each one that is reached from it turn by turn, and what is
@@ -105,10 +106,11 @@ pub record AreAllStates (idle : Rest → Bool) (says : Completed → Type 0) (ol
   pub inside : Contains states first
   pub closed : AreClosed old.catalogue old.size idle parts says (length (runs_of requests)) states
 
--- what the chains from this one on were told, one behind another
-abbrev pub told_from : (ℕ → List Completed) → ℕ → List (List Asked) → List Completed
-told_from told chain [] = []
-told_from told chain (run ∷ runs) = told chain ++ told_from told (chain + 1) runs
+-- what the chains from this one on answered, one after another
+abbrev pub recorded_from : (ℕ → List Completed) → ℕ → List (List Asked) → List Completed
+recorded_from recorded chain [] = []
+recorded_from recorded chain (run ∷ runs) =
+    recorded chain ++ recorded_from recorded (chain + 1) runs
 
 -- the ring that a state leaves
 abbrev pub ring_at : RingState → StateView → RingState

@@ -27,7 +27,7 @@ rest_in place run progress =
 -- place on are done
 pub record Settles (now : List Completed × Rest) (place : Place) (requests : List Asked)
     (before after : List Completed) (passed : ℕ) : Type 0 where
-  pub told : after ≡ before ++ now.0
+  pub recorded : after ≡ before ++ now.0
   pub rest : now.1 ≡ rest_for (moved place passed) (drop passed requests) 0
   pub within : passed ≤ length requests
 
@@ -38,10 +38,10 @@ abbrev pub gone_on :
 gone_on rules place request requests last =
     behind rules place request requests (rules.answer place request last)
 
--- an access leads a chain on, and this is told behind what was told before
+-- an access leads a chain on, and this is recorded after what was recorded before
 pub record StepsChain (rules : Rules) (place : Place) (run : List Asked) (progress : Progress)
     (a : Access) (before after : List Completed) (next : Progress) : Type 0 where
-  pub told : after ≡ before ++ (step rules (rest_in place run progress) a).0
+  pub recorded : after ≡ before ++ (step rules (rest_in place run progress) a).0
   pub rest : rest_in place run next ≡ (step rules (rest_in place run progress) a).1
 
 -- the list has each access that the chain may make next and the table permits

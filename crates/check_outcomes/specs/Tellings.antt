@@ -1,4 +1,4 @@
--- What was told on the way to the states of the program, and the numbers of a state's files.
+-- What was recorded on the way to the states of the program, and the numbers of a state's files.
 use Rattle.std.specs.Prelude.{◌≡◌, ℕ, ◌<◌, List, [], ◌∷◌, ◌++◌, length, map, slice_index_or}
 use Rattle.std.specs.Prelude.{slice_set, IsPermutation, Option, None, Some}
 use Rattle.std.specs.Option.{option_to_list}
@@ -17,12 +17,12 @@ abbrev pub answers_of : List (Vec Completion) → List (List Completed)
 answers_of answers = map (λ own. all_completed own.items) answers
 
 -- all of it, one chain behind another
-abbrev pub all_told : List (List Completed) → List Completed
-all_told [] = []
-all_told (own ∷ others) = own ++ all_told others
+abbrev pub all_recorded : List (List Completed) → List Completed
+all_recorded [] = []
+all_recorded (own ∷ others) = own ++ all_recorded others
 
--- what was told behind an access of a chain, by the chain's number from 0, that answers this
-pub record IsToldOn (before : WayReport) (i : ℕ) (a : Access) (own : List Completed)
+-- what is recorded after an access of a chain, by the chain's number from 0, that answers this
+pub record IsRecordedOn (before : WayReport) (i : ℕ) (a : Access) (own : List Completed)
     (after : WayReport) : Type 0 where
   pub there : i < length before.answers.items
   pub answers : answers_of after.answers.items ≡ slice_set (answers_of before.answers.items) i

@@ -14,7 +14,7 @@ use Rattle.fx_order.specs.declared.slots.Slots.{Slots}
 use Rattle.check_outcomes.specs.Parts.{Parts, StaysIn}
 use Rattle.check_outcomes.specs.Idle.{are_reads}
 use Rattle.check_outcomes.specs.Nodes.{HasReadsAlone, HasTurn, IsOver, StateView, LeadsByAccess}
-use Rattle.check_outcomes.specs.Reports.{ToldState}
+use Rattle.check_outcomes.specs.Reports.{RecordedState}
 use Rattle.check_outcomes.specs.Stands.{asks_from, rest_in}
 use Rattle.check_outcomes.specs.Tellings.{answers_of}
 use Rattle.check_outcomes.specs.declared.submission.Progress.{Progress}
@@ -37,11 +37,11 @@ view_of_state submission runs state = record {
       (slice_index_or state.chains.items (chain - 1) not_begun);
 }
 
--- with what was told on the way
-abbrev pub told_state_of : ℕ → List (List Asked) → PlayState → ToldState
-told_state_of submission runs state = record {
+-- with what was recorded on the way
+abbrev pub recorded_state_of : ℕ → List (List Asked) → PlayState → RecordedState
+recorded_state_of submission runs state = record {
   state = view_of_state submission runs state;
-  told = λ chain. slice_index_or (answers_of state.telling.answers.items) (chain - 1) [];
+  recorded = λ chain. slice_index_or (answers_of state.telling.answers.items) (chain - 1) [];
   removed = state.telling.removed.items;
 }
 
@@ -57,7 +57,8 @@ rules_in submission = rules_of submission.catalogue.now submission.size
 -- an access of a chain leads to the next state, and this is answered on the way
 pub record IsStepTo (submission : PlayedSubmission) (state : PlayState) (i : ℕ) (a : Access)
     (answers : List Completed) (next : PlayState) : Type 0 where
-  pub told : answers ≡ (step (rules_in submission) ((view_in submission state).rests (i + 1)) a).0
+  pub recorded : answers
+      ≡ (step (rules_in submission) ((view_in submission state).rests (i + 1)) a).0
   pub leads : LeadsByAccess (rules_in submission) (view_in submission state) (i + 1) a
       (view_in submission next)
 

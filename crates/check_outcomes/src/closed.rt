@@ -31,23 +31,24 @@ fn is_answered(answers: &[PossibleAnswer], c: &Completion) -> bool
 }
 
 // Checks whether what was answered at the place is among the answers.
-fn are_listed(place: Option<Place>, answers: &[PossibleAnswer], told: &[Completion]) -> bool
-    ensures { IsTrue result → All (λ c. says place answers.now (completed_of c)) told.now }
+fn are_listed(place: Option<Place>, answers: &[PossibleAnswer], recorded: &[Completion]) -> bool
+    ensures { IsTrue result → All (λ c. says place answers.now (completed_of c)) recorded.now }
 {
-    told.iter()
+    recorded
+        .iter()
         .all(|c| place != Some(c.place) || is_answered(answers, c))
 }
 
-// Checks whether what the chains were told at the place is among the answers.
+// Checks whether the answers of the chains at the place are among the answers.
 fn are_all_listed(
     place: Option<Place>,
     answers: &[PossibleAnswer],
-    told: &[Vec<Completion>],
+    recorded: &[Vec<Completion>],
 ) -> bool
     ensures { IsTrue result → All (λ own. All (λ c. says place answers.now (completed_of c))
-        own.items) told.now }
+        own.items) recorded.now }
 {
-    told.iter().all(|own| are_listed(place, answers, own))
+    recorded.iter().all(|own| are_listed(place, answers, own))
 }
 
 /// The states of a search, and the answers at the place that is asked for, if there is one.
@@ -72,11 +73,11 @@ fn is_explored(
     if !state.slots.permits(access) {
         return Ok(true);
     }
-    let mut told = Vec::new(claimed.submission.alloc);
-    let Some(next) = next_state(claimed.submission, state, i, access, &mut told)? else {
+    let mut recorded = Vec::new(claimed.submission.alloc);
+    let Some(next) = next_state(claimed.submission, state, i, access, &mut recorded)? else {
         return Ok(false);
     };
-    if !are_listed(claimed.submission.asked, claimed.answers, &told) {
+    if !are_listed(claimed.submission.asked, claimed.answers, &recorded) {
         return Ok(false);
     }
     claimed.found.has(&next)
@@ -155,12 +156,12 @@ pub(crate) fn are_all_states(claimed: &Claimed<'_>, slots: &Slots) -> Result<boo
     ensures { IfOk result (λ yes. IsTrue yes → AreAllBy claimed.now slots.now) }
 {
     let submission = claimed.submission;
-    let mut told = Vec::new(submission.alloc);
-    let first = start(submission, slots, &mut told)?;
+    let mut recorded = Vec::new(submission.alloc);
+    let first = start(submission, slots, &mut recorded)?;
     if !claimed.found.is_whole
         || slots.at.len() != submission.size as usize
         || !are_parts(submission, slots, &claimed.found.numbers)
-        || !are_all_listed(submission.asked, claimed.answers, &told)
+        || !are_all_listed(submission.asked, claimed.answers, &recorded)
         || !claimed.found.has(&first)?
     {
         return Ok(false);

@@ -22,7 +22,7 @@ fn weight_of(request: &Request) -> usize {
 }
 
 // Returns the bytes that a state keeps of the answers and removed files on the way to it.
-fn weight_told(submission: &PlayedSubmission<'_>) -> usize {
+fn weight_recorded(submission: &PlayedSubmission<'_>) -> usize {
     if !submission.tells {
         return 0;
     }
@@ -50,7 +50,7 @@ fn room_for(submission: &PlayedSubmission<'_>, limits: Limits) -> usize {
     let slots = (submission.size as usize).saturating_mul(88);
     let chains = submission.chains.len().saturating_mul(32);
     let weight = slots.saturating_add(chains).saturating_add(768);
-    let weight = weight.saturating_add(weight_told(submission));
+    let weight = weight.saturating_add(weight_recorded(submission));
     limits
         .states
         .min(limits.bytes.checked_div(weight).unwrap_or(0))
@@ -87,11 +87,11 @@ impl Search {
     fn note(
         &mut self,
         place: Option<Place>,
-        told: Vec<Completion>,
+        recorded: Vec<Completion>,
         by: Option<FoundStep>,
     ) -> Result<(), NoMemory> {
         let found = &mut self.found;
-        for c in told {
+        for c in recorded {
             if place == Some(c.place) && !found.answers.contains(&c) {
                 found.answers.push(c)?;
                 found.by.push(by)?;
@@ -118,8 +118,8 @@ impl Search {
             let Some(here) = self.found.states.get(state) else {
                 return Ok(true);
             };
-            let mut told = Vec::new(submission.alloc);
-            let Some(next) = next_state(submission, here, chain, &access, &mut told)? else {
+            let mut recorded = Vec::new(submission.alloc);
+            let Some(next) = next_state(submission, here, chain, &access, &mut recorded)? else {
                 continue;
             };
             let step = FoundStep {
@@ -127,7 +127,7 @@ impl Search {
                 chain,
                 access,
             };
-            self.note(submission.asked, told, Some(step))?;
+            self.note(submission.asked, recorded, Some(step))?;
             if !self.add(next, Some(step))? {
                 return Ok(false);
             }
@@ -187,9 +187,9 @@ pub(crate) fn explore(
         open: Vec::new(alloc),
         most: room_for(submission, limits),
     };
-    let mut told = Vec::new(alloc);
-    let first = start(submission, slots, &mut told)?;
-    for own in told {
+    let mut recorded = Vec::new(alloc);
+    let first = start(submission, slots, &mut recorded)?;
+    for own in recorded {
         search.note(submission.asked, own, None)?;
     }
     let is_whole = search.add(first, None)? && search.run(submission)?;

@@ -2,7 +2,7 @@
 ghost use Rattle.std.specs.Prelude.{◌≡◌, ◌++◌, ℕ, IfOk, IsTrue, OnOk, Contains, List, map};
 ghost use Rattle.fx_chain.specs.Operation.{Asked};
 ghost use Rattle.check_outcomes.specs.Tellings.{file_numbers};
-ghost use Rattle.check_outcomes.specs.Views.{told_state_of, view_of_state};
+ghost use Rattle.check_outcomes.specs.Views.{recorded_state_of, view_of_state};
 
 use crate::parts::PartNumbers;
 use crate::state::PlayState;
@@ -147,9 +147,9 @@ impl FoundStates {
         ensures view { IfOk result (λ yes. IsTrue yes → (submission : ℕ) (runs : List (List Asked))
             → Contains (map (view_of_state submission runs) self.now.states.items)
             (view_of_state submission runs state.now)) }
-        ensures told { IfOk result (λ yes. IsTrue yes → (submission : ℕ) (runs : List (List Asked))
-            → Contains (map (told_state_of submission runs) self.now.states.items)
-            (told_state_of submission runs state.now)) }
+        ensures recorded { IfOk result (λ yes. IsTrue yes → (submission : ℕ) (runs : List (List Asked))
+            → Contains (map (recorded_state_of submission runs) self.now.states.items)
+            (recorded_state_of submission runs state.now)) }
     {
         let key = key_of(self.alloc, state)?;
         let Some(number) = self.keys.get_index_of(&key) else {

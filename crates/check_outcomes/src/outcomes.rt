@@ -8,11 +8,11 @@ ghost use Rattle.fx_chain.specs.Completed.{all_completed, completed_of};
 ghost use Rattle.fx_chain.specs.Operation.{all_asked};
 ghost use Rattle.fx_order.specs.Slots.{ring_of_slots};
 ghost use Rattle.fx_plain.specs.declared.table.TheConstants.{MOST_SLOTS};
-ghost use Rattle.check_outcomes.specs.Listed.{IsAnswerIn, IsPossibleIn, IsReportOf, IsToldAt};
-ghost use Rattle.check_outcomes.specs.Listed.{IsToldOf, OfEach};
+ghost use Rattle.check_outcomes.specs.Listed.{IsAnswerIn, IsPossibleIn, IsReportOf, IsRecordedAt};
+ghost use Rattle.check_outcomes.specs.Listed.{IsRecordedOf, OfEach};
 ghost use Rattle.check_outcomes.specs.Outcomes.{HasEachAnswer, HasEachEnd, HasEachReport};
 ghost use Rattle.check_outcomes.specs.Outcomes.{IsAnswer, IsPossible};
-ghost use Rattle.check_outcomes.specs.Tellings.{all_told, answers_of};
+ghost use Rattle.check_outcomes.specs.Tellings.{all_recorded, answers_of};
 
 use crate::closed::{Claimed, are_all_states};
 use crate::explore::explore;
@@ -121,8 +121,8 @@ fn all_confirmed(
 }
 
 // Checks whether these are the answers of the chains, one chain after another.
-fn are_told(completions: &[Completion], answers: &[Vec<Completion>]) -> bool
-    ensures { IsTrue result → all_completed completions.now ≡ all_told (answers_of answers.now) }
+fn are_recorded(completions: &[Completion], answers: &[Vec<Completion>]) -> bool
+    ensures { IsTrue result → all_completed completions.now ≡ all_recorded (answers_of answers.now) }
 {
     let [own, others @ ..] = answers else {
         return completions.is_empty();
@@ -130,7 +130,8 @@ fn are_told(completions: &[Completion], answers: &[Vec<Completion>]) -> bool
     if completions.len() < own.len() {
         return false;
     }
-    are_same_answers(&completions[..own.len()], own) && are_told(&completions[own.len()..], others)
+    are_same_answers(&completions[..own.len()], own)
+        && are_recorded(&completions[own.len()..], others)
 }
 
 // Checks whether a report has the answers and removed files on the way to a state.
@@ -141,14 +142,14 @@ fn is_report_of(submission: &PlayedSubmission<'_>, state: &PlayState, report: &R
     if report.submission != submission.number || telling.answers.len() != submission.chains.len() {
         return false;
     }
-    are_told(&report.completions, &telling.answers)
+    are_recorded(&report.completions, &telling.answers)
         && report.closes.files() == telling.removed.as_slice()
 }
 
 // Checks whether a report leaves the ring of a state, and has its answers and removed files, if the
 // submission keeps these.
 fn tells_of(submission: &PlayedSubmission<'_>, state: &PlayState, possible: &PossibleReport) -> bool
-    ensures { IsTrue result → IsToldOf submission.now state.now possible.now }
+    ensures { IsTrue result → IsRecordedOf submission.now state.now possible.now }
 {
     if !possible.slots.is_same(&state.slots) {
         return false;
@@ -157,12 +158,12 @@ fn tells_of(submission: &PlayedSubmission<'_>, state: &PlayState, possible: &Pos
 }
 
 // Checks whether the reports are those of the states in which each chain is idle, in their order.
-fn are_all_told(
+fn are_all_recorded(
     submission: &PlayedSubmission<'_>,
     states: &[PlayState],
     reports: &[PossibleReport],
 ) -> bool
-    ensures { IsTrue result → All (IsToldAt submission.now reports.now) states.now }
+    ensures { IsTrue result → All (IsRecordedAt submission.now reports.now) states.now }
 {
     let mut number: usize = 0;
     for state in states {
@@ -201,8 +202,8 @@ fn reports_of(
         found: &found,
         answers: &[],
     };
-    let are_told = are_all_told(submission, &found.states, &reports);
-    let are_all = are_told && are_all_states(&claimed, slots)?;
+    let are_recorded = are_all_recorded(submission, &found.states, &reports);
+    let are_all = are_recorded && are_all_states(&claimed, slots)?;
     let states = found.states.len();
     Ok(PossibleReports {
         reports,

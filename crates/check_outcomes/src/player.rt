@@ -50,7 +50,7 @@ fn steps_to(
 struct Player {
     state: PlayState,
     order: Vec<ChainAccess>,
-    told: Vec<Vec<Completion>>,
+    recorded: Vec<Vec<Completion>>,
     closes: Vec<Closed>,
 }
 
@@ -62,13 +62,13 @@ impl Player {
         chain: usize,
         access: Access,
     ) -> Result<bool, NoMemory> {
-        let mut told = Vec::new(submission.alloc);
-        let Some(next) = next_state(submission, &self.state, chain, &access, &mut told)? else {
+        let mut recorded = Vec::new(submission.alloc);
+        let Some(next) = next_state(submission, &self.state, chain, &access, &mut recorded)? else {
             return Ok(false);
         };
         self.state = next;
-        if let Some(own) = self.told.get_mut(chain) {
-            own.append(&mut told)?;
+        if let Some(own) = self.recorded.get_mut(chain) {
+            own.append(&mut recorded)?;
         }
         if let Some(file) = access.removed() {
             self.closes.push(file)?;
@@ -107,12 +107,12 @@ pub(crate) fn play_to(
     last: Option<FoundStep>,
 ) -> Result<OrderPlay, NoMemory> {
     let alloc = submission.alloc;
-    let mut told = Vec::new(alloc);
-    let state = start(submission, slots, &mut told)?;
+    let mut recorded = Vec::new(alloc);
+    let state = start(submission, slots, &mut recorded)?;
     let mut player = Player {
         state,
         order: Vec::new(alloc),
-        told,
+        recorded,
         closes: Vec::new(alloc),
     };
     if let Some(last) = last {
@@ -129,7 +129,7 @@ pub(crate) fn play_to(
     }
     player.closes.sort_unstable_by_key(|file| file.mark);
     let mut completions = Vec::new(alloc);
-    for mut own in player.told {
+    for mut own in player.recorded {
         completions.append(&mut own)?;
     }
     Ok(OrderPlay {

@@ -7,7 +7,7 @@ ghost use Rattle.fx_chain.specs.Operation.{asked_of};
 ghost use Rattle.std.specs.List.{list_all};
 ghost use Rattle.fx_order.specs.Slots.{table_of_slots};
 ghost use Rattle.check_outcomes.specs.Listed.{IsFirstState};
-ghost use Rattle.check_outcomes.specs.Tellings.{IsToldOn, answers_of};
+ghost use Rattle.check_outcomes.specs.Tellings.{IsRecordedOn, answers_of};
 ghost use Rattle.check_outcomes.specs.Views.{HasEachNextIn, IsOverIn, IsStepTo, has_reads_at, is_idle_at, not_begun};
 
 use crate::submission::{PlayedSubmission, Progress, chain_accesses, left, settle, step};
@@ -102,10 +102,10 @@ impl PlayState {
 pub(crate) fn start(
     submission: &PlayedSubmission<'_>,
     slots: &Slots,
-    told: &mut Vec<Vec<Completion>>,
+    recorded: &mut Vec<Vec<Completion>>,
 ) -> Result<PlayState, NoMemory>
-    requires { told.old.items ≡ [] }
-    ensures { IfOk result (IsFirstState submission.now slots.now told.new.items) }
+    requires { recorded.old.items ≡ [] }
+    ensures { IfOk result (IsFirstState submission.now slots.now recorded.new.items) }
 {
     let alloc = submission.alloc;
     let setting = OrderSetting {
@@ -119,12 +119,12 @@ pub(crate) fn start(
         let mut answers = Vec::new(alloc);
         let done = settle(&setting, submission.first(i), own, &mut answers)?;
         chains.push(Progress { done, made: 0 })?;
-        told.push(answers)?;
+        recorded.push(answers)?;
     }
     let slots = slots.copy(alloc)?;
     let mut telling = WayReport::none(alloc);
     if submission.tells {
-        push_lists(alloc, &mut telling.answers, told)?;
+        push_lists(alloc, &mut telling.answers, recorded)?;
     }
     Ok(PlayState {
         slots,
@@ -143,7 +143,7 @@ fn telling_after(
     access: &Access,
 ) -> Result<Option<WayReport>, NoMemory>
     ensures { IfOk result (λ after. IfSome after (λ after. IsTrue submission.now.tells
-        → IsToldOn telling.now i access.now (all_completed own.now) after)) }
+        → IsRecordedOn telling.now i access.now (all_completed own.now) after)) }
 {
     let alloc = submission.alloc;
     if !submission.tells {
@@ -164,13 +164,13 @@ pub(crate) fn next_state(
     state: &PlayState,
     i: usize,
     access: &Access,
-    told: &mut Vec<Completion>,
+    recorded: &mut Vec<Completion>,
 ) -> Result<Option<PlayState>, NoMemory>
-    requires { told.old.items ≡ [] }
+    requires { recorded.old.items ≡ [] }
     ensures step { IfOk result (λ next. IfSome next (IsStepTo submission.now state.now i access.now
-        (all_completed told.new.items))) }
-    ensures told { IfOk result (λ next. IfSome next (λ next. IsTrue submission.now.tells
-        → IsToldOn state.now.telling i access.now (all_completed told.new.items) next.telling)) }
+        (all_completed recorded.new.items))) }
+    ensures recorded { IfOk result (λ next. IfSome next (λ next. IsTrue submission.now.tells
+        → IsRecordedOn state.now.telling i access.now (all_completed recorded.new.items) next.telling)) }
 {
     let alloc = submission.alloc;
     if state.slots.at.len() != submission.size as usize || !state.slots.permits(access) {
@@ -189,12 +189,12 @@ pub(crate) fn next_state(
         catalogue: submission.catalogue,
         size: submission.size,
     };
-    let after = step(&setting, place, own, *progress, *access, told)?;
+    let after = step(&setting, place, own, *progress, *access, recorded)?;
     let mut chains = Vec::from_slice(alloc, &state.chains)?;
     chains[i] = after;
     let mut slots = state.slots.copy(alloc)?;
     slots.make(access);
-    let Some(telling) = telling_after(submission, &state.telling, i, told, access)? else {
+    let Some(telling) = telling_after(submission, &state.telling, i, recorded, access)? else {
         return Ok(None);
     };
     Ok(Some(PlayState {

@@ -115,17 +115,17 @@ fn cancel(
     alloc: Global,
     place: Place,
     requests: &[Request],
-    told: &mut Vec<Completion>,
+    recorded: &mut Vec<Completion>,
 ) -> Result<(), NoMemory>
     requires { place.member + length requests.now < 2 ^ 32 }
-    ensures { IfOk result (λ _. all_completed told.new.items
-        ≡ all_completed told.old.items ++ canceled place (all_asked requests.now)) }
+    ensures { IfOk result (λ _. all_completed recorded.new.items
+        ≡ all_completed recorded.old.items ++ canceled place (all_asked requests.now)) }
 {
     let [_, requests @ ..] = requests else {
         return Ok(());
     };
-    told.push(Completion::refusal(alloc, place, Errno::ECANCELED))?;
-    cancel(alloc, moved(place, 1), requests, told)
+    recorded.push(Completion::refusal(alloc, place, Errno::ECANCELED))?;
+    cancel(alloc, moved(place, 1), requests, recorded)
 }
 
 /// Answers the requests of a chain from this place on that don't use the table, up to the first one
@@ -138,14 +138,14 @@ pub fn settle(
     setting: &OrderSetting<'_>,
     place: Place,
     requests: &[Request],
-    told: &mut Vec<Completion>,
+    recorded: &mut Vec<Completion>,
 ) -> Result<usize, NoMemory>
     requires limits { All (λ r. IsWithinLimits (asked_of r)) requests.now }
     requires members { place.member + length requests.now < 2 ^ 32 }
     ensures { IfOk result (Settles
         (settled_at (rules_of setting.now.catalogue.now setting.now.size) place
         (all_asked requests.now)) place (all_asked requests.now)
-        (all_completed told.old.items) (all_completed told.new.items)) }
+        (all_completed recorded.old.items) (all_completed recorded.new.items)) }
 {
     let [request, behind @ ..] = requests else {
         return Ok(0);
@@ -153,7 +153,7 @@ pub fn settle(
     if count_of(setting.catalogue, setting.size, request) != 0 {
         return Ok(0);
     }
-    Ok(1 + go_on(setting, place, request, behind, None, told)?)
+    Ok(1 + go_on(setting, place, request, behind, None, recorded)?)
 }
 
 // Returns what the last access found, if there is one.
@@ -175,7 +175,7 @@ fn go_on(
     request: &Request,
     behind: &[Request],
     last: Option<Access>,
-    told: &mut Vec<Completion>,
+    recorded: &mut Vec<Completion>,
 ) -> Result<usize, NoMemory>
     requires own { IsWithinLimits (asked_of request.now) }
     requires limits { All (λ r. IsWithinLimits (asked_of r)) behind.now }
@@ -185,19 +185,19 @@ fn go_on(
         (gone_on (rules_of setting.now.catalogue.now setting.now.size) place
         (asked_of request.now) (all_asked behind.now) last) (next_member place)
         (all_asked behind.now)
-        (all_completed told.old.items) (all_completed told.new.items)) }
+        (all_completed recorded.old.items) (all_completed recorded.new.items)) }
 {
     let (alloc, catalogue) = (setting.alloc, setting.catalogue);
     let found = finding_in(last);
     let c = answer_of(alloc, catalogue, setting.size, place, request, found)?;
     let severs = request.severs(&c);
-    told.push(c)?;
+    recorded.push(c)?;
     let next = moved(place, 1);
     if severs {
-        cancel(alloc, next, behind, told)?;
+        cancel(alloc, next, behind, recorded)?;
         return Ok(behind.len());
     }
-    settle(setting, next, behind, told)
+    settle(setting, next, behind, recorded)
 }
 
 /// Returns the members of a chain after its first `done` members.
@@ -224,7 +224,7 @@ pub fn step(
     members: &[Request],
     progress: Progress,
     access: Access,
-    told: &mut Vec<Completion>,
+    recorded: &mut Vec<Completion>,
 ) -> Result<Progress, NoMemory>
     requires limits { All (λ r. IsWithinLimits (asked_of r)) members.now }
     requires members { place.member + length members.now < 2 ^ 32 }
@@ -233,7 +233,7 @@ pub fn step(
     ensures { IfOk result (StepsChain
         (rules_of setting.now.catalogue.now setting.now.size) place
         (all_asked members.now) progress access
-        (all_completed told.old.items) (all_completed told.new.items)) }
+        (all_completed recorded.old.items) (all_completed recorded.new.items)) }
 {
     let Progress { done, made } = progress;
     let [request, behind @ ..] = left(members, done) else {
@@ -246,7 +246,7 @@ pub fn step(
         });
     }
     let here = moved(place, done as u32);
-    let passed = go_on(setting, here, request, behind, Some(access), told)?;
+    let passed = go_on(setting, here, request, behind, Some(access), recorded)?;
     Ok(Progress {
         done: done + 1 + passed,
         made: 0,

@@ -3,7 +3,7 @@ ghost use Rattle.std.specs.Prelude.{◌≡◌, ◌++◌, ◌<◌, [], IfOk, IsPe
 ghost use Rattle.std.specs.Option.{option_to_list};
 ghost use Rattle.fx_chain.specs.Completed.{all_completed};
 ghost use Rattle.fx_order.specs.Access.{file_removed_by};
-ghost use Rattle.check_outcomes.specs.Tellings.{IsToldOn, answers_of};
+ghost use Rattle.check_outcomes.specs.Tellings.{IsRecordedOn, answers_of};
 
 use fx_base::{Closed, NoMemory};
 use fx_chain::Completion;
@@ -106,7 +106,7 @@ impl WayReport {
         access: &Access,
     ) -> Result<WayReport, NoMemory>
         requires { i < length self.now.answers.items }
-        ensures { IfOk result (IsToldOn self.now i access.now (all_completed own.now)) }
+        ensures { IfOk result (IsRecordedOn self.now i access.now (all_completed own.now)) }
     {
         let mut answers = Vec::new(alloc);
         push_lists(alloc, &mut answers, &self.answers)?;

@@ -1,4 +1,4 @@
-use Rattle.check_outcomes.proofs.ToldStates.{each_report_is_listed}
+use Rattle.check_outcomes.proofs.RecordedStates.{each_report_is_listed}
 use Rattle.check_outcomes.proofs.laws.each_report_is_listed.Goals as goal
 
 pub returns : goal.returns

@@ -2,8 +2,8 @@ use Rattle.check_outcomes.proofs.Words.{◌≡◌, ◌∙◌, sym, slice_eq-Deci
 use Rattle.std.proofs.Common.{rules}
 use Rattle.check_outcomes.proofs.outcomes.is_report_of.Goals as goal
 
-pub returns-then-are_told : goal.returns-then-are_told
-returns-then-are_told c = λ is.
+pub returns-then-are_recorded : goal.returns-then-are_recorded
+returns-then-are_recorded c = λ is.
     let closes : c.args.report.now.closes.files ≡ c.args.state.now.telling.removed.items =
     sym c.files.ensures ∙ (slice_eq-Decides file_Decides _ _ _ c.eq.ensures).0 is ∙ c.as_slice.ensures.value in
     search (rules, closes)

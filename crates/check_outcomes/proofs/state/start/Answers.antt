@@ -5,7 +5,7 @@ use Rattle.check_outcomes.proofs.state.start.Goals as goal
 
 pub loop-i-init : goal.loop-i-init
 loop-i-init c = record {
-  told = rw c.requires refl;
+  recorded = rw c.requires refl;
   chains = rw c.new-chains.ensures.items refl;
   each = λ k low. absurd (omega (arith, low));
 }
@@ -15,9 +15,9 @@ loop-i-preserved c =
     let before = c.loop-i.invariant in
     let settles = rw (c.first.ensures, c.members-own.ensures.run, c.new-answers.ensures.items) at c.in_ok-done.ensures in
     record {
-      told = rw c.in_ok-push-2.ensures.items (omega (arith, before.told, length-append c.loop-i.told.items (c.settle.new.told ∷ [])));
+      recorded = rw c.in_ok-push-2.ensures.items (omega (arith, before.recorded, length-append c.loop-i.recorded.items (c.settle.new.recorded ∷ [])));
       chains = rw c.in_ok-push.ensures.items (omega (arith, before.chains, length-append c.loop-i.chains.items (record { done = c.in_ok-done.done; made = 0 } ∷ [])));
-      each = rw (c.in_ok-push-2.ensures.items, c.in_ok-push.ensures.items) (start_more before.told before.chains before.each c.settle.new.told settles);
+      each = rw (c.in_ok-push-2.ensures.items, c.in_ok-push.ensures.items) (start_more before.recorded before.chains before.each c.settle.new.recorded settles);
     }
 
 pub returns : goal.returns

@@ -11,6 +11,6 @@ settle-returns t c =
 pub go_on-returns : goal.go_on-returns
 go_on-returns t c = IfOk-weaker c.settle.result _ _
     (λ passed settles. gone_past (rules_of c.args.setting.now.catalogue.now c.args.setting.now.size) c.args.place (asked_of c.args.request.now)
-    c.args.last (rw c.finding_in-found.ensures at c.in_ok-c.ensures) (pushed c.args.told.now.items c.in_ok-c.c c.in_ok-push.ensures.items refl)
+    c.args.last (rw c.finding_in-found.ensures at c.in_ok-c.ensures) (pushed c.args.recorded.now.items c.in_ok-c.c c.in_ok-push.ensures.items refl)
     (sym c.severs-severs.ensures ∙ c.if-severs.false) (rw c.moved-next.ensures at settles))
     c.settle.ensures

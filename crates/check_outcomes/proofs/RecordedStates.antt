@@ -1,27 +1,27 @@
--- An order goes through the states of a closed list with what is told, up to one where no chain has
--- an access left.
+-- An order goes through the states of a closed list with what is recorded, up to one where no chain
+-- has an access left.
 use Rattle.check_outcomes.proofs.Words.{◌≡◌, ℕ, ◌≤◌, List, [], ◌∷◌, ◌++◌, refl, ap, append_assoc, FileEntry, append-nil, ◌==◌, length, Asked}
 use Rattle.check_outcomes.proofs.Words.{Completed, Table, table_after, files_removed_in, Closed, accesses_of, IsPermutation, Contains, true}
-use Rattle.check_outcomes.proofs.Words.{IsPermutation-trans, IsPermutation-sym, ChainAccess, Access, rules_of, IsOver, has_none, Parts, AreToldClosed}
-use Rattle.check_outcomes.proofs.Words.{LeadsOn, ToldState, IsPermutation-append_left, ◌+◌, sym, ◌∙◌, arith, runs_of, recursion_from_All, HasMemory}
+use Rattle.check_outcomes.proofs.Words.{IsPermutation-trans, IsPermutation-sym, ChainAccess, Access, rules_of, IsOver, has_none, Parts, AreRecordedClosed}
+use Rattle.check_outcomes.proofs.Words.{LeadsOn, RecordedState, IsPermutation-append_left, ◌+◌, sym, ◌∙◌, arith, runs_of, recursion_from_All, HasMemory}
 use Rattle.check_outcomes.proofs.Words.{EachReportIsListed}
-use Rattle.check_outcomes.proofs.Playing.{OfChain, as_reader, steps_on, told_whole}
+use Rattle.check_outcomes.proofs.Playing.{OfChain, as_reader, steps_on, recorded_whole}
 use Rattle.check_outcomes.proofs.InTurn.{IsInTurn, OrderGoesOn, first_within, its_first, past_first, has_turn}
-use Rattle.check_outcomes.proofs.First.{find, told_same}
+use Rattle.check_outcomes.proofs.First.{find, recorded_same}
 use Rattle.check_outcomes.proofs.TurnByTurn.{order_in_turn}
 
 module _ (catalogue : List FileEntry) (size chains : ℕ) (finals : ℕ → List Completed) (files : List Closed) where
   -- how each chain goes on from a state
-  abbrev Each : ToldState → ℕ → List Access → Type 0
-  Each here chain accesses = OfChain catalogue size (here.state.rests chain) (here.told chain) (finals chain) accesses
+  abbrev Each : RecordedState → ℕ → List Access → Type 0
+  Each here chain accesses = OfChain catalogue size (here.state.rests chain) (here.recorded chain) (finals chain) accesses
 
   -- an order goes on from a state
-  pub record Comes (here : ToldState) (order : List ChainAccess) : Type 0 where
+  pub record Comes (here : RecordedState) (order : List ChainAccess) : Type 0 where
     pub goes : OrderGoesOn chains here.state.table (Each here) order
     pub closed : IsPermutation (here.removed ++ files_removed_in (accesses_of order)) files
 
   -- behind its first access, which is one that its chain may make next
-  past : {here next : ToldState} {x : ChainAccess} {order : List ChainAccess} → Comes here (x ∷ order)
+  past : {here next : RecordedState} {x : ChainAccess} {order : List ChainAccess} → Comes here (x ∷ order)
       → LeadsOn (rules_of catalogue size) here x.chain x.access next → Comes next order
   past {next = next} {x} {order} comes to = record {
     goes = past_first chains comes.goes (Each next) to.leads.table
@@ -32,26 +32,26 @@ module _ (catalogue : List FileEntry) (size chains : ℕ) (finals : ℕ → List
   }
 
   -- where the order is over
-  pub record Ended (table : Table) (here : ToldState) : Type 0 where
+  pub record Ended (table : Table) (here : RecordedState) : Type 0 where
     pub over : IsOver has_none chains here.state
-    pub told : (chain : ℕ) → 1 ≤ chain → chain ≤ chains → finals chain ≡ here.told chain
+    pub recorded : (chain : ℕ) → 1 ≤ chain → chain ≤ chains → finals chain ≡ here.recorded chain
     pub closed : IsPermutation here.removed files
     pub table_is : here.state.table ≡ table
 
   -- a chain without an access that is left is over
-  over_at : (here : ToldState) (chain : ℕ) {accesses : List Access} → Each here chain accesses → accesses ≡ []
+  over_at : (here : RecordedState) (chain : ℕ) {accesses : List Access} → Each here chain accesses → accesses ≡ []
       → has_none (here.state.rests chain) ≡ true
-  over_at here chain of none = ap (λ (l : List Asked). length l == 0) (told_whole catalogue size _ _ _ (rw none at of)).0
+  over_at here chain of none = ap (λ (l : List Asked). length l == 0) (recorded_whole catalogue size _ _ _ (rw none at of)).0
 
-  pub runs_on : (states : List ToldState) (parts : Parts) → AreToldClosed catalogue size parts chains states → (order : List ChainAccess)
-      → IsInTurn parts.of_chain order → {here : ToldState} → Contains states here → Comes here order
-      → (end : ToldState) × Contains states end × Ended (table_after here.state.table (accesses_of order)) end
+  pub runs_on : (states : List RecordedState) (parts : Parts) → AreRecordedClosed catalogue size parts chains states → (order : List ChainAccess)
+      → IsInTurn parts.of_chain order → {here : RecordedState} → Contains states here → Comes here order
+      → (end : RecordedState) × Contains states end × Ended (table_after here.state.table (accesses_of order)) end
   runs_on states parts closed [] by {here} there comes = (
     here,
     there,
     record {
       over = λ chain low high. over_at here chain (comes.goes.each chain low high) refl;
-      told = λ chain low high. (told_whole catalogue size _ _ _ (comes.goes.each chain low high)).1;
+      recorded = λ chain low high. (recorded_whole catalogue size _ _ _ (comes.goes.each chain low high)).1;
       closed = rw append-nil at comes.closed;
       table_is = refl;
     },
@@ -71,12 +71,12 @@ pub each_report_is_listed : EachReportIsListed
 each_report_is_listed old requests states all report left memory any =
     let runs = runs_of requests in
     let one = order_in_turn all.parts old requests report left all.apart any in
-    let f = find old.catalogue old.size report.submission one.order all.first.state.rests (λ q told. all.first.told q ≡ told) 1 runs report.completions (recursion_from_All HasMemory report.completions memory) one.is.done (rw one.is.submission all.begins.chains) in
+    let f = find old.catalogue old.size report.submission one.order all.first.state.rests (λ q recorded. all.first.recorded q ≡ recorded) 1 runs report.completions (recursion_from_All HasMemory report.completions memory) one.is.done (rw one.is.submission all.begins.chains) in
     let comes : Comes old.catalogue old.size (length runs) f.finals report.closes.files all.first one.order = record {
       goes = record {
         permitted = rw all.begins.table one.is.permitted;
         within = one.is.chains;
-        each = λ q low high. let (told, begins, goes) = f.each q low (omega arith) in rw begins goes;
+        each = λ q low high. let (recorded, begins, goes) = f.each q low (omega arith) in rw begins goes;
       };
       closed = rw all.begins.removed one.is.closed.same_files;
     } in
@@ -86,7 +86,7 @@ each_report_is_listed old requests states all report left memory any =
       here = end;
       inside = inside;
       over = run.over;
-      completions = f.whole ∙ told_same f.finals end.told 1 runs (λ q low high. run.told q low (omega arith));
+      completions = f.whole ∙ recorded_same f.finals end.recorded 1 runs (λ q low high. run.recorded q low (omega arith));
       closes = run.closed;
       leaves = one.after ∙ (λ i. record old {
         at = ((sym (run.table_is ∙ ap (λ (t : Table). table_after t (accesses_of one.order)) all.begins.table)) i).at;
