@@ -70,7 +70,7 @@ impl NoVerdict {
     ///
     /// # Errors
     /// The error of the write, if it fails.
-    pub fn tell(&self, rt: &HostRuntime) -> io::Result<()> {
+    pub fn print(&self, rt: &HostRuntime) -> io::Result<()> {
         match self {
             NoVerdict::Refused(refusal) => refusal.tell(rt, "fixcheck"),
             other => eprintln!(rt; "fixcheck: {other}"),

@@ -78,7 +78,13 @@ impl Question<'_> {
 
 // Prints that a submission has more states than were met, unless the search began a moment ago.
 // What can't be printed is left out.
-fn tell(rt: &HostRuntime, begin: &Instant, judgement: &Judgement, states: usize, limits: Limits) {
+fn note_states(
+    rt: &HostRuntime,
+    begin: &Instant,
+    judgement: &Judgement,
+    states: usize,
+    limits: Limits,
+) {
     let (Judgement::Undecided(submission, _), Ok(passed)) = (judgement, begin.elapsed(rt)) else {
         return;
     };
@@ -121,7 +127,7 @@ pub fn judged(
         if !matches!(&judgement, Judgement::Undecided(..)) {
             return Ok(judgement);
         }
-        tell(rt, &begin, &judgement, states, limits);
+        note_states(rt, &begin, &judgement, states, limits);
         states = states.saturating_mul(LARGER);
     }
     judge(alloc, script, text, limits)
@@ -136,6 +142,38 @@ struct Shown<'a> {
     rest: &'a [u8],
 }
 
+// Returns the ring after the expected lines of a call, and the number of commands after which the
+// ring is so.
+fn after_expected(
+    question: &Question<'_>,
+    broken: &Break,
+    ring: RingSlots,
+    expected: &str,
+) -> Result<Option<(RingSlots, usize)>, NoMemory> {
+    // nothing prints an empty line, so this text breaks after the call's lines, and the break
+    // has the ring
+    let text = format!(in question.alloc; "{expected}\n")?;
+    let limits = Limits {
+        states: 1,
+        bytes: 1,
+    };
+    let (alloc, commands) = (question.alloc, broken.commands);
+    let text = text.as_bytes();
+    match judge_from(alloc, question.script, commands, ring, text, limits)? {
+        Some(Judgement::NotLegal(next)) if next.commands > 0 => {
+            Ok(Some((next.ring, next.commands)))
+        }
+        _ => Ok(None),
+    }
+}
+
+// Checks whether a line says that the call, or the submission, with this first line was refused.
+fn is_refusal(line: &[u8], expected: &[u8]) -> bool {
+    let (word, result) = cut_word(line);
+    let refuses = result.starts_with(b"-") || result.starts_with(b"refused ");
+    refuses && word == cut_word(expected).0
+}
+
 // Returns the ring after a call, or after a refused submission, whose first line is this one, and
 // the number of commands after which the ring is so. It is the expected ring if the line is the
 // expected one, and the ring before the call if the line says that it was refused.
@@ -145,32 +183,14 @@ fn after_line(
     line: &[u8],
 ) -> Result<Option<(RingSlots, usize)>, NoMemory> {
     let ring = copy_of(question.alloc, &broken.ring)?;
-    let expected = match &broken.fault {
-        Fault::Text(expected) => expected.as_str(),
-        _ => "submit",
-    };
-    if matches!(broken.fault, Fault::Text(_)) && next_line(expected.as_bytes()).0 == line {
-        // nothing prints an empty line, so this text breaks after the call's lines, and the break
-        // has the ring
-        let text = format!(in question.alloc; "{expected}\n")?;
-        let limits = Limits {
-            states: 1,
-            bytes: 1,
-        };
-        let (alloc, commands) = (question.alloc, broken.commands);
-        let text = text.as_bytes();
-        let judgement = judge_from(alloc, question.script, commands, ring, text, limits)?;
-        return Ok(match judgement {
-            Some(Judgement::NotLegal(next)) if next.commands > 0 => {
-                Some((next.ring, next.commands))
-            }
-            _ => None,
-        });
+    match &broken.fault {
+        Fault::Text(expected) if next_line(expected.as_bytes()).0 == line => {
+            after_expected(question, broken, ring, expected.as_str())
+        }
+        Fault::Text(expected) if is_refusal(line, expected.as_bytes()) => Ok(Some((ring, 1))),
+        Fault::Line(..) | Fault::Order(..) if is_refusal(line, b"submit") => Ok(Some((ring, 1))),
+        _ => Ok(None),
     }
-    let (word, result) = cut_word(line);
-    let is_refusal = result.starts_with(b"-") || result.starts_with(b"refused ");
-    let is_that = is_refusal && word == cut_word(expected.as_bytes()).0;
-    Ok(is_that.then_some((ring, 1)))
 }
 
 // Returns what a text shows after the command at which it breaks, or `None` if it shows no ring. It

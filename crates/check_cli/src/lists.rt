@@ -5,7 +5,7 @@ ghost use Rattle.check_cli.specs.Status.{all_status, may_status};
 
 use check_explain::{GotWords, PlaceWords, access_places};
 use check_lines::accepted_in;
-use check_texts::{AllTexts, Past, RequestAnswers};
+use check_texts::{AllTexts, Past, RequestAnswers, Said};
 use fx_arguments::fixcheck::Settings;
 use fx_base::NoMemory;
 use fx_chain::{Completion, Place, Request};
@@ -96,42 +96,59 @@ impl<'a> ListedOrders<'a> {
         })
     }
 
-    // Appends the line of an order, by its number in the list.
-    fn push(&self, report: &mut String, number: usize) -> Result<(), NoMemory> {
-        let Some(past) = self.orders.get(number) else {
-            return Ok(());
-        };
+    // Returns for each chain of the submission of an order the places of its accesses, the first
+    // one last.
+    fn chains_of(&self, past: &Past) -> Result<Vec<Vec<AccessPlace>>, NoMemory> {
         let nth = (past.submission as usize).saturating_sub(1);
         let requests = self.submissions.get(nth).copied().unwrap_or(&[]);
         let size = u32::try_from(past.size).unwrap_or(0);
-        // for each chain the places of the accesses that aren't made yet, the next one last
         let mut chains = access_places(self.alloc, self.script.catalogue(), size, requests)?;
-        for rest in &mut chains {
-            rest.reverse();
+        for places in &mut chains {
+            places.reverse();
         }
-        let mut places = Vec::new(self.alloc);
+        Ok(chains)
+    }
+
+    // Returns the places of the accesses of an order.
+    fn places_of(&self, past: &Past) -> Result<Vec<AccessPlace>, NoMemory> {
+        let (mut left, mut places) = (self.chains_of(past)?, Vec::new(self.alloc));
         for made in &past.order {
-            if let Some(rest) = chains.get_mut((made.chain as usize).saturating_sub(1))
+            if let Some(rest) = left.get_mut((made.chain as usize).saturating_sub(1))
                 && let Some(place) = rest.pop()
             {
                 places.push(place)?;
             }
         }
+        Ok(places)
+    }
+
+    // Appends the line of an order, by its number in the list.
+    fn push(&self, report: &mut String, number: usize) -> Result<(), NoMemory> {
+        let Some(past) = self.orders.get(number) else {
+            return Ok(());
+        };
+        let places = self.places_of(past)?;
         Ok(push_order(report, past.submission, &places)?)
     }
 
-    // Appends the line of an order, by its number in the list, after those of the orders that lead
-    // to it, each after two spaces.
-    fn push_way(&self, report: &mut String, last: usize) -> Result<(), NoMemory> {
+    // Returns the numbers of the orders that lead to an order, from that one back to the first.
+    fn way_back(&self, last: usize) -> Result<Vec<usize>, AllocError> {
         let (mut way, mut next) = (Vec::new(self.alloc), Some(last));
         for _ in 0..self.orders.len() {
-            let Some((i, past)) = next.and_then(|i| Some((i, self.orders.get(i)?))) else {
+            let Some(i) = next else { break };
+            let Some(past) = self.orders.get(i) else {
                 break;
             };
             way.push(i)?;
             next = past.before;
         }
-        for i in way.iter().rev() {
+        Ok(way)
+    }
+
+    // Appends the line of an order, by its number in the list, after those of the orders that lead
+    // to it, each after two spaces.
+    fn push_way(&self, report: &mut String, last: usize) -> Result<(), NoMemory> {
+        for i in self.way_back(last)?.iter().rev() {
             report.push_str("  ")?;
             self.push(report, *i)?;
         }
@@ -148,6 +165,35 @@ fn push_limits(report: &mut String, settings: Settings<'_>) -> Result<(), AllocE
     )
 }
 
+// Appends the lines of the answers, each with the orders that lead to it.
+fn push_answers(
+    report: &mut String,
+    orders: &ListedOrders<'_>,
+    answers: &[Said],
+) -> Result<(), NoMemory> {
+    for said in answers {
+        let Completion { place, res, got } = &said.completion;
+        let (place, got) = (PlaceWords(*place), GotWords(got.as_slice()));
+        write!(report, "{place} {res}{got}\n")?;
+        orders.push_way(report, said.past)?;
+    }
+    Ok(())
+}
+
+// Appends the line that says whether these are all answers.
+fn push_are_all(
+    report: &mut String,
+    settings: Settings<'_>,
+    are_all: bool,
+) -> Result<(), AllocError> {
+    if are_all {
+        return report.push_str("these are all, if no allocation fails\n");
+    }
+    report.push_str("at least these, if no allocation fails")?;
+    push_limits(report, settings)?;
+    report.push('\n')
+}
+
 /// Returns the lines of the answers, each with the orders that lead to it, and a last line that
 /// says whether these are all.
 pub(crate) fn listing_of_answers(
@@ -156,21 +202,10 @@ pub(crate) fn listing_of_answers(
     settings: Settings<'_>,
     may: &RequestAnswers,
 ) -> Result<String, NoMemory> {
-    let mut report = String::new(alloc);
     let orders = ListedOrders::new(alloc, script, &may.orders)?;
-    for said in &may.answers {
-        let Completion { place, res, got } = &said.completion;
-        let (place, got) = (PlaceWords(*place), GotWords(got.as_slice()));
-        write!(report, "{place} {res}{got}\n")?;
-        orders.push_way(&mut report, said.past)?;
-    }
-    if may.are_all {
-        report.push_str("these are all, if no allocation fails\n")?;
-    } else {
-        report.push_str("at least these, if no allocation fails")?;
-        push_limits(&mut report, settings)?;
-        report.push('\n')?;
-    }
+    let mut report = String::new(alloc);
+    push_answers(&mut report, &orders, &may.answers)?;
+    push_are_all(&mut report, settings, may.are_all)?;
     Ok(report)
 }
 
@@ -198,6 +233,24 @@ fn push_count(
     report.push('\n')
 }
 
+// Appends the number, the lines and the orders of each text.
+fn push_texts(
+    report: &mut String,
+    orders: &ListedOrders<'_>,
+    all: &AllTexts,
+) -> Result<(), NoMemory> {
+    for (i, (text, by)) in all.texts.iter().zip(&all.by).enumerate() {
+        write!(report, "\ntext {}\n", i.saturating_add(1))?;
+        for line in text.as_str().lines() {
+            write!(report, "    {line}\n")?;
+        }
+        for number in by {
+            orders.push(report, *number)?;
+        }
+    }
+    Ok(())
+}
+
 /// Returns the lines of the list: the number of texts, and of each text that was made the number,
 /// the lines and the orders.
 pub(crate) fn listing_of_texts(
@@ -206,17 +259,9 @@ pub(crate) fn listing_of_texts(
     settings: Settings<'_>,
     all: &AllTexts,
 ) -> Result<String, NoMemory> {
+    let orders = ListedOrders::new(alloc, script, &all.orders)?;
     let mut report = String::new(alloc);
     push_count(&mut report, settings, all)?;
-    let orders = ListedOrders::new(alloc, script, &all.orders)?;
-    for (i, (text, by)) in all.texts.iter().zip(&all.by).enumerate() {
-        write!(report, "\ntext {}\n", i.saturating_add(1))?;
-        for line in text.as_str().lines() {
-            write!(report, "    {line}\n")?;
-        }
-        for number in by {
-            orders.push(&mut report, *number)?;
-        }
-    }
+    push_texts(&mut report, &orders, all)?;
     Ok(report)
 }

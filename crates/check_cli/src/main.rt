@@ -95,6 +95,43 @@ fn list_texts(
     Ok(status_of_texts(&all))
 }
 
+// Prints a judgement: the verdict, or what the settings ask for.
+fn print_judgement(
+    rt: &HostRuntime,
+    question: &Question<'_>,
+    judgement: Judgement,
+) -> Result<(), NoVerdict> {
+    let settings = question.settings;
+    match judgement {
+        Judgement::Legal(orders) if settings.history => {
+            print_history(rt, question, orders.as_slice())
+        }
+        Judgement::NotLegal(first) if settings.keep_going => {
+            write(
+                rt,
+                breaks_text(question, limits_of(settings), first)?.as_str(),
+            )
+        }
+        judgement => write(rt, verdict_text(question, &judgement)?.as_str()),
+    }
+}
+
+// Judges a text that was read from a path, and prints the verdict. Returns the exit status.
+fn judge_text(rt: &HostRuntime, question: &Question<'_>, path: &str) -> Result<u8, NoVerdict> {
+    let judgement = judged(
+        rt,
+        question.script,
+        question.text,
+        limits_of(question.settings),
+    )?;
+    let status = status_of(&judgement);
+    if matches!(&judgement, Judgement::NotLegal(_)) {
+        note_script(rt, path, question.text)?;
+    }
+    print_judgement(rt, question, judgement)?;
+    Ok(status)
+}
+
 // Judges the text at a path, and prints the verdict. Returns the exit status.
 fn print_verdict(
     rt: &HostRuntime,
@@ -112,22 +149,7 @@ fn print_verdict(
         text: &text,
         settings,
     };
-    let limits = limits_of(settings);
-    let judgement = judged(rt, script, &text, limits)?;
-    let status = status_of(&judgement);
-    if matches!(&judgement, Judgement::NotLegal(_)) {
-        note_script(rt, path, &text)?;
-    }
-    match judgement {
-        Judgement::Legal(orders) if settings.history => {
-            print_history(rt, &question, orders.as_slice())?;
-        }
-        Judgement::NotLegal(first) if settings.keep_going => {
-            write(rt, breaks_text(&question, limits, first)?.as_str())?;
-        }
-        judgement => write(rt, verdict_text(&question, &judgement)?.as_str())?,
-    }
-    Ok(status)
+    judge_text(rt, &question, path)
 }
 
 // Does what the arguments ask for. Returns the exit status.
@@ -149,7 +171,7 @@ fn main(rt: HostRuntime) -> ExitCode {
         Ok(status) => ExitCode::from(status),
         Err(ending) => {
             // Nothing can be done if standard error fails.
-            let _ = ending.tell(&rt);
+            let _ = ending.print(&rt);
             ExitCode::from(ending.status())
         }
     }

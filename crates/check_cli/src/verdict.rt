@@ -14,6 +14,7 @@ use check_search::{Doubt, Limits};
 use fx_arguments::fixcheck::Settings;
 use fx_base::NoMemory;
 use fx_chain::Request;
+use fx_order::Order;
 use std::alloc::AllocError;
 
 /// Returns the exit status of a verdict: 0 for legal, 1 for not legal, 6 for undecided.
@@ -45,6 +46,16 @@ fn push_found(
     )
 }
 
+// Appends numbers of lines, after the word for them.
+fn push_numbers(report: &mut String, first: usize, lines: &[usize]) -> Result<(), AllocError> {
+    report.push_str(if lines.len() == 1 { "line " } else { "lines " })?;
+    for (i, line) in lines.iter().enumerate() {
+        let sign = sign_before(i, lines.len(), " and ");
+        write!(report, "{sign}{}", first.saturating_add(*line))?;
+    }
+    Ok(())
+}
+
 // Appends the numbers of the lines at some places of the text, the reason why they conflict, and
 // the lines.
 fn push_conflict(
@@ -55,11 +66,7 @@ fn push_conflict(
     why: &str,
 ) -> Result<(), AllocError> {
     let first = line_number(question.text, from);
-    report.push_str(if lines.len() == 1 { "line " } else { "lines " })?;
-    for (i, line) in lines.iter().enumerate() {
-        let sign = sign_before(i, lines.len(), " and ");
-        write!(report, "{sign}{}", first.saturating_add(*line))?;
-    }
+    push_numbers(report, first, lines)?;
     write!(report, " of the text: {why}\n")?;
     for line in lines {
         let at = line_after(question.text, from, *line);
@@ -104,6 +111,40 @@ fn last_accepted<'a>(question: &Question<'a>, broken: &Break) -> Option<&'a [Req
     accepted_in(question.script.commands().get(command)?, earlier)
 }
 
+// Returns the reason if a line is one completion too many of the last submission before a break.
+fn why_one_more(
+    question: &Question<'_>,
+    broken: &Break,
+    line: &[u8],
+) -> Result<Option<String>, AllocError> {
+    let (command, submission) = (broken.commands, broken.ring.submissions);
+    let front = format!(in question.alloc; "{submission}.")?;
+    let Some(requests) = last_accepted(question, broken) else {
+        return Ok(None);
+    };
+    if !line.starts_with(front.as_bytes()) {
+        return Ok(None);
+    }
+    let count = requests.len();
+    Ok(Some(format!(in question.alloc;
+        "submission {submission}, command {command}, has {count} requests, and this is one more"
+    )?))
+}
+
+// Returns the slot of the file that a line closes, in words, or no words if it closes none.
+fn why_closed(question: &Question<'_>, broken: &Break, line: &[u8]) -> Result<String, AllocError> {
+    for (slot, file) in broken.ring.slots.at.iter().enumerate() {
+        if let Some(file) = file {
+            let mark = MarkWords(file.mark);
+            let front = format!(in question.alloc; "closed {mark} ")?;
+            if line.starts_with(front.as_bytes()) {
+                return format!(in question.alloc; "{mark} is at slot {slot}");
+            }
+        }
+    }
+    Ok(String::new(question.alloc))
+}
+
 // Returns the reason why the line at a place of the text is wrong, where the lines `expected`
 // should be. It may be empty.
 fn why_of(
@@ -112,27 +153,14 @@ fn why_of(
     at: usize,
     expected: &[u8],
 ) -> Result<String, AllocError> {
-    let (alloc, command, submission) = (question.alloc, broken.commands, broken.ring.submissions);
-    let front = format!(in alloc; "{submission}.")?;
-    let is_completion = line_at(question.text, at).starts_with(front.as_bytes());
-    if let (Some(requests), true) = (last_accepted(question, broken), is_completion) {
-        let count = requests.len();
-        return format!(in alloc;
-            "submission {submission}, command {command}, has {count} requests, and this is one more"
-        );
-    }
-    // the line of the end has no result, so that a `closed` line after it is the wrong one
-    let line = expected.strip_prefix(b"teardown\n").unwrap_or(expected);
-    for (slot, file) in broken.ring.slots.at.iter().enumerate() {
-        if let Some(file) = file {
-            let mark = MarkWords(file.mark);
-            let front = format!(in alloc; "closed {mark} ")?;
-            if line.starts_with(front.as_bytes()) {
-                return format!(in alloc; "{mark} is at slot {slot}");
-            }
+    match why_one_more(question, broken, line_at(question.text, at))? {
+        Some(why) => Ok(why),
+        // the line of the end has no result, so that a `closed` line after it is the wrong one
+        None => {
+            let line = expected.strip_prefix(b"teardown\n").unwrap_or(expected);
+            why_closed(question, broken, line)
         }
     }
-    Ok(String::new(alloc))
 }
 
 // Appends the command at which a text breaks, and its line of the script.
@@ -184,6 +212,22 @@ fn push_fault(
     }
 }
 
+// Appends a complaint about the lines of the submission at which a text breaks.
+fn push_complaint(
+    report: &mut String,
+    question: &Question<'_>,
+    from: usize,
+    complaint: &Complaint,
+) -> Result<(), AllocError> {
+    match complaint {
+        Complaint::Line(line, expected, why) => {
+            let at = line_after(question.text, from, *line);
+            push_found(report, question, at, expected.as_str(), why.as_str())
+        }
+        Complaint::Lines(lines, why) => push_conflict(report, question, from, lines, why.as_str()),
+    }
+}
+
 // Appends the command at which a text breaks, and the reason.
 fn push_break(
     report: &mut String,
@@ -192,13 +236,7 @@ fn push_break(
 ) -> Result<(), NoMemory> {
     push_command(report, question, broken.commands)?;
     match complaint_in(question, broken)? {
-        Some(Complaint::Line(line, expected, why)) => {
-            let at = line_after(question.text, broken.at, line);
-            push_found(report, question, at, expected.as_str(), why.as_str())?;
-        }
-        Some(Complaint::Lines(lines, why)) => {
-            push_conflict(report, question, broken.at, &lines, why.as_str())?;
-        }
+        Some(complaint) => push_complaint(report, question, broken.at, &complaint)?,
         None => push_fault(report, question, broken)?,
     }
     Ok(())
@@ -220,6 +258,15 @@ fn push_doubt(
     }
 }
 
+// Appends the line of a legal text, and the orders of its submissions.
+fn push_legal(report: &mut String, orders: &[Order]) -> Result<(), AllocError> {
+    report.push_str("legal\n")?;
+    for order in orders {
+        push_order(report, order.submission, &order.places)?;
+    }
+    Ok(())
+}
+
 /// Returns the lines of a verdict.
 pub(crate) fn verdict_text(
     question: &Question<'_>,
@@ -227,12 +274,7 @@ pub(crate) fn verdict_text(
 ) -> Result<String, NoMemory> {
     let mut report = String::new(question.alloc);
     match judgement {
-        Judgement::Legal(orders) => {
-            report.push_str("legal\n")?;
-            for order in orders {
-                push_order(&mut report, order.submission, &order.places)?;
-            }
-        }
+        Judgement::Legal(orders) => push_legal(&mut report, orders)?,
         Judgement::NotLegal(broken) => push_break(&mut report, question, broken)?,
         Judgement::Undecided(submission, doubt) => {
             report.push_str("undecided: ")?;
@@ -262,6 +304,32 @@ fn push_last(
     }
 }
 
+// Appends the lines of all breaks of a text, and of the verdict on what follows the last one.
+fn push_breaks(
+    report: &mut String,
+    question: &Question<'_>,
+    limits: Limits,
+    first: Break,
+) -> Result<(), NoMemory> {
+    let (mut broken, commands) = (first, question.script.commands().len());
+    for _ in 0..=commands {
+        push_break(report, question, &broken)?;
+        if broken.commands >= commands {
+            break;
+        }
+        match judged_after(question, limits, &broken)? {
+            Some(Judgement::NotLegal(next)) => broken = next,
+            last => return Ok(push_last(
+                report,
+                question,
+                broken.commands.saturating_add(1),
+                last,
+            )?),
+        }
+    }
+    Ok(())
+}
+
 /// Returns the lines of all breaks of a text, each found from the ring that the text shows after
 /// the one before it, and of the verdict on what follows the last one.
 pub(crate) fn breaks_text(
@@ -270,20 +338,6 @@ pub(crate) fn breaks_text(
     first: Break,
 ) -> Result<String, NoMemory> {
     let mut report = String::new(question.alloc);
-    let (mut broken, commands) = (first, question.script.commands().len());
-    for _ in 0..=commands {
-        push_break(&mut report, question, &broken)?;
-        if broken.commands >= commands {
-            break;
-        }
-        let command = broken.commands.saturating_add(1);
-        match judged_after(question, limits, &broken)? {
-            Some(Judgement::NotLegal(next)) => broken = next,
-            last => {
-                push_last(&mut report, question, command, last)?;
-                break;
-            }
-        }
-    }
+    push_breaks(&mut report, question, limits, first)?;
     Ok(report)
 }

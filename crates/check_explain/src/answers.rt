@@ -1,7 +1,7 @@
 //! The answers that a request may give, whatever the other requests answer (docs/MODEL.md, "What a
 //! request answers").
 use crate::case::Case;
-use crate::kinds::{Act, Effect, acts_of, fixed_result};
+use crate::kinds::{Act, Effect, acts_of, fixed_result, result_of};
 use crate::words::{GotWords, PlaceWords, name_of, sign_before};
 use fx_base::{Errno, NoMemory};
 use fx_chain::{Completion, Place, Request};
@@ -28,16 +28,24 @@ pub(crate) struct Contents<'a> {
     own: Vec<(u32, Option<u8>)>,
 }
 
+// Returns the content that an access leaves at its slot, or `None` if it changes nothing.
+fn content_after(effect: Effect) -> Option<Option<u8>> {
+    match effect {
+        Effect::Looks => None,
+        Effect::Takes | Effect::Clears => Some(None),
+        Effect::Installs(entry) => Some(Some(entry)),
+    }
+}
+
 // Returns the accesses of a request that change a slot, each with what it leaves there.
 fn changes_of(case: &Case<'_>, request: &Request) -> Result<Vec<(Act, Option<u8>)>, NoMemory> {
     let mut changes = Vec::new(case.alloc);
-    if case.refusal_of(request).is_none() {
-        for act in acts_of(case.alloc, case.catalogue, request)? {
-            match act.effect {
-                Effect::Looks => {}
-                Effect::Takes | Effect::Clears => changes.push((act, None))?,
-                Effect::Installs(entry) => changes.push((act, Some(entry)))?,
-            }
+    if case.refusal_of(request).is_some() {
+        return Ok(changes);
+    }
+    for act in &acts_of(case.alloc, case.catalogue, request)? {
+        if let Some(content) = content_after(act.effect) {
+            changes.push((*act, content))?;
         }
     }
     Ok(changes)
@@ -50,12 +58,15 @@ fn add_content(
     content: Option<u8>,
     by: Option<u32>,
 ) -> Result<(), NoMemory> {
-    match there.iter().position(|it| it.0 == content) {
-        None => there.push((content, by))?,
-        Some(i) if there[i].1 != by => there[i].1 = None,
-        Some(_) => {}
+    for it in there.iter_mut() {
+        if it.0 == content {
+            if it.1 != by {
+                it.1 = None;
+            }
+            return Ok(());
+        }
     }
-    Ok(())
+    Ok(there.push((content, by))?)
 }
 
 // Adds the contents that a request of a chain leaves at the slots.
@@ -66,8 +77,12 @@ fn add_changes(
     chain: u32,
 ) -> Result<(), NoMemory> {
     for (act, content) in changes_of(case, request)? {
-        let by = act.slot.map(|_| chain);
-        let (first, count) = act.slot.map_or(case.slots.range, |slot| (slot, 1));
+        let by = if act.slot.is_some() {
+            Some(chain)
+        } else {
+            None
+        };
+        let (first, count) = act.slots(case.slots.range);
         for there in left.iter_mut().skip(first as usize).take(count as usize) {
             add_content(there, content, by)?;
         }
@@ -75,17 +90,24 @@ fn add_changes(
     Ok(())
 }
 
+// Returns for each slot the contents that requests leave there.
+fn left_at_slots(case: &Case<'_>) -> Result<Vec<Vec<Left>>, NoMemory> {
+    let mut left: Vec<Vec<Left>> = Vec::with_capacity(case.alloc, case.size())?;
+    for _ in 0..case.size() {
+        left.push(Vec::new(case.alloc))?;
+    }
+    for (request, place) in case.requests.iter().zip(&case.places()?) {
+        add_changes(case, &mut left, request, place.chain)?;
+    }
+    Ok(left)
+}
+
 impl<'a> Contents<'a> {
     /// Returns the contents before the first request of a submission.
     pub(crate) fn new(case: &'a Case<'a>) -> Result<Contents<'a>, NoMemory> {
-        let mut left: Vec<Vec<Left>> = Vec::new(case.alloc);
-        left.resize_with(case.size(), || Vec::new(case.alloc))?;
-        for (request, place) in case.requests.iter().zip(&case.places()?) {
-            add_changes(case, &mut left, request, place.chain)?;
-        }
         Ok(Contents {
             case,
-            left,
+            left: left_at_slots(case)?,
             chain: 1,
             own: Vec::new(case.alloc),
         })
@@ -106,15 +128,26 @@ impl<'a> Contents<'a> {
         Ok(())
     }
 
+    // Returns the content that a slot has before the request if no other chain changes it.
+    fn before(&self, slot: u32) -> Option<u8> {
+        for (own, content) in self.own.iter().rev() {
+            if *own == slot {
+                return *content;
+            }
+        }
+        let file = (*self.case.slots.at.get(slot as usize)?)?;
+        Some(file.entry)
+    }
+
     /// Returns the contents that a slot may have before the request, each once: that of the last
     /// earlier member of its chain, or else that before the submission, and those that other chains
     /// leave. A later member of its chain comes too late.
     pub(crate) fn at(&self, slot: u32) -> Result<Vec<Option<u8>>, NoMemory> {
-        let file = self.case.slots.at.get(slot as usize).copied().flatten();
-        let own = self.own.iter().rev().find(|it| it.0 == slot);
-        let before = own.map_or(file.map(|it| it.entry), |it| it.1);
-        let mut contents = vec![in self.case.alloc; before]?;
-        for (content, by) in self.left.get(slot as usize).into_iter().flatten() {
+        let mut contents = vec![in self.case.alloc; self.before(slot)]?;
+        let Some(left) = self.left.get(slot as usize) else {
+            return Ok(contents);
+        };
+        for (content, by) in left {
             if *by != Some(self.chain) && !contents.contains(content) {
                 contents.push(*content)?;
             }
@@ -144,22 +177,40 @@ impl<'a> ValidAnswer<'a> {
         }
     }
 
+    /// Returns the answer of an error.
+    pub(crate) fn error(alloc: Global, errno: Errno) -> ValidAnswer<'a> {
+        let res = result_of(errno);
+        ValidAnswer::among(alloc, res, res)
+    }
+
     /// Checks whether it is that of a completion.
     pub(crate) fn fits(&self, it: &Completion) -> bool {
         (self.first..=self.last).contains(&it.res) && self.bytes.as_slice() == it.got.as_slice()
     }
 }
 
+// The results from the first to the last.
+#[derive(Drop)]
+struct ResultWords(i32, i32);
+
+impl Display for ResultWords {
+    fn fmt<W: fmt::Write>(&self, f: &mut fmt::Formatter<W>) -> fmt::Result {
+        let (first, last) = (self.0, self.1);
+        if first < last {
+            write!(f, "{first} to {last}")
+        } else {
+            write!(f, "{first}")
+        }
+    }
+}
+
 /// The result, or the range of results; the first 16 bytes, and the name of the file that has them.
 impl Display for ValidAnswer<'_> {
     fn fmt<W: fmt::Write>(&self, f: &mut fmt::Formatter<W>) -> fmt::Result {
-        write!(f, "{}", self.first)?;
-        if self.first < self.last {
-            write!(f, " to {}", self.last)?;
-        }
         let bytes = self.bytes.as_slice();
-        write!(f, "{}", GotWords(bytes.get(..SHOWN).unwrap_or(bytes)))?;
-        f.write_str(if bytes.len() > SHOWN { ".." } else { "" })?;
+        let shown = GotWords(bytes.get(..SHOWN).unwrap_or(bytes));
+        let more = if bytes.len() > SHOWN { ".." } else { "" };
+        write!(f, "{}{shown}{more}", ResultWords(self.first, self.last))?;
         match self.name {
             Some(name) => write!(f, " of {name}"),
             None => Ok(()),
@@ -183,44 +234,81 @@ fn read_answer<'a>(
     })
 }
 
-/// Returns the answers that a request may give unless it is canceled.
-pub(crate) fn answers_of<'a>(
+// Appends the answers of an open at any slot of the allocation range.
+fn push_open_answers(answers: &mut Vec<ValidAnswer<'_>>, case: &Case<'_>) -> Result<(), NoMemory> {
+    let (first, count) = case.slots.range;
+    if count > 0 {
+        let last = first.saturating_add(count).saturating_sub(1);
+        let first = i32::try_from(first).unwrap_or(i32::MAX);
+        let last = i32::try_from(last).unwrap_or(i32::MAX);
+        answers.push(ValidAnswer::among(case.alloc, first, last))?;
+    }
+    answers.push(ValidAnswer::error(case.alloc, Errno::ENFILE))?;
+    Ok(())
+}
+
+// Appends the answers of a read or a close of a slot that may have these contents.
+fn push_slot_answers<'a>(
+    answers: &mut Vec<ValidAnswer<'a>>,
+    case: &Case<'a>,
+    request: &Request,
+    effect: Effect,
+    contents: &[Option<u8>],
+) -> Result<(), NoMemory> {
+    for content in contents {
+        let Some(entry) = *content else {
+            continue;
+        };
+        if effect != Effect::Looks {
+            answers.push(ValidAnswer::among(case.alloc, 0, 0))?;
+            break;
+        }
+        answers.push(read_answer(case, request, entry)?)?;
+    }
+    if contents.contains(&None) {
+        answers.push(ValidAnswer::error(case.alloc, Errno::EBADF))?;
+    }
+    Ok(())
+}
+
+// Appends the answers that a request may give by what its accesses find, unless it is canceled.
+fn push_answers<'a>(
+    answers: &mut Vec<ValidAnswer<'a>>,
     case: &Case<'a>,
     contents: &Contents<'_>,
     request: &Request,
-) -> Result<Vec<ValidAnswer<'a>>, NoMemory> {
-    if let Some(res) = fixed_result(case, request) {
-        return Ok(vec![in case.alloc; ValidAnswer::among(case.alloc, res, res)]?);
-    }
-    let mut answers = Vec::new(case.alloc);
-    let error = |errno: Errno| ValidAnswer::among(case.alloc, -errno.code(), -errno.code());
-    for act in acts_of(case.alloc, case.catalogue, request)? {
-        let Some(slot) = act.slot else {
-            let (first, count) = case.slots.range;
-            let last = first.saturating_add(count).saturating_sub(1);
-            if count > 0 {
-                let (first, last) = (i32::try_from(first), i32::try_from(last));
-                let (first, last) = (first.unwrap_or(i32::MAX), last.unwrap_or(i32::MAX));
-                answers.push(ValidAnswer::among(case.alloc, first, last))?;
+) -> Result<(), NoMemory> {
+    for act in &acts_of(case.alloc, case.catalogue, request)? {
+        match act.slot {
+            None => push_open_answers(answers, case)?,
+            Some(slot) => {
+                push_slot_answers(answers, case, request, act.effect, &contents.at(slot)?)?;
             }
-            answers.push(error(Errno::ENFILE))?;
-            continue;
-        };
-        let may = contents.at(slot)?;
-        let entries = may.iter().copied().flatten();
-        if act.effect == Effect::Looks {
-            for entry in entries {
-                answers.push(read_answer(case, request, entry)?)?;
-            }
-        } else if entries.count() > 0 {
-            answers.push(ValidAnswer::among(case.alloc, 0, 0))?;
-        }
-        if may.contains(&None) {
-            answers.push(error(Errno::EBADF))?;
         }
     }
     if request.bytes_asked() > 0 {
-        answers.push(error(Errno::ENOMEM))?;
+        answers.push(ValidAnswer::error(case.alloc, Errno::ENOMEM))?;
+    }
+    Ok(())
+}
+
+/// Returns the answers that a request may give. `severed`: whether an earlier member severed its
+/// chain.
+pub(crate) fn answers_of<'a>(
+    case: &Case<'a>,
+    contents: &Contents<'_>,
+    severed: bool,
+    request: &Request,
+) -> Result<Vec<ValidAnswer<'a>>, NoMemory> {
+    let fixed = if severed {
+        Some(result_of(Errno::ECANCELED))
+    } else {
+        fixed_result(case, request)
+    };
+    let mut answers = Vec::new(case.alloc);
+    match fixed {
+        Some(res) => answers.push(ValidAnswer::among(case.alloc, res, res))?,
+        None => push_answers(&mut answers, case, contents, request)?,
     }
     Ok(answers)
 }

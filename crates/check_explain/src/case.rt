@@ -1,8 +1,8 @@
 //! The submission at which a text breaks: its files, and the accesses of its requests, by the lines
 //! of its report.
-use crate::kinds::{Act, Effect, acts_of};
-use crate::words::{AskedLine, next_line};
-use check_lines::read_report;
+use crate::kinds::{Act, Effect, acts_of, result_of};
+use crate::words::{AskedLine, Lines};
+use check_lines::{ClosedLine, read_report};
 use fx_base::{Catalogue, Closed, Errno, Mark, NoMemory};
 use fx_chain::{Completion, Place, Request, refusal_of};
 use fx_order::Slots;
@@ -76,18 +76,33 @@ impl<'a> Case<'a> {
 
     /// Reads the completions that its first lines report, up to the first line that isn't the
     /// completion of its request. Returns them, and the text from that line on.
-    pub(crate) fn read(&self) -> Result<(Vec<Completion>, &'a [u8]), NoMemory> {
-        let (mut completions, mut rest) = (Vec::new(self.alloc), self.text);
+    pub(crate) fn read(&self) -> Result<(Vec<Completion>, Lines<'a>), NoMemory> {
+        let (mut completions, mut lines) = (Vec::new(self.alloc), Lines::new(self.text));
         for place in &self.places()? {
-            let (line, after) = next_line(rest);
-            let read = read_report(self.alloc, line, 1)?;
-            match read.and_then(|(mut lines, _)| lines.completions.pop()) {
+            let mut after = lines;
+            match self.completion_of(after.take())? {
                 Some(it) if it.place == *place => completions.push(it)?,
                 _ => break,
             }
-            rest = after;
+            lines = after;
         }
-        Ok((completions, rest))
+        Ok((completions, lines))
+    }
+
+    // Returns the completion of a line.
+    fn completion_of(&self, line: &[u8]) -> Result<Option<Completion>, NoMemory> {
+        match read_report(self.alloc, line, 1)? {
+            Some((mut lines, _)) => Ok(lines.completions.pop()),
+            None => Ok(None),
+        }
+    }
+
+    /// Returns the closed file of a line.
+    pub(crate) fn closed_of(&self, line: &[u8]) -> Result<Option<ClosedLine>, NoMemory> {
+        match read_report(self.alloc, line, 0)? {
+            Some((mut lines, _)) => Ok(lines.closed.pop()),
+            None => Ok(None),
+        }
     }
 }
 
@@ -138,6 +153,23 @@ pub(crate) struct KnownReport {
     pub acts: Vec<Act>,
 }
 
+// Returns whether an access found a file, by the result of its request, or `None` if that doesn't
+// show it.
+fn found_by(act: &Act, res: i32) -> Option<bool> {
+    let (if_done, error) = match (act.effect, act.slot) {
+        (Effect::Looks | Effect::Takes, _) => (true, Errno::EBADF),
+        (Effect::Installs(_), None) => (false, Errno::ENFILE),
+        _ => return None,
+    };
+    if res >= 0 {
+        Some(if_done)
+    } else if res == result_of(error) {
+        Some(!if_done)
+    } else {
+        None
+    }
+}
+
 impl KnownReport {
     // Appends an access by the request of a line, and the file that it installed at one of the
     // `size` slots.
@@ -148,13 +180,7 @@ impl KnownReport {
         let res = *res;
         act.line = line;
         act.is_done = res >= 0;
-        act.found = match (act.effect, act.slot) {
-            (Effect::Looks | Effect::Takes, _) if act.is_done => Some(true),
-            (Effect::Looks | Effect::Takes, _) if res == -Errno::EBADF.code() => Some(false),
-            (Effect::Installs(_), None) if act.is_done => Some(false),
-            (Effect::Installs(_), None) if res == -Errno::ENFILE.code() => Some(true),
-            _ => None,
-        };
+        act.found = found_by(&act, res);
         act.slot = act.slot.or(u32::try_from(res).ok());
         let there = act.slot.filter(|slot| (*slot as usize) < size);
         if let (Effect::Installs(entry), true, Some(slot)) = (act.effect, act.is_done, there) {
@@ -190,19 +216,38 @@ impl KnownReport {
         Ok(report)
     }
 
+    // Returns the number of the file with a mark, of those from one on.
+    fn file_marked_from(&self, from: usize, mark: Mark) -> Option<usize> {
+        for (number, it) in self.files.iter().enumerate().skip(from) {
+            if it.file.mark == mark {
+                return Some(number);
+            }
+        }
+        None
+    }
+
     /// Returns the number, from 0, of the file with a mark. The files from that of the last
     /// `closed` line on are tried first.
     pub fn file_marked(&self, mark: Mark) -> Option<usize> {
         let from = self.closes.last().copied().unwrap_or(0);
-        match self
-            .files
-            .iter()
-            .skip(from)
-            .position(|it| it.file.mark == mark)
-        {
-            Some(at) => Some(at.saturating_add(from)),
-            None => self.files.iter().position(|it| it.file.mark == mark),
+        match self.file_marked_from(from, mark) {
+            None => self.file_marked_from(0, mark),
+            found => found,
         }
+    }
+
+    /// Returns the mark of the file of the last `closed` line.
+    pub fn last_closed(&self) -> Option<Mark> {
+        let number = *self.closes.last()?;
+        Some(self.files.get(number)?.file.mark)
+    }
+
+    /// Records that a file, by its number, has the `closed` line `at`.
+    pub fn close(&mut self, number: usize, at: usize) -> Result<(), AllocError> {
+        if let Some(it) = self.files.get_mut(number) {
+            it.closed = Some(at);
+        }
+        Ok(self.closes.push(number)?)
     }
 
     /// Returns the chain of the request of a line, or `None` if it isn't that of a request.

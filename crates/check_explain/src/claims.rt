@@ -9,7 +9,7 @@ use std::alloc::AllocError;
 #[derive(Drop)]
 pub(crate) enum Stays {
     /// Those without a `closed` line.
-    AsTold,
+    AsClosed,
     /// Those of these numbers among the report's.
     Only(Vec<usize>),
     /// None, and each slot is emptied once more, at any time, by nobody in particular. Each other
@@ -43,17 +43,22 @@ impl ClaimsView<'_> {
     /// Checks whether an access is at a slot that is looked at. One that has no slot is at each
     /// slot of the allocation range.
     pub(crate) fn has(&self, act: &Act) -> bool {
-        let (first, count) = act.slot.map_or(self.case.slots.range, |slot| (slot, 1));
-        (first..first.saturating_add(count)).any(|slot| self.has_slot(slot))
+        let (first, count) = act.slots(self.case.slots.range);
+        for slot in first..first.saturating_add(count) {
+            if self.has_slot(slot) {
+                return true;
+            }
+        }
+        false
     }
 
     // Appends the lines whose accesses depend on the slots, and, unless `depends`, those whose
     // accesses change them.
     fn push_lines(&self, lines: &mut Vec<usize>, depends: bool) -> Result<(), AllocError> {
-        for act in self.report.acts.iter().filter(|act| self.has(act)) {
+        for act in &self.report.acts {
             let is_meant = act.found.is_some() || !depends && act.is_done;
             let is_new = lines.last().copied() != Some(act.line);
-            if is_meant && is_new && !self.is_out(act.line) {
+            if is_meant && is_new && self.has(act) && !self.is_out(act.line) {
                 lines.push(act.line)?;
             }
         }
@@ -62,10 +67,11 @@ impl ClaimsView<'_> {
 
     // Appends the `closed` lines of the slots.
     fn push_closes(&self, lines: &mut Vec<usize>) -> Result<(), AllocError> {
-        let files = &self.report.files;
-        for it in self.report.closes.iter().filter_map(|i| files.get(*i)) {
-            if self.has_slot(it.slot) {
-                lines.push(it.closed.unwrap_or(0))?;
+        for number in &self.report.closes {
+            if let Some(it) = self.report.files.get(*number) {
+                if self.has_slot(it.slot) {
+                    lines.push(it.closed.unwrap_or(0))?;
+                }
             }
         }
         Ok(())
@@ -89,7 +95,7 @@ impl ClaimsView<'_> {
     fn resident(&self, number: usize) -> Option<Resident> {
         let it = self.report.files.get(number)?;
         let leaves = match &self.stays {
-            Stays::AsTold => it.closed.is_some(),
+            Stays::AsClosed => it.closed.is_some(),
             Stays::Only(those) => !those.contains(&number),
             Stays::Swept => true,
         };
@@ -149,13 +155,21 @@ impl ClaimsView<'_> {
         Ok(())
     }
 
+    // Appends the claim of an access, if it makes one.
+    fn push_act(&self, strands: &mut Vec<Strand>, act: &Act) -> Result<(), NoMemory> {
+        let chain = self.report.chain_of(act.line).unwrap_or(0);
+        match self.claim_of(act)? {
+            Some(claim) => self.push_claim(strands, chain, claim),
+            None => Ok(()),
+        }
+    }
+
     // Returns the claims of each chain about the slots that are looked at.
     fn strands(&self) -> Result<Vec<Strand>, NoMemory> {
         let mut strands = Vec::new(self.case.alloc);
-        for act in self.report.acts.iter().filter(|act| self.has(act)) {
-            if let Some(claim) = self.claim_of(act)? {
-                let chain = self.report.chain_of(act.line).unwrap_or(0);
-                self.push_claim(&mut strands, chain, claim)?;
+        for act in &self.report.acts {
+            if self.has(act) {
+                self.push_act(&mut strands, act)?;
             }
         }
         Ok(strands)
@@ -165,8 +179,11 @@ impl ClaimsView<'_> {
     fn cells(&self) -> Result<Vec<Cell>, AllocError> {
         let (mut cells, mut number) = (Vec::new(self.case.alloc), 0usize);
         for (slot, found) in (0..u32::MAX).zip(&self.case.slots.at) {
-            let file = found.and_then(|_| self.resident(number));
-            number = number.saturating_add(usize::from(found.is_some()));
+            let mut file = None;
+            if found.is_some() {
+                file = self.resident(number);
+                number = number.saturating_add(1);
+            }
             if self.has_slot(slot) {
                 let in_range = self.case.is_in_range(slot);
                 cells.push(Cell {

@@ -2,6 +2,7 @@
 //! rests.
 use crate::case::{Case, KnownReport};
 use crate::contradiction::no_order;
+use crate::words::Lines;
 use crate::wrong_answer::wrong_answer;
 use crate::wrong_files::{wrong_close, wrong_count};
 use fx_base::NoMemory;
@@ -20,22 +21,36 @@ pub enum Complaint {
 /// fails.
 pub(crate) type Checked = Result<Option<Complaint>, NoMemory>;
 
+// Looks for lines that contradict each other, if each line may be so by itself.
+fn contradiction(case: &Case<'_>, report: &KnownReport, slot: Option<u32>) -> Checked {
+    match wrong_count(case, report)? {
+        None => no_order(case, report, slot),
+        complaint => Ok(complaint),
+    }
+}
+
+// Looks for invalid lines after the completions, or for lines that contradict each other.
+fn explain_report(
+    case: &Case<'_>,
+    mut report: KnownReport,
+    lines: Lines<'_>,
+    slot: Option<u32>,
+) -> Checked {
+    match wrong_close(case, &mut report, lines)? {
+        None => contradiction(case, &report, slot),
+        complaint => Ok(complaint),
+    }
+}
+
 /// Looks for the first invalid lines of a submission. `slot`: the slot that the judge blames, if it
 /// blames one.
 ///
 /// # Errors
 /// `NoMemory` if an allocation fails.
 pub fn explain(case: &Case<'_>, slot: Option<u32>) -> Result<Option<Complaint>, NoMemory> {
-    let (completions, rest) = case.read()?;
-    if let Some(complaint) = wrong_answer(case, &completions, rest)? {
-        return Ok(Some(complaint));
-    }
-    let mut report = KnownReport::new(case, completions)?;
-    if let Some(complaint) = wrong_close(case, &mut report, rest)? {
-        return Ok(Some(complaint));
-    }
-    match wrong_count(case, &report)? {
-        None => no_order(case, &report, slot),
+    let (completions, lines) = case.read()?;
+    match wrong_answer(case, &completions, lines.rest)? {
+        None => explain_report(case, KnownReport::new(case, completions)?, lines, slot),
         complaint => Ok(complaint),
     }
 }

@@ -6,6 +6,7 @@ use crate::complaint::{Checked, Complaint};
 use crate::kinds::{Effect, may_sever};
 use check_search::{Claim, Found, Limits, Steps, components, explore};
 use fx_base::NoMemory;
+use std::alloc::{AllocError, Global};
 
 /// The largest number of states of all searches, in which a search counts at least as many as there
 /// are lines, and of one search.
@@ -34,17 +35,65 @@ struct Contradiction<'a> {
     states: usize,
 }
 
-impl Contradiction<'_> {
+// Returns the number of choices of one file, or none, at each slot.
+fn choices_of(slots: &[Vec<usize>]) -> usize {
+    let mut choices = 1usize;
+    for files in slots {
+        choices = choices.saturating_mul(files.len() + 1);
+    }
+    choices
+}
+
+// Returns the files of a choice, by its number from 0.
+fn choice_of(alloc: Global, slots: &[Vec<usize>], choice: usize) -> Result<Vec<usize>, AllocError> {
+    let (mut rest, mut those) = (choice, Vec::new(alloc));
+    for files in slots {
+        let count = files.len() + 1;
+        if let Some(number) = files.get(rest % count) {
+            those.push(*number)?;
+        }
+        rest /= count;
+    }
+    Ok(those)
+}
+
+impl<'a> Contradiction<'a> {
+    // Returns the search before any slot is looked at.
+    fn new(case: &'a Case<'a>, report: &'a KnownReport) -> Result<Contradiction<'a>, AllocError> {
+        Ok(Contradiction {
+            view: ClaimsView {
+                case,
+                report,
+                slots: vec![in case.alloc; true; case.size()]?,
+                out: vec![in case.alloc; false; report.completions.len()]?,
+                stays: Stays::AsClosed,
+            },
+            rests_on_closes: false,
+            is_sure: true,
+            states: STATES,
+        })
+    }
+
+    // Searches for an order of the lines that aren't left out. Returns the number of states that it
+    // met, and what it found.
+    fn explored(&self) -> Result<(usize, Found), NoMemory> {
+        let alloc = self.view.case.alloc;
+        let (cells, strands) = self.view.question()?;
+        let steps = Steps::new(alloc, &strands, &cells)?;
+        let limits = Limits {
+            states: self.states.min(MOST_STATES),
+            bytes: BYTES,
+        };
+        let (rows, found) = explore(alloc, &steps, limits)?;
+        Ok((rows.len(), found))
+    }
+
     // Searches for an order of the lines that aren't left out. Returns true if no order exists, or
     // `None` if the search reaches a limit.
     fn search(&mut self, stays: Stays) -> Result<Option<bool>, NoMemory> {
         self.view.stays = stays;
-        let (alloc, bytes) = (self.view.case.alloc, BYTES);
-        let (cells, strands) = self.view.question()?;
-        let steps = Steps::new(alloc, &strands, &cells)?;
-        let states = self.states.min(MOST_STATES);
-        let (rows, found) = explore(alloc, &steps, Limits { states, bytes })?;
-        let spent = rows.len().max(self.view.out.len());
+        let (met, found) = self.explored()?;
+        let spent = met.max(self.view.out.len());
         self.states = self.states.saturating_sub(spent);
         Ok(match found {
             Found::NoEnd => Some(true),
@@ -56,15 +105,36 @@ impl Contradiction<'_> {
     // Returns for each slot the numbers of its files, or none if it isn't looked at.
     fn files_at_slots(&self) -> Result<Vec<Vec<usize>>, NoMemory> {
         let ClaimsView { case, report, .. } = &self.view;
-        let mut slots: Vec<Vec<usize>> = Vec::new(case.alloc);
-        slots.resize_with(case.size(), || Vec::new(case.alloc))?;
+        let mut slots: Vec<Vec<usize>> = Vec::with_capacity(case.alloc, case.size())?;
+        for _ in 0..case.size() {
+            slots.push(Vec::new(case.alloc))?;
+        }
         for (number, it) in report.files.iter().enumerate() {
-            match slots.get_mut(it.slot as usize) {
-                Some(files) if self.view.has_slot(it.slot) => files.push(number)?,
-                _ => {}
+            if self.view.has_slot(it.slot) {
+                if let Some(files) = slots.get_mut(it.slot as usize) {
+                    files.push(number)?;
+                }
             }
         }
         Ok(slots)
+    }
+
+    // Checks whether the lines that aren't left out have no order by each choice of one file, or
+    // none, that stays at each slot. Returns `None` if that isn't seen.
+    fn has_no_order_by_files(&mut self, slots: &[Vec<usize>]) -> Result<Option<bool>, NoMemory> {
+        let choices = choices_of(slots);
+        let are_many = self.view.slots.iter().filter(|has| **has).count() > 1;
+        if are_many && choices > MOST_CHOICES {
+            return Ok(None);
+        }
+        for choice in 0..choices {
+            let those = choice_of(self.view.case.alloc, slots, choice)?;
+            let seen = self.search(Stays::Only(those))?;
+            if seen != Some(true) {
+                return Ok(seen);
+            }
+        }
+        Ok(Some(true))
     }
 
     // Checks whether the lines that aren't left out have no order, whichever file of each slot
@@ -74,37 +144,15 @@ impl Contradiction<'_> {
             return Ok(Some(true));
         }
         let slots = self.files_at_slots()?;
-        let mut choices = 1usize;
-        for files in &slots {
-            choices = choices.saturating_mul(files.len() + 1);
-        }
-        let are_many = self.view.slots.iter().filter(|has| **has).count() > 1;
-        if are_many && choices > MOST_CHOICES {
-            return Ok(None);
-        }
-        for choice in 0..choices {
-            let (mut rest, mut those) = (choice, Vec::new(self.view.case.alloc));
-            for files in &slots {
-                let count = files.len() + 1;
-                if let Some(number) = files.get(rest % count) {
-                    those.push(*number)?;
-                }
-                rest /= count;
-            }
-            let seen = self.search(Stays::Only(those))?;
-            if seen != Some(true) {
-                return Ok(seen);
-            }
-        }
-        Ok(Some(true))
+        self.has_no_order_by_files(&slots)
     }
 
     // Checks whether the lines that aren't left out have no order. Returns `None` if that isn't
     // seen.
     fn has_no_order(&mut self) -> Result<Option<bool>, NoMemory> {
-        let as_told = self.search(Stays::AsTold)?;
-        if as_told == Some(false) || self.rests_on_closes {
-            return Ok(as_told);
+        let as_closed = self.search(Stays::AsClosed)?;
+        if as_closed == Some(false) || self.rests_on_closes {
+            return Ok(as_closed);
         }
         self.has_no_order_at_all()
     }
@@ -116,7 +164,7 @@ impl Contradiction<'_> {
             *has = slots.contains(&slot);
         }
         self.rests_on_closes = true;
-        if self.search(Stays::AsTold)? != Some(true) {
+        if self.search(Stays::AsClosed)? != Some(true) {
             return Ok(false);
         }
         self.rests_on_closes = self.has_no_order_at_all()? != Some(true);
@@ -159,82 +207,115 @@ impl Contradiction<'_> {
         Ok(())
     }
 
+    // Checks whether an access of a chain after a line may change the slots.
+    fn changes_later(&self, chain: Option<u32>, line: usize) -> bool {
+        for act in &self.view.report.acts {
+            if act.line > line && act.effect != Effect::Looks && self.view.has(act) {
+                if self.view.report.chain_of(act.line) == chain {
+                    return true;
+                }
+            }
+        }
+        false
+    }
+
+    // Checks whether a line is named, or a later one of its chain.
+    fn is_named(&self, named: &[usize], chain: Option<u32>, line: usize) -> bool {
+        for other in named {
+            if *other >= line && self.view.report.chain_of(*other) == chain {
+                return true;
+            }
+        }
+        false
+    }
+
     // Checks whether a request may sever its chain before one that may change the slots, unless a
     // later line of the chain is named.
     fn rests_on_others(&self, named: &[usize]) -> bool {
-        let ClaimsView { case, report, .. } = &self.view;
-        case.requests.iter().enumerate().any(|(line, it)| {
-            let chain = report.chain_of(line);
-            let is_later = |other: usize| other > line && report.chain_of(other) == chain;
-            it.links()
-                && may_sever(case, it)
-                && !named.iter().any(|other| *other == line || is_later(*other))
-                && report.acts.iter().any(|act| {
-                    act.effect != Effect::Looks && is_later(act.line) && self.view.has(act)
-                })
-        })
+        let case = self.view.case;
+        for (line, request) in case.requests.iter().enumerate() {
+            let chain = self.view.report.chain_of(line);
+            if request.links()
+                && may_sever(case, request)
+                && !self.is_named(named, chain, line)
+                && self.changes_later(chain, line)
+            {
+                return true;
+            }
+        }
+        false
     }
 
-    // Returns the reason that some lines have no order together, in words.
-    fn why(&self, lines: &[usize], slot: Option<u32>) -> Result<String, NoMemory> {
-        let (these, concern) = match lines.len() {
-            1 => ("this one", "concerns"),
-            _ => ("all of these", "concern"),
+    // Looks for lines that have no order, at the blamed slot or at slots that a search finds.
+    // Returns whether slots are looked at.
+    fn look(&mut self, slot: Option<u32>) -> Result<bool, NoMemory> {
+        let is_found = match slot {
+            Some(slot) => self.look_at(&[slot as usize])?,
+            None => self.look_at_parts()?,
         };
-        let alloc = self.view.case.alloc;
-        let slot = match slot {
-            Some(slot) => format!(in alloc; ", which {concern} slot {slot}")?,
-            None => String::new(alloc),
-        };
-        let closes = if self.rests_on_closes {
-            ", and closes no other file"
-        } else {
-            ""
-        };
-        let others = if self.rests_on_others(lines) {
-            ", and cancels the same requests"
-        } else {
-            ""
-        };
-        let fewer = match (self.is_sure, lines.len()) {
+        self.is_sure = is_found;
+        if is_found {
+            self.leave_out()?;
+        }
+        Ok(is_found || slot.is_some())
+    }
+
+    // Returns the end of the reason that some lines have no order together: whether fewer lines may
+    // have none.
+    fn fewer(&self, count: usize) -> &'static str {
+        match (self.is_sure, count) {
             (true, _) => "",
             (false, 1) => "; there may be none without it",
             (false, _) => "; fewer of them may contradict each other",
-        };
-        Ok(format!(in alloc;
-            "no order of the requests gives {these}{slot}{closes}{others}{fewer}"
-        )?)
+        }
+    }
+
+    // Returns the reason that some lines have no order together, in words.
+    fn why(&self, lines: &[usize], slot: Option<u32>) -> Result<String, AllocError> {
+        let mut words = beginning(self.view.case.alloc, lines.len(), slot)?;
+        if self.rests_on_closes {
+            words.push_str(", and closes no other file")?;
+        }
+        if self.rests_on_others(lines) {
+            words.push_str(", and cancels the same requests")?;
+        }
+        words.push_str(self.fewer(lines.len()))?;
+        Ok(words)
+    }
+
+    // Returns the complaint about the lines at the slots that are looked at, unless they are too
+    // many.
+    fn complaint(&self, slot: Option<u32>) -> Checked {
+        let lines = self.view.named(self.rests_on_closes)?;
+        if lines.is_empty() || lines.len() > MOST_LINES {
+            return Ok(None);
+        }
+        let why = self.why(&lines, slot)?;
+        Ok(Some(Complaint::Lines(lines, why)))
+    }
+}
+
+// Returns the beginning of the reason that a number of lines have no order together.
+fn beginning(alloc: Global, count: usize, slot: Option<u32>) -> Result<String, AllocError> {
+    let (these, concern) = match count {
+        1 => ("this one", "concerns"),
+        _ => ("all of these", "concern"),
+    };
+    match slot {
+        Some(slot) => format!(in alloc;
+            "no order of the requests gives {these}, which {concern} slot {slot}"
+        ),
+        None => format!(in alloc; "no order of the requests gives {these}"),
     }
 }
 
 /// Returns a complaint about at most 16 lines that have no order together, at the blamed slot or at
 /// slots that a search finds.
 pub(crate) fn no_order(case: &Case<'_>, report: &KnownReport, slot: Option<u32>) -> Checked {
-    let mut those = Contradiction {
-        view: ClaimsView {
-            case,
-            report,
-            slots: vec![in case.alloc; true; case.size()]?,
-            out: vec![in case.alloc; false; report.completions.len()]?,
-            stays: Stays::AsTold,
-        },
-        rests_on_closes: false,
-        is_sure: true,
-        states: STATES,
-    };
-    those.is_sure = match slot {
-        Some(slot) => those.look_at(&[slot as usize])?,
-        None => those.look_at_parts()?,
-    };
-    if those.is_sure {
-        those.leave_out()?;
-    } else if slot.is_none() {
-        return Ok(None);
+    let mut those = Contradiction::new(case, report)?;
+    if those.look(slot)? {
+        those.complaint(slot)
+    } else {
+        Ok(None)
     }
-    let lines = those.view.named(those.rests_on_closes)?;
-    if lines.is_empty() || lines.len() > MOST_LINES {
-        return Ok(None);
-    }
-    let why = those.why(&lines, slot)?;
-    Ok(Some(Complaint::Lines(lines, why)))
 }

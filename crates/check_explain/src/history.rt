@@ -1,12 +1,13 @@
 //! Prints one whole history of a script and a legal text: an event or an answer on each line, with
 //! the state of the table after it.
+use crate::kinds::result_of;
 use crate::words::{
     AskedLine, ByteWords, FileWords, MarkWords, PlaceWords, after_closes, cut_word, next_line,
 };
 use check_lines::read_report;
 use fx_base::{Catalogue, Closed, Errno, Mark, NoMemory};
 use fx_chain::{Completion, Place};
-use fx_order::{Access, Order};
+use fx_order::{Access, AccessPlace, Order};
 use fx_ring::tag_at;
 use fx_script::Command;
 use std::alloc::{AllocError, Global};
@@ -26,6 +27,16 @@ impl Display for FoundWords {
     }
 }
 
+// Writes an event that installs no file: its name, its slot, and the file found.
+fn write_found<W: fmt::Write>(
+    f: &mut fmt::Formatter<W>,
+    name: &str,
+    slot: u32,
+    found: Option<Closed>,
+) -> fmt::Result {
+    write!(f, "{name}({slot}, {})", FoundWords(found))
+}
+
 // The first event of an access (docs/MODEL.md, "Steps"): the slot, the file installed, and the file
 // found.
 #[derive(Drop)]
@@ -33,15 +44,15 @@ struct EventWords<'a>(&'a Catalogue, Access);
 
 impl Display for EventWords<'_> {
     fn fmt<W: fmt::Write>(&self, f: &mut fmt::Formatter<W>) -> fmt::Result {
-        let file = |file: Closed| FileWords(self.0, file);
         match self.1 {
-            Access::Looks(slot, found) => write!(f, "Look({slot}, {})", FoundWords(found)),
+            Access::Looks(slot, found) => write_found(f, "Look", slot, found),
+            Access::Clears(slot, found) => write_found(f, "Clear", slot, found),
+            Access::Takes(slot, found) => write_found(f, "Take", slot, found),
             Access::Puts(slot, it, found) => {
-                write!(f, "Put({slot}, {}, {})", file(it), FoundWords(found))
+                let (file, found) = (FileWords(self.0, it), FoundWords(found));
+                write!(f, "Put({slot}, {file}, {found})")
             }
-            Access::Clears(slot, found) => write!(f, "Clear({slot}, {})", FoundWords(found)),
-            Access::Takes(slot, found) => write!(f, "Take({slot}, {})", FoundWords(found)),
-            Access::Allocates(slot, it) => write!(f, "Allocate({slot}, {})", file(it)),
+            Access::Allocates(slot, it) => write!(f, "Allocate({slot}, {})", FileWords(self.0, it)),
             Access::FindsFull => f.write_str("Full"),
         }
     }
@@ -73,6 +84,27 @@ pub struct History<'a> {
     removed: Option<Mark>,
     // The lines that aren't printed yet. The last one may be unfinished.
     lines: String,
+}
+
+// Returns the number of each chain, and its first request.
+fn chains_of(alloc: Global, answers: &[Answer<'_>]) -> Result<Vec<(u32, usize)>, AllocError> {
+    let mut chains = Vec::new(alloc);
+    for (at, (_, it)) in answers.iter().enumerate() {
+        if it.place.member == 1 {
+            chains.push((it.place.chain, at))?;
+        }
+    }
+    Ok(chains)
+}
+
+// Checks whether no access from one on is of a request.
+fn is_last(places: &[AccessPlace], from: usize, at: &AccessPlace) -> bool {
+    for it in places.iter().skip(from) {
+        if it.chain == at.chain {
+            return it.member != at.member;
+        }
+    }
+    true
 }
 
 impl<'a> History<'a> {
@@ -128,27 +160,31 @@ impl<'a> History<'a> {
         cut_word(line).1
     }
 
-    // Appends the state: each slot that has a file, with the file's mark, and the file that was
-    // removed.
-    fn push_state(&mut self) -> Result<(), AllocError> {
+    // Appends each slot that has a file, with the file's mark. Returns whether there is one.
+    fn push_slots(&mut self) -> Result<bool, AllocError> {
         let (lines, mut sign) = (&mut self.lines, "");
         for (slot, file) in self.at.iter().enumerate() {
             if let Some(Closed { mark, .. }) = *file {
-                write!(lines, "{sign}{slot} {}", MarkWords(mark))?;
-                lines.push_str(if self.held == Some(mark) { " held" } else { "" })?;
+                let held = if self.held == Some(mark) { " held" } else { "" };
+                write!(lines, "{sign}{slot} {}{held}", MarkWords(mark))?;
                 sign = ", ";
             }
         }
-        if sign.is_empty() {
-            let none = if self.at.is_empty() {
-                "no table"
-            } else {
-                "empty"
-            };
-            lines.push_str(none)?;
+        Ok(!sign.is_empty())
+    }
+
+    // Appends the state: the slots, and the file that was removed.
+    fn push_state(&mut self) -> Result<(), AllocError> {
+        let none = if self.at.is_empty() {
+            "no table"
+        } else {
+            "empty"
+        };
+        if !self.push_slots()? {
+            self.lines.push_str(none)?;
         }
         match self.removed {
-            Some(mark) => write!(lines, ", removed {}", MarkWords(mark)),
+            Some(mark) => write!(self.lines, ", removed {}", MarkWords(mark)),
             None => Ok(()),
         }
     }
@@ -164,21 +200,46 @@ impl<'a> History<'a> {
         self.lines.push('\n')
     }
 
+    // Sets the file at a slot.
+    fn set(&mut self, slot: u32, file: Option<Closed>) {
+        if let Some(at) = self.at.get_mut(slot as usize) {
+            *at = file;
+        }
+    }
+
     // Applies an access to the slots: it installs a file, or removes one.
     fn apply(&mut self, access: Access) {
-        let (slot, file) = match access {
-            Access::Puts(slot, file, _) | Access::Allocates(slot, file) => (slot, Some(file)),
-            Access::Looks(slot, _) | Access::Clears(slot, _) | Access::Takes(slot, _) => (
-                slot, None,
-            ),
-            Access::FindsFull => return,
-        };
-        self.removed = access.removed().map(|it| it.mark);
-        if file.is_some() || self.removed.is_some() {
-            if let Some(at) = self.at.get_mut(slot as usize) {
-                *at = file;
+        match access {
+            Access::Puts(slot, file, _) | Access::Allocates(slot, file) => {
+                self.set(slot, Some(file));
             }
+            Access::Clears(slot, _) | Access::Takes(slot, _) => self.set(slot, None),
+            Access::Looks(_, _) | Access::FindsFull => {}
         }
+        self.removed = match access.removed() {
+            Some(file) => Some(file.mark),
+            None => None,
+        };
+    }
+
+    // Appends the release of the file that is held, if there is one.
+    fn push_release(&mut self, who: &impl Display) -> Result<(), AllocError> {
+        match self.held.take() {
+            Some(mark) => {
+                write!(self.lines, "{who} Release({})", MarkWords(mark))?;
+                self.end_line()
+            }
+            None => Ok(()),
+        }
+    }
+
+    // Appends the close of a file.
+    fn push_close(&mut self, who: &impl Display, file: Closed) -> Result<(), AllocError> {
+        write!(self.lines, "{who} Close({})", MarkWords(file.mark))?;
+        if file.tag != 0 {
+            write!(self.lines, " tag {}", file.tag)?;
+        }
+        self.end_line()
     }
 
     // Appends the events of an access, and the request or the command that makes it.
@@ -190,22 +251,32 @@ impl<'a> History<'a> {
         self.apply(access);
         self.end_line()?;
         self.removed = None;
-        if let Some(mark) = self.held.take() {
-            write!(self.lines, "{who} Release({})", MarkWords(mark))?;
-            self.end_line()?;
+        self.push_release(who)?;
+        match access.removed() {
+            Some(file) => self.push_close(who, file),
+            None => Ok(()),
         }
-        let Some(Closed { mark, tag, .. }) = access.removed() else {
-            return Ok(());
-        };
-        write!(self.lines, "{who} Close({})", MarkWords(mark))?;
-        if tag != 0 {
-            write!(self.lines, " tag {tag}")?;
-        }
-        self.end_line()
     }
 
-    // Appends the effect of each number of a list on its slot, from one on. A -1 of a registration
-    // leaves its slot empty.
+    // Returns the access of a number of a list, at a slot and a position of the list, or `None` if
+    // it makes none. A -1 of a registration leaves its slot empty.
+    fn access_of(
+        &self,
+        is_update: bool,
+        (slot, i): (u32, u32),
+        number: i32,
+        tag: u64,
+    ) -> Option<Access> {
+        let found = self.at.get(slot as usize).copied().flatten();
+        let mark = Mark::Registered { k: self.lists, i };
+        match u8::try_from(number) {
+            Ok(entry) => Some(Access::Puts(slot, Closed { mark, entry, tag }, found)),
+            Err(_) if is_update && number == -1 => Some(Access::Clears(slot, found)),
+            Err(_) => None,
+        }
+    }
+
+    // Appends the effect of each number of a list on its slot, from one on.
     fn push_list(
         &mut self,
         who: &[u8],
@@ -214,19 +285,12 @@ impl<'a> History<'a> {
         tags: Option<&[u64]>,
     ) -> Result<(), AllocError> {
         self.lists = self.lists.saturating_add(1);
+        let is_update = who == b"regupdate".as_slice();
         for (i, number) in (0..u32::MAX).zip(list) {
-            let slot = off.saturating_add(i);
-            let found = self.at.get(slot as usize).copied().flatten();
-            let access = match (u8::try_from(*number), *number) {
-                (Ok(entry), _) => {
-                    let mark = Mark::Registered { k: self.lists, i };
-                    let tag = tag_at(tags, i as usize);
-                    Access::Puts(slot, Closed { mark, entry, tag }, found)
-                }
-                (Err(_), -1) if who == b"regupdate".as_slice() => Access::Clears(slot, found),
-                _ => continue,
-            };
-            self.push_access(&ByteWords(who), access)?;
+            let (slot, tag) = (off.saturating_add(i), tag_at(tags, i as usize));
+            if let Some(access) = self.access_of(is_update, (slot, i), *number, tag) {
+                self.push_access(&ByteWords(who), access)?;
+            }
         }
         Ok(())
     }
@@ -281,7 +345,7 @@ impl<'a> History<'a> {
         canceled: bool,
     ) -> Result<usize, NoMemory> {
         for (at, (request, it)) in answers.iter().enumerate().skip(from) {
-            let is_canceled = canceled && it.res == -Errno::ECANCELED.code();
+            let is_canceled = canceled && it.res == result_of(Errno::ECANCELED);
             if it.place.chain != chain || it.place.member > member && !is_canceled {
                 return Ok(at);
             }
@@ -292,39 +356,74 @@ impl<'a> History<'a> {
         Ok(answers.len())
     }
 
-    // Appends the lines of a submission, by the answers of its requests and their order. A request
-    // answers after its last access; one that makes none answers when its chain has come to it.
-    fn push_submission(&mut self, answers: &[Answer<'a>], order: &Order) -> Result<(), NoMemory> {
-        // the number of each chain, and its first request that hasn't answered yet
-        let mut chains = Vec::new(self.alloc);
-        for (at, (_, it)) in answers.iter().enumerate() {
-            if it.place.member == 1 {
-                chains.push((it.place.chain, at))?;
-            }
+    // Appends the events of an access of a chain, and the answers that come with it. `next`: the
+    // first request of the chain that hasn't answered yet. `ends`: whether it is the last access of
+    // its request. A request answers after its last access; one that makes none answers when its
+    // chain has reached it.
+    fn push_turn(
+        &mut self,
+        answers: &[Answer<'a>],
+        (access, place): (Access, Place),
+        next: usize,
+        ends: bool,
+    ) -> Result<usize, NoMemory> {
+        let (chain, member) = (place.chain, place.member);
+        let before = (chain, member.saturating_sub(1));
+        let next = self.push_answers(answers, next, before, false)?;
+        self.push_access(&PlaceWords(place), access)?;
+        if ends {
+            return self.push_answers(answers, next, (chain, member), true);
         }
+        Ok(next)
+    }
+
+    // Appends the lines of a submission, by the answers of its requests and their order. `chains`:
+    // the number of each chain, and its first request that hasn't answered yet.
+    fn push_turns(
+        &mut self,
+        answers: &[Answer<'a>],
+        order: &Order,
+        chains: &mut [(u32, usize)],
+    ) -> Result<(), NoMemory> {
         for (i, (made, at)) in order.accesses.iter().zip(&order.places).enumerate() {
             let Some(turn) = chains.get_mut((at.chain as usize).saturating_sub(1)) else {
                 continue;
             };
-            let (submission, chain, member) = (order.submission, at.chain, at.member);
-            let before = (chain, member.saturating_sub(1));
-            turn.1 = self.push_answers(answers, turn.1, before, false)?;
             let place = Place {
-                submission,
-                chain,
-                member,
+                submission: order.submission,
+                chain: at.chain,
+                member: at.member,
             };
-            self.push_access(&PlaceWords(place), made.access)?;
-            let mut later = order.places.iter().skip(i.saturating_add(1));
-            let next = later.find(|it| it.chain == chain);
-            if !next.is_some_and(|it| it.member == member) {
-                turn.1 = self.push_answers(answers, turn.1, (chain, member), true)?;
-            }
+            let ends = is_last(&order.places, i.saturating_add(1), at);
+            turn.1 = self.push_turn(answers, (made.access, place), turn.1, ends)?;
         }
-        for (chain, from) in &chains {
+        for (chain, from) in chains.iter() {
             self.push_answers(answers, *from, (*chain, u32::MAX), false)?;
         }
         Ok(())
+    }
+
+    // Takes the next lines of the script, those of a submission's requests.
+    fn requests_asked(&mut self, count: usize) -> Result<Vec<&'a [u8]>, AllocError> {
+        let mut asked = Vec::new(self.alloc);
+        for _ in 0..count {
+            asked.push(self.next_asked())?;
+        }
+        Ok(asked)
+    }
+
+    // Appends the lines of an accepted submission with an order of its requests, and takes its
+    // lines of the text.
+    fn push_submission(&mut self, asked: Vec<&'a [u8]>, order: &Order) -> Result<(), NoMemory> {
+        let Some((report, rest)) = read_report(self.alloc, self.text, asked.len())? else {
+            return Ok(());
+        };
+        self.next_asked();
+        self.text = rest;
+        let answers = asked.into_iter().zip(report.completions);
+        let answers: Vec<Answer<'a>> = answers.collect(self.alloc)?;
+        let mut chains = chains_of(self.alloc, &answers)?;
+        self.push_turns(&answers, order, &mut chains)
     }
 
     /// Appends the lines of the next command. A submission without requests prints no line, so that
@@ -337,24 +436,13 @@ impl<'a> History<'a> {
         let Command::Submit(requests) = command else {
             return self.push_call(command);
         };
-        let mut asked = Vec::new(self.alloc);
-        for _ in 0..requests.len() {
-            asked.push(self.next_asked())?;
-        }
+        let asked = self.requests_asked(requests.len())?;
         let is_refused = !requests.is_empty() && self.text.starts_with(b"submit ");
         let [order, others @ ..] = (if is_refused { &[] } else { self.orders }) else {
             return self.push_call(command);
         };
-        let read = read_report(self.alloc, self.text, requests.len())?;
-        let Some((report, rest)) = read else {
-            return Ok(());
-        };
-        self.next_asked();
         self.orders = others;
-        self.text = rest;
-        let answers = asked.into_iter().zip(report.completions);
-        let answers: Vec<Answer<'a>> = answers.collect(self.alloc)?;
-        self.push_submission(&answers, order)
+        self.push_submission(asked, order)
     }
 
     /// Appends the lines of the end of the script, where the remaining files are closed.

@@ -40,6 +40,17 @@ pub(crate) struct Act {
     pub file: Option<usize>,
 }
 
+impl Act {
+    /// Returns the first of the slots that it may be at, in this allocation range, and the number
+    /// of these slots.
+    pub(crate) fn slots(&self, range: (u32, u32)) -> (u32, u32) {
+        match self.slot {
+            Some(slot) => (slot, 1),
+            None => range,
+        }
+    }
+}
+
 // Returns an access of which no line shows anything.
 fn unread_act(slot: Option<u32>, effect: Effect, entry: Option<usize>) -> Act {
     Act {
@@ -83,10 +94,15 @@ pub(crate) fn acts_of(
     Ok(all)
 }
 
+/// Returns the result of a request that fails with an error.
+pub(crate) fn result_of(errno: Errno) -> i32 {
+    -errno.code()
+}
+
 /// Returns the result of a request, unless it is canceled, if that doesn't depend on the slots.
 pub(crate) fn fixed_result(case: &Case<'_>, request: &Request) -> Option<i32> {
     if let Some(errno) = case.refusal_of(request) {
-        return Some(-errno.code());
+        return Some(result_of(errno));
     }
     request.fixed_result()
 }
@@ -128,6 +144,23 @@ pub(crate) fn why_refused(
     }
 }
 
+// Appends the places of the accesses of the request at a place.
+fn push_places(
+    alloc: Global,
+    places: &mut Vec<AccessPlace>,
+    request: &Request,
+    at: &Place,
+) -> Result<(), NoMemory> {
+    for entry in request.positions(alloc)? {
+        places.push(AccessPlace {
+            chain: at.chain,
+            member: at.member,
+            entry,
+        })?;
+    }
+    Ok(())
+}
+
 /// Returns for each chain of a submission the places of the accesses that its requests make at a
 /// table of `size` slots, in order, if no request is canceled and no allocation fails.
 ///
@@ -145,13 +178,7 @@ pub fn access_places(
             chains.push(Vec::new(alloc))?;
         }
         if let (None, Some(places)) = (refusal_of(catalogue, size, request), chains.last_mut()) {
-            for entry in request.positions(alloc)? {
-                places.push(AccessPlace {
-                    chain: at.chain,
-                    member: at.member,
-                    entry,
-                })?;
-            }
+            push_places(alloc, places, request, at)?;
         }
     }
     Ok(chains)

@@ -26,6 +26,33 @@ pub fn next_line(text: &[u8]) -> (&[u8], &[u8]) {
     text.split_at(line_length(text))
 }
 
+/// The rest of a text, of which lines are taken.
+#[derive(Clone, Copy)]
+pub struct Lines<'a> {
+    /// The rest of the text.
+    pub rest: &'a [u8],
+    /// The number of lines that were taken.
+    pub taken: usize,
+}
+
+impl<'a> Lines<'a> {
+    /// Returns a whole text.
+    pub fn new(text: &'a [u8]) -> Lines<'a> {
+        Lines {
+            rest: text,
+            taken: 0,
+        }
+    }
+
+    /// Takes the next line, its end included. It is empty at the end of the text.
+    pub fn take(&mut self) -> &'a [u8] {
+        let (line, rest) = next_line(self.rest);
+        self.rest = rest;
+        self.taken = self.taken.saturating_add(1);
+        line
+    }
+}
+
 /// Returns the line that begins at a byte, its end included. It is empty at the end of the text.
 pub fn line_at(text: &[u8], from: usize) -> &[u8] {
     next_line(text.get(from..).unwrap_or(b"")).0
@@ -56,12 +83,17 @@ pub struct AskedLine<'a> {
 /// # Errors
 /// `AllocError` if an allocation fails.
 pub fn asked_lines(alloc: Global, script: &[u8]) -> Result<Vec<AskedLine<'_>>, AllocError> {
-    let mut asked = Vec::new(alloc);
-    let lines = script.split_inclusive(|byte| *byte == b'\n');
-    for (number, line) in (1..usize::MAX).zip(lines) {
+    let (mut asked, mut lines) = (Vec::new(alloc), Lines::new(script));
+    for _ in 0..script.len() {
+        if lines.rest.is_empty() {
+            break;
+        }
+        let line = lines.take();
         if !line.starts_with(b"\n") && !line.starts_with(b"#") && !line.starts_with(b"file ") {
-            let bytes = without_end(line);
-            asked.push(AskedLine { bytes, number })?;
+            asked.push(AskedLine {
+                bytes: without_end(line),
+                number: lines.taken,
+            })?;
         }
     }
     Ok(asked)
@@ -97,10 +129,11 @@ pub fn line_after(text: &[u8], from: usize, lines: usize) -> usize {
 
 /// Returns the places of the first line in which two texts differ: in the first text, read from a
 /// place on, and in the second.
-pub fn first_difference(text: &[u8], from: usize, wanted: &[u8]) -> (usize, usize) {
+pub fn first_difference(text: &[u8], from: usize, expected: &[u8]) -> (usize, usize) {
     let (mut at, mut there) = (from, 0usize);
-    for line in wanted.split_inclusive(|byte| *byte == b'\n') {
-        if line_at(text, at) != line {
+    for _ in 0..expected.len() {
+        let line = line_at(expected, there);
+        if line.is_empty() || line_at(text, at) != line {
             break;
         }
         at = at.saturating_add(line.len());
