@@ -1,5 +1,5 @@
 -- The calls that name a node: what their steps leave, one after another.
-use Rattle.fx_lasting.proofs.Words.{◌≡◌, ℕ, ◌+◌, ◌-◌, ◌≤◌, List, [], sym, refl, ap, ◌∙◌, subst, arith, Option, Some, None, Bool, true, false}
+use Rattle.fx_lasting.proofs.Words.{◌≡◌, ◌≢◌, ℕ, ◌+◌, ◌-◌, ◌≤◌, List, [], sym, refl, ap, ◌∙◌, subst, arith, Option, Some, None, Bool, true, false}
 use Rattle.fx_lasting.proofs.Words.{File, Event, IsSeenBy, Closed, Action, ◌▷◌, ◌▷▷◌, Take, Put, numbered, name_in, entry_in, count_in, Names}
 use Rattle.fx_lasting.proofs.Words.{Start, Sat, At, Work, Glance, Change, Outside, Runs, Stepped, Sees, retiring_work, retired_at, slot_of}
 use Rattle.fx_lasting.proofs.Words.{pass_in, state_after_all, node_of_number, account, uncounted, range_at_start, is_in, group_of, TableId, LastingPass}
@@ -12,7 +12,7 @@ use Rattle.fx_table.specs.declared.values.Doing.{Doing}
 use Rattle.fx_table.specs.declared.values.Doing.TheVariants.{Idle as DoesNothing}
 use Rattle.fx_table.specs.declared.values.Retired.{Retired}
 use Rattle.fx_lasting.specs.Ends.{Does}
-use Rattle.fx_lasting.specs.Keyed.{IsOn, FitsMiss, WasSo, WasIn, SaysIf, SawIf, FailedIf, TriedTake, TriedReplace}
+use Rattle.fx_lasting.specs.Keyed.{IsOn, FitsMiss, WasSo, WasIn, SaysIf, SawIf, FailedIf, HasTriedIf, TriedTake, TriedReplace}
 use Rattle.fx_lasting.specs.declared.answers.Miss.{Miss}
 use Rattle.fx_lasting.specs.declared.answers.Miss.TheVariants.{Empty, Other, Again}
 use Rattle.fx_lasting.proofs.Passing.{adds_so}
@@ -48,6 +48,12 @@ pub was_before : {k : Start} {slot : ℕ} {is : Option File → Type 0} (a : Lis
 was_before a {b} more was =
     record { history = was.history; later = seen_further a b was.history more was.later; seen = was.seen; there = was.there }
 
+-- what a word says of a call isn't that it tries no more
+not_again : (word node : ℕ) (miss : Miss) → SaysIf word node (Err miss) → miss ≢ Again
+not_again word node Again says is = absurd says
+not_again word node Empty says is = cc is
+not_again word node Other says is = cc is
+
 -- A pass that has seen what is at a slot
 module _ {k : Start} {slot : ℕ} (node : ℕ) {st : At} {m m' : Sat} {found : ℕ} (start : m.0.start ≡ k) (here : slot_of st.word ≡ slot)
     (saw : Sees st m found m') where
@@ -73,7 +79,7 @@ module _ {k : Start} {slot : ℕ} (node : ℕ) {st : At} {m m' : Sat} {found : �
 
   pub saw_if : (r : Result ℕ Miss) → SaysIf found node r → SawIf k slot node m r m'
   saw_if (Ok word) says = (ap name_in says.0 ∙ says.1, was_on says.1, runs_goes saw.goes)
-  saw_if (Err miss) says = (was_not miss says, runs_goes saw.goes)
+  saw_if (Err miss) says = (was_not miss says, runs_goes saw.goes, not_again found node miss says)
 
 -- a pass goes on with the same work
 pub stands_then : {m m' m'' : Sat} {xs ys : List Action} {w : Work} {g : Glance} {c : Change} {n n' : ℕ} → Runs m xs w g c n m'
@@ -97,10 +103,22 @@ at_once : {m m' : Sat} (range : ℕ × ℕ) (slot : ℕ) (f : File) {action : Ac
 at_once {m} {m'} range slot f {action} {w} {g} s =
     subst (λ (z : Change). Runs m ([] ▷ action) w g z 1 m') (off_none (is_in range slot) (group_of range slot)) (runs_one s)
 
-failed_so : (k : Start) (slot node : ℕ) (m m' : Sat) (miss : Miss) → WasIn k slot node miss m m' → FailedIf k slot node miss m m'
-failed_so k slot node m m' Again was = tt
-failed_so k slot node m m' Empty was = was
-failed_so k slot node m m' Other was = was
+failed_so : (k : Start) (slot node word : ℕ) (m m' : Sat) (miss : Miss) → SaysIf word node (Err miss) → WasIn k slot node miss m m'
+    → FailedIf k slot node miss m m'
+failed_so k slot node word m m' Again says was = absurd says
+failed_so k slot node word m m' Empty says was = was
+failed_so k slot node word m m' Other says was = was
+
+pub tried_none : (miss : Miss) (before after : ℕ) → miss ≢ Again → HasTriedIf miss before after
+tried_none Again before after not = absurd (not refl)
+tried_none Empty before after not = tt
+tried_none Other before after not = tt
+
+pub tried_so : (k : Start) (slot node before after : ℕ) (m m' : Sat) (miss : Miss) → FailedIf k slot node miss m m' → before ≤ (pass_in m).steps
+    → (pass_in m').steps ≤ after → HasTriedIf miss before after
+tried_so k slot node before after m m' Again failed low high = omega (arith, failed, low, high)
+tried_so k slot node before after m m' Empty failed low high = tt
+tried_so k slot node before after m m' Other failed low high = tt
 
 -- The last of some tries
 module _ {k : Start} {slot at : ℕ} (node found : ℕ) {m m₁ m₂ : Sat} {n : ℕ} (start : m₁.0.start ≡ k) (here : at ≡ slot)
@@ -141,7 +159,7 @@ module _ {st : At} {m m₁ m₂ : Sat} {found n : ℕ} (still : Does m [] m.0.wo
   pub lost_so : {k : Start} {slot : ℕ} (node : ℕ) → m₁.0.start ≡ k → slot_of st.word ≡ slot → (miss : Miss) → SaysIf found node (Err miss)
       → FailedIf k slot node miss m m₂
   lost_so {k} {slot} node start here miss says =
-      failed_so k slot node m m₂ miss (was_before (pass_in m).front still.seen (was_not node start here saw miss says))
+      failed_so k slot node found m m₂ miss says (was_before (pass_in m).front still.seen (was_not node start here saw miss says))
 
 -- why a call did nothing: the word was seen to name the node first
 pub missed_so : (k : Start) (slot node : ℕ) (m m₁ m₂ m₃ m₄ : Sat) (miss : Miss) → WasIn k slot node Again m m₁ → FailedIf k slot node miss m₂ m₃

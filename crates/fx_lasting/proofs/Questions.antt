@@ -26,6 +26,7 @@ learns_none at is = let r = runs_none at 0 in record {
   legal = r.legal;
   own = r.own;
   steps = r.steps;
+  begun = r.begun;
   listed = r.listed;
   asked = is;
   work = r.work;

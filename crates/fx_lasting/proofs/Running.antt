@@ -10,7 +10,9 @@ use mathlib.Core.List.{map-append}
 use Rattle.fx_table.proofs.Calls.{seen_further}
 
 pub runs_one : {m m' : Sat} {xs : List Action} {w : Work} {g : Glance} {c : Change} → Stepped m xs w g c m' → Runs m xs w g c 1 m'
-runs_one {m} {m'} s = let few : (pass_in m').steps ≤ (pass_in m).steps + 1 = (let e = s.steps in omega arith) in assumption (s, few)
+runs_one {m} {m'} s =
+    let few : (pass_in m').steps ≤ (pass_in m).steps + 1 = (let e = s.steps in omega arith) in
+    let begun : (pass_in m).steps ≤ (pass_in m').steps = (let e = s.steps in omega arith) in assumption (s, few, begun)
 
 pub runs_then : {m m' m'' : Sat} {xs ys : List Action} {w w' : Work} {g g' : Glance} {c c' : Change} {n n' : ℕ} → Runs m xs w g c n m'
     → Runs m' ys w' g' c' n' m'' → Runs m (xs ▷▷ ys) w' g' c' (n + n') m''
@@ -27,6 +29,7 @@ runs_then {m} {m'} {m''} {xs} {ys} {w' = w'} {n = n} {n' = n'} a b = record {
       ∙ (sym (append_assoc (map (pass_event (pass_in m)) ys) (map (pass_event (pass_in m)) xs) (part_of_pass (pass_in m).number (pass_in m).front))
       ∙ ap (λ (l : List Event). l ++ part_of_pass (pass_in m).number (pass_in m).front) (sym (map-append (pass_event (pass_in m)) ys xs))))));
   steps = let p = a.steps in let q = b.steps in omega arith;
+  begun = let p = a.begun in let q = b.begun in omega arith;
   listed = b.listed ∙ a.listed;
   asked = b.asked ∙ a.asked;
   work = b.work;
@@ -62,6 +65,7 @@ module _ {k : Start} {p : ℕ} {m : Sat} (at : IsAtWork k p m) where
     legal = subst (λ (z : Start × Log). IsHistory z.0 z.1.front) (λ i. (sym at.pass.0 i, sym (ap first_log at.pass.1) i)) at.legal;
     own = refl;
     steps = omega arith;
+    begun = omega arith;
     listed = refl;
     asked = refl;
     work = refl;
@@ -124,6 +128,7 @@ runs_asked {m' = m'} a r = record {
   legal = r.legal;
   own = r.own;
   steps = r.steps;
+  begun = r.begun;
   listed = r.listed;
   asked = refl;
   work = r.work;

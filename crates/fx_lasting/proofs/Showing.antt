@@ -158,6 +158,7 @@ module _ (k : Start) (id : ℕ) (v w : View) (x : Log) (one : v.logs ≡ x ∷ [
       legal = subst (λ (z : Start). IsHistory z r.history) (sym begun) r.legal;
       own = subst (λ (z : Log). part_of_pass z.number r.history ≡ part_of_pass z.number z.front) (sym first) o.own;
       steps = subst (λ (z : Log). x.steps ≤ z.steps + 0) (sym first) (omega arith);
+      begun = subst (λ (z : Log). z.steps ≤ x.steps) (sym first) (omega arith);
       listed = ap (λ (z : Log). z.listed) (sym first);
       asked = ap (λ (z : Log). z.asked) (sym first);
       work = refl;
@@ -189,6 +190,7 @@ module _ {id : TableId} {k : Start} {p : LastingPass} (fits : IsPassOf id k p) (
     legal = o.legal;
     own = o.own;
     steps = o.steps;
+    begun = o.begun;
     listed = o.listed;
     asked = o.asked;
     work = o.work;

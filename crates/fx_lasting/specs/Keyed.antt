@@ -1,5 +1,5 @@
 -- The calls that empty or replace a slot if its file is on a node that the caller names.
-use Rattle.std.specs.Prelude.{◌≡◌, ◌≢◌, ℕ, ◌+◌, List, [], Option, Some, None, Result, Ok, Err}
+use Rattle.std.specs.Prelude.{◌≡◌, ◌≢◌, ℕ, ◌+◌, ◌≤◌, List, [], Option, Some, None, Result, Ok, Err}
 use Rattle.fx_base.specs.Identity.{Identity}
 use Rattle.fx_plain.specs.History.{◌▷◌, IsSeenBy}
 use Rattle.fx_plain.specs.declared.event.Action.TheVariants.{Put, Take}
@@ -72,6 +72,20 @@ abbrev pub PutsIfChoice : Start → LastingPass → PutIf → LastingPass → Ty
 PutsIfChoice k p (put.Replaced x) p' = UsesChoice k p (view_of p')
 PutsIfChoice k p (put.Missed miss back) p' = KeepsChoice p p'
 
+-- a call tries no more only after four tries, each of which is a step
+abbrev pub HasTriedIf : Miss → ℕ → ℕ → Type 0
+HasTriedIf Again before after = before + 4 ≤ after
+HasTriedIf Empty before after = Unit {0}
+HasTriedIf Other before after = Unit {0}
+
+abbrev pub TriesTake : TakenIf → ℕ → ℕ → Type 0
+TriesTake (Removed x) before after = Unit {0}
+TriesTake (Missed miss) before after = HasTriedIf miss before after
+
+abbrev pub TriesPut : PutIf → ℕ → ℕ → Type 0
+TriesPut (put.Replaced x) before after = Unit {0}
+TriesPut (put.Missed miss back) before after = HasTriedIf miss before after
+
 -- a slot's word names the node, or says why the slot is left as it is
 abbrev pub SaysIf : ℕ → ℕ → Result ℕ Miss → Type 0
 SaysIf word node (Ok same) = (same ≡ word) × (name_in word ≡ node + 1)
@@ -88,11 +102,12 @@ WasIn k slot node miss m m' =
 abbrev pub SawIf : Start → ℕ → ℕ → Sat → Result ℕ Miss → Sat → Type 0
 SawIf k slot node m (Ok word) m' =
     (name_in word ≡ node + 1) × WasIn k slot node Again m m' × Does m [] m.0.work 1 m'
-SawIf k slot node m (Err miss) m' = WasIn k slot node miss m m' × Does m [] m.0.work 1 m'
+SawIf k slot node m (Err miss) m' =
+    WasIn k slot node miss m m' × Does m [] m.0.work 1 m' × (miss ≢ Again)
 
 -- why the last of some tries failed; the first word was seen before
 abbrev pub FailedIf : Start → ℕ → ℕ → Miss → Sat → Sat → Type 0
-FailedIf k slot node Again m m' = Unit {0}
+FailedIf k slot node Again m m' = HasTriedIf Again (pass_in m).steps (pass_in m').steps
 FailedIf k slot node Empty m m' = WasIn k slot node Empty m m'
 FailedIf k slot node Other m m' = WasIn k slot node Other m m'
 

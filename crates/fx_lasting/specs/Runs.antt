@@ -20,6 +20,7 @@ pub record Runs (m : Sat) (actions : List Action) (w : Work) (g : Glance) (c : C
   pub own : part_of_pass (pass_in m).number (pass_in m').front
       ≡ map (pass_event (pass_in m)) actions ++ part_of_pass (pass_in m).number (pass_in m).front
   pub steps : (pass_in m').steps ≤ (pass_in m).steps + most
+  pub begun : (pass_in m).steps ≤ (pass_in m').steps
   pub listed : (pass_in m').listed ≡ (pass_in m).listed
   pub asked : (pass_in m').asked ≡ (pass_in m).asked
   pub work : m'.0.work ≡ w

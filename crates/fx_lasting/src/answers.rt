@@ -10,7 +10,7 @@ pub enum Miss {
     Empty,
     /// The file at the slot was on another node.
     Other,
-    /// The file at the slot was on the node, but the slot's word changed before each try.
+    /// The file at the slot was on the node, but the slot's word changed before each of four tries.
     Again,
 }
 

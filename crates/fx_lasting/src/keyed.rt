@@ -11,7 +11,7 @@ ghost use Rattle.fx_table.specs.Opening.{size_of};
 ghost use Rattle.fx_table.specs.Pass.{IsIdle};
 ghost use Rattle.fx_words.specs.Words.{entry_in, name_in};
 ghost use Rattle.fx_lasting.specs.AtWork.{IsAtWork};
-ghost use Rattle.fx_lasting.specs.Keyed.{HasPutIf, HasTakenIf, PutsIfChoice, SawIf, SaysIf, TriedReplace, TriedTake};
+ghost use Rattle.fx_lasting.specs.Keyed.{HasPutIf, HasTakenIf, PutsIfChoice, SawIf, SaysIf, TriedReplace, TriedTake, TriesPut, TriesTake};
 ghost use Rattle.fx_lasting.specs.Laws.{IsOffCount};
 ghost use Rattle.fx_lasting.specs.Layout.{block_for};
 ghost use Rattle.fx_lasting.specs.Parts.{count_in};
@@ -44,6 +44,7 @@ impl LastingTable {
         ensures fits { IsPassOfTable self.now pass.new }
         ensures taken { HasTakenIf self.now.table.shared.key (view_of pass.old) slot node result
             (view_of pass.new) }
+        ensures tries { TriesTake result (steps_taken pass.old) (steps_taken pass.new) }
         ensures steps { steps_taken pass.new ≤ steps_taken pass.old + 9 }
     {
         let word = match self.see(&mut pass.seat, slot, node) {
@@ -81,6 +82,7 @@ impl LastingTable {
         ensures placed { HasPutIf self.now.table.shared.key (view_of pass.old) slot node file result
             (view_of pass.new) }
         ensures used { PutsIfChoice self.now.table.shared.key pass.old result pass.new }
+        ensures tries { TriesPut result (steps_taken pass.old) (steps_taken pass.new) }
         ensures steps { let block = block_for self.now.size self.now.passes in
             steps_taken pass.new ≤ steps_taken pass.old + (block + 7) }
     {

@@ -17,11 +17,11 @@ use Rattle.fx_table.specs.declared.values.LookFault.{LookFault as TableFault}
 use Rattle.fx_table.specs.declared.values.LookFault.TheVariants as fault
 use Rattle.fx_table.specs.declared.values.Retired.{Retired}
 use Rattle.fx_lasting.specs.Choices.{HasChosen, UsesChoice, KeepsChoice}
-use Rattle.fx_lasting.specs.Keyed.{HasMissed, HasPutIf, HasTakenIf}
+use Rattle.fx_lasting.specs.Keyed.{HasMissed, HasPutIf, HasTakenIf, HasTriedIf}
 use Rattle.fx_lasting.specs.Laws.{IsInRange as IsAllocated}
 use Rattle.fx_lasting.specs.Passes.{nodes_of}
 use Rattle.fx_lasting.specs.declared.layout.TheConstants.{MOST_SLOTS, MOST_PASSES, MOST_INSTALLING}
-use Rattle.fx_lasting.specs.Tables.{view_of, opening_of_table, IsPassOfTable}
+use Rattle.fx_lasting.specs.Tables.{view_of, steps_taken, opening_of_table, IsPassOfTable}
 use Rattle.fx_lasting.specs.declared.answers.Miss.{Miss}
 use Rattle.fx_lasting.specs.declared.answers.Miss.TheVariants as miss
 use Rattle.fx_lasting.specs.declared.answers.PutEmpty.{PutEmpty}
@@ -199,9 +199,10 @@ refusal_for miss.Empty = Empty
 refusal_for miss.Other = Other
 refusal_for miss.Again = Again
 
--- the slot is left as it is, for this reason
+-- the slot is left as it is, for this reason, and by `Again` only after four tries
 abbrev pub Misses : TableWorker → ℕ → ℕ → Miss → TableWorker → Type 0
 Misses w slot node why w' = HasMissed (its_start w) (its_pass w) slot node why (its_pass w')
+    × HasTriedIf why (steps_taken w.pass) (steps_taken w'.pass)
 
 -- the file of a slot is taken out, since it is on the node, and retired
 pub record TakesFromIf (w : TableWorker) (slot node : ℕ) (removal : Removal) (w' : TableWorker)

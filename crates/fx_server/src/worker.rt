@@ -241,7 +241,7 @@ impl TableWorker {
     ///
     /// # Errors
     /// `Busy`, `NoSlot`, in this order; `Empty` if the slot has no file, `Other` if its file is on
-    /// another node, `Again` if look-ups changed the slot's word before each try.
+    /// another node, `Again` if look-ups changed the slot's word before each of four tries.
     #[inline(always)]
     pub fn take_if(&mut self, slot: u32, node: u32) -> Result<Removal, ServerRefusal>
         requires good { IsGood self.old }

@@ -3,7 +3,7 @@ use Rattle.fx_lasting.proofs.Words.{Start, Work, Searching, Runs, rested, name_i
 use Rattle.fx_table.specs.Calls.{Adds, no_use, one_number}
 use Rattle.fx_table.specs.declared.values.Doing.TheVariants.{Retiring as Retires}
 use Rattle.fx_table.specs.declared.values.Retired.{Retired}
-use Rattle.fx_lasting.proofs.ByNode.{acts_then, stands_then, missed_so, value_so, removal_so, is_on, adds_none}
+use Rattle.fx_lasting.proofs.ByNode.{acts_then, stands_then, missed_so, tried_none, tried_so, value_so, removal_so, is_on, adds_none}
 use Rattle.fx_lasting.proofs.Passing.{adds_so, at_rest, still_pass, its_idle, its_flag, its_choice, may_install, knows_removed, at_ease_looking, first_by}
 use Rattle.fx_lasting.proofs.Running.{still_at_work, does_then}
 use Rattle.fx_lasting.proofs.Trying.{until_put}
@@ -22,6 +22,7 @@ returns-in-Err c =
       fits = still_pass s _ run (refl, refl) c.see.ensures.table (c.see.ensures.places ∙ s.places) s.block fits.knows;
       placed = (refl, record { was = saw.0; adds = adds_none fits c.requires.idle saw.1 });
       used = λ n chosen. saw.1.work ∙ chosen;
+      tries = tried_none c.in-Err.miss _ _ saw.2;
       steps = let few = run.steps in omega arith;
     }
 
@@ -103,6 +104,7 @@ returns-in-Ok-try_replace c =
             (value_so found x its.node its.entry its.takes did.3 f did.4.1) adds,
       );
       used = λ n chosen. rw adds.own (did.2 ∙ sought.kept n (saw.2.work ∙ chosen));
+      tries = tt;
       steps = let few = run.steps in omega arith;
     }
 
@@ -151,5 +153,6 @@ returns-in-Err-try_replace c =
         },
       );
       used = λ n chosen. run.work ∙ ap (λ (i : ℕ). Searching i) (sought.kept n (saw.2.work ∙ chosen));
+      tries = tried_so k c.args.slot c.args.node _ _ m₂ m₃ c.in-Err-try_replace.miss failed.0 placed.begun rests.begun;
       steps = let few = run.steps in omega arith;
     }

@@ -3,7 +3,7 @@ use Rattle.fx_lasting.proofs.Words.{Start, Glance, Outside, Runs, name_in, count
 use Rattle.fx_table.specs.Calls.{Adds, no_use}
 use Rattle.fx_table.specs.declared.values.Doing.TheVariants.{Retiring as Retires}
 use Rattle.fx_table.specs.declared.values.Retired.{Retired}
-use Rattle.fx_lasting.proofs.ByNode.{acts_then, stands_then, missed_so, value_so, removal_so, is_on, adds_none}
+use Rattle.fx_lasting.proofs.ByNode.{acts_then, stands_then, missed_so, tried_none, tried_so, value_so, removal_so, is_on, adds_none}
 use Rattle.fx_lasting.proofs.Passing.{adds_so, at_rest, still_pass, its_idle, knows_removed, at_ease_looking, first_by}
 use Rattle.fx_lasting.proofs.Running.{still_at_work, turns_then}
 use Rattle.fx_lasting.proofs.table.LastingTable.take_if.Goals as goal
@@ -20,6 +20,7 @@ returns-in-Err c =
     record {
       fits = still_pass s _ run (refl, refl) c.see.ensures.table (c.see.ensures.places ∙ s.places) s.block fits.knows;
       taken = record { was = saw.0; adds = adds_none fits c.requires.idle saw.1 };
+      tries = tried_none c.in-Err.miss _ _ saw.2;
       steps = let few = run.steps in omega arith;
     }
 
@@ -73,6 +74,7 @@ returns-in-Ok-try_take c =
         subst (λ (z : Retired). Adds (opening_of k) v ([] ▷ Take c.args.slot (Some f)) (Retires f z) no_use w)
             (value_so found x its.node its.entry its.takes took.1 f took.2.1) (adds_so s run no_use),
       );
+      tries = tt;
       steps = let few = run.steps in omega arith;
     }
 
@@ -114,5 +116,6 @@ returns-in-Err-try_take c =
             (turns_then (stands_then began.runs failed.1) end.runs).seen end.runs.seen;
         adds = adds_none fits c.requires.idle run;
       };
+      tries = tried_so k c.args.slot c.args.node _ _ m₂ m₃ c.in-Err-try_take.miss failed.0 first.begun end.runs.begun;
       steps = let few = run.steps in omega arith;
     }

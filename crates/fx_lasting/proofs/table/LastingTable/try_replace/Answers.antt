@@ -7,7 +7,7 @@ use Rattle.fx_lasting.proofs.Seeing.{replaces_keep}
 use Rattle.fx_lasting.proofs.table.LastingTable.try_replace.Goals as goal
 
 pub loop-init : goal.loop-init
-loop-init c = record { table = refl; places = refl; named = c.requires.named; still = placed_none c.requires.at.1 refl }
+loop-init c = record { table = refl; places = refl; named = c.requires.named; still = placed_none c.requires.at.1 refl; tries = omega arith }
 
 pub compare_exchange-seen-requires : goal.compare_exchange-seen-requires
 compare_exchange-seen-requires c =
@@ -45,6 +45,7 @@ loop-preserved c =
       places = saw.goes.carried ∙ i.places;
       named = ap (λ (z : ℕ). name_in z) says.0 ∙ says.1;
       still = stands_then i.still (runs_goes saw.goes);
+      tries = omega (arith, i.tries, saw.goes.stepped.steps);
     }
 
 pub returns-in-Err : goal.returns-in-Err
@@ -65,5 +66,5 @@ returns-in-Err c =
 pub returns : goal.returns
 returns c = let i = c.loop.invariant in record {
   table = i.table;
-  tried = (tt, runs_within (omega (arith, c.loop.auto.counter-end)) i.still, i.places);
+  tried = (omega (arith, i.tries, c.loop.auto.counter-end), runs_within (omega (arith, c.loop.auto.counter-end)) i.still, i.places);
 }

@@ -7,7 +7,7 @@ use Rattle.fx_lasting.proofs.Seeing.{takes_if_keep}
 use Rattle.fx_lasting.proofs.table.LastingTable.try_take.Goals as goal
 
 pub loop-init : goal.loop-init
-loop-init c = record { table = refl; places = refl; named = c.requires.named; still = placed_none c.requires.at.1 refl }
+loop-init c = record { table = refl; places = refl; named = c.requires.named; still = placed_none c.requires.at.1 refl; tries = omega arith }
 
 pub compare_exchange-found-requires : goal.compare_exchange-found-requires
 compare_exchange-found-requires c =
@@ -42,6 +42,7 @@ loop-preserved c =
       places = saw.goes.carried ∙ i.places;
       named = ap (λ (z : ℕ). name_in z) says.0 ∙ says.1;
       still = stands_then i.still (runs_goes saw.goes);
+      tries = omega (arith, i.tries, saw.goes.stepped.steps);
     }
 
 pub returns-in-Err : goal.returns-in-Err
@@ -63,5 +64,5 @@ pub returns : goal.returns
 returns c = let i = c.loop.invariant in record {
   table = i.table;
   places = i.places;
-  tried = (tt, runs_within (omega (arith, c.loop.auto.counter-end)) i.still);
+  tried = (omega (arith, i.tries, c.loop.auto.counter-end), runs_within (omega (arith, c.loop.auto.counter-end)) i.still);
 }
