@@ -1,6 +1,6 @@
 -- The files at the settled end of a table whose passes are all idle: they are in the places of
 -- their nodes.
-use Rattle.fx_lasting.proofs.Words.{◌≡◌, ◌≤◌, ℕ, ◌-◌, sym, refl, ap, ◌∙◌, arith, Option, Some, None, List, subst, Closed, State, state_of, slice_index}
+use Rattle.fx_lasting.proofs.Words.{◌≡◌, ◌≤◌, ℕ, ◌-◌, sym, refl, ap, ◌∙◌, arith, Option, Some, None, List, subst, Closed, State, slice_index}
 use Rattle.fx_lasting.proofs.Words.{some, get_elem?, node_in, slot_place, stands_at, some-injective, File, Names, name_in, Agrees, slots_of}
 use Rattle.fx_lasting.proofs.Words.{state_after_all, LastingTable, Start, View, HasNoFile, eq-eqb, ne_eqb}
 use Rattle.std.specs.Prelude.{option_map}

@@ -1,6 +1,6 @@
 -- The files of a closed table, listed with their slots, and a table of one thread that has them.
-use Rattle.fx_lasting.proofs.Words.{◌≡◌, ℕ, zero, suc, ◌+◌, ◌<◌, ◌≤◌, List, [], ◌∷◌, ◌++◌, sym, refl, ap, ◌∙◌, subst, arith, inl, Option, Some, None}
-use Rattle.fx_lasting.proofs.Words.{Closed, State, Contents, state_of, IsSettled, changed_at, numbered, some, get_elem?, set, File}
+use Rattle.fx_lasting.proofs.Words.{◌≡◌, ℕ, suc, ◌+◌, ◌<◌, ◌≤◌, List, [], ◌∷◌, ◌++◌, sym, refl, ap, ◌∙◌, arith, inl, Option, Some, None}
+use Rattle.fx_lasting.proofs.Words.{Closed, State, Contents, state_of, IsSettled, changed_at, numbered, some, get_elem?, set}
 use Rattle.fx_lasting.proofs.Words.{range_with_len, map, length-map-range_with_len, dite, dec_le}
 use Rattle.std.proofs.Common.{add-one}
 use Rattle.std.proofs.lemmas.List.{append-nil}

@@ -1,5 +1,5 @@
 -- A table that is opened with empty slots: its contents, and its first words and places.
-use Rattle.fx_lasting.proofs.Words.{◌≡◌, ℕ, zero, suc, ◌+◌, ◌<◌, ◌≤◌, List, length, sym, refl, ap, ◌∙◌, arith, Option, Some, None, slice_index}
+use Rattle.fx_lasting.proofs.Words.{◌≡◌, ℕ, zero, suc, ◌+◌, List, length, sym, refl, ap, ◌∙◌, arith, Option, Some, None, slice_index}
 use Rattle.fx_lasting.proofs.Words.{State, state_of}
 use Rattle.fx_lasting.proofs.Words.{[], false, File, word_for, node_for}
 use Rattle.fx_plain.specs.State.{file_numbered}

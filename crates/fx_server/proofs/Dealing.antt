@@ -1,5 +1,5 @@
 -- The workers of a new table: a pass of the table for each, in their order.
-use Rattle.std.proofs.Common.{◌≡◌, ℕ, List, [], ◌∷◌, ◌++◌, All, Option, None, ap, subst, slice_index_or, refl, sym, ◌∙◌, length, map, reverse}
+use Rattle.std.proofs.Common.{◌≡◌, ℕ, List, [], ◌∷◌, ◌++◌, All, Option, ap, subst, slice_index_or, refl, sym, ◌∙◌, length, map, reverse}
 use Rattle.std.proofs.lemmas.List.{map-append, append_assoc, reverse-append, length-map}
 use Rattle.std.proofs.lemmas.List.Elements.{All-cons, All-head, All-nil, All-push, All-same, All-tail, All-weaker}
 use Rattle.std.specs.Arc.{arc_value}

@@ -4,14 +4,13 @@
 --     returned         what an export ensures, from the memory and what is known of the worker
 use Rattle.std.proofs.Common.{[], ◌∷◌, ℕ}
 use seplogic.Ra.Ura.{Ura}
-use base.Fraction.{full_share}
-use base.Fml.{Lft, Fml, ftrue, fdead, flent, fres}
+use base.Fml.{Fml, flent}
 use base.Logic.{ent, sep, never, fst∗}
 use mir.Syntax.{named}
 use mir.Val.{vptr}
 use contract.Monad.{fact}
 use types.Logic.{Logic, sem}
-use types.Kit.{‵, ◌⊛◌, some, ◌$◌, ◌∵◌, !, qed, show, done}
+use types.Kit.{‵, ◌$◌, ◌∵◌, !, qed, show, done}
 use types.SemTy.{Body}
 use denote.RattleType.{RattleType}
 use denote.RawPtr.{Ptr, null_ptr}

@@ -1,4 +1,4 @@
-use Rattle.fx_lasting.proofs.Words.{◌≡◌, ℕ, List, sym, ap, ◌∙◌, subst, arith, Option, None, Start, state_of, slots_of, nodes_of}
+use Rattle.fx_lasting.proofs.Words.{◌≡◌, ℕ, List, sym, ap, ◌∙◌, subst, arith, None, Start, state_of, slots_of, nodes_of}
 use Rattle.fx_lasting.proofs.Words.{AreFirstWords, AreFirstHomes}
 use Rattle.std.proofs.Math.ListN.{replicate}
 use Rattle.fx_lasting.specs.Layout.{nodes_for, words_for}
