@@ -1,7 +1,8 @@
 /* The judge: decides whether the rules of io_uring's registered file table (docs/MODEL.md) let a
- * script print a text, and lists the texts that a script may print. Both functions are verified.
- * Their contracts say what YACHT_LEGAL, YACHT_NOT_LEGAL, YACHT_BAD_SCRIPT, YACHT_ALL and YACHT_SOME
- * mean (docs/PROOFS.md). The other numbers and the note are tested.
+ * script print a text, lists the texts that a script may print, and judges logs of calls in flight
+ * (docs/FLIGHT.md). The functions are verified. Their contracts say what YACHT_LEGAL,
+ * YACHT_NOT_LEGAL, YACHT_BAD_SCRIPT, YACHT_ALL, YACHT_SOME, YACHT_FAULTY, YACHT_MALFORMED and
+ * YACHT_TOO_MANY_SLOTS mean (docs/PROOFS.md). The other numbers and the note are tested.
  * C11 or C++17. Link with -lyachtjudge.
  *
  * The caller must ensure the following, which nothing checks:
@@ -28,11 +29,14 @@ extern "C" {
 
 /* What the functions return. */
 enum {
-    YACHT_LEGAL = 0,       /* yacht_judge: the script may print the text */
-    YACHT_NOT_LEGAL = 1,   /* yacht_judge: the script doesn't print the text */
-    YACHT_UNDECIDED = 2,   /* yacht_judge: neither was shown within the limits */
-    YACHT_BAD_SCRIPT = 3,  /* both: the bytes are not a script */
-    YACHT_JUDGE_NO_MEMORY = 4, /* both: an allocation failed */
+    YACHT_LEGAL = 0,       /* a judge: the script may print the text, or the log has a flight */
+    YACHT_NOT_LEGAL = 1,   /* a judge: the script doesn't print the text, or the log has no flight */
+    YACHT_UNDECIDED = 2,   /* a judge: neither was shown within the limits */
+    YACHT_BAD_SCRIPT = 3,  /* all: the bytes are not a script */
+    YACHT_JUDGE_NO_MEMORY = 4, /* all: an allocation failed */
+    YACHT_FAULTY = 5,      /* yacht_judge_events: an event can't follow those before it in a log */
+    YACHT_MALFORMED = 6,   /* yacht_judge_events: an event can't be read */
+    YACHT_TOO_MANY_SLOTS = 7, /* yacht_judge_events: the table has more than YACHT_MOST_LOG_SLOTS */
     YACHT_ALL = 0,         /* yacht_outcomes: all texts are listed */
     YACHT_SOME = 1,        /* yacht_outcomes: all listed texts are right, and there may be more */
     YACHT_NO_ROOM = 2      /* yacht_outcomes: there is no room for the texts */
@@ -86,6 +90,102 @@ typedef struct yacht_texts {
 uint32_t yacht_outcomes(const uint8_t *script, size_t script_length, uint32_t states,
                         uint32_t memory, uint8_t *texts, size_t texts_length, uint64_t *lengths,
                         size_t lengths_length, yacht_texts *found);
+
+/* The kinds of the events of a log, and the fields that each uses beside `kind` (docs/FLIGHT.md,
+ * "Meaning of a log"). Calls are numbered from 1 in the order of their events, chains and looks
+ * alike. */
+enum {
+    YACHT_EVENT_CALL = 1,   /* a chain is called: call; count requests from first on */
+    YACHT_EVENT_DONE = 2,   /* a member is answered: call, member, res; count bytes from first on */
+    YACHT_EVENT_LOOK = 3,   /* a look of a slot is called: call, slot */
+    YACHT_EVENT_FOUND = 4,  /* a look found a file: call, and the file */
+    YACHT_EVENT_EMPTY = 5,  /* a look found no file: call */
+    YACHT_EVENT_FREE = 6,   /* the hold of the file that a look found begins to end: call */
+    YACHT_EVENT_CLOSED = 7, /* a file was closed, at some time before: the file */
+    YACHT_EVENT_SETTLED = 8 /* each call was answered, and each removed file was closed */
+};
+
+/* An event of a log. A field that its kind doesn't use says nothing. */
+typedef struct yacht_event {
+    uint32_t kind;     /* one of the kinds of events */
+    uint32_t call;     /* the number of the call, from 1 */
+    uint32_t member;   /* the number of the member in its chain, from 1 */
+    int32_t res;       /* the result of that member: 0 or more, or a negated error number */
+    uint32_t slot;     /* the slot, from 0 */
+    uint32_t first;    /* the position of the first request, or of the first byte of a read */
+    uint32_t count;    /* the number of requests, or of bytes */
+    uint32_t by_call;   /* of the file that was found or closed: the call that installed it, */
+    uint32_t by_member; /* that call's member, from 1, */
+    uint32_t by_entry;  /* the position in the list of that member, from 0; 0 for an open, */
+    uint8_t file;       /* and the number of the file in the catalogue, from 0 */
+} yacht_event;
+
+/* The kinds of requests, and the fields that each uses beside `kind` and `flags`. */
+enum {
+    YACHT_REQUEST_OPEN = 1,         /* an open at a slot: file, slot */
+    YACHT_REQUEST_OPEN_ANY = 2,     /* an open at any empty slot: file */
+    YACHT_REQUEST_OPEN_MISSING = 3, /* an open of a name that the catalogue doesn't have */
+    YACHT_REQUEST_READ = 4,         /* slot; count bytes from first on */
+    YACHT_REQUEST_CLOSE = 5,        /* slot */
+    YACHT_REQUEST_UPDATE = 6        /* slot, the first one; count entries from first on */
+};
+
+/* A request of a chain. A field that its kind doesn't use says nothing. */
+typedef struct yacht_request {
+    uint32_t kind;  /* one of the kinds of requests */
+    uint32_t slot;  /* the slot, from 0 */
+    uint32_t first; /* the first byte, or the position of the first entry in `entries`, from 0 */
+    uint32_t count; /* the number of bytes, or of entries */
+    uint8_t flags;  /* io_uring's: 1 IOSQE_FIXED_FILE, 4 IOSQE_IO_LINK, 8 IOSQE_IO_HARDLINK */
+    uint8_t file;   /* the number of the file in the catalogue, from 0 */
+} yacht_request;
+
+/* The faults of a log, by number. */
+enum {
+    YACHT_FAULT_WRONG_NUMBER = 1,   /* a call's number isn't that of the next call */
+    YACHT_FAULT_NOT_ONE_CHAIN = 2,  /* the requests of a call have a fault, or aren't one chain */
+    YACHT_FAULT_NOT_CALLED = 3,     /* an answer without its call */
+    YACHT_FAULT_OUT_OF_TURN = 4,    /* an answer that isn't that of the chain's next member */
+    YACHT_FAULT_ANSWERED_TWICE = 5, /* a further answer of a call that is answered */
+    YACHT_FAULT_NOT_HELD = 6,       /* the end of a hold that isn't there */
+    YACHT_FAULT_STILL_OPEN = 7      /* YACHT_EVENT_SETTLED while a call isn't answered */
+};
+
+/* The flaws of an event that can't be read, by number. */
+enum {
+    YACHT_FLAW_EVENT = 1,   /* the event's kind is unknown */
+    YACHT_FLAW_REQUEST = 2, /* the kind of one of its requests is unknown */
+    YACHT_FLAW_FLAGS = 3,   /* a flag of one of its requests is unknown */
+    YACHT_FLAW_FILE = 4,    /* the catalogue doesn't have a file that it names */
+    YACHT_FLAW_RANGE = 5    /* requests, entries or bytes that it names are past their array */
+};
+
+/* The largest number of slots of a log's table. */
+enum { YACHT_MOST_LOG_SLOTS = 1048576 };
+
+/* The details of a verdict on a log. A field is 0 unless its number is returned. */
+typedef struct yacht_judgement {
+    /* YACHT_NOT_LEGAL: the position of the event, from 0, up to and with which the log has no
+     * flight in which each request finds memory; YACHT_FAULTY, YACHT_MALFORMED: of the first event
+     * with a fault or a flaw */
+    uint64_t at;
+    uint32_t fault; /* YACHT_FAULTY, YACHT_MALFORMED: the number of the fault or of the flaw */
+    uint32_t line;  /* YACHT_BAD_SCRIPT: as in a verdict */
+} yacht_judgement;
+
+/* Judges a log of calls in flight. The files of `script` are the catalogue, numbered from 0 in the
+ * order of their lines; its commands are not looked at. The table has `slots` slots, all of them
+ * empty at first and in the allocation range. The events name ranges of the other arrays: the
+ * requests of chains, the entries of updates (-1 empties a slot, -2 leaves it as it is, any other
+ * number is a file), and the bytes that reads returned. Each search of states keeps at most
+ * `states` states and `memory` MiB of them. A log with a look, or with an answer -12, is undecided.
+ * Returns YACHT_LEGAL, YACHT_NOT_LEGAL, YACHT_UNDECIDED, YACHT_BAD_SCRIPT, YACHT_JUDGE_NO_MEMORY,
+ * YACHT_FAULTY, YACHT_MALFORMED or YACHT_TOO_MANY_SLOTS, and writes *judgement. */
+uint32_t yacht_judge_events(const uint8_t *script, size_t script_length, uint32_t slots,
+                            const yacht_request *requests, size_t requests_length,
+                            const int32_t *entries, size_t entries_length, const uint8_t *bytes,
+                            size_t bytes_length, const yacht_event *events, size_t events_length,
+                            uint32_t states, uint32_t memory, yacht_judgement *judgement);
 
 #ifdef __cplusplus
 }

@@ -1,3 +1,5 @@
 pub mod Concluded
+pub mod FirstFlaws
+pub mod LogVerdicts
 pub mod Found
 pub mod Listings

@@ -3,7 +3,11 @@
 //! `include/yachtjudge.h`.
 #![tactic(auto)]
 
+mod arrays;
 mod codes;
+mod events;
+mod flaws;
+mod flights;
 mod judge;
 mod limits;
 mod listed;
