@@ -1,33 +1,45 @@
-"""The verified judge of io_uring's registered file table: judge(script, text) and outcomes(script).
+"""The verified judge of io_uring's registered file table: judge(script, text), outcomes(script) and judge_events(log).
 
-A script is what fixfiles plays. A text is what fixfiles, or a kernel, prints for it. Both are str or bytes. The library
-libyachtjudge.so.4 is looked for in the folder YACHTBANYAN_LIB_DIR if that is set, else beside this file and in the folders lib above it;
+A script is what fixfiles plays. A text is what fixfiles, or a kernel, prints for it. Both are str or bytes. A log is one of calls in flight,
+as the module yachtlog reads it. The library libyachtjudge.so.4 is looked for in the folder YACHTBANYAN_LIB_DIR if that is set, else beside this file and in the folders lib above it;
 and at last where the system finds libraries.
 
     >>> import yachtjudge
     >>> script = "file a.txt 68656c6c6f\\nsparse 2\\nopen a.txt at 0\\nsubmit\\n"
     >>> yachtjudge.judge(script, "sparse 0\\n1.1.1 0\\nteardown\\nclosed 1.1.1.0 a.txt\\n")
     Verdict(word='legal', ...)
+    >>> import yachtlog
+    >>> log = yachtlog.Log("file a 61\\ncall 1 sparse 1\\ndone 1.1 0\\ncall 2 open a at 0\\ndone 2.1 0\\nsettled\\n")
+    >>> yachtjudge.judge_events(log)
+    LogVerdict(word='legal', line=0)
 """
 from __future__ import annotations
 
 import ctypes
 import operator
 import os
-from collections.abc import Iterator
-from ctypes import POINTER, byref, c_size_t, c_uint8, c_uint32, c_uint64
+from collections.abc import Iterator, Sequence
+from ctypes import POINTER, byref, c_int32, c_size_t, c_uint8, c_uint32, c_uint64
 from dataclasses import dataclass
 from pathlib import Path
-from typing import Any, Literal, Union
+from typing import TYPE_CHECKING, Any, Literal, Union
 
-__all__ = ["BadScript", "NoMemory", "Outcomes", "Verdict", "judge", "outcomes"]
+from yachtevents import BadEvent, Events
+
+if TYPE_CHECKING:
+    import yachtlog
+
+__all__ = ["BadEvent", "BadScript", "LogVerdict", "NoMemory", "Outcomes", "Verdict", "judge", "judge_events", "outcomes"]
 __version__ = "4.0.0"
 
 # what a script or a text may be
 Words = Union[str, bytes, bytearray, memoryview]
 
-LEGAL, NOT_LEGAL, UNDECIDED, BAD_SCRIPT, NO_MEMORY = range(5)
+LEGAL, NOT_LEGAL, UNDECIDED, BAD_SCRIPT, NO_MEMORY, FAULTY, MALFORMED, TOO_MANY_SLOTS = range(8)
 ALL, SOME, NO_ROOM = range(3)
+# the faults of a log, and the flaws of an event, in the order of their numbers from 1
+FAULTS = ["wrong-number", "not-one-chain", "not-called", "out-of-turn", "answered-twice", "not-held", "still-open"]
+FLAWS = ["unknown-event", "unknown-request", "unknown-flags", "unknown-file", "past-the-end"]
 
 # fixcheck's own defaults, and the largest number of each
 STATES = 1_000_000
@@ -83,6 +95,19 @@ class Outcomes:
         return len(self.texts)
 
 
+@dataclass(frozen=True)
+class LogVerdict:
+    """A verdict on a log: `word` is 'legal', 'not legal' or 'undecided'. It is true if it is 'legal'.
+
+    Up to and with the line `line`, from 1, a log that is not legal has no flight in which each request finds memory."""
+
+    word: Literal["legal", "not legal", "undecided"]
+    line: int = 0
+
+    def __bool__(self) -> bool:
+        return self.word == "legal"
+
+
 class _Verdict(ctypes.Structure):
     _fields_ = [
         ("commands", c_uint64),
@@ -95,6 +120,37 @@ class _Verdict(ctypes.Structure):
 
 class _Texts(ctypes.Structure):
     _fields_ = [("count", c_uint64), ("bytes", c_uint64), ("line", c_uint32)]
+
+
+class _Event(ctypes.Structure):
+    _fields_ = [
+        ("kind", c_uint32),
+        ("call", c_uint32),
+        ("member", c_uint32),
+        ("res", c_int32),
+        ("slot", c_uint32),
+        ("first", c_uint32),
+        ("count", c_uint32),
+        ("by_call", c_uint32),
+        ("by_member", c_uint32),
+        ("by_entry", c_uint32),
+        ("file", c_uint8),
+    ]
+
+
+class _Request(ctypes.Structure):
+    _fields_ = [
+        ("kind", c_uint32),
+        ("slot", c_uint32),
+        ("first", c_uint32),
+        ("count", c_uint32),
+        ("flags", c_uint8),
+        ("file", c_uint8),
+    ]
+
+
+class _Judgement(ctypes.Structure):
+    _fields_ = [("at", c_uint64), ("fault", c_uint32), ("line", c_uint32)]
 
 
 def _paths() -> Iterator[Path]:
@@ -145,6 +201,23 @@ _library.yacht_outcomes.argtypes = [
     POINTER(c_uint64),
     c_size_t,
     POINTER(_Texts),
+]
+_library.yacht_judge_events.restype = c_uint32
+_library.yacht_judge_events.argtypes = [
+    POINTER(c_uint8),
+    c_size_t,
+    c_uint32,
+    POINTER(_Request),
+    c_size_t,
+    POINTER(c_int32),
+    c_size_t,
+    POINTER(c_uint8),
+    c_size_t,
+    POINTER(_Event),
+    c_size_t,
+    c_uint32,
+    c_uint32,
+    POINTER(_Judgement),
 ]
 
 
@@ -212,3 +285,45 @@ def outcomes(script: Words, states: int = STATES, memory: int = MEMORY) -> Outco
         listed.append(joined[at : at + length])
         at += length
     return Outcomes(tuple(listed), code == ALL)
+
+
+def _array(kind: type[Any], data: bytearray) -> tuple[Any, int]:
+    """Returns the bytes of structs or numbers as an array that C may read, and their number."""
+    size = ctypes.sizeof(kind)
+    return (kind * max(len(data) // size, 1)).from_buffer_copy(data or bytes(size)), len(data) // size
+
+
+def judge_events(log: yachtlog.Log, events: Sequence[yachtlog.Event] | None = None, states: int = STATES, memory: int = MEMORY) -> LogVerdict:
+    """Decides whether a log of calls in flight that yachtlog has read is legal, by searches of at most `states` states and `memory` MiB. Its
+    events are those of the log, without its tags, or others of the same calls. A log with a look, or with an answer -12, is undecided.
+
+    Raises BadEvent if an event has a fault, or says what no call can; BadScript if its files aren't a catalogue; NoMemory if an allocation
+    fails; TypeError or ValueError if a limit is none; and ValueError if two files have one name, or the table has too many slots."""
+    if len(log.names) < len(log.contents):
+        raise ValueError("two files have one name")
+    limits, slots = _limits(states, memory), min(log.slots, MOST)
+    those = [it for it in log.events if it.word != "tag"] if events is None else events
+    said, judgement = Events(log, those), _Judgement()
+    catalogue = "".join(f"file {name} {log.contents[at] or '-'}\n" for name, at in log.names.items())
+    code = _library.yacht_judge_events(
+        *_bytes(catalogue, "catalogue"),
+        slots,
+        *_array(_Request, said.requests),
+        *_array(c_int32, said.entries),
+        *_array(c_uint8, said.bytes),
+        *_array(_Event, said.events),
+        *limits,
+        byref(judgement),
+    )
+    if code == BAD_SCRIPT:
+        # the judge names the fault
+        judge(catalogue, b"", 0, 0)
+    if code == NO_MEMORY:
+        raise NoMemory("an allocation of the judge failed")
+    if code == TOO_MANY_SLOTS:
+        raise ValueError(f"the table has too many slots: {log.slots}")
+    if code in (FAULTY, MALFORMED):
+        raise BadEvent(those[judgement.at].line, (FAULTS if code == FAULTY else FLAWS)[judgement.fault - 1])
+    if code == NOT_LEGAL:
+        return LogVerdict("not legal", those[judgement.at].line)
+    return LogVerdict("legal" if code == LEGAL else "undecided")

@@ -19,8 +19,26 @@ judges_examples() {
     [ "$status" -eq 0 ] && grep -qx "judge.py: $(($(find examples -maxdepth 1 -name '*.script' | wc -l) + 2 * lines + 2 * lists + 3 * faults + 3)) looked at, 0 wrong" "$room/text"
 }
 
+# judges_rows NAME NUMBER
 judges_rows() {
-    [ "$(python tests/bindings/judge_rows.py)" = "judge_rows.py: $1 looked at, 0 wrong" ]
+    [ "$(python "tests/bindings/$1.py")" = "$1.py: $2 looked at, 0 wrong" ]
+}
+
+# the verdicts of the verified judge on the command line, and a missing library
+proved_logs() {
+    printf 'call 1 sparse 1\ndone 1.1 0\ncall 2 close 0\ndone 2.1 %s\n' -9 > "$room/right"
+    printf 'call 1 sparse 1\ndone 1.1 0\ncall 2 close 0\ndone 2.1 %s\n' 0 > "$room/wrong"
+    printf 'call 1 sparse 1\ncall 2 read 0 0 4097\n' > "$room/none"
+    [ "$(python $module/yachtlog.py --proved "$room/right")" = "$room/right: legal" ] || return 1
+    [ "$(python $module/yachtlog.py --proved "$room/right" "$room/wrong")" = "$room/right: legal
+$room/wrong: not legal: line 4: done 2.1 0" ] || return 1
+    python $module/yachtlog.py --proved "$room/right" "$room/wrong" > /dev/null
+    [ $? -eq 1 ] || return 1
+    python $module/yachtlog.py --proved "$room/none" > "$room/found"
+    [ $? -eq 3 ] && grep -qx "$room/none: not a log: line 2: not-one-chain" "$room/found" || return 1
+    [ "$(python $module/yachtlog.py --whole-updates "$room/right")" = "$room/right: legal" ] || return 1
+    library=$room/without python $module/yachtlog.py --proved "$room/right" 2> "$room/found"
+    [ $? -eq 2 ] && grep -qF 'Set YACHTBANYAN_LIB_DIR to the folder that has it.' "$room/found"
 }
 
 # without_library FOLDER WORDS: the module says in a sentence that its library is missing there
@@ -29,19 +47,21 @@ without_library() {
     tail -n 1 "$room/found" | grep -qF "ImportError: The library $2" && tail -n 1 "$room/found" | grep -qF 'Set YACHTBANYAN_LIB_DIR to the folder that has it.'
 }
 
-# wrong_module SED: a wrong change of the module, which the rows must refuse
+# wrong_module MODULE ROWS SED: a wrong change of a module, which the rows must refuse
 wrong_module() {
     rm -rf "$room/python" && cp -r bindings/python "$room/python"
-    sed -i "$1" "$room/python/yachtjudge.py"
-    ! cmp -s bindings/python/yachtjudge.py "$room/python/yachtjudge.py" || return 1
-    python3 -B -m py_compile "$room/python/yachtjudge.py" || return 1
-    module=$room/python python tests/bindings/judge_rows.py > "$room/found" 2>&1 && return 1
+    sed -i "$3" "$room/python/$1.py"
+    ! cmp -s "bindings/python/$1.py" "$room/python/$1.py" || return 1
+    python3 -B -m py_compile "$room/python/$1.py" || return 1
+    module=$room/python python "tests/bindings/$2.py" > "$room/found" 2>&1 && return 1
     tail -n 1 "$room/found" | grep -qE '[1-9][0-9]* wrong$'
 }
 
 in_python() {
     want 'the judge from Python is wrong over the examples' judges_examples
-    want 'the judge from Python is wrong' judges_rows 41
+    want 'the judge from Python is wrong' judges_rows judge_rows 41
+    want 'the judge of logs from Python is wrong' judges_rows log_rows 62
+    want 'the verified judge of yachtlog is wrong' proved_logs
     want 'a missing library is not explained' without_library "$room" 'libyachtjudge.so.4 was not found.'
     echo > "$room/libyachtjudge.so.4"
     want 'a library that does not load is not explained' without_library "$room" "$room/libyachtjudge.so.4 can't be loaded: "
@@ -50,7 +70,7 @@ in_python() {
 wrong_python() {
     local change
     while IFS= read -r change; do
-        want "a wrong change of yachtjudge.py is not noticed: $change" wrong_module "$change"
+        want "a wrong change of yachtjudge.py is not noticed: $change" wrong_module yachtjudge judge_rows "$change"
     done << 'END'
 s/else "undecided"$/else "legal"/
 s/word: Literal\[.*\] = "legal" if code == LEGAL/word = "legal" if code != NOT_LEGAL/
@@ -74,5 +94,29 @@ s/    numbers = operator.index(states), operator.index(memory)/    numbers = int
 s/        if not 0 <= number <= MOST:/        if number > MOST:/
 s/        if not 0 <= number <= MOST:/        if number < 0:/
 s/__version__ = "4/__version__ = "3/
+END
+}
+
+# wrong changes of how a log is passed to the verified judge, and of how its verdict is read
+wrong_logs() {
+    local module change
+    while IFS=' ' read -r module change; do
+        want "a wrong change of $module.py is not noticed: $change" wrong_module "$module" log_rows "$change"
+    done << 'END'
+yachtjudge s/LogVerdict("not legal", those\[judgement.at\].line)/LogVerdict("not legal", those[judgement.at - 1].line)/
+yachtjudge s/LogVerdict("legal" if code == LEGAL else "undecided")/LogVerdict("legal")/
+yachtjudge s/(FAULTS if code == FAULTY else FLAWS)/FAULTS/
+yachtjudge s/judgement.fault - 1\]/judgement.fault - 2]/
+yachtjudge s/\[it for it in log.events if it.word != "tag"\] if events is None else events/[it for it in log.events if it.word != "tag"]/
+yachtjudge s/min(log.slots, MOST)/log.slots/
+yachtevents s/enumerate(calls, 1)/enumerate(sorted(calls), 1)/
+yachtevents s/"hardlink": 8/"hardlink": 4/
+yachtevents s/flags | FIXED_FILE/flags/
+yachtevents s/REQUEST_OPEN_MISSING if file < 0 else //
+yachtevents s/else REQUEST_OPEN_ANY/else REQUEST_OPEN/
+yachtevents s/len(self.bytes), len(found)/0, len(found)/
+yachtevents s/return self._numbers.get(by, 0), member, entry, file/return by, member, entry, file/
+yachtevents s/file if 0 <= file < len(self._log.contents) else 0/0/
+yachtevents s/answer.result == EBADF and not answer.found/True/
 END
 }

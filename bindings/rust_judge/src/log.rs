@@ -1,0 +1,321 @@
+//! Logs of calls in flight.
+use crate::core;
+use crate::errors::{JudgeError, LogFault};
+use crate::Limits;
+
+/// The link of a request to the next one of its chain (io_uring_enter(2), "flags").
+#[derive(Clone, Copy, Debug, PartialEq, Eq)]
+pub enum Link {
+    /// The request is the last one of its chain.
+    None,
+    /// The next request starts only after this one has completed, and not if this one failed.
+    Soft,
+    /// The next request starts only after this one has completed, whatever its result.
+    Hard,
+}
+
+/// An operation. Slots, bytes and files of the catalogue are numbered from 0.
+#[derive(Clone, Debug, PartialEq, Eq)]
+pub enum Op {
+    /// Opens a file of the catalogue at a slot.
+    Open {
+        /// The number of the file.
+        file: u8,
+        /// The slot.
+        slot: u32,
+    },
+    /// Opens a file of the catalogue at any empty slot.
+    OpenAny {
+        /// The number of the file.
+        file: u8,
+    },
+    /// Opens a name that the catalogue doesn't have.
+    OpenMissing,
+    /// Reads from the file at a slot.
+    Read {
+        /// The slot.
+        slot: u32,
+        /// The first byte.
+        first: u32,
+        /// The number of bytes, at most 4,096.
+        count: u32,
+    },
+    /// Empties a slot.
+    Close {
+        /// The slot.
+        slot: u32,
+    },
+    /// Changes the slots from `slot` on: -1 empties one, -2 leaves it as it is, and any other
+    /// number installs that file of the catalogue.
+    Update {
+        /// The first slot.
+        slot: u32,
+        /// The entries, at most 16.
+        entries: Vec<i32>,
+    },
+}
+
+/// A request of a chain.
+#[derive(Clone, Debug, PartialEq, Eq)]
+pub struct Request {
+    /// The operation.
+    pub op: Op,
+    /// The link to the next request.
+    pub link: Link,
+}
+
+/// A file: the request that installed it, and its number in the catalogue.
+#[derive(Clone, Copy, Debug, PartialEq, Eq)]
+pub struct File {
+    /// The number of the call, from 1.
+    pub call: u32,
+    /// The number of the member in its chain, from 1.
+    pub member: u32,
+    /// The position in the list of an update, from 0; 0 for an open.
+    pub entry: u32,
+    /// The number of the file in the catalogue, from 0.
+    pub file: u8,
+}
+
+/// A verdict on a log.
+#[derive(Clone, Copy, Debug, PartialEq, Eq)]
+pub enum LogVerdict {
+    /// The log has a flight: the rules allow what it shows.
+    Legal,
+    /// Up to and with this event, the log has no flight in which each request finds memory.
+    NotLegal {
+        /// The position of the event, from 0.
+        at: usize,
+    },
+    /// Neither was shown within the limits, or the log has a look or an answer -12.
+    Undecided,
+}
+
+/// A log of calls in flight, event by event, in the order in which one observer saw them. Calls are
+/// numbered from 1 in the order of their events, chains and looks alike.
+///
+/// A read is open while another call closes the slot. It may find the file. A read that is called
+/// after the answer of the close can't find it.
+///
+/// ```
+/// use yachtjudge::{File, Limits, Link, Log, LogVerdict, Op, Request};
+///
+/// let one = |op| [Request { op, link: Link::None }];
+/// let mut log = Log::new("file page.html 68656c6c6f\n", 1);
+/// let page = log.call(&one(Op::Open { file: 0, slot: 0 }));
+/// log.done(page, 1, 0, b"");
+/// let read = log.call(&one(Op::Read { slot: 0, first: 0, count: 5 }));
+/// let close = log.call(&one(Op::Close { slot: 0 }));
+/// log.done(close, 1, 0, b"");
+/// log.done(read, 1, 5, b"hello");
+/// log.closed(File { call: page, member: 1, entry: 0, file: 0 });
+/// log.settled();
+/// assert_eq!(log.judge(Limits::default()), Ok(LogVerdict::Legal));
+///
+/// let late = log.call(&one(Op::Read { slot: 0, first: 0, count: 5 }));
+/// log.done(late, 1, 5, b"hello");
+/// assert_eq!(log.judge(Limits::default()), Ok(LogVerdict::NotLegal { at: 9 }));
+/// ```
+#[derive(Clone, Debug)]
+pub struct Log {
+    catalogue: String,
+    slots: u32,
+    calls: u32,
+    events: Vec<core::Event>,
+    requests: Vec<core::Request>,
+    entries: Vec<i32>,
+    bytes: Vec<u8>,
+}
+
+impl Log {
+    /// Creates a log without events, of a table of empty slots. The files of the script `catalogue`
+    /// are those that requests can open, numbered from 0.
+    pub fn new(catalogue: &str, slots: u32) -> Log {
+        Log {
+            catalogue: catalogue.to_string(),
+            slots,
+            calls: 0,
+            events: Vec::new(),
+            requests: Vec::new(),
+            entries: Vec::new(),
+            bytes: Vec::new(),
+        }
+    }
+
+    fn add(&mut self, event: core::Event) {
+        self.events.push(event);
+    }
+
+    // Appends the event of a file.
+    fn add_file(&mut self, kind: u32, call: u32, file: File) {
+        self.add(core::Event {
+            kind,
+            call,
+            by_call: file.call,
+            by_member: file.member,
+            by_entry: file.entry,
+            file: file.file,
+            ..core::Event::default()
+        });
+    }
+
+    // Appends the event of a call with the next number. Returns the number.
+    fn add_call(&mut self, event: core::Event) -> u32 {
+        self.calls += 1;
+        let call = self.calls;
+        self.add(core::Event { call, ..event });
+        call
+    }
+
+    // Returns a request as the judge reads it.
+    fn request(&mut self, request: &Request) -> core::Request {
+        let (kind, slot, first, count, file) = match &request.op {
+            Op::Open { file, slot } => (core::REQUEST_OPEN, *slot, 0, 0, *file),
+            Op::OpenAny { file } => (core::REQUEST_OPEN_ANY, 0, 0, 0, *file),
+            Op::OpenMissing => (core::REQUEST_OPEN_MISSING, 0, 0, 0, 0),
+            Op::Read { slot, first, count } => (core::REQUEST_READ, *slot, *first, *count, 0),
+            Op::Close { slot } => (core::REQUEST_CLOSE, *slot, 0, 0, 0),
+            Op::Update { slot, entries } => {
+                let first = self.entries.len() as u32;
+                self.entries.extend(entries);
+                (core::REQUEST_UPDATE, *slot, first, entries.len() as u32, 0)
+            }
+        };
+        let fixed = u8::from(matches!(request.op, Op::Read { .. }));
+        let link = match request.link {
+            Link::None => 0,
+            Link::Soft => 4,
+            Link::Hard => 8,
+        };
+        core::Request {
+            kind,
+            slot,
+            first,
+            count,
+            flags: fixed | link,
+            file,
+        }
+    }
+
+    /// Appends the call of a chain of requests. Returns its number.
+    pub fn call(&mut self, chain: &[Request]) -> u32 {
+        let first = self.requests.len() as u32;
+        for it in chain {
+            let request = self.request(it);
+            self.requests.push(request);
+        }
+        self.add_call(core::Event {
+            kind: core::EVENT_CALL,
+            first,
+            count: chain.len() as u32,
+            ..core::Event::default()
+        })
+    }
+
+    /// Appends the answer of a member, from 1, of a call: its result, and the bytes of a read.
+    pub fn done(&mut self, call: u32, member: u32, res: i32, bytes: &[u8]) {
+        let first = self.bytes.len() as u32;
+        self.bytes.extend(bytes);
+        self.add(core::Event {
+            kind: core::EVENT_DONE,
+            call,
+            member,
+            res,
+            first,
+            count: bytes.len() as u32,
+            ..core::Event::default()
+        });
+    }
+
+    /// Appends the call of a look of a slot. Returns its number.
+    pub fn look(&mut self, slot: u32) -> u32 {
+        self.add_call(core::Event {
+            kind: core::EVENT_LOOK,
+            slot,
+            ..core::Event::default()
+        })
+    }
+
+    /// Appends the answer of a look: the file that it found and holds, or none.
+    pub fn found(&mut self, call: u32, file: Option<File>) {
+        match file {
+            Some(file) => self.add_file(core::EVENT_FOUND, call, file),
+            None => self.add(core::Event {
+                kind: core::EVENT_EMPTY,
+                call,
+                ..core::Event::default()
+            }),
+        }
+    }
+
+    /// Appends that the hold of the file that a look found begins to end.
+    pub fn free(&mut self, call: u32) {
+        self.add(core::Event {
+            kind: core::EVENT_FREE,
+            call,
+            ..core::Event::default()
+        });
+    }
+
+    /// Appends that a file was closed, at some time before.
+    pub fn closed(&mut self, file: File) {
+        self.add_file(core::EVENT_CLOSED, 0, file);
+    }
+
+    /// Appends that the observer waited until each call was answered, and each removed file was
+    /// closed.
+    pub fn settled(&mut self) {
+        self.add(core::Event {
+            kind: core::EVENT_SETTLED,
+            ..core::Event::default()
+        });
+    }
+
+    /// Judges the log, by searches within the limits.
+    ///
+    /// # Errors
+    /// Any [`JudgeError`].
+    pub fn judge(&self, limits: Limits) -> Result<LogVerdict, JudgeError> {
+        let mut judgement = core::Judgement::default();
+        // SAFETY: the slices are valid for their lengths, and the written value overlaps none.
+        let number = unsafe {
+            core::yacht_judge_events(
+                self.catalogue.as_ptr(),
+                self.catalogue.len(),
+                self.slots,
+                self.requests.as_ptr(),
+                self.requests.len(),
+                self.entries.as_ptr(),
+                self.entries.len(),
+                self.bytes.as_ptr(),
+                self.bytes.len(),
+                self.events.as_ptr(),
+                self.events.len(),
+                limits.states,
+                limits.memory,
+                &mut judgement,
+            )
+        };
+        let at = judgement.at as usize;
+        match number {
+            core::LEGAL => Ok(LogVerdict::Legal),
+            core::NOT_LEGAL => Ok(LogVerdict::NotLegal { at }),
+            core::UNDECIDED => Ok(LogVerdict::Undecided),
+            core::BAD_SCRIPT => match crate::judge(self.catalogue.as_bytes(), b"", limits) {
+                Err(fault) => Err(fault),
+                Ok(_) => unreachable!("the judge finds the fault again"),
+            },
+            core::NO_MEMORY => Err(JudgeError::NoMemory),
+            core::FAULTY => Err(JudgeError::BadEvent {
+                at,
+                fault: LogFault::of(judgement.fault),
+            }),
+            // the other flaws are none that a log of these types can have
+            core::MALFORMED => Err(JudgeError::BadEvent {
+                at,
+                fault: LogFault::UnknownFile,
+            }),
+            _ => Err(JudgeError::TooManySlots),
+        }
+    }
+}

@@ -1,0 +1,120 @@
+"""Rows for yachtjudge.judge_events and yachtevents, each derived by hand: verdicts with their lines, the faults of a log, and the structs
+that an event and a request become."""
+import sys
+
+import yachtevents
+import yachtjudge
+import yachtlog
+from yachtjudge import LogVerdict, judge_events
+
+looked = wrong = 0
+HEAD = "file a 61\nfile b 6262\ncall 1 sparse 2\ndone 1.1 0\n"
+
+
+def want(holds, what):
+    global looked, wrong
+    looked += 1
+    if not holds:
+        wrong += 1
+        print(f"log_rows.py: {what}")
+
+
+def raises(kind, words, call):
+    try:
+        found = call()
+    except Exception as fault:
+        found = fault
+    want(type(found) is kind and words in str(found), f"{kind.__name__} with '{words}' expected, and {found!r} found")
+
+
+def log(*lines, head=HEAD):
+    return yachtlog.Log(head + "".join(f"{it}\n" for it in lines))
+
+
+def outcome(call):
+    """Returns the verdict of a call, or what it raises."""
+    try:
+        return call()
+    except ValueError as fault:
+        return fault
+
+
+def verdict(word, line, *lines):
+    """Wants a verdict of both judges. The first line after the head has the number 5."""
+    it = log(*lines)
+    found = outcome(lambda: judge_events(it))
+    want(found == LogVerdict(word, line) and bool(found) == (word == "legal"), f"{found} in place of {word} {line}: {lines}")
+    want(outcome(lambda: it.judge(is_proved=True)) == it.judge() == (word, line), f"the judges differ: {lines}")
+
+
+opened = "call 2 open a at 0", "done 2.1 0"
+read = *opened, "call 3 read 0 0 4", "call 4 close 0", "done 4.1 0"
+closed = "closed 2.1.0 a", "settled"
+verdict("legal", 0)
+verdict("legal", 0, *read, "done 3.1 1 61", *closed)
+verdict("legal", 0, *read, "done 3.1 -9", *closed)
+verdict("not legal", 10, *read, "done 3.1 1 62", *closed)
+verdict("not legal", 10, *read, "done 3.1 0", *closed)
+verdict("not legal", 7, *opened, "closed 2.1.0 a")
+verdict("not legal", 11, *read, "done 3.1 1 61", "settled")
+# the calls of a text may have any numbers, and so have the marks of their files
+verdict("legal", 0, "call 7 open b any", "call 5 update 0 -2,0", "done 5.1 2", "done 7.1 1", "closed 7.1.0 b")
+verdict("legal", 0, "call 7 open b any", "call 5 update 0 -2,0", "call 9 close 1", "done 5.1 2", "done 7.1 1", "done 9.1 0", "closed 5.1.1 a")
+verdict("not legal", 9, "call 7 open b any", "call 5 update 0 -2,0", "done 5.1 2", "done 7.1 1", "closed 5.1.1 a")
+verdict("legal", 0, "call 2 regupdate 1 1", "call 3 open missing at 0 link ; close 1", "done 3.1 -2", "done 3.2 -125", "done 2.1 1")
+verdict("not legal", 8, "call 2 regupdate 1 1", "call 3 open missing at 0 hardlink ; close 1", "done 3.1 -2", "done 3.2 -125", "done 2.1 1")
+verdict("legal", 0, "call 2 open a at 2", "done 2.1 -22", "call 3 update 1 0,0", "done 3.1 -22", "call 4 update 0 -3", "done 4.1 -9")
+verdict("legal", 0, "call 2 update 0 0,0", "done 2.1 2", "call 3 open b any", "done 3.1 -23")
+
+verdict("legal", 0, "call 2 update 0 0,1", "done 2.1 2", "call 3 read 0 0 1", "done 3.1 1 61", "call 4 read 1 1 1", "done 4.1 1 62")
+
+# limits, and answers that lack memory
+undecided, lacking = LogVerdict("undecided"), log(*opened, "call 3 read 0 0 1", "done 3.1 -12")
+want(outcome(lambda: judge_events(log(*read, "done 3.1 1 61"), states=0)) == undecided, "within no states a log is decided")
+want(outcome(lambda: judge_events(log(*read, "done 3.1 1 61"), memory=0)) == undecided, "within no memory a log is decided")
+want(outcome(lambda: judge_events(lacking)) == undecided, "an answer -12 is decided")
+raises(ValueError, "states must be from 0 to 4294967295, not -1", lambda: judge_events(log(), states=-1))
+raises(ValueError, "memory must be from 0 to 4294967295, not -1", lambda: judge_events(log(), memory=-1))
+
+# the tag of a file in place of its close, and events of the caller's choice
+tagged = log(*read, "done 3.1 1 61", "closed 2.1.0 a", "settled", "tag 2.1.0")
+want(outcome(lambda: judge_events(tagged)) == LogVerdict("legal"), "a log without its tags isn't legal")
+want(outcome(lambda: tagged.judge(is_proved=True)) == ("not legal", 12), "a tag that comes too late is legal")
+want(outcome(lambda: judge_events(tagged, tagged.events[:3])) == LogVerdict("legal"), "the beginning of a log isn't legal")
+
+# an update as one step: a read of its first slot finds its file, and a later one of its second
+# slot finds none
+between = log("call 2 update 0 0,0", "call 3 read 0 0 1", "done 3.1 1 61", "call 4 read 1 0 1", "done 4.1 -9", "done 2.1 2")
+want(between.judge() == outcome(lambda: between.judge(is_proved=True)) == ("legal", 0), "no request comes between two entries of an update")
+want(between.judge(is_whole=True) == ("not legal", 9), "a request comes between two entries of an update of one step")
+want(log("call 2 update 0 0,-2,0", "done 2.1 -22", "call 3 update 0 0,-1", "done 3.1 2").judge(is_whole=True).word == "legal", "an update isn't one step")
+
+# faults, and what can't be passed
+raises(yachtjudge.BadEvent, "line 7: not-held", lambda: judge_events(log("call 2 look 0", "done 2.1 -9", "free 2")))
+raises(yachtlog.BadLog, "line 7: not-held", lambda: log("call 2 look 0", "done 2.1 -9", "free 2").judge(is_proved=True))
+raises(yachtjudge.BadEvent, "line 5: not-one-chain", lambda: judge_events(log("call 2 read 0 0 4097", "done 2.1 -9")))
+raises(yachtjudge.BadEvent, "line 6: a look finds a file, or answers -9", lambda: judge_events(log("call 2 look 0", "done 2.1 1 61")))
+raises(yachtjudge.BadEvent, "line 6: non-hexadecimal number", lambda: judge_events(log("call 2 read 0 0 1", "done 2.1 0 2.1.0")))
+raises(yachtjudge.BadEvent, "line 5: ", lambda: judge_events(log("call 2 close 4294967296")))
+raises(yachtjudge.BadEvent, "line 6: ", lambda: judge_events(log("call 2 close 0", "done 2.1 4294967296")))
+raises(yachtjudge.BadEvent, "line 5: a look is not a request of a chain", lambda: judge_events(log("call 2 close 0 link ; look 0")))
+raises(yachtjudge.BadEvent, "line 3: unknown-file", lambda: judge_events(log("call 2 close 0", "closed 2.1.0 a", head="call 1 sparse 2\n")))
+raises(yachtjudge.BadScript, "line 2: bad-name", lambda: judge_events(log(head="file a 61\nfile b/b 62\n")))
+raises(ValueError, "two files have one name", lambda: judge_events(log(head="file a 61\nfile a 62\n")))
+raises(ValueError, "too many slots: 1048577", lambda: judge_events(log(head="call 1 sparse 1048577\n")))
+raises(ValueError, "too many slots: 4294967297", lambda: judge_events(log(head="call 1 sparse 4294967297\n")))
+
+# the structs of a look, by their fields
+said = log("call 2 update 1 -1,1", "call 3 look 1", "done 3.1 0 2.1.1", "free 3", "call 4 look 0", "done 4.1 -9", "done 2.1 2", "settled")
+events = yachtevents.Events(said, said.events)
+rows = [yachtevents.EVENT.unpack_from(events.events, at) for at in range(0, len(events.events), yachtevents.EVENT.size)]
+want(rows[0][:7] == (yachtevents.EVENT_CALL, 1, 0, 0, 0, 0, 1), f"an update is called by {rows[0]}")
+want(rows[1] == (yachtevents.EVENT_LOOK, 2, 0, 0, 1, 0, 0, 0, 0, 0, 0), f"a look is called by {rows[1]}")
+want(rows[2] == (yachtevents.EVENT_FOUND, 2, 0, 0, 0, 0, 0, 1, 1, 1, 1), f"a look is answered by {rows[2]}")
+want(rows[3][:2] == (yachtevents.EVENT_FREE, 2), f"a hold is ended by {rows[3]}")
+want(rows[5][:2] == (yachtevents.EVENT_EMPTY, 3), f"a look of an empty slot is answered by {rows[5]}")
+want(rows[6][:4] == (yachtevents.EVENT_DONE, 1, 1, 2), f"an update is answered by {rows[6]}")
+want(rows[7][0] == yachtevents.EVENT_SETTLED and len(rows) == 8, f"a log is settled by {rows[7]}")
+want(yachtevents.REQUEST.unpack(events.requests) == (yachtevents.REQUEST_UPDATE, 1, 0, 2, 0, 0), "an update is another request")
+print(f"log_rows.py: {looked} looked at, {wrong} wrong")
+sys.exit(wrong != 0)
