@@ -14,16 +14,18 @@ RECORDER = os.path.join(BUILD, "record-in-flight")
 
 
 class Flights(NamedTuple):
-    """The logs of a rule: arguments of the recorder, and their number for each random script."""
+    """The logs of a rule: arguments of the recorder, their number for each random script, and whether each update must be one step."""
 
     words: list
     share: float
+    is_whole: bool = False
 
 
-# the rules of docs/FLIGHT.md that a kernel must keep
+# the rules of docs/FLIGHT.md that a kernel must keep, and what docs/LINUX.md says of Linux
 RULES = {
     "chains_in_flight_are_requests_one_at_a_time": Flights([], 0.2),
     "waiting_reads_hold_their_file": Flights(["--pipes", "--chains", "20"], 0.1),
+    "updates_in_flight_are_one_step": Flights([], 0.1, True),
 }
 
 
@@ -50,9 +52,9 @@ def recorded(program, words, seed):
     return log, "" if status == 0 else f"the recorder ended with status {status}: {complaint}"
 
 
-def complaint_of(yachtlog, log):
+def complaint_of(yachtlog, log, is_whole=False):
     """Returns what the judge says of a log that is not legal, and whether it is undecided."""
-    verdict = yachtlog.Log(log).judge()
+    verdict = yachtlog.Log(log).judge(is_whole=is_whole)
     if verdict.word == "not legal":
         line = log.splitlines()[verdict.line - 1]
         return f"not legal: line {verdict.line} of the log: {line}", False
