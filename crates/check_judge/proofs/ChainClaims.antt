@@ -18,24 +18,24 @@ module _ (catalogue : List FileEntry) (size : ℕ) (range : ℕ × ℕ) where
       MatchBool cut ((own ≡ []) × (cs ≡ canceled place requests)) (IsChainDone catalogue size place requests own cs))
 
   -- the accesses of the chain are those of these claims, and those of the members that are left
-  abbrev pub ChainTold : List Closed → Place → List Asked → List Completed → ℕ → Bool → List Claim → Type 0
-  ChainTold closes place requests cs i cut claims =
+  abbrev pub ChainRecorded : List Closed → Place → List Asked → List Completed → ℕ → Bool → List Claim → Type 0
+  ChainRecorded closes place requests cs i cut claims =
       Front closes (AreLeft false place requests cs) claims (AreLeft cut (member_at place i) (drop i requests) (drop i cs))
 
   module _ (closes : List Closed) (place : Place) (request : Asked) (requests : List Asked) (c : Completed) (cs : List Completed) where
     -- the claims of a member, if the chain was severed before it and if it wasn't
-    first_told : (cut : Bool) (told : MemberClaims) → TellsMember catalogue size range closes place request c cut (Ok told)
-        → Front closes (AreLeft cut place (request ∷ requests) (c ∷ cs)) told.claims.items (AreLeft told.cut (next_member place) requests cs)
-    first_told true told tells = record {
+    first_recorded : (cut : Bool) (recorded : MemberClaims) → TellsMember catalogue size range closes place request c cut (Ok recorded)
+        → Front closes (AreLeft cut place (request ∷ requests) (c ∷ cs)) recorded.claims.items (AreLeft recorded.cut (next_member place) requests cs)
+    first_recorded true recorded tells = record {
       each = λ accesses left. record {
         own = [];
         others = accesses;
         whole = refl;
-        told = rw tells.0 tt;
+        recorded = rw tells.0 tt;
         left = rw tells.1 (left.0, (left.1.0, cc (left.1.1)));
       };
     }
-    first_told false told tells = record {
+    first_recorded false recorded tells = record {
       each = λ accesses left.
           let (own, others, d, ds, whole, is, done, behind) = left.1 in
           let parts = both_parts (IsAllocationInRange size range) own others (rw whole at left.0) in
@@ -45,7 +45,7 @@ module _ (catalogue : List FileEntry) (size : ℕ) (range : ℕ × ℕ) where
             own = own;
             others = others;
             whole = whole;
-            told = tells.0 own (parts.0, rw head at done);
+            recorded = tells.0 own (parts.0, rw head at done);
             left = rw tells.1 (parts.1, rw (head, tail) at behind);
           };
     }
@@ -64,23 +64,23 @@ module _ (catalogue : List FileEntry) (size : ℕ) (range : ℕ × ℕ) where
   module _ {closes : List Closed} (place : Place) (requests : List Request) (completions : List Completion) {i : ℕ} {request : Request}
       {c : Completion} (low : i < length requests) (few : i < length completions) (is : request ≡ get_or requests i request)
       (are : c ≡ get_or completions i c) (cut : Bool) where
-    pub next_told : (told : MemberClaims)
-        → TellsMember catalogue size range closes (member_at place i) (asked_of request) (completed_of c) cut (Ok told)
-        → Front closes (AreLeft cut (member_at place i) (drop i (all_asked requests)) (drop i (all_completed completions))) told.claims.items
-        (AreLeft told.cut (member_at place (i + 1)) (drop (i + 1) (all_asked requests)) (drop (i + 1) (all_completed completions)))
-    next_told told tells =
+    pub next_recorded : (recorded : MemberClaims)
+        → TellsMember catalogue size range closes (member_at place i) (asked_of request) (completed_of c) cut (Ok recorded)
+        → Front closes (AreLeft cut (member_at place i) (drop i (all_asked requests)) (drop i (all_completed completions))) recorded.claims.items
+        (AreLeft recorded.cut (member_at place (i + 1)) (drop (i + 1) (all_asked requests)) (drop (i + 1) (all_completed completions)))
+    next_recorded recorded tells =
         rw (sym (add_assoc place.member i 1), add-one i, mapped_at asked_of requests i request low is, mapped_at completed_of completions i c few are)
-        (first_told closes (member_at place i) (asked_of request) _ (completed_of c) _ cut told tells)
+        (first_recorded closes (member_at place i) (asked_of request) _ (completed_of c) _ cut recorded tells)
 
     pub one_stops : {Whole : List Access → Type 0} {claims : List Claim} (stop : Stop)
         → Front closes Whole claims (AreLeft cut (member_at place i) (drop i (all_asked requests)) (drop i (all_completed completions)))
         → TellsMember catalogue size range closes (member_at place i) (asked_of request) (completed_of c) cut (Err stop)
         → Tells Whole closes (Err stop)
-    one_stops (Refuted reason) told tells = λ accesses done.
-        let p = told.each accesses done in
+    one_stops (Refuted reason) recorded tells = λ accesses done.
+        let p = recorded.each accesses done in
         first_stops closes (member_at place i) (asked_of request) _ (completed_of c) _ cut (Refuted reason) tells p.others
         (rw (mapped_at asked_of requests i request low is, mapped_at completed_of completions i c few are) at p.left)
-    one_stops stop told tells = tt
+    one_stops stop recorded tells = tt
 
 -- The claims of chains, one chain after another.
 
@@ -91,9 +91,9 @@ pub record Sofar (catalogue : List FileEntry) (size : ℕ) (range : ℕ × ℕ) 
   pub each : (order : List ChainAccess) → AreDone catalogue size range submission runs completions order
       → AreChainsDone catalogue size submission (i + 1) (drop i runs) order rest × AreClaims closes claims order
 
-pub none_told : (catalogue : List FileEntry) (size : ℕ) (range : ℕ × ℕ) (closes : List Closed) (submission : ℕ) (runs : List (List Asked))
+pub none_recorded : (catalogue : List FileEntry) (size : ℕ) (range : ℕ × ℕ) (closes : List Closed) (submission : ℕ) (runs : List (List Asked))
     (completions : List Completed) → Sofar catalogue size range closes submission runs completions 0 completions []
-none_told catalogue size range closes submission runs completions =
+none_recorded catalogue size range closes submission runs completions =
     record { long = refl; each = λ order done. (done.done, λ k claims is. absurd (cc)) }
 
 -- one more chain, whose completions are the first of those that are left
@@ -123,9 +123,9 @@ module _ {catalogue : List FileEntry} {size : ℕ} {range : ℕ × ℕ} {closes 
     chain_stops (Refuted reason) tells = λ order done. tells (accesses_of_chain (i + 1) order) (parts order done).0
     chain_stops stop tells = tt
 
-    pub chain_told : (told : Vec Claim) → Tells OfChain closes (Ok told)
-        → Sofar catalogue size range closes submission runs completions (i + 1) others (claims ++ told ∷ [])
-    chain_told told tells = record {
+    pub chain_recorded : (recorded : Vec Claim) → Tells OfChain closes (Ok recorded)
+        → Sofar catalogue size range closes submission runs completions (i + 1) others (claims ++ recorded ∷ [])
+    chain_recorded recorded tells = record {
       long = rw (length_push, so.long);
       each = λ order done.
           let p = parts order done in (

@@ -62,7 +62,7 @@ module _ (catalogue : List FileEntry) (old new : RingSlots) (command : Instructi
             let is = one.only after others g in
             (is.0, rest_behind found (g.split ∙ ap (λ (l : List ℕ). l ++ others) is.1))),
       )
-  goes (Apart wanted) found = λ next others g. found others (g.split ∙ ap (λ (l : List ℕ). l ++ others) (one.only next others g).1)
+  goes (Apart expected) found = λ next others g. found others (g.split ∙ ap (λ (l : List ℕ). l ++ others) (one.only next others g).1)
 
 -- The calls between submissions, and submissions that are refused: where a text leads that goes on
 -- with what one prints, and what is kept of the ring.
@@ -78,14 +78,14 @@ module _ (catalogue : List FileEntry) (old : RingSlots) (command : Instruction) 
       subst (λ (r : RingState). Prints ring command next printed ↔ (Answers r command (ring_of next) printed ⊎ Fails r command (ring_of next) printed)) same
       (answers ring next command printed (subst (λ (r : RingState). IsCall r.submissions command) (sym same) counts))
 
-  module _ (line : List ℕ) (told : IsLineOf before command line) where
+  module _ (line : List ℕ) (recorded : IsLineOf before command line) where
     -- the text continues with the call's text if no allocation fails
     pub found : (new : RingSlots) {count : ℕ} → ring_with_slots catalogue new ≡ after_call before command → BeginsWith text count line
         → IsStep catalogue old command text (Here count) new
     found new {count} left begins = goes catalogue old new command text line (record {
-      may = λ ring next printed same leads so. (answers_at ring next printed same).1 (inl (leads ∙ left, subst (IsLineOf before command) (sym so) told));
-      only = λ next others g. ⊎_elim (λ a. (a.0 ∙ sym left, one_line_of command kept.is_ring a.1 told))
-          (λ f. absurd (not_failed before command line (drop count text) others kept.few_slots f.0 f.1.0 told
+      may = λ ring next printed same leads so. (answers_at ring next printed same).1 (inl (leads ∙ left, subst (IsLineOf before command) (sym so) recorded));
+      only = λ next others g. ⊎_elim (λ a. (a.0 ∙ sym left, one_line_of command kept.is_ring a.1 recorded))
+          (λ f. absurd (not_failed before command line (drop count text) others kept.few_slots f.0 f.1.0 recorded
           (whole_text text line count begins ∙ g.split ∙ ap (λ (l : List ℕ). l ++ others) f.1.2))) ((answers_at g.ring next g.line g.same).0 g.prints);
     }) (Here count) begins
 
@@ -93,7 +93,7 @@ module _ (catalogue : List FileEntry) (old : RingSlots) (command : Instruction) 
     module _ (apart : (others : List ℕ) → text ≡ line ++ others → ⊥) where
       not_found : {next : RingContents} {others : List ℕ} (g : ContinuesText before command text next others)
           → Answers before command (ring_of next) g.line → ⊥
-      not_found {next} {others} g a = apart others (g.split ∙ ap (λ (l : List ℕ). l ++ others) (one_line_of command kept.is_ring a.1 told))
+      not_found {next} {others} g a = apart others (g.split ∙ ap (λ (l : List ℕ). l ++ others) (one_line_of command kept.is_ring a.1 recorded))
 
       pub fails : {word : List ℕ} → memory_word before command ≡ Some word → (met : Met) → IsMet text (result_line word (negated ENOMEM)) met
           → IsStep catalogue old command text met old

@@ -6,7 +6,7 @@ use Rattle.check_judge.proofs.Words.{left_by, touched, HasNoOrder, Claim, At, Fu
 use Rattle.check_judge.proofs.Words.{none-some, Brings, contains_none, Slots, refl, ap, AllByRecursion, all_completed, Asked, RingState, IsRing}
 use Rattle.check_judge.proofs.Words.{files_removed_in, Allocates, IsOneOrder, table_of, AreDone, AreClaims, IsAllocationInRange, IsOutcome, same_size}
 use Rattle.check_judge.proofs.Words.{◌-◌, Removes, emptied, removes_contained, IsBrought, IsKnown, IsPermutation-sym, Contains-permutation, runs_of}
-use Rattle.check_judge.proofs.Words.{IsToldOutcome, IsRefuted, told_report, Told, no_file_that_stays_is_closed}
+use Rattle.check_judge.proofs.Words.{IsRecordedOutcome, IsRefuted, recorded_report, Recorded, no_file_that_stays_is_closed}
 use Rattle.check_judge.proofs.RequestClaims.{at_after, found_at, some_or_none, untouched, same_range}
 use Rattle.check_judge.proofs.StrandClaims.{of_its_chain}
 use Rattle.check_judge.specs.declared.part.PartVerdict.{PartVerdict}
@@ -18,9 +18,9 @@ module _ (closes : List Closed) (file : Closed) where
   FindsIt a = left_by a ≡ Some file → found_by a ≡ Some file
 
   finds : (a : Access) (claim : Claim) → Fits closes claim a → (Brings claim file → ⊥) → FindsIt a
-  finds a (At slot wants Same) (at, wanted, same) none = λ left. sym same ∙ left
-  finds a (At slot wants Empty) (at, wanted, (removed, gone)) none = λ left. absurd (none-some file (sym gone ∙ left))
-  finds a (At slot wants (File r)) (at, wanted, (removed, (f, is, resident))) none = λ left.
+  finds a (At slot wants Same) (at, expected, same) none = λ left. sym same ∙ left
+  finds a (At slot wants Empty) (at, expected, (removed, gone)) none = λ left. absurd (none-some file (sym gone ∙ left))
+  finds a (At slot wants (File r)) (at, expected, (removed, (f, is, resident))) none = λ left.
       absurd (none (resident.same ∙ same_Some f file (sym is ∙ left)))
   finds a Full fits none = λ left. absurd (none-some file (rw fits at left))
 
@@ -55,7 +55,7 @@ module _ (closes : List Closed) (file : Closed) where
       (λ y inside. found y (contains_tail x order y inside)) later
 
   pub unknown : {table : Table} (chains : List (Vec Claim)) → Contains closes file → IsNowhere table → (IsBrought chains file → ⊥) → HasNoOrder table closes chains
-  unknown {table} chains has none not_brought order played told =
+  unknown {table} chains has none not_brought order played recorded =
       never_removed order table played.permitted none
       (λ x inside.
       let (one, few) = All-contains (λ y. (1 ≤ y.chain) × (y.chain ≤ length chains)) order x played.within inside in
@@ -63,7 +63,7 @@ module _ (closes : List Closed) (file : Closed) where
       let place : k + 1 ≡ x.chain = omega arith in
       elim (slice_get_cases chains k).1 [
         | inl own ↦
-            let fit = fitting own.0.items (accesses_of_chain x.chain order) (rw place at (told k own.0 own.2)) (of_its_chain order inside) in
+            let fit = fitting own.0.items (accesses_of_chain x.chain order) (rw place at (recorded k own.0 own.2)) (of_its_chain order inside) in
             finds x.access fit.0 fit.2 (λ brings. not_brought (k, own.0, own.1, own.3, (fit.1.0, fit.0, fit.1.1, fit.1.2, brings)))
         | inr past ↦ let beyond = past.0 in absurd (omega arith)
       ])
@@ -94,24 +94,24 @@ possible_all table size range [] is are may = tt
 possible_all table size range (a ∷ accesses) is are may =
     (possible_one table a is are may.0, possible_all (table_with table a) size range accesses (same_size table a ∙ is) (same_range table a ∙ are) may.1)
 
-module _ (old : RingState) (requests : List Asked) (told : Told) where
+module _ (old : RingState) (requests : List Asked) (recorded : Recorded) where
   abbrev pub IsDone : List ChainAccess → Type 0
-  IsDone = AreDone old.catalogue old.size old.range (old.submissions + 1) (runs_of requests) (all_completed told.completions.items)
+  IsDone = AreDone old.catalogue old.size old.range (old.submissions + 1) (runs_of requests) (all_completed recorded.completions.items)
 
-  done_so : (room : ℕ) (left : RingState) → (one : IsOneOrder old requests (told_report old told room) left) → IsDone one.order
+  done_so : (room : ℕ) (left : RingState) → (one : IsOneOrder old requests (recorded_report old recorded room) left) → IsDone one.order
   done_so room left one = record {
     possible = possible_all (table_of old) old.size old.range (accesses_of one.order) refl refl one.is.permitted;
     done = one.is.done;
   }
 
-  pub no_claims : ((order : List ChainAccess) → IsDone order → ⊥) → IsRefuted old requests told
+  pub no_claims : ((order : List ChainAccess) → IsDone order → ⊥) → IsRefuted old requests recorded
   no_claims none room left one = none one.order (done_so room left one)
 
-  pub outcome_told : IsRing old → (chains : List (Vec Claim)) → length chains ≡ length (runs_of requests)
-      → ((order : List ChainAccess) → IsDone order → AreClaims told.closes.items chains order)
-      → (o : PartVerdict) → IsOutcome (table_of old) told.closes.items chains o → IsToldOutcome old requests told o
-  outcome_told ring chains many claims (Refuted reason) none = λ room left one.
-      let closed = told.closes.items in
+  pub outcome_recorded : IsRing old → (chains : List (Vec Claim)) → length chains ≡ length (runs_of requests)
+      → ((order : List ChainAccess) → IsDone order → AreClaims recorded.closes.items chains order)
+      → (o : PartVerdict) → IsOutcome (table_of old) recorded.closes.items chains o → IsRecordedOutcome old requests recorded o
+  outcome_recorded ring chains many claims (Refuted reason) none = λ room left one.
+      let closed = recorded.closes.items in
       let removed = files_removed_in (accesses_of one.order) in
       none one.order
       (record {
@@ -119,8 +119,8 @@ module _ (old : RingState) (requests : List Asked) (told : Told) where
         within = rw many one.is.chains;
         removed = λ file has. Contains-permutation removed closed file one.is.closed.same_files has;
         all = λ file has. Contains-permutation closed removed file (IsPermutation-sym removed closed one.is.closed.same_files) has;
-        stay = λ slot file at. no_file_that_stays_is_closed old requests (told_report old told room) left ring one slot file
+        stay = λ slot file at. no_file_that_stays_is_closed old requests (recorded_report old recorded room) left ring one slot file
             (ap (λ (r : RingState). r.at slot) one.after ∙ at);
       })
       (claims one.order (done_so room left one))
-  outcome_told ring chains many claims o is = tt
+  outcome_recorded ring chains many claims o is = tt

@@ -1,18 +1,18 @@
 -- The claims of requests, by what they intend, and the accesses that fit them.
 use Rattle.check_judge.proofs.Words.{◌≡◌, List, [], ◌∷◌, ◌++◌, Result, Ok, Err, Vec, AllZip, Closed, Access, Fits, Tells, Claim, Stop, Refuted, refl}
-use Rattle.check_judge.proofs.Words.{sym, ap, subst, ◌∙◌, append_assoc, append-nil, ℕ, ◌+◌, ◌<◌, ℤ, zero, suc, length, drop, Place, ◌||◌, true}
-use Rattle.check_judge.proofs.Words.{All, Contains, Option, Some, ◌⊎◌, inl, inr, ⊎_elim, map, None, IsSome, if◌then◌else◌, is_some, All-head}
-use Rattle.check_judge.proofs.Words.{All-tail, All-map, All-weaker, changed_at, by_equality, unchanged, eq-eqb, ne_eqb, and_from, cases_Bool}
+use Rattle.check_judge.proofs.Words.{sym, ap, subst, ◌∙◌, append_assoc, append-nil, ℕ, ◌+◌, ◌<◌, ℤ, zero, suc, length, drop, Place, ◌||◌, true, All}
+use Rattle.check_judge.proofs.Words.{Contains, Option, Some, ◌⊎◌, inl, inr, ⊎_elim, map, None, IsSome, if◌then◌else◌, is_some, All-head, All-tail}
+use Rattle.check_judge.proofs.Words.{All-map, All-weaker, changed_at, by_equality, unchanged, eq-eqb, ne_eqb, and_from, cases_Bool}
 use Rattle.check_judge.proofs.Words.{list_all-from_AllPass, same_Some, same_size, Table, Permits, table_with, file_removed_by, Looks, Allocates}
-use Rattle.check_judge.proofs.Words.{FindsFull, Takes, LeavesSo, Wanted, touched, found_by, left_by, allows, cell_at, cells_after, cell_with, suits}
+use Rattle.check_judge.proofs.Words.{FindsFull, Takes, LeavesSo, Expected, touched, found_by, left_by, allows, cell_at, cells_after, cell_with, suits}
 use Rattle.check_judge.proofs.Words.{may_leave, is_same, is_taken, IsCell, ShowsFile, has_slot, Cell, At, Full, Wants, Leaves, Same, Empty, File}
-use Rattle.check_judge.proofs.Words.{Resident, arith, int_lt, false, pos, negsuc, slice_get, FileEntry, bytes_at, installed, Completed, completed}
-use Rattle.check_judge.proofs.Words.{refusal, Operation, Opens, Slot, Any, ENOMEM, AllByRecursion, IsAllocationInRange, IsAnsweredBy}
-use Rattle.check_judge.proofs.Words.{IsDoneAtTable, IsRequestDone, Possibly, true≢false}
+use Rattle.check_judge.proofs.Words.{Resident, arith, int_lt, false, pos, negsuc, slice_get, FileEntry, bytes_at, installed, Completed, refusal}
+use Rattle.check_judge.proofs.Words.{Operation, Opens, Slot, Any, ENOMEM, AllByRecursion, IsAllocationInRange, IsAnsweredBy, IsDoneAtTable}
+use Rattle.check_judge.proofs.Words.{IsRequestDone, Possibly, true≢false}
 use Rattle.check_judge.specs.Claims.{IsDecided, IsMade, TellsOne}
-use Rattle.check_search.specs.declared.claim.Wants.TheVariants.{Something}
+use Rattle.check_search.specs.declared.claim.Wants.TheVariants.{Nothing, Something}
 use Rattle.fx_base.proofs.Entries.{entry_named}
-use Rattle.fx_chain.specs.Intents.{IsOpened, answer_at_table, bytes_asked, intents_of, list_intents}
+use Rattle.fx_chain.specs.Intents.{IsOpened, answer_at_table, bytes_asked, bytes_read, intents_of, list_intents}
 use Rattle.fx_chain.specs.Operation.{Closes, Reads, Updates}
 use Rattle.fx_chain.specs.Refusal.{refusal_of}
 use Rattle.fx_chain.specs.declared.intent.Finding.{Finding}
@@ -42,7 +42,7 @@ pub record Parted (closes : List Closed) (claims : List Claim) (Holds : List Acc
   pub own : List Access
   pub others : List Access
   pub whole : accesses ≡ own ++ others
-  pub told : AllZip (Fits closes) claims own
+  pub recorded : AllZip (Fits closes) claims own
   pub left : Holds others
 
 -- accesses with the one property are such, and their others have the property that is left
@@ -50,13 +50,13 @@ pub record Front (closes : List Closed) (Whole : List Access → Type 0) (claims
   pub each : (accesses : List Access) → Whole accesses → Parted closes claims Left accesses
 
 module _ {closes : List Closed} {Whole Left : List Access → Type 0} where
-  pub none_told : ((accesses : List Access) → Whole accesses → Left accesses) → Front closes Whole [] Left
-  none_told so = record { each = λ accesses done. record { own = []; others = accesses; whole = refl; told = tt; left = so accesses done } }
+  pub none_recorded : ((accesses : List Access) → Whole accesses → Left accesses) → Front closes Whole [] Left
+  none_recorded so = record { each = λ accesses done. record { own = []; others = accesses; whole = refl; recorded = tt; left = so accesses done } }
 
   -- more claims, of later accesses
-  pub more_told : {claims more : List Claim} {Next : List Access → Type 0} → Front closes Whole claims Left → Front closes Left more Next
+  pub more_recorded : {claims more : List Claim} {Next : List Access → Type 0} → Front closes Whole claims Left → Front closes Left more Next
       → Front closes Whole (claims ++ more) Next
-  more_told {claims} {more} first second = record {
+  more_recorded {claims} {more} first second = record {
     each = λ accesses done.
         let p = first.each accesses done in
         let q = second.each p.others p.left in
@@ -64,23 +64,23 @@ module _ {closes : List Closed} {Whole Left : List Access → Type 0} where
           own = p.own ++ q.own;
           others = q.others;
           whole = p.whole ∙ ap (λ (l : List Access). p.own ++ l) q.whole ∙ sym (append_assoc p.own q.own q.others);
-          told = all_zip_append (Fits closes) claims more p.own q.own p.told q.told;
+          recorded = all_zip_append (Fits closes) claims more p.own q.own p.recorded q.recorded;
           left = q.left;
         };
   }
 
-  pub all_told : {claims : List Claim} → Front closes Whole claims Left → ((others : List Access) → Left others → others ≡ [])
+  pub all_recorded : {claims : List Claim} → Front closes Whole claims Left → ((others : List Access) → Left others → others ≡ [])
       → (accesses : List Access) → Whole accesses → AllZip (Fits closes) claims accesses
-  all_told {claims} front none accesses done =
+  all_recorded {claims} front none accesses done =
       let p = front.each accesses done in
       let all : p.own ≡ accesses = sym (p.whole ∙ ap (λ (l : List Access). p.own ++ l) (none p.others p.left) ∙ append-nil p.own) in
-      subst (AllZip (Fits closes) claims) all p.told
+      subst (AllZip (Fits closes) claims) all p.recorded
 
 -- The claims of a request's accesses, one after another.
 
 -- the accesses are those of these claims, and those of the intents that are left
-abbrev pub IntentsTold : List Closed → (Intent → Access → Type 0) → List Intent → ℕ → List Claim → Type 0
-IntentsTold closes R xs made claims = Front closes (AllZip R xs) claims (AllZip R (drop made xs))
+abbrev pub IntentsRecorded : List Closed → (Intent → Access → Type 0) → List Intent → ℕ → List Claim → Type 0
+IntentsRecorded closes R xs made claims = Front closes (AllZip R xs) claims (AllZip R (drop made xs))
 
 -- no intent is left
 pub none_left : (R : Intent → Access → Type 0) {xs : List Intent} (others : List Access) → xs ≡ [] → AllZip R xs others → others ≡ []
@@ -98,11 +98,11 @@ module _ (R : Intent → Access → Type 0) (xs : List Intent) (made : ℕ) (x :
       parts [] fits = absurd fits
       parts (a ∷ others) fits = (a, others, refl, fits.0, fits.1)
 
-  pub one_told : (closes : List Closed) (claim : Claim) → TellsOne (R x) closes (Ok claim) → Front closes (AllZip R (drop made xs)) (claim ∷ []) (AllZip R (drop (made + 1) xs))
-  one_told closes claim tells = record {
+  pub one_recorded : (closes : List Closed) (claim : Claim) → TellsOne (R x) closes (Ok claim) → Front closes (AllZip R (drop made xs)) (claim ∷ []) (AllZip R (drop (made + 1) xs))
+  one_recorded closes claim tells = record {
     each = λ accesses done.
         let n = next_made accesses done in
-        record { own = n.0 ∷ []; others = n.1; whole = n.2; told = (tells n.0 n.3, tt); left = n.4 };
+        record { own = n.0 ∷ []; others = n.1; whole = n.2; recorded = (tells n.0 n.3, tt); left = n.4 };
   }
 
   pub one_stops : {closes : List Closed} {Whole : List Access → Type 0} {claims : List Claim} (stop : Stop) → Front closes Whole claims (AllZip R (drop made xs))
@@ -160,9 +160,9 @@ module _ (closes : List Closed) where
       (λ same _. rw (sym same) (All-head (IsCell table closes) cell cells all).shows)
       (λ _ later. cell_shows cells slot (All-tail (IsCell table closes) cell cells all) later) has
 
-  suited : (wants : Wants) (found : Option Closed) (shown : Option Resident) → ShowsFile closes found shown → Wanted wants found
+  suited : (wants : Wants) (found : Option Closed) (shown : Option Resident) → ShowsFile closes found shown → Expected wants found
       → suits wants shown ≡ true
-  suited wants found shown shows wanted = grind arith
+  suited wants found shown shows expected = grind arith
 
   leaving : (found : Option Closed) (shown : Option Resident) → ShowsFile closes found shown → ((f : Closed) → found ≡ Some f → Contains closes f)
       → may_leave shown ≡ true
@@ -218,9 +218,6 @@ module _ (closes : List Closed) where
 
 -- The claims of requests, by what they intend.
 
-not_negative : (n : ℕ) → int_lt (pos n) (pos 0) ≡ false
-not_negative n = grind (arith, nat_tests)
-
 -- how the answer of a request depends on what its accesses find
 module _ (catalogue : List FileEntry) (place : Place) (entry : ℕ) where
   abbrev answer : Operation → Option Finding → Completed
@@ -243,7 +240,7 @@ module _ (catalogue : List FileEntry) (place : Place) (entry : ℕ) where
   all_decided : (operation : Operation) (made : ℕ) → IsDecidedAt (answer operation) (slice_get (intents_of place entry operation) made)
   all_decided (Opens name (Slot slot)) zero = λ _. refl
   all_decided (Opens name Any) zero = (refl, refl, λ _. refl)
-  all_decided (Reads slot off len) zero = (refl, λ file. (refl, not_negative (length (bytes_at catalogue file.entry off len))))
+  all_decided (Reads slot off len) zero = (refl, λ file. (bytes_at catalogue file.entry off len, refl))
   all_decided (Closes slot) zero = (refl, λ _. refl)
   all_decided (Updates off list) made = list_decided (answer (Updates off list)) (λ _. refl) 0 off list made
   all_decided operation (suc made) = tt
@@ -282,21 +279,36 @@ module _ (catalogue : List FileEntry) (place : Place) (entry : ℕ) where
         (λ same. same_made (λ found. done.1.1 ∙ (same (last_finding own) ∙ sym (same found))) (intents_of place entry operation) own done.0 done.1.0)
         (shape operation)
 
--- the answer depends on the entry alone of a file that is found
-pub by_entry : (catalogue : List FileEntry) (place : Place) (operation : Operation) (f g : Closed) → f.entry ≡ g.entry
-    → answer_at_table catalogue place operation (Some (FoundAt (Some f))) ≡ answer_at_table catalogue place operation (Some (FoundAt (Some g)))
-by_entry catalogue place (Opens name (Slot slot)) f g same = refl
-by_entry catalogue place (Opens name Any) f g same = refl
-by_entry catalogue place (Reads slot off len) f g same =
-    ap (λ (e : ℕ). completed place (pos (length (bytes_at catalogue e off len))) (bytes_at catalogue e off len)) same
-by_entry catalogue place (Closes slot) f g same = refl
-by_entry catalogue place (Updates off list) f g same = refl
+-- the bytes of the answer by a file that is found
+pub got_by_entry : (catalogue : List FileEntry) (place : Place) (operation : Operation) (file : Closed)
+    → (answer_at_table catalogue place operation (Some (FoundAt (Some file)))).got ≡ bytes_read catalogue operation file.entry
+got_by_entry catalogue place (Opens name (Slot slot)) file = refl
+got_by_entry catalogue place (Opens name Any) file = refl
+got_by_entry catalogue place (Reads slot off len) file = refl
+got_by_entry catalogue place (Closes slot) file = refl
+got_by_entry catalogue place (Updates off list) file = refl
+
+not_negative : (n : ℕ) → int_lt (pos n) (pos 0) ≡ false
+not_negative n = grind (arith, nat_tests)
+
+-- a request that looks a slot up and fails
+pub look_failed : (by : Option Finding → Completed) (c : Completed) (place : Place) (size : ℕ) (range : ℕ × ℕ) (closes : List Closed) {slot : ℕ}
+    → IsDecided place by (Look slot) → int_lt c.res (pos 0) ≡ true → (a : Access) → IsMade size range by c (Look slot) a
+    → Fits closes (At slot Nothing Same) a × (c ≡ by (Some (FoundAt None)))
+look_failed by c place size range closes {slot} d low a made = failed made.0.0 made.0.1 (rw made.0.1 at made.2)
+  where
+    failed : (found : Option Closed) → a ≡ Looks slot found → c ≡ by (Some (FoundAt found))
+        → Fits closes (At slot Nothing Same) a × (c ≡ by (Some (FoundAt None)))
+    failed None is said = (rw is (refl, refl, refl), said)
+    failed (Some file) is said =
+        let given = d.1 file in
+        absurd (true≢false (sym low ∙ (ap (λ (e : Completed). int_lt e.res (pos 0)) (said ∙ given.1) ∙ not_negative (length given.0))))
 
 -- a request that takes a file and doesn't fail
-pub take_told : (by : Option Finding → Completed) (c : Completed) (place : Place) (size : ℕ) (range : ℕ × ℕ) (closes : List Closed) {slot : ℕ}
+pub take_recorded : (by : Option Finding → Completed) (c : Completed) (place : Place) (size : ℕ) (range : ℕ × ℕ) (closes : List Closed) {slot : ℕ}
     → IsDecided place by (Take slot) → int_lt c.res (pos 0) ≡ false → (other : Closed) (a : Access) → IsMade size range by c (Take slot) a
     → Fits closes (At slot Something Empty) a × (c ≡ by (Some (FoundAt (Some other))))
-take_told by c place size range closes {slot} d high other a made = taken made.0.0 made.0.1 (rw made.0.1 at made.2)
+take_recorded by c place size range closes {slot} d high other a made = taken made.0.0 made.0.1 (rw made.0.1 at made.2)
   where
     taken : (found : Option Closed) → a ≡ Takes slot found → c ≡ by (Some (FoundAt found))
         → Fits closes (At slot Something Empty) a × (c ≡ by (Some (FoundAt (Some other))))

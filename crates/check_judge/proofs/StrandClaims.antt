@@ -92,7 +92,7 @@ module _ (cells : List Cell) (chains : List (Vec Claim)) (i : ℕ) (strands : Li
     (is : slice_get chains i ≡ Some claims) (kept : own.items ≡ filter (keeps cells) claims.items) (so : SoFar cells chains i strands) where
   mine : (closes : List Closed) (order : List ChainAccess) → AreClaims closes chains order
       → AllZip (Fits closes) own.items (seen cells (accesses_of_chain (i + 1) order))
-  mine closes order told = rw kept (zip_kept closes cells claims.items (accesses_of_chain (i + 1) order) (told i claims is))
+  mine closes order recorded = rw kept (zip_kept closes cells claims.items (accesses_of_chain (i + 1) order) (recorded i claims is))
 
   last_or_before : {chain : ℕ} → chain ≤ i + 1 → (chain ≤ i) ⊎ (chain ≡ i + 1)
   last_or_before {chain} high = grind arith
@@ -100,13 +100,13 @@ module _ (cells : List Cell) (chains : List (Vec Claim)) (i : ℕ) (strands : Li
   without : length own.items ≡ 0 → SoFar cells chains (i + 1) strands
   without none = record {
     low = λ k strand at. let old = so.low k strand at in omega arith;
-    are = λ closes order told. let before = so.are closes order told in record {
+    are = λ closes order recorded. let before = so.are closes order recorded in record {
       fits = before.fits;
       each = λ chain low high. elim (last_or_before high) [
         | inl old ↦ before.each chain low old
         | inr new ↦
             let seen_now = seen cells (accesses_of_chain (i + 1) order) in
-            inr (rw new (nil_from_length seen_now (AllZip-long (Fits closes) own.items seen_now (mine closes order told) ∙ none)))
+            inr (rw new (nil_from_length seen_now (AllZip-long (Fits closes) own.items seen_now (mine closes order recorded) ∙ none)))
       ];
       once = before.once;
     };
@@ -121,10 +121,10 @@ module _ (cells : List Cell) (chains : List (Vec Claim)) (i : ℕ) (strands : Li
       | inl old ↦ let before = so.low k strand old in omega arith
       | inr new ↦ rw (sym new.1) (omega arith)
     ];
-    are = λ closes order told. let before = so.are closes order told in record {
+    are = λ closes order recorded. let before = so.are closes order recorded in record {
       fits = λ k strand at. elim (get_push strands k at) [
         | inl old ↦ before.fits k strand old
-        | inr new ↦ rw (sym new.1) (mine closes order told)
+        | inr new ↦ rw (sym new.1) (mine closes order recorded)
       ];
       each = λ chain low high. elim (last_or_before high) [
         | inl old ↦ elim (before.each chain low old) [
@@ -197,22 +197,22 @@ module _ (closes : List Closed) (strands : List Strand) (first : List Cell)
       → (mid : Standing) × (next strands at i ≡ Some mid) × Left (table_with table x.access) mid order
   stepped table at x order inside may closed left i strand is own =
       let n = slice_index at.places i in
-      let told = first_left strand.claims.items n (seen first (accesses_of_chain strand.chain order))
+      let recorded = first_left strand.claims.items n (seen first (accesses_of_chain strand.chain order))
       (rw (eq-eqb x.chain strand.chain (sym own), inside) at (left.fits i strand is)) in
       let here = left.slots (touched x.access) ∙ inside in
       let within : i < length at.places = let among = slice_get_within strands i strand is in let long = left.long in omega arith in (
-        record { places = slice_set at.places i (n + 1); cells = cells_after at.cells told.0 },
-        rw (is, told.1, allowed closes table at.cells x.access left.cells may here closed told.0 told.2),
+        record { places = slice_set at.places i (n + 1); cells = cells_after at.cells recorded.0 },
+        rw (is, recorded.1, allowed closes table at.cells x.access left.cells may here closed recorded.0 recorded.2),
         record {
           fits = λ j. each_set (λ (k m : ℕ). (other : Strand) → slice_get strands k ≡ Some other
               → AllZip (Fits closes) (drop m other.claims.items) (seen first (accesses_of_chain other.chain order))) at.places i (n + 1) 0 within
-              (λ other at_i. rw (sym (same_Some strand other (sym is ∙ at_i))) told.3) j
+              (λ other at_i. rw (sym (same_Some strand other (sym is ∙ at_i))) recorded.3) j
               (λ apart other at_j. rw (not_own x order other.chain (λ same. apart (once j i other strand at_j is (same ∙ sym own))))
               at (left.fits j other at_j));
           each = λ y has. left.each y (contains_tail x order y has);
           long = length-set at.places i (n + 1) ∙ left.long;
-          slots = λ o. rw (slots_after at.cells told.0 o) (left.slots o);
-          cells = cells_follow closes table at.cells x.access left.cells may here closed told.0 told.2;
+          slots = λ o. rw (slots_after at.cells recorded.0 o) (left.slots o);
+          cells = cells_follow closes table at.cells x.access left.cells may here closed recorded.0 recorded.2;
         },
       )
 
@@ -299,8 +299,8 @@ pub no_order : (slots : Slots) (closes : List Closed) (chains : List (Vec Claim)
     → ((closes : List Closed) (order : List ChainAccess) → AreClaims closes chains order → AreStrands closes cells (length chains) order strands)
     → same ≡ strands → HasNoEnd same (starting same cells) → HasNoOrder (table_of_slots slots) closes chains
 unfolding HasNoEnd
-no_order slots closes chains cells strands same all strands_are is none order played told =
-    let are = strands_are closes order told in
+no_order slots closes chains cells strands same all strands_are is none order played recorded =
+    let are = strands_are closes order recorded in
     let begins : Left closes strands cells are.once (table_of_slots slots) (starting strands cells) order = record {
       fits = λ i strand at. rw (all_zero strands i) (are.fits i strand at);
       each = λ x has.

@@ -2,7 +2,7 @@
 use Rattle.check_judge.proofs.Words.{◌≡◌, ℕ, ◌+◌, ◌≤◌, List, length, map, filter, not, ◌==◌, take, sym, ap, subst, ◌∙◌, arith, Some, refl, lt-leb}
 use Rattle.check_judge.proofs.Words.{FileEntry, tags_of, all_completed, Asked, runs_of, IsOneOrder, ChainAccess, MOST_SLOTS, RingState, IsRing}
 use Rattle.check_judge.proofs.Words.{ring_of, Reported, MOST_SUBMISSIONS, SubmitsAll, report_text, Closed, named_close_of, lines_in, ReportLines}
-use Rattle.check_judge.proofs.Words.{lines_of, lines_text, named_closes, CameBy, told_report, RingSlots, Told, IsRingKept, BeginsWith, MayPrintBy}
+use Rattle.check_judge.proofs.Words.{lines_of, lines_text, named_closes, CameBy, recorded_report, RingSlots, Recorded, IsRingKept, BeginsWith, MayPrintBy}
 use Rattle.check_judge.proofs.Words.{AreAccessPlaces, AreChainsDone, Order, Bool, MatchBool, MatchOption, Option, Prints, PrintsReport, RingContents}
 use Rattle.check_judge.proofs.Words.{false, nat_le, refused_line, too_many_line, ◌↔◌, ring_with_slots, printed_lines, IsOrderOf, ring_left, HasLines}
 use Rattle.check_judge.proofs.Words.{◌++◌, None, Result, Ok, Err, Lines, ReadsReport, ContinuesText, LeadsNowhere, LeadsTo, AreApart, TellsKnown}
@@ -16,7 +16,7 @@ use Rattle.check_judge.proofs.Plays.{rest_behind}
 use Rattle.check_judge.proofs.InRange.{report_in_range}
 
 -- the lines of the completions and closes are those that were read
-pub told_lines : (catalogue : List FileEntry) (lines : ReportLines) (files : List Closed)
+pub recorded_lines : (catalogue : List FileEntry) (lines : ReportLines) (files : List Closed)
     → named_closes catalogue files ≡ map named_close_of lines.closed.items
     → map (λ file. file.tag) (filter (λ file. not (file.tag == 0)) files) ≡ lines.tags.items
     → (number room : ℕ) → lines_of catalogue (record {
@@ -24,7 +24,7 @@ pub told_lines : (catalogue : List FileEntry) (lines : ReportLines) (files : Lis
       completions = all_completed lines.completions.items;
       closes = record { files = files; room = room };
     }) ≡ lines_in lines
-told_lines catalogue lines files closed tags number room =
+recorded_lines catalogue lines files closed tags number room =
     let all : map (λ completion. completion.user_data) (tags_of files) ≡ lines.tags.items = rw map-map tags in
     λ i. record { completions = all_completed lines.completions.items; closed = closed i; tags = all i }
 
@@ -44,7 +44,7 @@ counted_prints {catalogue} {old} {asked} s ring next line same =
     (MatchBool z.1 ((ring_of next ≡ ring_of ring) × (line ≡ too_many_line)) (PrintsReport ring asked next line))
     (λ fault. (ring_of next ≡ ring_of ring) × (line ≡ refused_line fault))) (λ t. (s.accepted t, room t)) ((λ p. p), (λ p. p))
 
-module _ {catalogue : List FileEntry} {old : RingSlots} {asked : List Asked} (s : IsCounted catalogue old asked) (new : RingSlots) (told : Told) where
+module _ {catalogue : List FileEntry} {old : RingSlots} {asked : List Asked} (s : IsCounted catalogue old asked) (new : RingSlots) (recorded : Recorded) where
   abbrev before : RingState
   before = ring_with_slots catalogue old
 
@@ -52,15 +52,15 @@ module _ {catalogue : List FileEntry} {old : RingSlots} {asked : List Asked} (s 
   after = ring_with_slots catalogue new
 
   abbrev Came : List ChainAccess → Type 0
-  Came accesses = CameBy before asked told accesses after
+  Came accesses = CameBy before asked recorded accesses after
 
   -- an order of the submission, at the ring after it
-  pub ordered_is : {accesses : List ChainAccess} → Came accesses → IsOrderOf accesses before asked (told_report before told 0)
+  pub ordered_is : {accesses : List ChainAccess} → Came accesses → IsOrderOf accesses before asked (recorded_report before recorded 0)
   ordered_is came = rw (came 0).1 at (came 0).0.is
 
   abbrev AreDone : List ChainAccess → Type 0
   AreDone accesses =
-      AreChainsDone catalogue (length new.slots.at.items) new.submissions 1 (runs_of asked) accesses (all_completed told.completions.items)
+      AreChainsDone catalogue (length new.slots.at.items) new.submissions 1 (runs_of asked) accesses (all_completed recorded.completions.items)
 
   pub ordered_done : {accesses : List ChainAccess} → Came accesses → AreDone accesses
   ordered_done {accesses} came =
@@ -69,17 +69,17 @@ module _ {catalogue : List FileEntry} {old : RingSlots} {asked : List Asked} (s 
 
   abbrev PlacesAt : ℕ → ℕ → Order → Type 0
   PlacesAt size submission order =
-      AreAccessPlaces catalogue size submission (runs_of asked) (all_completed told.completions.items) order.accesses.items order.places.items
+      AreAccessPlaces catalogue size submission (runs_of asked) (all_completed recorded.completions.items) order.accesses.items order.places.items
 
   pub accepted_goes : (order : Order) (lines : ReportLines) {text : List ℕ} {count : ℕ} → Came order.accesses.items
       → order.submission ≡ new.submissions
-      → PlacesAt (length new.slots.at.items) new.submissions order → HasLines catalogue lines told
+      → PlacesAt (length new.slots.at.items) new.submissions order → HasLines catalogue lines recorded
       → BeginsWith text count (lines_text (lines_in lines))
       → (count ≤ length text) × MayPrintBy before (SubmitsAll asked) after (take count text) (Some order)
   accepted_goes order lines {text} {count} came numbered listed has begins = (
     begins.inside,
     λ ring same.
-        let report : Reported = told_report before told 0 in
+        let report : Reported = recorded_report before recorded 0 in
         let printed : take count text ≡ report_text ring.catalogue report =
         begins.is_line ∙ ap lines_text (sym (has (old.submissions + 1) 0)) ∙ sym (printed_lines catalogue report)
         ∙ ap (λ (r : RingState). report_text r.catalogue report) (sym same) in
@@ -168,24 +168,24 @@ module _ {catalogue : List FileEntry} {old : RingSlots} {asked : List Asked} (s 
         → ◌≡◌ {A = Lines × List ℕ} (lines_of catalogue p.report, others) (lines_in lines, rest)
     same_front next others p = found.only (lines_of catalogue p.report, others) p.fits p.split
 
-    told_files : (next : RingContents) (others : List ℕ) (p : Played next others) (told : Result Told Fault)
-        → (AreApart catalogue old.slots → TellsKnown catalogue old.slots asked lines told) → TellsCloses told p.report.closes.files
-    told_files next others p told tells = tells (record { names = s.kept.files.catalogue; marks = one_at ring_before s.kept.is_ring }) p.report
+    recorded_files : (next : RingContents) (others : List ℕ) (p : Played next others) (recorded : Result Recorded Fault)
+        → (AreApart catalogue old.slots → TellsKnown catalogue old.slots asked lines recorded) → TellsCloses recorded p.report.closes.files
+    recorded_files next others p recorded tells = tells (record { names = s.kept.files.catalogue; marks = one_at ring_before s.kept.is_ring }) p.report
         (may_close_all s p.order) (are_from s p.order) (ap (λ (front : Lines × List ℕ). front.0) (same_front next others p))
 
     -- lines of no report
-    pub none_told : (fault : Fault) → (AreApart catalogue old.slots → TellsKnown catalogue old.slots asked lines (Err fault))
+    pub none_recorded : (fault : Fault) → (AreApart catalogue old.slots → TellsKnown catalogue old.slots asked lines (Err fault))
         → LeadsNowhere ring_before (SubmitsAll asked) text
-    none_told fault tells next others g =
-        let p = played next others g in told_files next others p (Err fault) tells
+    none_recorded fault tells next others g =
+        let p = played next others g in recorded_files next others p (Err fault) tells
 
-    module _ (told : Told) (has : HasLines catalogue lines told)
-        (tells : AreApart catalogue old.slots → TellsKnown catalogue old.slots asked lines (Ok told)) where
+    module _ (recorded : Recorded) (has : HasLines catalogue lines recorded)
+        (tells : AreApart catalogue old.slots → TellsKnown catalogue old.slots asked lines (Ok recorded)) where
       -- the report is the one that was read
-      same_report : (next : RingContents) (others : List ℕ) (p : Played next others) → p.report ≡ told_report ring_before told p.report.closes.room
+      same_report : (next : RingContents) (others : List ℕ) (p : Played next others) → p.report ≡ recorded_report ring_before recorded p.report.closes.room
       same_report next others p =
-          let files : told.closes.items ≡ p.report.closes.files = told_files next others p (Ok told) tells in
-          let completions : all_completed told.completions.items ≡ p.report.completions =
+          let files : recorded.closes.items ≡ p.report.closes.files = recorded_files next others p (Ok recorded) tells in
+          let completions : all_completed recorded.completions.items ≡ p.report.completions =
           ap (λ (l : Lines). l.completions) (has 0 0 ∙ sym (ap (λ (front : Lines × List ℕ). front.0) (same_front next others p))) in
           λ i. record {
             submission = p.order.is.submission i;
@@ -193,19 +193,19 @@ module _ {catalogue : List FileEntry} {old : RingSlots} {asked : List Asked} (s 
             closes = record { files = sym files i; room = p.report.closes.room };
           }
 
-      told_order : (next : RingContents) (others : List ℕ) (p : Played next others)
-          → IsOneOrder ring_before asked (told_report ring_before told p.report.closes.room) (ring_of next)
-      told_order next others p = subst (λ (r : Reported). IsOneOrder ring_before asked r (ring_of next)) (same_report next others p) p.order
+      recorded_order : (next : RingContents) (others : List ℕ) (p : Played next others)
+          → IsOneOrder ring_before asked (recorded_report ring_before recorded p.report.closes.room) (ring_of next)
+      recorded_order next others p = subst (λ (r : Reported). IsOneOrder ring_before asked r (ring_of next)) (same_report next others p) p.order
 
-      pub none_ordered : IsRefuted ring_before asked told → LeadsNowhere ring_before (SubmitsAll asked) text
+      pub none_ordered : IsRefuted ring_before asked recorded → LeadsNowhere ring_before (SubmitsAll asked) text
       none_ordered refuted next others g =
-          let p = played next others g in refuted p.report.closes.room (ring_of next) (told_order next others p)
+          let p = played next others g in refuted p.report.closes.room (ring_of next) (recorded_order next others p)
 
       pub one_ordered : {new : RingState} {count : ℕ} → BeginsWith text count (lines_text (lines_in lines))
-          → ((room : ℕ) → IsOneOrder ring_before asked (told_report ring_before told room) new) → LeadsTo ring_before (SubmitsAll asked) text count new
+          → ((room : ℕ) → IsOneOrder ring_before asked (recorded_report ring_before recorded room) new) → LeadsTo ring_before (SubmitsAll asked) text count new
       one_ordered {new} {count} begins ordered next others g =
           let p = played next others g in (
-            each_report_leads_to_one_ring ring_before asked (told_report ring_before told p.report.closes.room) (ring_of next) new
-                s.kept.files.catalogue s.kept.is_ring (told_order next others p) (ordered p.report.closes.room),
+            each_report_leads_to_one_ring ring_before asked (recorded_report ring_before recorded p.report.closes.room) (ring_of next) new
+                s.kept.files.catalogue s.kept.is_ring (recorded_order next others p) (ordered p.report.closes.room),
             ap (λ (front : Lines × List ℕ). front.1) (same_front next others p) ∙ rest_behind begins found.printed,
           )

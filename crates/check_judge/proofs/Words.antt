@@ -11,7 +11,7 @@ pub use Rattle.fx_chain.specs.declared.completion.Place.{Place}
 pub use Rattle.fx_chain.specs.declared.request.Request.{Request}
 pub use Rattle.fx_chain.specs.declared.request.Target.TheVariants.{Any, Slot}
 pub use Rattle.check_judge.specs.Chains.{AreDone, TellsChains, TellsMember}
-pub use Rattle.check_judge.specs.Claims.{AreClaims, Fits, IsAllocationInRange, IsAnsweredBy, LeavesSo, Possibly, Tells, Wanted, found_by, left_by, touched}
+pub use Rattle.check_judge.specs.Claims.{AreClaims, Fits, IsAllocationInRange, IsAnsweredBy, LeavesSo, Possibly, Tells, Expected, found_by, left_by, touched}
 pub use Rattle.check_search.specs.Machine.{Ends, HasNoEnd, IsEndOfClaims, Standing, allows, cell_at, cell_with, cells_after, is_same, is_staying}
 pub use Rattle.check_search.specs.Machine.{is_taken, may_leave, may_stay, next, suits}
 pub use Rattle.check_judge.specs.Played.{HasNoOrder, IsCell, IsOutcome, ShowsFile}
@@ -92,13 +92,13 @@ pub use Rattle.check_judge.specs.Ordered.{MayPrintBy, MayPrintAllBy, PrintsAllBy
 pub use Rattle.check_judge.specs.PlaceLists.{AreListsOf, IsListFor}
 pub use Rattle.check_judge.specs.Places.{AreAccessPlaces, IsChainListed, place_at, places_of_chain, own_places, AreChainsListed}
 pub use Rattle.check_judge.specs.Step.{ContinuesText, IsStep, LeadsNowhere, LeadsTo}
-pub use Rattle.check_judge.specs.Told.{AreApart, AreFrom, HasLines, Installed, IsFileAtSlot, MayBeClosed, OneInstalled, TellsKnown, TellsCloses}
-pub use Rattle.check_judge.specs.Told.{HasNone, MayCloseAll, HasDistinctMarks}
+pub use Rattle.check_judge.specs.Recorded.{AreApart, AreFrom, HasLines, Installed, IsFileAtSlot, MayBeClosed, OneInstalled, TellsKnown, TellsCloses}
+pub use Rattle.check_judge.specs.Recorded.{HasNone, MayCloseAll, HasDistinctMarks}
 pub use Rattle.check_judge.specs.declared.judgement.Fault.{Fault}
 pub use Rattle.check_judge.specs.declared.command.Met.{Met}
 pub use Rattle.check_judge.specs.declared.command.Met.TheVariants.{Apart, Here}
-pub use Rattle.check_judge.specs.Verdict.{CameBy, told_report, IsRefuted, IsToldOutcome}
-pub use Rattle.check_judge.specs.declared.told.Told.{Told}
+pub use Rattle.check_judge.specs.Verdict.{CameBy, recorded_report, IsRefuted, IsRecordedOutcome}
+pub use Rattle.check_judge.specs.declared.recorded.Recorded.{Recorded}
 pub use Rattle.fx_language.specs.Instruction.{Instruction, SubmitsAll, instruction_of, instructions_of}
 pub use Rattle.fx_language.specs.Script.{AreFiles, Meaning}
 pub use Rattle.check_lines.proofs.ReportTexts.{printed_lines, name_without_end}

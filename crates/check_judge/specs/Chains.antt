@@ -44,11 +44,11 @@ TellsChains catalogue size range closes submission runs completions (Err NoMemor
 -- claims of its request, and cuts the chain if it severs it
 abbrev pub TellsMember : List FileEntry → ℕ → ℕ × ℕ → List Closed → Place → Asked → Completed → Bool
     → Result MemberClaims Stop → Type 0
-TellsMember catalogue size range closes place request c cut (Ok told) =
-    MatchBool cut ((told.claims.items ≡ []) × (told.cut ≡ true))
+TellsMember catalogue size range closes place request c cut (Ok recorded) =
+    MatchBool cut ((recorded.claims.items ≡ []) × (recorded.cut ≡ true))
     (Tells (Possibly size range
-    (λ own. IsRequestDone catalogue size place request.operation own c)) closes (Ok told.claims)
-    × (told.cut ≡ severs request c))
+    (λ own. IsRequestDone catalogue size place request.operation own c)) closes (Ok recorded.claims)
+    × (recorded.cut ≡ severs request c))
 TellsMember catalogue size range closes place request c cut (Err (Refuted reason)) =
     MatchBool cut (c ≡ refusal place ECANCELED → ⊥)
     ((accesses : List Access) → Possibly size range

@@ -1,5 +1,5 @@
 -- Claims: what completions imply for the accesses that were made, one claim for each access.
-use Rattle.std.specs.Prelude.{◌≡◌, ℕ, ◌+◌, ◌<◌, ◌≤◌, pos, int_lt, true, false, List, [], slice_get}
+use Rattle.std.specs.Prelude.{◌≡◌, ℕ, ◌+◌, ◌<◌, ◌≤◌, pos, int_lt, true, List, [], length, slice_get}
 use Rattle.std.specs.Prelude.{slice_index_or, Option, Some, None, Result, Ok, Err}
 use Rattle.std.specs.Global.{Vec}
 use Rattle.std.specs.List.{AllZip, AllByRecursion}
@@ -60,12 +60,12 @@ left_by (Allocates slot file) = Some file
 left_by FindsFull = None
 
 -- the file that was found is one that the claim speaks of
-abbrev pub Wanted : Wants → Option Identity → Type 0
-Wanted Anything found = Unit {0}
-Wanted Nothing found = found ≡ None
-Wanted NothingToTake found = found ≡ None
-Wanted Something found = (file : Identity) × (found ≡ Some file)
-Wanted (Bytes fits) found =
+abbrev pub Expected : Wants → Option Identity → Type 0
+Expected Anything found = Unit {0}
+Expected Nothing found = found ≡ None
+Expected NothingToTake found = found ≡ None
+Expected Something found = (file : Identity) × (found ≡ Some file)
+Expected (Bytes fits) found =
     (file : Identity) × (found ≡ Some file) × (slice_index_or fits file.entry true ≡ true)
 
 -- the access removed what it found, if it found a file
@@ -83,7 +83,7 @@ LeavesSo closes (File resident) access =
 -- the access is one that the claim speaks of
 abbrev pub Fits : List Closed → Claim → Access → Type 0
 Fits closes (At slot wants leaves) access =
-    (touched access ≡ Some slot) × Wanted wants (found_by access) × LeavesSo closes leaves access
+    (touched access ≡ Some slot) × Expected wants (found_by access) × LeavesSo closes leaves access
 Fits closes Full access = access ≡ FindsFull
 
 -- these are the claims of all that was done so, or nothing was
@@ -121,12 +121,12 @@ IsMade size range answer c intent access =
     × (c ≡ answer (Some (finding_of access)))
 
 -- how the answer depends on what an access found: a request fails that found no file or no empty
--- slot, and a change answers the same
+-- slot, a look-up returns as many bytes as its result, and a change answers the same
 abbrev pub IsDecided : Place → (Option Finding → Completed) → Intent → Type 0
 IsDecided place answer (Look slot) =
     (int_lt (answer (Some (FoundAt None))).res (pos 0) ≡ true)
-    × ((file : Identity) → ((answer (Some (FoundAt (Some file)))).place ≡ place)
-    × (int_lt (answer (Some (FoundAt (Some file)))).res (pos 0) ≡ false))
+    × ((file : Identity) → (got : List ℕ)
+    × (answer (Some (FoundAt (Some file))) ≡ completed place (pos (length got)) got))
 IsDecided place answer (Take slot) =
     (int_lt (answer (Some (FoundAt None))).res (pos 0) ≡ true)
     × ((file : Identity) → answer (Some (FoundAt (Some file))) ≡ completed place (pos 0) [])

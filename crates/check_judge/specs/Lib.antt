@@ -6,7 +6,7 @@ pub mod Played
 pub mod Known
 pub mod Kept
 pub mod Met
-pub mod Told
+pub mod Recorded
 pub mod Places
 pub mod PlaceLists
 pub mod Ordered

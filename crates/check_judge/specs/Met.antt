@@ -11,4 +11,4 @@ pub record BeginsWith (text : List ℕ) (count : ℕ) (line : List ℕ) : Type 0
 -- the text begins with the line, or it doesn't
 abbrev pub IsMet : List ℕ → List ℕ → Met → Type 0
 IsMet text line (Here count) = BeginsWith text count line
-IsMet text line (Apart wanted) = (others : List ℕ) → text ≡ line ++ others → ⊥
+IsMet text line (Apart expected) = (others : List ℕ) → text ≡ line ++ others → ⊥

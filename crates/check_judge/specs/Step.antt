@@ -47,5 +47,5 @@ IsStep catalogue old command text (Here count) new =
     × MayPrint (ring_with_slots catalogue old) command (ring_with_slots catalogue new)
     (take count text)
     × LeadsTo (ring_with_slots catalogue old) command text count (ring_with_slots catalogue new)
-IsStep catalogue old command text (Apart wanted) new =
+IsStep catalogue old command text (Apart expected) new =
     LeadsNowhere (ring_with_slots catalogue old) command text

@@ -79,19 +79,19 @@ fn claims_of_chain(
             ..place
         };
         let member = (&requests[i], &completions[i]);
-        let mut told = match claims_of_member(alloc, setting, here, member, cut) {
-            Ok(told) => told,
+        let mut recorded = match claims_of_member(alloc, setting, here, member, cut) {
+            Ok(recorded) => recorded,
             Err(stop) => return Err(stop),
         };
-        claims.append(&mut told.claims)?;
-        cut = told.cut;
+        claims.append(&mut recorded.claims)?;
+        cut = recorded.cut;
     }
     Ok(claims)
 }
 
 /// The chains and the completions of a submission.
 #[derive(Clone, Copy)]
-pub(crate) struct ToldChains<'a> {
+pub(crate) struct RecordedChains<'a> {
     pub submission: u32,
     pub requests: &'a [Request],
     pub chains: &'a [Chain],
@@ -102,7 +102,7 @@ pub(crate) struct ToldChains<'a> {
 pub(crate) fn claims_of_chains(
     alloc: Global,
     setting: &ClaimSetting<'_>,
-    parts: &ToldChains<'_>,
+    parts: &RecordedChains<'_>,
 ) -> Result<Vec<Vec<Claim>>, Stop>
     requires within { All (IsChain (all_asked parts.now.requests.now)) parts.now.chains.now }
     requires numbers { 1 + length parts.now.chains.now < 2 ^ 32 }
@@ -124,11 +124,11 @@ pub(crate) fn claims_of_chains(
             return Err(Stop::Refuted(Reason::Member(place)));
         }
         let (own, others) = rest.split_at(members.len());
-        let told = match claims_of_chain(alloc, setting, place, members, own) {
-            Ok(told) => told,
+        let recorded = match claims_of_chain(alloc, setting, place, members, own) {
+            Ok(recorded) => recorded,
             Err(stop) => return Err(stop),
         };
-        claims.push(told)?;
+        claims.push(recorded)?;
         rest = others;
     }
     if !rest.is_empty() {

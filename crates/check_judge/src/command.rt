@@ -43,7 +43,7 @@ impl CommandVerdict {
     {
         match met {
             Met::Here(count) => CommandVerdict::Printed(count, None),
-            Met::Apart(wanted) => CommandVerdict::Broken(Fault::Text(wanted)),
+            Met::Apart(expected) => CommandVerdict::Broken(Fault::Text(expected)),
         }
     }
 }
@@ -104,9 +104,9 @@ pub(crate) fn play_call(
             *ring = called.ring;
             Ok(Met::Here(count))
         }
-        Met::Apart(wanted) => match memory_word(catalogue, ring, command) {
-            Some(word) => or_no_memory(alloc, text, word, wanted),
-            None => Ok(Met::Apart(wanted)),
+        Met::Apart(expected) => match memory_word(catalogue, ring, command) {
+            Some(word) => or_no_memory(alloc, text, word, expected),
+            None => Ok(Met::Apart(expected)),
         },
     }
 }

@@ -5,13 +5,13 @@ ghost use Rattle.fx_chain.specs.Accepted.{IsAccepted};
 ghost use Rattle.fx_chain.specs.Operation.{all_asked};
 ghost use Rattle.fx_ring.specs.Ring.{IsRing};
 ghost use Rattle.fx_order.specs.Slots.{ring_with_slots};
-ghost use Rattle.check_judge.specs.Verdict.{CameBy, IsToldOutcome, IsVerdict};
+ghost use Rattle.check_judge.specs.Verdict.{CameBy, IsRecordedOutcome, IsVerdict};
 
-use crate::chain_claims::{ToldChains, claims_of_chains};
+use crate::chain_claims::{RecordedChains, claims_of_chains};
 use crate::judgement::{Stop, Verdict};
-use crate::part::{PartVerdict, TableTold, judge_table};
+use crate::part::{PartVerdict, TableRecorded, judge_table};
+use crate::recorded::Recorded;
 use crate::request_claims::ClaimSetting;
-use crate::told::Told;
 use check_search::{Doubt, Limits};
 use fx_base::{Catalogue, NoMemory};
 use fx_chain::{Request, cut};
@@ -24,7 +24,7 @@ struct Case<'a> {
     alloc: Global,
     catalogue: &'a Catalogue,
     requests: &'a [Request],
-    told: &'a Told,
+    recorded: &'a Recorded,
     pub ghost accepted: { IsAccepted (all_asked requests.now) },
 }
 
@@ -36,7 +36,7 @@ fn confirm(case: &Case<'_>, ring: &mut RingSlots, order: &[ChainAccess]) -> Resu
     requires few { ring.old.submissions + 1 < 2 ^ 32 }
     ensures came { IfOk result (λ yes. IsTrue yes → CameBy
         (ring_with_slots case.now.catalogue.now ring.old) (all_asked case.now.requests.now)
-        case.now.told.now order.now (ring_with_slots case.now.catalogue.now ring.new)) }
+        case.now.recorded.now order.now (ring_with_slots case.now.catalogue.now ring.new)) }
     ensures ring { IsRing (ring_with_slots case.now.catalogue.now ring.new) }
     ensures stays { IfOk result (λ yes. yes ≡ false
         → ring_with_slots case.now.catalogue.now ring.new
@@ -48,8 +48,8 @@ fn confirm(case: &Case<'_>, ring: &mut RingSlots, order: &[ChainAccess]) -> Resu
         catalogue: case.catalogue,
         submissions: ring.submissions,
         requests: case.requests,
-        completions: &case.told.completions,
-        closes: &case.told.closes,
+        completions: &case.recorded.completions,
+        closes: &case.recorded.closes,
     };
     let Some(left) = slots_left(case.alloc, &submitted, &ring.slots, order)? else {
         return Ok(false);
@@ -61,25 +61,29 @@ fn confirm(case: &Case<'_>, ring: &mut RingSlots, order: &[ChainAccess]) -> Resu
 
 // Searches for an order of the accesses that the completions imply. An order that it returns is
 // still to be confirmed.
-fn judge_told(case: &Case<'_>, ring: &RingSlots, limits: Limits) -> Result<PartVerdict, NoMemory>
+fn judge_recorded(
+    case: &Case<'_>,
+    ring: &RingSlots,
+    limits: Limits,
+) -> Result<PartVerdict, NoMemory>
     requires ring { IsRing (ring_with_slots case.now.catalogue.now ring.now) }
     requires few_slots { length ring.now.slots.at.items ≤ MOST_SLOTS }
     requires few { ring.now.submissions + 1 < 2 ^ 32 }
-    ensures { IfOk result (IsToldOutcome (ring_with_slots case.now.catalogue.now ring.now)
-        (all_asked case.now.requests.now) case.now.told.now) }
+    ensures { IfOk result (IsRecordedOutcome (ring_with_slots case.now.catalogue.now ring.now)
+        (all_asked case.now.requests.now) case.now.recorded.now) }
 {
     let chains = cut(case.alloc, case.requests)?;
     let setting = ClaimSetting {
         catalogue: case.catalogue,
         size: ring.slots.at.len() as u32,
         range: ring.slots.range,
-        closes: &case.told.closes,
+        closes: &case.recorded.closes,
     };
-    let parts = ToldChains {
+    let parts = RecordedChains {
         submission: ring.submissions + 1,
         requests: case.requests,
         chains: &chains,
-        completions: &case.told.completions,
+        completions: &case.recorded.completions,
     };
     let claims = match claims_of_chains(case.alloc, &setting, &parts) {
         Ok(claims) => claims,
@@ -87,20 +91,20 @@ fn judge_told(case: &Case<'_>, ring: &RingSlots, limits: Limits) -> Result<PartV
         Err(Stop::Unknown) => return Ok(PartVerdict::Unsettled(Doubt::NotShown)),
         Err(Stop::NoMemory) => return Err(NoMemory),
     };
-    let table = TableTold {
+    let table = TableRecorded {
         slots: &ring.slots,
-        closes: &case.told.closes,
+        closes: &case.recorded.closes,
         chains: &claims,
     };
     judge_table(case.alloc, &table, limits)
 }
 
-/// Judges whether `told` is the result of some order of the requests, done one at a time, at `ring`
-/// with `catalogue`. If the verdict is `Legal`, `ring` becomes the ring after the submission; else
-/// it stays as it was. `limits` apply to each part of the submission that has slots of its own. The
-/// verdict is `Undecided` if it wasn't shown within them: by `TooManyStates` or `TooMuchMemory` if
-/// a search reached a limit, by `NotShown` if the result of a search was not confirmed. The caller
-/// has checked that no request has a fault ([`fx_chain::check`]).
+/// Judges whether `recorded` is the result of some order of the requests, done one at a time, at
+/// `ring` with `catalogue`. If the verdict is `Legal`, `ring` becomes the ring after the
+/// submission; else it stays as it was. `limits` apply to each part of the submission that has
+/// slots of its own. The verdict is `Undecided` if it wasn't shown within them: by `TooManyStates`
+/// or `TooMuchMemory` if a search reached a limit, by `NotShown` if the result of a search was not
+/// confirmed. The caller has checked that no request has a fault ([`fx_chain::check`]).
 ///
 /// # Errors
 /// `NoMemory` if an allocation fails. The ring stays as it was.
@@ -109,7 +113,7 @@ pub fn judge_submission(
     catalogue: &Catalogue,
     ring: &mut RingSlots,
     requests: &[Request],
-    told: &Told,
+    recorded: &Recorded,
     limits: Limits,
 ) -> Result<Verdict, NoMemory>
     requires accepted { IsAccepted (all_asked requests.now) }
@@ -117,7 +121,7 @@ pub fn judge_submission(
     requires few_slots { length ring.old.slots.at.items ≤ MOST_SLOTS }
     requires few { ring.old.submissions + 1 < 2 ^ 32 }
     ensures verdict { IfOk result (λ verdict.
-        IsVerdict (ring_with_slots catalogue.now ring.old) (all_asked requests.now) told.now verdict
+        IsVerdict (ring_with_slots catalogue.now ring.old) (all_asked requests.now) recorded.now verdict
         (ring_with_slots catalogue.now ring.new)) }
     ensures ring { IsRing (ring_with_slots catalogue.now ring.new) }
     ensures no_memory { OnErr result
@@ -127,9 +131,9 @@ pub fn judge_submission(
         alloc,
         catalogue,
         requests,
-        told,
+        recorded,
     };
-    let outcome = judge_told(&case, ring, limits)?;
+    let outcome = judge_recorded(&case, ring, limits)?;
     match outcome {
         PartVerdict::Order(order) => {
             if confirm(&case, ring, &order)? {

@@ -11,13 +11,13 @@ mod kept;
 mod part;
 mod places;
 mod play;
+mod recorded;
 mod refuted;
 mod request_claims;
 mod strands;
 mod submission;
-mod told;
 
 pub use judgement::{Break, Fault, Judgement, Reason, Verdict};
 pub use judging::judge_submission;
 pub use play::{judge, judge_from};
-pub use told::Told;
+pub use recorded::Recorded;

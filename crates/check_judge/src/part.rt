@@ -27,14 +27,14 @@ pub enum PartVerdict {
 
 /// A table, the files that were closed, and the claims of each chain.
 #[derive(Clone, Copy)]
-pub(crate) struct TableTold<'a> {
+pub(crate) struct TableRecorded<'a> {
     pub slots: &'a Slots,
     pub closes: &'a [Closed],
     pub chains: &'a [Vec<Claim>],
 }
 
 /// Returns a slot as it is before the submission.
-pub(crate) fn cell_of(table: &TableTold<'_>, slot: usize) -> Cell
+pub(crate) fn cell_of(table: &TableRecorded<'_>, slot: usize) -> Cell
     requires inside { slot < length table.now.slots.now.at.items }
     requires small { length table.now.slots.now.at.items < 2 ^ 32 }
     ensures { IsCell (table_of_slots table.now.slots.now) table.now.closes.now result }
@@ -51,7 +51,7 @@ pub(crate) fn cell_of(table: &TableTold<'_>, slot: usize) -> Cell
 // Judges the claims of these slots: searches for an order of the accesses there.
 fn judge_part(
     alloc: Global,
-    table: &TableTold<'_>,
+    table: &TableRecorded<'_>,
     cells: &[Cell],
     limits: Limits,
     reason: Reason,
@@ -85,7 +85,7 @@ fn judge_part(
 // out.
 fn judge_slots(
     alloc: Global,
-    table: &TableTold<'_>,
+    table: &TableRecorded<'_>,
     parts: &[Vec<usize>],
     limits: Limits,
 ) -> Result<PartVerdict, NoMemory>
@@ -115,7 +115,7 @@ fn judge_slots(
 /// Returns the slots of a part as they are before the submission.
 pub(crate) fn cells_of(
     alloc: Global,
-    table: &TableTold<'_>,
+    table: &TableRecorded<'_>,
     slots: &[usize],
 ) -> Result<Vec<Cell>, NoMemory>
     requires small { length table.now.slots.now.at.items < 2 ^ 32 }
@@ -143,7 +143,7 @@ fn reason_of(slots: &[usize]) -> Reason {
 // Judges a table by its parts: slots of different parts have no chain in common.
 fn judge_components(
     alloc: Global,
-    table: &TableTold<'_>,
+    table: &TableRecorded<'_>,
     parts: &[Vec<usize>],
     limits: Limits,
 ) -> Result<PartVerdict, NoMemory>
@@ -172,7 +172,7 @@ fn judge_components(
 }
 
 // Returns the limits of a first search, before slots are judged by themselves.
-fn first_limits(table: &TableTold<'_>, limits: Limits) -> Limits {
+fn first_limits(table: &TableRecorded<'_>, limits: Limits) -> Limits {
     let mut states = FEW_STATES;
     for claims in table.chains {
         states = states.saturating_add(claims.len());
@@ -187,7 +187,7 @@ fn first_limits(table: &TableTold<'_>, limits: Limits) -> Limits {
 // then of the parts.
 fn judge_searched(
     alloc: Global,
-    table: &TableTold<'_>,
+    table: &TableRecorded<'_>,
     limits: Limits,
 ) -> Result<PartVerdict, NoMemory>
     requires small { length table.now.slots.now.at.items < 2 ^ 32 }
@@ -212,7 +212,7 @@ fn judge_searched(
 /// Judges whether the closes and claims of a table are those of an order.
 pub(crate) fn judge_table(
     alloc: Global,
-    table: &TableTold<'_>,
+    table: &TableRecorded<'_>,
     limits: Limits,
 ) -> Result<PartVerdict, NoMemory>
     requires small { length table.now.slots.now.at.items < 2 ^ 32 }

@@ -68,18 +68,18 @@ fn play_end(
     text: &[u8],
 ) -> Result<Option<String>, NoMemory>
     requires { IsRingKept catalogue.now ring.now }
-    ensures end { IfOk result (λ wanted. IfNone wanted
+    ensures end { IfOk result (λ expected. IfNone expected
         (PrintsEnd (ring_with_slots catalogue.now ring.now) text.now)) }
-    ensures only { IfOk result (λ wanted. IfSome wanted
+    ensures only { IfOk result (λ expected. IfSome expected
         (λ _. PrintsEnd (ring_with_slots catalogue.now ring.now) text.now → ⊥)) }
 {
     let files = files_at(alloc, &ring.slots)?;
     let closes = close_in_order(alloc, catalogue, &files)?;
-    let wanted = teardown_text(alloc, catalogue, &closes)?;
-    if wanted.as_bytes() == text {
+    let expected = teardown_text(alloc, catalogue, &closes)?;
+    if expected.as_bytes() == text {
         Ok(None)
     } else {
-        Ok(Some(wanted))
+        Ok(Some(expected))
     }
 }
 
@@ -132,7 +132,7 @@ fn judge_rest(
     }
     match play_end(alloc, catalogue, &ring, &text[at..])? {
         None => Ok(Judgement::Legal(orders)),
-        Some(wanted) => Ok(broken(commands.len(), at, ring, Fault::Text(wanted))),
+        Some(expected) => Ok(broken(commands.len(), at, ring, Fault::Text(expected))),
     }
 }
 

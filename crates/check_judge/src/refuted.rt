@@ -8,7 +8,7 @@ ghost use Rattle.check_search.specs.Machine.{HasNoEnd};
 ghost use Rattle.check_search.specs.Starts.{starting};
 
 use crate::judgement::Reason;
-use crate::part::{PartVerdict, TableTold, cell_of, cells_of};
+use crate::part::{PartVerdict, TableRecorded, cell_of, cells_of};
 use crate::strands::strands_of;
 use check_search::{Cell, Claim, Doubt, Leaves, Steps, Strand, is_dead_by, is_uneven, start_of};
 use fx_base::{Closed, Mark, NoMemory};
@@ -67,7 +67,7 @@ fn is_at_slot(slots: &[Option<Closed>], file: Closed) -> bool
 }
 
 // Checks whether this file was at a slot, or a claim of one of the chains leaves it there.
-fn is_known(table: &TableTold<'_>, file: Closed) -> bool
+fn is_known(table: &TableRecorded<'_>, file: Closed) -> bool
     ensures { IsTrue result
         ↔ IsKnown table.now.slots.now.at.items table.now.chains.now file }
 {
@@ -76,7 +76,7 @@ fn is_known(table: &TableTold<'_>, file: Closed) -> bool
 
 // Checks whether the chain that the file's mark names leaves it at a slot. Only that chain installs
 // a file of this submission, so it is searched first.
-fn is_own(table: &TableTold<'_>, file: Closed) -> bool {
+fn is_own(table: &TableRecorded<'_>, file: Closed) -> bool {
     match file.mark {
         Mark::Submitted { chain, .. } => match table
             .chains
@@ -90,7 +90,7 @@ fn is_own(table: &TableTold<'_>, file: Closed) -> bool {
 }
 
 // Checks whether this file was never in the table. If so, no order closes it.
-fn is_unknown(table: &TableTold<'_>, file: Closed) -> bool
+fn is_unknown(table: &TableRecorded<'_>, file: Closed) -> bool
     ensures { IsTrue result → Contains table.now.closes.now file
         → HasNoOrder (table_of_slots table.now.slots.now) table.now.closes.now table.now.chains.now }
 {
@@ -101,7 +101,7 @@ fn is_unknown(table: &TableTold<'_>, file: Closed) -> bool
 }
 
 /// Checks whether a closed file was never in the table.
-pub(crate) fn has_unknown(table: &TableTold<'_>) -> bool
+pub(crate) fn has_unknown(table: &TableRecorded<'_>) -> bool
     ensures { IsTrue result → HasNoOrder (table_of_slots table.now.slots.now) table.now.closes.now
         table.now.chains.now }
 {
@@ -135,7 +135,7 @@ fn sees_no_end(
 // Checks whether the counts of a slot show that the table has no order.
 fn is_refuted_by(
     alloc: Global,
-    table: &TableTold<'_>,
+    table: &TableRecorded<'_>,
     cells: &[Cell],
     slot: u32,
 ) -> Result<bool, NoMemory>
@@ -153,7 +153,7 @@ fn is_refuted_by(
 }
 
 // Returns the slots whose counts of claims differ. No contract says anything of them.
-fn suspects(alloc: Global, table: &TableTold<'_>) -> Result<Vec<usize>, NoMemory>
+fn suspects(alloc: Global, table: &TableRecorded<'_>) -> Result<Vec<usize>, NoMemory>
     requires small { length table.now.slots.now.at.items < 2 ^ 32 }
     requires few { length table.now.chains.now + 1 < 2 ^ 32 }
 {
@@ -174,7 +174,10 @@ fn suspects(alloc: Global, table: &TableTold<'_>) -> Result<Vec<usize>, NoMemory
 }
 
 /// Looks for the first slot whose counts show, without a search, that the table has no order.
-pub(crate) fn judge_counts(alloc: Global, table: &TableTold<'_>) -> Result<PartVerdict, NoMemory>
+pub(crate) fn judge_counts(
+    alloc: Global,
+    table: &TableRecorded<'_>,
+) -> Result<PartVerdict, NoMemory>
     requires small { length table.now.slots.now.at.items < 2 ^ 32 }
     requires few { length table.now.chains.now + 1 < 2 ^ 32 }
     ensures { IfOk result (IsOutcome (table_of_slots table.now.slots.now) table.now.closes.now

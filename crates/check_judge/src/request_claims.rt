@@ -67,21 +67,20 @@ fn is_answer(it: &Answered<'_>, file: Option<Closed>) -> Result<bool, NoMemory>
     Ok(it.c.is_answer(due.place, due.res, &due.got))
 }
 
-// Checks for each catalogue entry whether the completion is the answer by a file of it.
-#[tactic(auto, using(crate::proofs::RequestClaims::by_entry))]
+// Checks for each catalogue entry whether the completion has the bytes of a file of it.
+#[tactic(auto, using(crate::proofs::RequestClaims::got_by_entry))]
 fn fits_of(it: &Answered<'_>) -> Result<[bool; 256], NoMemory>
-    requires limits { IsWithinLimits (asked_of it.now.request.now) }
-    requires accepted { refusal_of it.now.setting.catalogue.now it.now.setting.size
-        (operation_of it.now.request.now.op) ≡ None }
     ensures { IfOk result (λ fits. (file : FileAt) → completed_of it.now.c.now
         ≡ answer_at_table it.now.setting.catalogue.now it.now.place
         (operation_of it.now.request.now.op) (Some (FoundAt (Some file)))
         → slice_index_or fits file.entry true ≡ true) }
 {
     let mut fits = [true; 256];
+    let mut bytes = Vec::new(it.alloc);
     for entry in 0..it.setting.catalogue.len() {
-        let fit = is_answer(it, Some(it.place.installed(0, entry as u8)))?;
-        if !fit {
+        it.request
+            .read_into(it.setting.catalogue, entry as u8, &mut bytes)?;
+        if bytes.as_slice() != it.c.got.as_slice() {
             fits[entry as usize] = false;
         }
     }
@@ -158,7 +157,7 @@ fn claim_of(it: &Answered<'_>, intent: Intent) -> Result<Claim, Stop>
                     Claim::At(slot, Wants::Nothing, Leaves::Same),
                 );
             }
-            if c.place != place {
+            if c.place != place || c.res as usize != c.got.len() {
                 return Err(Stop::Refuted(Reason::Member(place)));
             }
             let fits = fits_of(it)?;

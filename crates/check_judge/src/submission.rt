@@ -11,14 +11,16 @@ ghost use Rattle.check_judge.specs.Answer.{IsCommandVerdict};
 ghost use Rattle.check_judge.specs.Kept.{IsRingKept};
 ghost use Rattle.check_judge.specs.Places.{AreAccessPlaces};
 ghost use Rattle.fx_order.specs.Requests.{AreChainsDone};
-ghost use Rattle.check_judge.specs.Told.{AreApart, HasLines, TellsAll, TellsKnown};
+ghost use Rattle.check_judge.specs.Recorded.{AreApart, HasLines, TellsAll, TellsKnown};
 ghost use Rattle.fx_table.specs.declared.limits.TheConstants.{MAX_CHAINS};
 
 use crate::command::CommandVerdict;
 use crate::judgement::{Fault, Verdict};
 use crate::judging::judge_submission;
 use crate::places::{Answered, places_of};
-use crate::told::{Told, files_told, tags_told, unknown_file, wrong_order, wrong_tag};
+use crate::recorded::{
+    Recorded, files_recorded, tags_recorded, unknown_file, wrong_order, wrong_tag,
+};
 use check_lines::{ReportLines, read_report};
 use check_search::Limits;
 use fx_base::{Catalogue, NoMemory};
@@ -74,8 +76,8 @@ pub(crate) fn wrong_line(
         let (line, others) = rest.split_at(line_length(rest));
         if !is_completion(alloc, line, place)? {
             let Place { chain, member, .. } = place;
-            let wanted = format!(in alloc; "{submission}.{chain}.{member} and its result")?;
-            return Ok(Fault::Line(count, wanted));
+            let expected = format!(in alloc; "{submission}.{chain}.{member} and its result")?;
+            return Ok(Fault::Line(count, expected));
         }
         rest = others;
         if request.links() {
@@ -101,44 +103,44 @@ fn wrong_close(alloc: Global, before: usize, text: &[u8]) -> Result<Fault, NoMem
         rest = others;
         count = count.saturating_add(1);
     }
-    let wanted = format!(in alloc; "the closed files, and then their tags")?;
-    Ok(Fault::Line(count, wanted))
+    let expected = format!(in alloc; "the closed files, and then their tags")?;
+    Ok(Fault::Line(count, expected))
 }
 
 // Returns the completions and closes that lines report, or the first invalid line.
-fn told_by(
+fn recorded_by(
     alloc: Global,
     catalogue: &Catalogue,
     ring: &RingSlots,
     lines: ReportLines,
-) -> Result<Result<Told, Fault>, NoMemory>
-    ensures lines { IfOk result (λ told. IfOk told (HasLines catalogue.now lines)) }
-    ensures only { IfOk result (λ told. AreApart catalogue.now ring.now.slots
-        → TellsAll catalogue.now ring.now.slots lines told) }
+) -> Result<Result<Recorded, Fault>, NoMemory>
+    ensures lines { IfOk result (λ recorded. IfOk recorded (HasLines catalogue.now lines)) }
+    ensures only { IfOk result (λ recorded. AreApart catalogue.now ring.now.slots
+        → TellsAll catalogue.now ring.now.slots lines recorded) }
 {
     let ReportLines {
         completions,
         closed,
         tags,
     } = lines;
-    let closes = match files_told(alloc, catalogue, &ring.slots, &closed)? {
+    let closes = match files_recorded(alloc, catalogue, &ring.slots, &closed)? {
         Ok(files) => files,
         Err(i) => {
-            let wanted = format!(in alloc; "a closed file by its mark and its own name")?;
-            return Ok(Err(Fault::Line(completions.len().saturating_add(i), wanted)));
+            let expected = format!(in alloc; "a closed file by its mark and its own name")?;
+            return Ok(Err(Fault::Line(completions.len().saturating_add(i), expected)));
         }
     };
     if let Some(i) = wrong_order(&closes) {
-        let wanted = format!(in alloc; "the closed files in order of mark, each once")?;
-        return Ok(Err(Fault::Line(completions.len().saturating_add(i), wanted)));
+        let expected = format!(in alloc; "the closed files in order of mark, each once")?;
+        return Ok(Err(Fault::Line(completions.len().saturating_add(i), expected)));
     }
-    let wanted = tags_told(alloc, &closes)?;
-    if let Some(i) = wrong_tag(&wanted, &tags) {
+    let expected = tags_recorded(alloc, &closes)?;
+    if let Some(i) = wrong_tag(&expected, &tags) {
         let behind = completions.len().saturating_add(closes.len());
-        let wanted = format!(in alloc; "the tags of the closed files, in their order")?;
-        return Ok(Err(Fault::Line(behind.saturating_add(i), wanted)));
+        let expected = format!(in alloc; "the tags of the closed files, in their order")?;
+        return Ok(Err(Fault::Line(behind.saturating_add(i), expected)));
     }
-    Ok(Ok(Told {
+    Ok(Ok(Recorded {
         completions,
         closes,
     }))
@@ -146,26 +148,26 @@ fn told_by(
 
 // Returns the completions and closes that lines report, or the first invalid line. Each closed file
 // must have been at a slot, or a request must have installed it.
-fn told_of(
+fn recorded_of(
     alloc: Global,
     catalogue: &Catalogue,
     ring: &RingSlots,
     requests: &[Request],
     lines: ReportLines,
-) -> Result<Result<Told, Fault>, NoMemory>
-    ensures lines { IfOk result (λ told. IfOk told (HasLines catalogue.now lines)) }
-    ensures only { IfOk result (λ told. AreApart catalogue.now ring.now.slots
-        → TellsKnown catalogue.now ring.now.slots (all_asked requests.now) lines told) }
+) -> Result<Result<Recorded, Fault>, NoMemory>
+    ensures lines { IfOk result (λ recorded. IfOk recorded (HasLines catalogue.now lines)) }
+    ensures only { IfOk result (λ recorded. AreApart catalogue.now ring.now.slots
+        → TellsKnown catalogue.now ring.now.slots (all_asked requests.now) lines recorded) }
 {
-    let told = match told_by(alloc, catalogue, ring, lines)? {
-        Ok(told) => told,
+    let recorded = match recorded_by(alloc, catalogue, ring, lines)? {
+        Ok(recorded) => recorded,
         Err(fault) => return Ok(Err(fault)),
     };
-    if let Some(i) = unknown_file(&ring.slots, requests, &told) {
-        let wanted = format!(in alloc; "a file that was at a slot, or that a request installed")?;
-        return Ok(Err(Fault::Line(told.completions.len().saturating_add(i), wanted)));
+    if let Some(i) = unknown_file(&ring.slots, requests, &recorded) {
+        let expected = format!(in alloc; "a file that was at a slot, or that a request installed")?;
+        return Ok(Err(Fault::Line(recorded.completions.len().saturating_add(i), expected)));
     }
-    Ok(Ok(told))
+    Ok(Ok(recorded))
 }
 
 // Returns the order of a submission, with the places of its accesses. The ring has counted the
@@ -175,7 +177,7 @@ fn order_of(
     catalogue: &Catalogue,
     ring: &RingSlots,
     requests: &[Request],
-    told: &Told,
+    recorded: &Recorded,
     accesses: Vec<ChainAccess>,
 ) -> Result<Order, NoMemory>
     requires accepted { IsAccepted (all_asked requests.now) }
@@ -184,12 +186,12 @@ fn order_of(
         × (x.chain ≤ length (runs_of (all_asked requests.now)))) accesses.items }
     requires done { AreChainsDone catalogue.now (length ring.now.slots.at.items)
         ring.now.submissions 1 (runs_of (all_asked requests.now)) accesses.items
-        (all_completed told.now.completions.items) }
+        (all_completed recorded.now.completions.items) }
     ensures accesses { IfOk result (λ order. order.accesses ≡ accesses) }
     ensures submission { IfOk result (λ order. order.submission ≡ ring.now.submissions) }
     ensures places { IfOk result (λ order. AreAccessPlaces catalogue.now
         (length ring.now.slots.at.items) ring.now.submissions (runs_of (all_asked requests.now))
-        (all_completed told.now.completions.items) accesses.items order.places.items) }
+        (all_completed recorded.now.completions.items) accesses.items order.places.items) }
 {
     let chains = cut(alloc, requests)?;
     let answered = Answered {
@@ -201,7 +203,7 @@ fn order_of(
         submission: ring.submissions,
         requests,
         chains: &chains,
-        completions: &told.completions,
+        completions: &recorded.completions,
     };
     let places = places_of(&answered, &accesses)?;
     Ok(Order {
@@ -237,13 +239,13 @@ pub(crate) fn play_submission(
         return Ok(CommandVerdict::Broken(wrong_line(alloc, number, requests, text)?));
     };
     let (lines, rest) = front;
-    let told = match told_of(alloc, catalogue, ring, requests, lines)? {
-        Ok(told) => told,
+    let recorded = match recorded_of(alloc, catalogue, ring, requests, lines)? {
+        Ok(recorded) => recorded,
         Err(fault) => return Ok(CommandVerdict::Broken(fault)),
     };
-    match judge_submission(alloc, catalogue, ring, requests, &told, limits)? {
+    match judge_submission(alloc, catalogue, ring, requests, &recorded, limits)? {
         Verdict::Legal(accesses) => {
-            let order = order_of(alloc, catalogue, ring, requests, &told, accesses)?;
+            let order = order_of(alloc, catalogue, ring, requests, &recorded, accesses)?;
             Ok(CommandVerdict::Printed(text.len() - rest.len(), Some(order)))
         }
         Verdict::NotLegal(reason) => Ok(CommandVerdict::Broken(Fault::Order(number, reason))),

@@ -1,12 +1,12 @@
 use Rattle.check_judge.proofs.Words.{◌≡◌, ◌+◌, ◌∙◌, ◌∷◌, ap, arith, drop, drop_all, eq-eqb, length, sym, true≢false, length-map, map, slice_index_or}
 use Rattle.check_judge.proofs.Words.{get_or_default, members_of, completed_of, all_asked, asked_of, add-one, mapped_at, Chain, own_completed}
 use Rattle.check_judge.proofs.Words.{others_completed}
-use Rattle.check_judge.proofs.ChainClaims.{none_told, few_completions, chain_stops, chain_told}
+use Rattle.check_judge.proofs.ChainClaims.{none_recorded, few_completions, chain_stops, chain_recorded}
 use Rattle.check_judge.proofs.chain_claims.claims_of_chains.Goals.{After-members-members}
 use Rattle.check_judge.proofs.chain_claims.claims_of_chains.Goals as goal
 
 pub loop-i-init : goal.loop-i-init
-loop-i-init c = rw c.new-claims.ensures.items (none_told _ _ _ _ _ _ _)
+loop-i-init c = rw c.new-claims.ensures.items (none_recorded _ _ _ _ _ _ _)
 
 abbrev no_chain : Chain
 no_chain = record { first = 0; len = 0 }
@@ -29,9 +29,9 @@ returns-then-rest-members c =
 
 pub loop-i-preserved : goal.loop-i-preserved
 loop-i-preserved c =
-    rw c.in_ok-push.ensures.items (chain_told c.loop-i.invariant (next (goal.at.loop-i-preserved c).After-members-members)
+    rw c.in_ok-push.ensures.items (chain_recorded c.loop-i.invariant (next (goal.at.loop-i-preserved c).After-members-members)
     (own_completed c.members-members.result.now c.loop-i.rest.now _ c.split_at.ensures.front)
-    (others_completed c.members-members.result.now c.loop-i.rest.now _ c.split_at.ensures.back) c.in-Ok.told c.in-Ok.ensures)
+    (others_completed c.members-members.result.now c.loop-i.rest.now _ c.split_at.ensures.back) c.in-Ok.recorded c.in-Ok.ensures)
 
 pub returns-in-Err : goal.returns-in-Err
 returns-in-Err c =

@@ -23,10 +23,10 @@ push_lists-requires t c = (
 
 pub returns : goal.returns
 returns t c = on_ok_weaker c.push_lists.result
-    (λ told order. lists_put c.args.answered.now.setting.catalogue.now c.args.answered.now.setting.size c.args.answered.now.submission order c.args.chain _
+    (λ recorded order. lists_put c.args.answered.now.setting.catalogue.now c.args.answered.now.setting.size c.args.answered.now.submission order c.args.chain _
     c.args.lists.now.items c.push_chain.new.places (first_run (all_asked c.args.answered.now.requests.now) c.args.chains.now none
     c.members-members.result.now c.in-len1-up.len_at_least c.members-members.ensures.members)
     (own_completed c.members-members.result.now c.args.completions.now _ c.split_at.ensures.front)
     (others_completed c.members-members.result.now c.args.completions.now _ c.split_at.ensures.back)
-    c.new-places.ensures.items c.in_ok-push.ensures.items c.in_ok-push_chain.ensures (told order))
+    c.new-places.ensures.items c.in_ok-push.ensures.items c.in_ok-push_chain.ensures (recorded order))
     c.push_lists.ensures

@@ -21,4 +21,4 @@ returns-clause-only c = λ ends.
     let same : c.args.text.now ≡ teardown_text c.args.catalogue.now c.in_ok-closes.closes.files =
     end_printed (ring_with_slots c.args.catalogue.now c.args.ring.now) c.deref.result.now c.in_ok-closes.closes c.args.text.now c.requires.is_ring
     (c.deref.ensures.value ∙ c.in_ok-files.ensures) c.in_ok-closes.ensures ends in
-    true≢false (sym (written.1 (c.as_bytes.ensures.value ∙ c.in_ok-wanted.ensures ∙ sym same)) ∙ c.if-eq.false)
+    true≢false (sym (written.1 (c.as_bytes.ensures.value ∙ c.in_ok-expected.ensures ∙ sym same)) ∙ c.if-eq.false)

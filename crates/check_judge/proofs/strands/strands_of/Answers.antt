@@ -12,6 +12,6 @@ loop-i-preserved c =
     (c.in_ok-own.ensures ∙ ap (filter (keeps c.args.cells.now)) c.deref.ensures.value) c.loop-i.invariant c.push_strand.new.strands.items c.in_ok-push_strand.ensures
 
 pub returns : goal.returns
-returns c = λ closes order told.
+returns c = λ closes order recorded.
     let whole : c.loop-i.i ≡ length c.args.chains.now = omega arith in
-    subst (λ (n : ℕ). AreStrands closes c.args.cells.now n order c.loop-i.strands.items) whole (c.loop-i.invariant.are closes order told)
+    subst (λ (n : ℕ). AreStrands closes c.args.cells.now n order c.loop-i.strands.items) whole (c.loop-i.invariant.are closes order recorded)

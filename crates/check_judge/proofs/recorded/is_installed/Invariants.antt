@@ -1,5 +1,5 @@
 use Rattle.check_judge.proofs.Words.{drop, all_completed, all_asked, OneInstalled}
-use Rattle.check_judge.proofs.told.is_installed.Given as goal
+use Rattle.check_judge.proofs.recorded.is_installed.Given as goal
 
 -- a request after those that were checked
 abbrev pub invariant-loop-i : goal.invariant-loop-i

@@ -1,6 +1,6 @@
 use Rattle.check_judge.proofs.Words.{◌∙◌, ◌-◌, ap, sym, arith, is_lt}
 use Rattle.check_judge.proofs.OrderFiles.{not_in_turn}
-use Rattle.check_judge.proofs.told.wrong_order.Goals as goal
+use Rattle.check_judge.proofs.recorded.wrong_order.Goals as goal
 
 pub returns-then-not-is_lt : goal.returns-then-not-is_lt
 returns-then-not-is_lt c = λ up distinct.

@@ -5,7 +5,7 @@ ghost use Rattle.fx_base.specs.CloseList.{IsInOrderOfMark};
 ghost use Rattle.fx_base.specs.declared.open_file.Closed.{Closed as File};
 ghost use Rattle.check_lines.specs.ClosedView.{named_close_of};
 ghost use Rattle.check_lines.specs.Lines.{named_close, named_closes};
-ghost use Rattle.check_judge.specs.Told.{AreApart, HasDistinctMarks, HasNone, IsFileAtSlot, MayBeClosed, TellsFiles, AreFrom, Installed, OneInstalled};
+ghost use Rattle.check_judge.specs.Recorded.{AreApart, HasDistinctMarks, HasNone, IsFileAtSlot, MayBeClosed, TellsFiles, AreFrom, Installed, OneInstalled};
 ghost use Rattle.fx_chain.specs.Completed.{all_completed, completed_of};
 ghost use Rattle.fx_chain.specs.Operation.{all_asked, asked_of};
 
@@ -17,7 +17,7 @@ use std::alloc::Global;
 
 /// A report of a submission that is to be judged, for instance a kernel's.
 #[derive(Debug, Drop)]
-pub struct Told {
+pub struct Recorded {
     /// The completion of each request, in order of place.
     pub completions: Vec<Completion>,
     /// The closed files, in order of mark.
@@ -55,8 +55,8 @@ fn entry_named(catalogue: &Catalogue, name: &[u8]) -> Option<u8>
 
 // Returns the file that a line of a closed file names: one at a slot, or one that the submission
 // installs, without a tag.
-fn file_told(catalogue: &Catalogue, slots: &Slots, line: &ClosedLine) -> Option<Closed>
-    ensures told { IfSome result (λ file. named_close catalogue.now file ≡ named_close_of line.now) }
+fn file_recorded(catalogue: &Catalogue, slots: &Slots, line: &ClosedLine) -> Option<Closed>
+    ensures recorded { IfSome result (λ file. named_close catalogue.now file ≡ named_close_of line.now) }
     ensures only { AreApart catalogue.now slots.now → (file : File)
         → MayBeClosed catalogue.now slots.now file
         → named_close catalogue.now file ≡ named_close_of line.now → result ≡ Some file }
@@ -82,21 +82,21 @@ fn file_told(catalogue: &Catalogue, slots: &Slots, line: &ClosedLine) -> Option<
 ///
 /// # Errors
 /// `NoMemory` if an allocation fails.
-pub(crate) fn files_told(
+pub(crate) fn files_recorded(
     alloc: Global,
     catalogue: &Catalogue,
     slots: &Slots,
     lines: &[ClosedLine],
 ) -> Result<Result<Vec<Closed>, usize>, NoMemory>
-    ensures told { IfOk result (λ told. IfOk told (λ files.
+    ensures recorded { IfOk result (λ recorded. IfOk recorded (λ files.
         named_closes catalogue.now files.items ≡ map named_close_of lines.now)) }
-    ensures only { IfOk result (λ told. AreApart catalogue.now slots.now → (files : List File)
+    ensures only { IfOk result (λ recorded. AreApart catalogue.now slots.now → (files : List File)
         → All (MayBeClosed catalogue.now slots.now) files
-        → named_closes catalogue.now files ≡ map named_close_of lines.now → TellsFiles told files) }
+        → named_closes catalogue.now files ≡ map named_close_of lines.now → TellsFiles recorded files) }
 {
     let mut files = Vec::new(alloc);
     for (i, line) in lines.iter().enumerate() {
-        let Some(file) = file_told(catalogue, slots, line) else {
+        let Some(file) = file_recorded(catalogue, slots, line) else {
             return Ok(Err(i));
         };
         files.push(file)?;
@@ -121,7 +121,7 @@ pub(crate) fn wrong_order(files: &[Closed]) -> Option<usize>
 ///
 /// # Errors
 /// `NoMemory` if an allocation fails.
-pub(crate) fn tags_told(alloc: Global, files: &[Closed]) -> Result<Vec<u64>, NoMemory>
+pub(crate) fn tags_recorded(alloc: Global, files: &[Closed]) -> Result<Vec<u64>, NoMemory>
     ensures { IfOk result (λ tags. tags.items
         ≡ map (λ file. file.tag) (filter (λ file. not (file.tag == 0)) files.now)) }
 {
@@ -131,17 +131,17 @@ pub(crate) fn tags_told(alloc: Global, files: &[Closed]) -> Result<Vec<u64>, NoM
 
 /// Returns the number, from 0, of the first tag that differs from the expected one, or `None` if
 /// the lists are equal.
-pub(crate) fn wrong_tag(wanted: &[u64], tags: &[u64]) -> Option<usize>
-    ensures same { IfNone result (wanted.now ≡ tags.now) }
-    ensures apart { IfSome result (λ i. wanted.now ≡ tags.now → ⊥) }
+pub(crate) fn wrong_tag(expected: &[u64], tags: &[u64]) -> Option<usize>
+    ensures same { IfNone result (expected.now ≡ tags.now) }
+    ensures apart { IfSome result (λ i. expected.now ≡ tags.now → ⊥) }
 {
-    for i in 0..wanted.len() {
-        if i >= tags.len() || tags[i] != wanted[i] {
+    for i in 0..expected.len() {
+        if i >= tags.len() || tags[i] != expected[i] {
             return Some(i);
         }
     }
-    if wanted.len() < tags.len() {
-        return Some(wanted.len());
+    if expected.len() < tags.len() {
+        return Some(expected.len());
     }
     None
 }
@@ -185,12 +185,16 @@ fn is_installed(requests: &[Request], completions: &[Completion], mark: Mark) ->
 
 /// Returns the number, from 0, of a closed file that was at no slot before and that no request of
 /// the submission installed, or `None` if there is no such file. The files are in order of mark.
-pub(crate) fn unknown_file(slots: &Slots, requests: &[Request], told: &Told) -> Option<usize>
+pub(crate) fn unknown_file(
+    slots: &Slots,
+    requests: &[Request],
+    recorded: &Recorded,
+) -> Option<usize>
     ensures { IfSome result (λ i. AreFrom slots.now (all_asked requests.now)
-        (all_completed told.now.completions.items) told.now.closes.items → ⊥) }
+        (all_completed recorded.now.completions.items) recorded.now.closes.items → ⊥) }
 {
-    let completions = told.completions.as_slice();
-    let closes = told.closes.as_slice();
+    let completions = recorded.completions.as_slice();
+    let closes = recorded.closes.as_slice();
     let mut at = 0usize;
     for i in 0..closes.len() {
         let mark = closes[i].mark;

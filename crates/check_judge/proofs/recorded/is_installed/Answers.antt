@@ -1,7 +1,7 @@
 use Rattle.check_judge.proofs.OrderFiles.{next_installed, none_installed}
-use Rattle.check_judge.proofs.told.is_installed.Goals.{else-i-completions-via-then-i-completions+else-has_installed}
-use Rattle.check_judge.proofs.told.is_installed.Goals.{else-i-completions-via-else-i-completions}
-use Rattle.check_judge.proofs.told.is_installed.Goals as goal
+use Rattle.check_judge.proofs.recorded.is_installed.Goals.{else-i-completions-via-then-i-completions+else-has_installed}
+use Rattle.check_judge.proofs.recorded.is_installed.Goals.{else-i-completions-via-else-i-completions}
+use Rattle.check_judge.proofs.recorded.is_installed.Goals as goal
 
 pub loop-i-preserved : goal.loop-i-preserved
 loop-i-preserved c = λ one. elim c.else-i-completions.branch [

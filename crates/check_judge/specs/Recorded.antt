@@ -12,7 +12,7 @@ use Rattle.fx_chain.specs.Operation.{Asked}
 use Rattle.fx_chain.specs.Intents.{InstallsAt}
 use Rattle.fx_order.specs.Slots.{table_of_slots}
 use Rattle.fx_order.specs.declared.slots.Slots.{Slots}
-use Rattle.check_judge.specs.declared.told.Told.{Told}
+use Rattle.check_judge.specs.declared.recorded.Recorded.{Recorded}
 use Rattle.check_lines.specs.Lines.{lines_of}
 use Rattle.check_lines.specs.LinesView.{lines_in}
 use Rattle.check_lines.specs.declared.report_lines.ReportLines.{ReportLines}
@@ -20,11 +20,11 @@ use Rattle.fx_ring.specs.Submission.{Reported}
 use Rattle.check_judge.specs.declared.judgement.Fault.{Fault}
 
 -- a report of these completions and closes has these lines, in every submission
-abbrev pub HasLines : List FileEntry → ReportLines → Told → Type 0
-HasLines catalogue lines told = (number room : ℕ) → lines_of catalogue (record {
+abbrev pub HasLines : List FileEntry → ReportLines → Recorded → Type 0
+HasLines catalogue lines recorded = (number room : ℕ) → lines_of catalogue (record {
   submission = number;
-  completions = all_completed told.completions.items;
-  closes = record { files = told.closes.items; room = room };
+  completions = all_completed recorded.completions.items;
+  closes = record { files = recorded.closes.items; room = room };
 }) ≡ lines_in lines
 
 -- the file is at a slot
@@ -61,12 +61,12 @@ pub record MayCloseAll (catalogue : List FileEntry) (slots : Slots) (files : Lis
 
 -- these files are read, one from each line
 abbrev pub TellsFiles : Result (Vec Closed) ℕ → List Closed → Type 0
-TellsFiles (Ok told) files = told.items ≡ files
+TellsFiles (Ok recorded) files = recorded.items ≡ files
 TellsFiles (Err line) files = ⊥
 
 -- these files are read, and no fault
-abbrev pub TellsCloses : Result Told Fault → List Closed → Type 0
-TellsCloses (Ok told) files = told.closes.items ≡ files
+abbrev pub TellsCloses : Result Recorded Fault → List Closed → Type 0
+TellsCloses (Ok recorded) files = recorded.closes.items ≡ files
 TellsCloses (Err fault) files = ⊥
 
 -- the request, which completed so, installed a file with the mark
@@ -89,15 +89,15 @@ AreFrom slots requests completions files =
     All (λ file. IsFileAtSlot slots file ⊎ OneInstalled requests completions file.mark) files
 
 -- each report with these lines, of files that a submission may close, has the files that are read
-abbrev pub TellsAll : List FileEntry → Slots → ReportLines → Result Told Fault → Type 0
-TellsAll catalogue slots lines told =
+abbrev pub TellsAll : List FileEntry → Slots → ReportLines → Result Recorded Fault → Type 0
+TellsAll catalogue slots lines recorded =
     (report : Reported) → MayCloseAll catalogue slots report.closes.files
-    → lines_of catalogue report ≡ lines_in lines → TellsCloses told report.closes.files
+    → lines_of catalogue report ≡ lines_in lines → TellsCloses recorded report.closes.files
 
 -- the same, where each was at a slot or is one that a request installed
 abbrev pub TellsKnown :
-    List FileEntry → Slots → List Asked → ReportLines → Result Told Fault → Type 0
-TellsKnown catalogue slots requests lines told =
+    List FileEntry → Slots → List Asked → ReportLines → Result Recorded Fault → Type 0
+TellsKnown catalogue slots requests lines recorded =
     (report : Reported) → MayCloseAll catalogue slots report.closes.files
     → AreFrom slots requests report.completions report.closes.files
-    → lines_of catalogue report ≡ lines_in lines → TellsCloses told report.closes.files
+    → lines_of catalogue report ≡ lines_in lines → TellsCloses recorded report.closes.files
