@@ -178,7 +178,7 @@ typedef struct yacht_judgement {
  * empty at first and in the allocation range. The events name ranges of the other arrays: the
  * requests of chains, the entries of updates (-1 empties a slot, -2 leaves it as it is, any other
  * number is a file), and the bytes that reads returned. Each search of states keeps at most
- * `states` states and `memory` MiB of them. A log with a look, or with an answer -12, is undecided.
+ * `states` states and `memory` MiB of them. A log with an answer -12 is undecided.
  * Returns YACHT_LEGAL, YACHT_NOT_LEGAL, YACHT_UNDECIDED, YACHT_BAD_SCRIPT, YACHT_JUDGE_NO_MEMORY,
  * YACHT_FAULTY, YACHT_MALFORMED or YACHT_TOO_MANY_SLOTS, and writes *judgement. */
 uint32_t yacht_judge_events(const uint8_t *script, size_t script_length, uint32_t slots,

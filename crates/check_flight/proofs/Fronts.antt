@@ -2,7 +2,9 @@
 use Rattle.check_flight.proofs.Words.{◌≡◌, ℕ, List, [], ◌∷◌, ◌++◌, length, refl, sym, ap, ◌∙◌, arith, ⊎_elim, Asked}
 use Rattle.check_flight.proofs.Words.{◌-◌, subst, Contains-append_cases, get_or_append_left, get_or_at, run_at}
 use Rattle.check_flight.proofs.Words.{Completed, Contains, RingState, length-append, rules_of}
-use Rattle.check_flight.proofs.Steps.{access_leads, answered_in, event_leads, followed_on, not_stopped, only_one, was_logged}
+use Rattle.check_flight.proofs.Steps.{answered_in, event_leads, followed_on, looks_on, looks_seen, not_stopped, only_one, seen_before, was_logged}
+use Rattle.check_flight.specs.States.{AreLooksSeen}
+use Rattle.check_flight.proofs.Words.{◌+◌, ◌≤◌, ◌⊎◌, inl, inr}
 use Rattle.check_flight.specs.States.{IsNumbered, runs_with}
 use Rattle.check_flight.specs.States.{AreReached, AreAnswers, AreCalls, AreFollowed, ArePassed, HasNoFlight, IsStopped, GoesOnTo, FlightView}
 use Rattle.check_flight.specs.States.{setting_of}
@@ -28,7 +30,8 @@ never_empty xs x is = let long = ap length is in omega (arith, length-append xs 
 no_calls : AreCalls [] []
 no_calls = record {
   chain = λ id requests inside. absurd (let few = inside.1 in omega arith);
-  look = λ id slot inside. let few = inside.1 in omega arith;
+  look = λ id slot inside. absurd (let few = inside.1 in omega arith);
+  once = λ id slot other inside. absurd (let few = inside.1 in omega arith);
 }
 
 module _ (old : RingState) (log : List Happening) where
@@ -39,24 +42,28 @@ module _ (old : RingState) (log : List Happening) where
     Comes flight = (state : FlightView) × Contains fronts state × GoesOnTo old runs flight state
 
     goes_on : (flight : List Moment)
-        → ((e : Happening) (before : List Moment) → IsFlight (setting_of old answers) (Logged e ∷ before) → log_of before ++ e ∷ [] ≡ read
+        → ((e : Happening) (before : List Moment) → IsFlight (setting_of old answers) (Logged e ∷ before)
+        → AreLooksSeen old.size log (Logged e ∷ before) → log_of before ++ e ∷ [] ≡ read
         → Comes (Logged e ∷ before))
         → ([] ≡ read → Comes [])
-        → IsFlight (setting_of old answers) flight → log_of flight ≡ read → Comes flight
-    goes_on [] event start is whole = start whole
-    goes_on (Logged e ∷ flight) event start is whole = event e flight is whole
-    goes_on (Accesses x ∷ flight) event start is whole =
-        let (state, inside, to) = goes_on flight event start is.0 whole in
-        let (bounds, follows) = followed_on old log answers fits (rw (← whole) at calls) to x is.1 in
-        let (next, there, lead) = follows fronts (closed state inside) in
-        (next, there, access_leads old x to bounds lead)
+        → IsFlight (setting_of old answers) flight → AreLooksSeen old.size log flight → log_of flight ≡ read → Comes flight
+    goes_on [] event start is seen whole = start whole
+    goes_on (Logged e ∷ flight) event start is seen whole = event e flight is seen whole
+    goes_on (Accesses x ∷ flight) event start is seen whole =
+        let (state, inside, to) = goes_on flight event start is.0 (seen_before old.size log (Accesses x) flight seen) whole in
+        let these = rw (← whole) at calls in
+        let (each, denied) = closed state inside in
+        ⊎_elim
+        (λ chain. followed_on old log answers fits these to x chain.0 is.1.0 chain.1 chain.2 fronts each)
+        (λ look. (state, inside, looks_on old log answers fits these to x is.1.0 look.2 look.3 look.4 seen denied))
+        is.1.1
 
   -- the first state
   pub from_start : (fronts : List FlightView) (start : FlightView) → Contains fronts start → GoesOnTo old [] [] start
       → AreFollowed old.catalogue old.size log 0 fronts → AreReached old log [] [] fronts
-  from_start fronts start inside leads closed answers fits flight is whole =
+  from_start fronts start inside leads closed answers fits flight is seen whole =
       goes_on answers fits [] [] no_calls fronts closed flight
-      (λ e before of whole. absurd (never_empty (log_of before) e whole)) (λ _. (start, inside, leads)) is whole
+      (λ e before of seen whole. absurd (never_empty (log_of before) e whole)) (λ _. (start, inside, leads)) is seen whole
 
   -- one event more
   pub all_next : {runs : List (List Asked)} {read : List Happening} (e : Happening) (states nexts fronts : List FlightView)
@@ -66,11 +73,11 @@ module _ (old : RingState) (log : List Happening) where
       → ((state : FlightView) → Contains nexts state → Contains fronts state)
       → AreFollowed old.catalogue old.size log (length (runs_with runs e)) fronts
       → AreReached old log (runs_with runs e) (read ++ e ∷ []) fronts
-  all_next {runs} {read} e states nexts fronts all calls numbered more passed within closed answers fits flight is whole =
+  all_next {runs} {read} e states nexts fronts all calls numbered more passed within closed answers fits flight is seen whole =
       goes_on answers fits (runs_with runs e) (read ++ e ∷ []) more fronts closed flight
-      (λ f before of same.
+      (λ f before of found same.
       let (read_same, event_same) = last_event (log_of before) read f e same in
-      let (state, inside, to) = all answers fits before of.0 read_same in
+      let (state, inside, to) = all answers fits before of.0 (seen_before old.size log (Logged f) before found) read_same in
       let may = subst (λ (g : Happening). MayFollow (setting_of old answers) before g) event_same of.1 in
       ⊎_elim
       (λ stopped. absurd (not_stopped old log answers fits (subst (λ (xs : List Happening). AreCalls runs xs) (sym read_same) calls) to e may
@@ -79,16 +86,17 @@ module _ (old : RingState) (log : List Happening) where
       let lead = event_leads old e to numbered led.2 in
       (led.0, within led.0 led.1, subst (λ (g : Happening). GoesOnTo old (runs_with runs e) (Logged g ∷ before) led.0) (sym event_same) lead))
       (passed state inside))
-      (λ empty. absurd (never_empty read e (sym empty))) is whole
+      (λ empty. absurd (never_empty read e (sym empty))) is seen whole
 
   -- where no state is left
-  pub none_left : {runs : List (List Asked)} → AreReached old log runs log [] → HasNoFlight old log
-  none_left all is memory =
+  pub none_left : {runs : List (List Asked)} → AreReached old log runs log [] → AreCalls runs log → HasNoFlight old log
+  none_left {runs} all calls is memory =
       let fits : AreAnswers log is.answers = record {
         seen = λ id c inside. answered_in old is.answers is.flight is.is id c (was_logged is.flight (Answered id c) (rw is.same inside));
         memory = memory;
       } in
-      let (state, (k, few, at), to) = all is.answers fits is.flight is.is is.same in
+      let seen = looks_seen (setting_of old is.answers) runs log is.flight calls is.is is.same in
+      let (state, (k, few, at), to) = all is.answers fits is.flight is.is seen is.same in
       absurd (omega arith)
 
 -- the calls with one event more
@@ -100,10 +108,22 @@ module _ {runs : List (List Asked)} {read : List Happening} (calls : AreCalls ru
     chain = λ id requests inside. ⊎_elim (λ before. calls.chain id requests before)
         (λ last. absurd (chain id requests (only_one e (Called id requests) last)))
         (Contains-append_cases read (e ∷ []) (Called id requests) inside);
-    look = λ id slot inside. ⊎_elim (λ before. calls.look id slot before)
-        (λ last. look id slot (only_one e (LookCalled id slot) last))
-        (Contains-append_cases read (e ∷ []) (LookCalled id slot) inside);
+    look = λ id slot inside. calls.look id slot (known id slot inside);
+    once = λ id slot other inside there. calls.once id slot other (known id slot inside) (known id other there);
   }
+    where
+      known : (id slot : ℕ) → Contains (read ++ e ∷ []) (LookCalled id slot) → Contains read (LookCalled id slot)
+      known id slot inside = ⊎_elim (λ before. before) (λ last. absurd (look id slot (only_one e (LookCalled id slot) last)))
+          (Contains-append_cases read (e ∷ []) (LookCalled id slot) inside)
+
+  -- a look is still one with a call more
+  still_look : (requests : List Asked) (id : ℕ) → (1 ≤ id) × (id ≤ length runs) × (run_at runs id ≡ [])
+      → (1 ≤ id) × (id ≤ length (runs ++ requests ∷ [])) × (run_at (runs ++ requests ∷ []) id ≡ [])
+  still_look requests id (low, high, none) = (
+    low,
+    omega (arith, length-append runs (requests ∷ [])),
+    get_or_append_left runs (requests ∷ []) [] (id - 1) (omega arith) ∙ none,
+  )
 
   pub calls_with : (e : Happening) → IsNumbered (length runs) e → AreCalls (runs_with runs e) (read ++ e ∷ [])
   calls_with (Called id requests) numbered = record {
@@ -119,14 +139,43 @@ module _ {runs : List (List Asked)} {read : List Happening} (calls : AreCalls ru
         let at : run_at (runs ++ requests ∷ []) other ≡ requests = get_or_at runs requests [] [] (other - 1) (omega arith) in
         (omega arith, omega (arith, length-append runs (requests ∷ [])), rw at (sym own_is)))
         (Contains-append_cases read (Called id requests ∷ []) (Called other own) inside);
-    look = λ other slot inside. ⊎_elim (λ before. calls.look other slot before)
-        (λ last. let is : Called id requests ≡ LookCalled other slot = only_one (Called id requests) (LookCalled other slot) last in cc)
-        (Contains-append_cases read (Called id requests ∷ []) (LookCalled other slot) inside);
+    look = λ other slot inside. still_look requests other (calls.look other slot (no_look other slot inside));
+    once = λ other slot another inside there. calls.once other slot another (no_look other slot inside) (no_look other another there);
   }
+    where
+      no_look : (other slot : ℕ) → Contains (read ++ Called id requests ∷ []) (LookCalled other slot) → Contains read (LookCalled other slot)
+      no_look other slot inside = ⊎_elim (λ before. before)
+          (λ last. absurd (let is : Called id requests ≡ LookCalled other slot = only_one (Called id requests) (LookCalled other slot) last in cc))
+          (Contains-append_cases read (Called id requests ∷ []) (LookCalled other slot) inside)
   calls_with (Answered id c) numbered = no_call (Answered id c) (λ _ _ is. cc) (λ _ _ is. cc)
-  calls_with (LookCalled id slot) numbered = absurd numbered
-  calls_with (LookAnswered id found) numbered = absurd numbered
-  calls_with (Freed id) numbered = absurd numbered
+  calls_with (LookCalled id slot) numbered = record {
+    chain = λ other own inside. ⊎_elim
+        (λ before.
+        let (low, high, same) = calls.chain other own before in
+        let at : run_at (runs ++ [] ∷ []) other ≡ run_at runs other = get_or_append_left runs ([] ∷ []) [] (other - 1) (omega arith) in
+        (low, omega (arith, length-append runs ([] ∷ [])), rw at same))
+        (λ last. absurd (let is : LookCalled id slot ≡ Called other own = only_one (LookCalled id slot) (Called other own) last in cc))
+        (Contains-append_cases read (LookCalled id slot ∷ []) (Called other own) inside);
+    look = λ other place inside. ⊎_elim (λ before. still_look [] other (calls.look other place before))
+        (λ is.
+        let at : run_at (runs ++ [] ∷ []) other ≡ [] = get_or_at runs [] [] [] (other - 1) (omega (arith, is.0)) in
+        (omega (arith, is.0), omega (arith, is.0, length-append runs ([] ∷ [])), at))
+        (is_look other place inside);
+    once = λ other place another inside there. ⊎_elim
+        (λ before. ⊎_elim (λ also. calls.once other place another before also)
+        (λ last. absurd (let high = (calls.look other place before).1 in omega (arith, last.0))) (is_look other another there))
+        (λ last. ⊎_elim (λ before. absurd (let high = (calls.look other another before).1 in omega (arith, last.0)))
+        (λ also. sym last.1 ∙ also.1) (is_look other another there))
+        (is_look other place inside);
+  }
+    where
+      is_look : (other place : ℕ) → Contains (read ++ LookCalled id slot ∷ []) (LookCalled other place)
+          → Contains read (LookCalled other place) ⊎ ((id ≡ other) × (slot ≡ place))
+      is_look other place inside = ⊎_elim (λ before. inl before)
+          (λ last. let is : LookCalled id slot ≡ LookCalled other place = only_one (LookCalled id slot) (LookCalled other place) last in inr (cc, cc))
+          (Contains-append_cases read (LookCalled id slot ∷ []) (LookCalled other place) inside)
+  calls_with (LookAnswered id found) numbered = no_call (LookAnswered id found) (λ _ _ is. cc) (λ _ _ is. cc)
+  calls_with (Freed id) numbered = no_call (Freed id) (λ _ _ is. cc) (λ _ _ is. cc)
   calls_with (FileClosed file) numbered = no_call (FileClosed file) (λ _ _ is. cc) (λ _ _ is. cc)
   calls_with AllSettled numbered = no_call AllSettled (λ _ _ is. cc) (λ _ _ is. cc)
 
@@ -137,7 +186,7 @@ module _ (old : RingState) (log : List Happening) where
   refuted_from [] read runs states whole all calls none =
       let same : read ≡ log = sym (append-nil read) ∙ whole in
       none_left old log {runs = runs} (subst (λ (l : List Happening). AreReached old log runs l []) same
-      (subst (λ (l : List FlightView). AreReached old log runs read l) none all))
+      (subst (λ (l : List FlightView). AreReached old log runs read l) none all)) (subst (λ (l : List Happening). AreCalls runs l) same calls)
   refuted_from (event ∷ rest) read runs states whole all calls (nexts, next, refuted) =
       let more = calls_with calls event next.numbered in
       let together : (read ++ event ∷ []) ++ rest ≡ log = append_assoc read (event ∷ []) rest ∙ whole in

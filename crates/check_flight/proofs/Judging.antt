@@ -13,7 +13,7 @@ use Rattle.check_outcomes.specs.declared.submission.Progress.{Progress}
 use Rattle.check_outcomes.proofs.Words.{moved, rest_for}
 use Rattle.std.proofs.lemmas.List.{get_or-drop}
 use Rattle.std.proofs.lemmas.List.Sorted.{Contains-permutation}
-use Rattle.fx_flight.specs.Events.{FileClosed, all_happenings, first_of_call, happening_of}
+use Rattle.fx_flight.specs.Events.{all_happenings, first_of_call, happening_of}
 use Rattle.fx_flight.specs.declared.event.LogEvent.{LogEvent}
 use Rattle.fx_table.proofs.SumLemmas.{contains_map}
 use Rattle.check_flight.specs.Judged.{IsAccessFollowed, IsCallFollowed, catalogue_in, flight_view, flight_views, log_in, rest_of}
@@ -29,7 +29,19 @@ use Rattle.fx_chain.specs.declared.request.Request.{Request}
 use Rattle.std.specs.Prelude.{All, map}
 use Rattle.std.proofs.lemmas.List.Elements.{All-contains}
 use Rattle.check_outcomes.proofs.Words.{get_or-map, length-map}
-use Rattle.check_flight.specs.States.{AreWith, AreWithout, FlightView, LeadsByCall, LeadsByClose, StepsByAccess}
+use Rattle.check_flight.specs.States.{AreFewer, AreWith, AreWithout, FlightView, LeadsByCall, LeadsByClose, StepsByAccess}
+use Rattle.check_flight.specs.declared.state.WaitingLook.{WaitingLook}
+use Rattle.check_flight.specs.declared.hold.HeldFile.{HeldFile}
+use Rattle.check_flight.specs.Player.{IsMarked, file_number}
+use Rattle.indexmap.specs.IndexSet.{IndexSet, Updates}
+use Rattle.std.specs.Prelude.{nat_eq}
+use Rattle.check_flight.proofs.Words.{eq-eqb, true}
+use Rattle.check_flight.proofs.Words.{◌⊎◌, either_way}
+use Rattle.check_flight.specs.States.{AreWaitsDenied, IsLookDenied, IsUnmade}
+use Rattle.fx_order.specs.Access.{Permits}
+use Rattle.fx_order.specs.declared.access.Access.TheVariants.{Looks}
+use Rattle.fx_flight.specs.Flight.{IsLookDone}
+use Rattle.std.proofs.lemmas.Bool.{leb-true}
 use Rattle.check_flight.specs.declared.state.FlightState.{FlightState}
 
 -- The removed files.
@@ -78,12 +90,13 @@ without_none file other = (λ inside. inside, λ differs inside. inside)
 
 pub same_view : (runs : List (List Asked)) (one other : FlightState) → table_of_slots one.slots ≡ table_of_slots other.slots
     → one.base ≡ other.base → one.chains.items ≡ other.chains.items → one.removed.items ≡ other.removed.items
-    → flight_view runs one ≡ flight_view runs other
-same_view runs one other table base chains removed = λ i. record {
+    → one.waiting.items ≡ other.waiting.items → flight_view runs one ≡ flight_view runs other
+same_view runs one other table base chains removed waiting = λ i. record {
   table = table i;
   rests = λ id. if nat_le id (base i) then over
       else rest_in (first_of_call id) (run_at runs id) (slice_index_or (chains i) (id - 1 - base i) not_begun);
   removed = removed i;
+  waiting = waiting i;
 }
 
 -- a later call is where the list has it
@@ -111,15 +124,15 @@ same_other runs base j chains after other low apart = ⊎_elim
 
 -- an access of the call that follows those that are over and j others
 pub stepped : (runs : List (List Asked)) {rules : Rules} (state next : FlightState) {j id : ℕ} {a : Access} {own : List Asked}
-    {progress after : Progress} {before told : List Completed}
+    {progress after : Progress} {before answered : List Completed}
     → id ≡ state.base + j + 1 → next.base ≡ state.base → j < length state.chains.items
     → slice_index_or state.chains.items j not_begun ≡ progress
     → next.chains.items ≡ slice_set state.chains.items j after → own ≡ run_at runs id
-    → StepsChain rules (first_of_call id) own progress a before told after
+    → StepsChain rules (first_of_call id) own progress a before answered after
     → table_of_slots next.slots ≡ table_with (table_of_slots state.slots) a
-    → AreWith state.removed.items (file_removed_by a) next.removed.items
+    → AreWith state.removed.items (file_removed_by a) next.removed.items → AreFewer state.waiting.items next.waiting.items
     → StepsByAccess rules (flight_view runs state) id a (flight_view runs next)
-stepped runs {rules} state next {j} {id} {a} {own} {progress} {after} is base few here set run steps table removed =
+stepped runs {rules} state next {j} {id} {a} {own} {progress} {after} is base few here set run steps table removed waiting =
     let there : slice_index_or next.chains.items j not_begun ≡ after = rw set (get_or-set_same state.chains.items j after not_begun few) in
     let now : rest_of runs next id ≡ rest_in (first_of_call id) own after =
     rw (run, ← there) (open_rest runs next id j (omega arith)) in
@@ -130,18 +143,8 @@ stepped runs {rules} state next {j} {id} {a} {own} {progress} {after} is base fe
       own = now ∙ (steps.rest ∙ ap (λ (r : Rest). (step rules r a).1) (sym was));
       others = λ other low apart. rw (base, set) (same_other runs state.base j state.chains.items after other low (λ same. apart (omega arith)));
       removed = removed;
+      waiting = waiting;
     }
-
--- what it answers
-pub step_told : (runs : List (List Asked)) {rules : Rules} (state : FlightState) (j : ℕ) {id : ℕ} {a : Access} {own : List Asked}
-    {progress after : Progress} {told : List Completed}
-    → id ≡ state.base + j + 1 → slice_index_or state.chains.items j not_begun ≡ progress → own ≡ run_at runs id
-    → StepsChain rules (first_of_call id) own progress a [] told after
-    → told ≡ (step rules (rest_of runs state id) a).0
-step_told runs {rules} state j {id} {a} {own} {progress} is here run steps =
-    let was : rest_of runs state id ≡ rest_in (first_of_call id) own progress =
-    rw (run, ← here) (open_rest runs state id j is) in
-    steps.told ∙ ap (λ (r : Rest). (step rules r a).0) (sym was)
 
 -- a call
 pub called : (runs : List (List Asked)) {rules : Rules} (state next : FlightState) {requests : List Asked} {done : ℕ}
@@ -177,12 +180,13 @@ called runs {rules} state next {requests} {done} {own = own} many base is chains
 -- a close
 pub closed : (runs : List (List Asked)) (state next : FlightState) {file : Identity} → table_of_slots next.slots ≡ table_of_slots state.slots
     → next.base ≡ state.base → next.chains.items ≡ state.chains.items → AreWithout state.removed.items file next.removed.items
-    → LeadsByClose (flight_view runs state) file (flight_view runs next)
-closed runs state next table base chains removed = record {
+    → next.waiting.items ≡ state.waiting.items → LeadsByClose (flight_view runs state) file (flight_view runs next)
+closed runs state next table base chains removed waiting = record {
   table = table;
   rests = λ i id. if nat_le id (base i) then over
       else rest_in (first_of_call id) (run_at runs id) (slice_index_or (chains i) (id - 1 - base i) not_begun);
   removed = removed;
+  waiting = waiting;
 }
 
 -- The answer of a member that isn't done yet.
@@ -230,22 +234,38 @@ module _ (runs : List (List Asked)) (state : FlightState) (n : ℕ)
       (cases_lt base id)
 
   pub without_first : (next : FlightState) → table_of_slots next.slots ≡ table_of_slots state.slots → next.base ≡ state.base + n
-      → next.chains.items ≡ drop n state.chains.items → next.removed.items ≡ state.removed.items → flight_view runs next ≡ flight_view runs state
-  without_first next table base chains removed =
+      → next.chains.items ≡ drop n state.chains.items → next.removed.items ≡ state.removed.items → next.waiting.items ≡ state.waiting.items
+      → flight_view runs next ≡ flight_view runs state
+  without_first next table base chains removed waiting =
       let each : (id : ℕ) → rest_of runs next id ≡ rest_of runs state id = λ id. rw chains (rest_without next.base id base) in
       λ i. record {
         table = table i;
         rests = λ id. each id i;
         removed = removed i;
+        waiting = waiting i;
       }
+
+-- The looks that wait.
+
+-- one look more was looked at, which waits
+pub waits_more : (waiting after : List WaitingLook) (look : WaitingLook) → AreFewer waiting after → Contains waiting look
+    → AreFewer waiting (after ++ look ∷ [])
+waits_more waiting after look fewer inside other there = ⊎_elim (λ before. fewer other before) (λ last. rw (← only_one look other last) inside)
+    (Contains-append_cases after (look ∷ []) other there)
+
+-- a look that waits within the size, or whose answer is a file, can't be answered so
+pub unmade : (size slot : ℕ) (found : Option Identity) → (slot < size) ⊎ (found ≡ None → ⊥) → IsLookDone size slot [] found → ⊥
+unmade size slot found why = either_way (nat_le size slot)
+    (λ past is. ⊎_elim (λ low. let high = leb-true size slot past in omega arith) (λ some. some is.1) why)
+    (λ _ is. cc)
 
 -- The events.
 
-pub not_closed : (events : List LogEvent) (file : Identity)
-    → ((k : ℕ) (d : LogEvent) → k < length events → happening_of (slice_index_or events k d) ≡ FileClosed file → ⊥)
-    → Contains (all_happenings events) (FileClosed file) → ⊥
-not_closed events file none inside =
-    let (x, (k, low, is), same) = contains_map happening_of events (FileClosed file) inside in
+pub not_logged : (events : List LogEvent) (event : Happening)
+    → ((k : ℕ) (d : LogEvent) → k < length events → happening_of (slice_index_or events k d) ≡ event → ⊥)
+    → Contains (all_happenings events) event → ⊥
+not_logged events event none inside =
+    let (x, (k, low, is), same) = contains_map happening_of events event inside in
     none k x low (ap happening_of is ∙ sym same)
 
 -- What was looked through.
@@ -297,8 +317,68 @@ pub left_out : (files after : List Identity) (file : Identity) (i : ℕ) (d : Id
 left_out files after file i d few same without =
     rw (take_more files i d few) (without_it (take i files) after file (slice_index_or files i d) without same)
 
+-- where a call leads
+pub called_led : (rules : Rules) (runs : List (List Asked)) (state next : FlightState) (n : ℕ) {id : ℕ} {own requests : List Asked} → id ≡ n + 1
+    → own ≡ requests → LeadsByCall rules (flight_view runs state) (n + 1) own (flight_view (runs ++ own ∷ []) next)
+    → next.waiting.items ≡ state.waiting.items
+    → LeadsByCall rules (flight_view runs state) id requests (flight_view (runs ++ requests ∷ []) next)
+    × AreFewer state.waiting.items next.waiting.items
+called_led rules runs state next n is same led waiting = (rw (is, ← same) led, λ look inside. rw waiting at inside)
+
+-- where a look leads
+pub look_led : (rules : Rules) (runs : List (List Asked)) (state next : FlightState) (look : WaitingLook) (n : ℕ) → look.id ≡ n + 1
+    → LeadsByCall rules (flight_view runs state) (n + 1) [] (flight_view (runs ++ [] ∷ []) next)
+    → AreFewer (state.waiting.items ++ look ∷ []) next.waiting.items
+    → LeadsByCall rules (flight_view runs state) look.id [] (flight_view (runs ++ [] ∷ []) next)
+    × AreFewer (state.waiting.items ++ record { id = look.id; slot = look.slot } ∷ []) next.waiting.items
+look_led rules runs state next look n is led fewer = (rw is led, fewer)
+
 -- what a call answers at once is denied
-pub denied_call : (log : List Happening) (rules : Rules) (n : ℕ) {id : ℕ} {requests own : List Asked} {told : List Completed} → id ≡ n + 1 → own ≡ requests
-    → told ≡ (settled_at rules (first_of_call (n + 1)) own).0 → IsOneDenied log told
+pub denied_call : (log : List Happening) (rules : Rules) (n : ℕ) {id : ℕ} {requests own : List Asked} {answered : List Completed} → id ≡ n + 1 → own ≡ requests
+    → answered ≡ (settled_at rules (first_of_call (n + 1)) own).0 → IsOneDenied log answered
     → IsOneDenied log (settled_at rules (first_of_call id) requests).0
 denied_call log rules n is same all denied = rw (is, ← same, ← all) denied
+
+-- each look that waits
+pub each_waits : (log : List Happening) (runs : List (List Asked)) (state : FlightState)
+    → ((k : ℕ) (d : WaitingLook) → k < length state.waiting.items → (found : Option Identity)
+    → Permits (table_of_slots state.slots) (Looks (slice_index_or state.waiting.items k d).slot found)
+    → IsLookDenied log (slice_index_or state.waiting.items k d).id found)
+    → AreWaitsDenied log (flight_view runs state)
+each_waits log runs state each look found (k, low, is) =
+    subst (λ (it : WaitingLook). Permits (table_of_slots state.slots) (Looks it.slot found) → IsLookDenied log it.id found) is (each k look low found)
+
+-- The holds.
+
+-- a hold of another look is still there
+abbrev pub AreHeldStill : List HeldFile → ℕ → List HeldFile → Type 0
+AreHeldStill holds id after = (hold : HeldFile) → Contains holds hold → (hold.id ≡ id → ⊥) → Contains after hold
+
+pub hold_kept : (holds after : List HeldFile) (id i : ℕ) (d : HeldFile) → i < length holds → AreHeldStill (take i holds) id after
+    → AreHeldStill (take (i + 1) holds) id (after ++ slice_index_or holds i d ∷ [])
+hold_kept holds after id i d few still hold inside apart = ⊎_elim
+    (λ before. Contains-append_left after (slice_index_or holds i d ∷ []) hold (still hold before apart))
+    (λ last. Contains-append_right after (slice_index_or holds i d ∷ []) hold last)
+    (Contains-append_cases (take i holds) (slice_index_or holds i d ∷ []) hold (rw (take_more holds i d few) at inside))
+
+pub hold_left : (holds after : List HeldFile) (id i : ℕ) (d : HeldFile) → i < length holds → (slice_index_or holds i d).id ≡ id
+    → AreHeldStill (take i holds) id after → AreHeldStill (take (i + 1) holds) id after
+hold_left holds after id i d few same still hold inside apart = ⊎_elim
+    (λ before. still hold before apart)
+    (λ last. absurd (apart (ap (λ (it : HeldFile). it.id) (sym (only_one (slice_index_or holds i d) hold last)) ∙ same)))
+    (Contains-append_cases (take i holds) (slice_index_or holds i d ∷ []) hold (rw (take_more holds i d few) at inside))
+
+-- a closed file more
+pub marked_more : {S : Type 0} (before after : IndexSet ℕ S) (file : Identity) → Updates nat_eq before after (file_number file) true → (other : Identity)
+    → (file ≡ other) ⊎ IsMarked before other → IsMarked after other
+marked_more before after file updates other (inl same) =
+    updates.0 (file_number other) ∙ (rw (eq-eqb (file_number file) (file_number other) (ap file_number same)) refl)
+marked_more before after file updates other (inr marked) =
+    updates.0 (file_number other) ∙ ⊎_elim (λ (yes : nat_eq (file_number file) (file_number other) ≡ true). rw yes refl)
+    (λ (no : nat_eq (file_number file) (file_number other) ≡ false). rw no marked) (cases_Bool (nat_eq (file_number file) (file_number other)))
+
+-- a look that waits can't be answered so
+pub unmade_at : (runs : List (List Asked)) (state : FlightState) (id : ℕ) (found : Option Identity) {k : ℕ} {look : WaitingLook}
+    → k < length state.waiting.items → look ≡ slice_index_or state.waiting.items k look
+    → (look.id ≡ id) × (IsLookDone (length state.slots.at.items) look.slot [] found → ⊥) → IsUnmade (flight_view runs state) id found
+unmade_at runs state id found {k} {look} few is unmade = (look, (k, few, sym is), unmade.0, unmade.1)

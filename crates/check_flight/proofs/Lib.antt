@@ -5,4 +5,4 @@ pub mod Steps
 pub mod Fronts
 pub mod Judging
 pub mod Refuting
-pub mod Playing
+pub mod Moves

@@ -8,8 +8,11 @@ use Rattle.fx_flight.specs.Events.{Happening, AllSettled}
 use Rattle.fx_order.specs.Slots.{ring_of_slots}
 use Rattle.fx_order.specs.declared.slots.Slots.{Slots}
 use Rattle.check_flight.proofs.Fronts.{refuted}
+use Rattle.check_flight.proofs.Steps.{only_one}
+use Rattle.check_flight.proofs.Words.{Contains}
+use Rattle.check_flight.specs.declared.state.WaitingLook.{WaitingLook}
 use Rattle.check_flight.specs.Judged.{catalogue_in, flight_view, flight_views, log_in, requests_of, rules_of_log, runs_of_calls}
-use Rattle.check_flight.specs.Passages.{IsFirstFront, IsNextFront, IsRefutedBehind, event_at}
+use Rattle.check_flight.specs.Passages.{IsFirstFront, IsNextFront, IsRefutedAfter, event_at}
 use Rattle.check_outcomes.specs.Rests.{rules_of}
 use Rattle.check_flight.specs.States.{AreFollowed, ArePassed, FlightView, HasNoFlight, IsNumbered, runs_with}
 use Rattle.check_flight.specs.declared.judged.ChainCall.{ChainCall}
@@ -18,7 +21,7 @@ use Rattle.check_flight.specs.declared.state.FlightState.{FlightState}
 
 module _ (log : JudgedLog) (slots : Slots) where
   -- before the first event
-  pub refutes_first : {calls : List ChainCall} {states : List FlightState} → calls ≡ [] → IsFirstFront slots states → IsRefutedBehind log slots 0 calls states
+  pub refutes_first : {calls : List ChainCall} {states : List FlightState} → calls ≡ [] → IsFirstFront slots states → IsRefutedAfter log slots 0 calls states
   refutes_first {calls} {states} none first submissions registrations from =
       let start : FlightView = flight_view [] first.state in
       refuted (ring_of_slots (catalogue_in log) slots submissions registrations) (log_in log) (flight_views [] states) (record {
@@ -30,15 +33,22 @@ module _ (log : JudgedLog) (slots : Slots) where
           unmade = λ id high. refl;
           has = λ file inside unclosed. absurd (let few = inside.1 in omega arith);
           only = λ file inside. let none = rw first.removed at inside in absurd (let few = none.1 in omega arith);
+          waits = λ look inside. let none = rw first.waiting at inside in absurd (let few = none.1 in omega arith);
         };
-        closed = λ state inside id low high. absurd (omega arith);
+        closed = λ state inside. (
+          λ id low high. absurd (omega arith),
+          λ look found waiting.
+              let same : flight_view [] first.state ≡ state = only_one start state (rw first.only at inside) in
+              let none : Contains [] look = subst (λ (l : List WaitingLook). Contains l look) first.waiting
+              (subst (λ (view : FlightView). Contains view.waiting look) (sym same) waiting) in absurd (let few = none.1 in omega arith),
+        );
         refuted = rw none at from;
       })
 
   -- one event more
   pub refutes_next : {at : ℕ} {calls more : List ChainCall} {states nexts : List FlightState} → log.setting.size ≡ length slots.at.items
-      → at < length (log_in log) → IsRefutedBehind log slots at calls states → IsNextFront log at calls states more nexts
-      → IsRefutedBehind log slots (at + 1) more nexts
+      → at < length (log_in log) → IsRefutedAfter log slots at calls states → IsNextFront log at calls states more nexts
+      → IsRefutedAfter log slots (at + 1) more nexts
   refutes_next {at} {calls} {more} {states} {nexts} size few before next submissions registrations from =
       let event : Happening = event_at log at in
       let runs : List (List Asked) = runs_of_calls calls in
@@ -61,7 +71,7 @@ module _ (log : JudgedLog) (slots : Slots) where
 
   -- after the last event
   pub refutes_last : {at : ℕ} (calls : List ChainCall) {states : List FlightState} → at ≡ length (log_in log) → states ≡ []
-      → IsRefutedBehind log slots at calls states → (submissions registrations : ℕ)
+      → IsRefutedAfter log slots at calls states → (submissions registrations : ℕ)
       → HasNoFlight (ring_of_slots (catalogue_in log) slots submissions registrations) (log_in log)
   refutes_last {at} calls {states} whole none before submissions registrations =
       let over : drop at (log_in log) ≡ [] = drop_all at (log_in log) (omega arith) in

@@ -21,15 +21,19 @@ if_false true x y is = absurd (false≢true (sym is))
 if_false false x y is = refl
 
 module _ (rules : Rules) where
-  pub after_both : (rest : Rest) (front behind : List Access)
-      → rest_after rules rest (front ++ behind) ≡ rest_after rules (rest_after rules rest front) behind
-  after_both rest [] behind = refl
-  after_both rest (a ∷ front) behind = after_both (step rules rest a).1 front behind
+  pub after_both : (rest : Rest) (front later : List Access)
+      → rest_after rules rest (front ++ later) ≡ rest_after rules (rest_after rules rest front) later
+  after_both rest [] later = refl
+  after_both rest (a ∷ front) later = after_both (step rules rest a).1 front later
 
   -- a chain that is over stays so
   stays_over : (accesses : List Access) → length (rest_after rules over accesses).requests ≡ 0
   stays_over [] = refl
   stays_over (a ∷ accesses) = stays_over accesses
+
+  pub over_stays : (accesses : List Access) → rest_after rules over accesses ≡ over
+  over_stays [] = refl
+  over_stays (a ∷ accesses) = over_stays accesses
 
   abbrev Fewer : List Asked → List Completed × Rest → Type 0
   Fewer requests now = length now.1.requests ≤ length requests

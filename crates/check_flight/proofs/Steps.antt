@@ -6,12 +6,21 @@ use Rattle.check_flight.proofs.Words.{get_or_append_left, get_or_at, length-appe
 use Rattle.check_flight.proofs.Words.{settles, slice_index_or, step, steps_on, table_with, Contains-append_cases, Contains-append_left, RingState}
 use Rattle.check_flight.proofs.Words.{◌-◌, Table, subst, Contains-append_right, Contains-push, Identity, if◌then◌else◌, contains_head}
 use Rattle.check_flight.proofs.Places.{AreAt, chain_at, member_at, same_place}
-use Rattle.check_flight.proofs.Runs.{after_both, after_fewer, done_members}
+use Rattle.check_flight.proofs.Runs.{after_both, after_fewer, done_members, over_stays}
+use Rattle.check_flight.proofs.Words.{◌⊎◌, either_way, eq-eqb, over, table_of}
 use Rattle.check_flight.specs.States.{AreAnswers, AreCalls, IsLed, IsOneDenied, IsStopped, StepsByAccess, LeadsByCall, LeadsByClose}
+use Rattle.check_flight.specs.States.{AreFewer, AreLooksSeen, AreWaitsDenied, LeadsByAnswer}
+use Rattle.check_flight.specs.declared.state.WaitingLook.{WaitingLook}
 use Rattle.check_flight.specs.States.{IsStateFollowed, GoesOnTo, FlightView, rest_after, setting_of, origin_of}
 use Rattle.check_flight.specs.States.{IsNumbered, runs_with}
 use Rattle.fx_flight.specs.Events.{Happening, Called, Answered, LookCalled, LookAnswered, Freed, FileClosed, AllSettled, first_of_call}
-use Rattle.fx_flight.specs.Flight.{Accesses, IsBegun, IsFlight, Logged, MayCome, MayFollow, Moment, WasLogged, log_of, made_by, taken_in}
+use Rattle.fx_flight.specs.Flight.{Accesses, FlightSetting, IsBegun, IsFlight, IsLookDone, Logged, MayFollow, Moment, WasLogged, log_of, made_by, taken_in}
+use Rattle.fx_flight.specs.Flight.{table_left_by}
+use Rattle.fx_flight.proofs.InTime.{size_stays}
+use Rattle.fx_order.specs.Access.{Permits}
+use Rattle.fx_order.specs.declared.access.Access.TheVariants.{Looks}
+use Rattle.std.specs.Prelude.{nat_le}
+use Rattle.std.proofs.lemmas.Bool.{leb-true}
 use Rattle.fx_order.proofs.ChainsFront.{both_parts}
 
 -- A flight's events are those of its log.
@@ -55,8 +64,9 @@ module _ (old : RingState) where
   -- an access that the state follows
   pub access_leads : {runs : List (List Asked)} {flight : List Moment} {state next : FlightView} (x : ChainAccess) → GoesOnTo old runs flight state
       → x.chain ≤ length runs → StepsByAccess rules state x.chain x.access next
+      → ((look : WaitingLook) → Contains state.waiting look → x.chain ≡ look.id → ⊥)
       → GoesOnTo old runs (Accesses x ∷ flight) next
-  access_leads {runs} {flight} {state} {next} x to few lead = record {
+  access_leads {runs} {flight} {state} {next} x to few lead apart = record {
     table = lead.table ∙ ap (λ (t : Table). table_with t x.access) to.table;
     rests = λ id low high. by_equality x.chain id
         (λ b. next.rests id ≡ rest_after rules (origin_of rules id (run_at runs id)) (if b then made_by id flight ++ x.access ∷ [] else made_by id flight))
@@ -77,7 +87,27 @@ module _ (old : RingState) where
         (λ here. Contains-append_left (option_to_list (file_removed_by x.access)) (taken_in flight) file
         (taken_by (file_removed_by x.access) file here))
         ((lead.removed file).0 inside);
+    waits = λ look inside.
+        let before = to.waits look (lead.waiting look inside) in
+        (shifted flight before.0, rw (ne_eqb x.chain look.id (apart look (lead.waiting look inside))) before.1);
   }
+
+  -- a look's access changes no state in which the look doesn't wait
+  pub look_leads : {runs : List (List Asked)} {flight : List Moment} {state : FlightView} (x : ChainAccess) {slot : ℕ} {found : Option Identity}
+      → GoesOnTo old runs flight state → x.access ≡ Looks slot found → 1 ≤ x.chain → x.chain ≤ length runs → run_at runs x.chain ≡ []
+      → ((look : WaitingLook) → Contains state.waiting look → x.chain ≡ look.id → ⊥)
+      → GoesOnTo old runs (Accesses x ∷ flight) state
+  look_leads {runs} {flight} {state} x to is low high none apart =
+      let start : origin_of rules x.chain (run_at runs x.chain) ≡ over = rw none refl in
+      let rest : state.rests x.chain ≡ over =
+      to.rests x.chain low high ∙ (ap (λ (r : Rest). rest_after rules r (made_by x.chain flight)) start ∙ over_stays rules (made_by x.chain flight)) in
+      access_leads x to high (record {
+        table = rw is refl;
+        own = rest ∙ sym (ap (λ (r : Rest). (step rules r x.access).1) rest);
+        others = λ other few differs. refl;
+        removed = λ other. rw is (λ inside. inl inside, λ either. ⊎_elim (λ inside. inside) (λ (one : None ≡ Some other). cc) either);
+        waiting = λ look inside. inside;
+      }) apart
 
   -- an event that changes no state
   stays : {runs : List (List Asked)} {flight : List Moment} {state : FlightView} (e : Happening) → GoesOnTo old runs flight state
@@ -88,13 +118,18 @@ module _ (old : RingState) where
     unmade = to.unmade;
     has = λ file inside unclosed. to.has file inside (λ was. unclosed (shifted flight was));
     only = to.only;
+    waits = λ look inside. let before = to.waits look inside in (shifted flight before.0, before.1);
   }
 
+  abbrev Waits : List Moment → List WaitingLook → Type 0
+  Waits flight waiting =
+      (look : WaitingLook) → Contains waiting look → WasLogged flight (LookCalled look.id look.slot) × (made_by look.id flight ≡ [])
+
   -- a call
-  call_leads : {runs : List (List Asked)} {flight : List Moment} {state next : FlightView} {id : ℕ} {requests : List Asked}
-      → GoesOnTo old runs flight state → id ≡ length runs + 1 → LeadsByCall rules state id requests next
-      → GoesOnTo old (runs ++ requests ∷ []) (Logged (Called id requests) ∷ flight) next
-  call_leads {runs} {flight} {state} {next} {id} {requests} to is lead = record {
+  call_leads : {runs : List (List Asked)} {flight : List Moment} {state next : FlightView} {id : ℕ} {requests : List Asked} (e : Happening)
+      → GoesOnTo old runs flight state → id ≡ length runs + 1 → LeadsByCall rules state id requests next → Waits (Logged e ∷ flight) next.waiting
+      → GoesOnTo old (runs ++ requests ∷ []) (Logged e ∷ flight) next
+  call_leads {runs} {flight} {state} {next} {id} {requests} e to is lead waits = record {
     table = lead.table ∙ to.table;
     rests = λ other low high. ⊎_elim
         (λ (same : other ≡ id).
@@ -112,6 +147,37 @@ module _ (old : RingState) where
     unmade = λ other high. to.unmade other (omega (arith, length-append runs (requests ∷ [])));
     has = λ file inside unclosed. rw lead.removed (to.has file inside (λ was. unclosed (shifted flight was)));
     only = λ file inside. to.only file (rw lead.removed at inside);
+    waits = waits;
+  }
+
+  -- no look is called
+  same_looks : {runs : List (List Asked)} {flight : List Moment} {state : FlightView} (waiting : List WaitingLook) (e : Happening)
+      → GoesOnTo old runs flight state → AreFewer state.waiting waiting → Waits (Logged e ∷ flight) waiting
+  same_looks {flight = flight} waiting e to fewer look inside = let before = to.waits look (fewer look inside) in (shifted flight before.0, before.1)
+
+  -- a look is called
+  more_looks : {runs : List (List Asked)} {flight : List Moment} {state : FlightView} (waiting : List WaitingLook) (id slot : ℕ)
+      → GoesOnTo old runs flight state → id ≡ length runs + 1 → AreFewer (state.waiting ++ record { id = id; slot = slot } ∷ []) waiting
+      → Waits (Logged (LookCalled id slot) ∷ flight) waiting
+  more_looks {flight = flight} {state} waiting id slot to is fewer look inside =
+      let it : WaitingLook = record { id = id; slot = slot } in
+      let e : Happening = LookCalled id slot in
+      ⊎_elim
+      (λ before. let was = to.waits look before in (shifted flight was.0, was.1))
+      (λ last. subst (λ (l : WaitingLook). WasLogged (Logged e ∷ flight) (LookCalled l.id l.slot) × (made_by l.id flight ≡ []))
+      (only_one it look last) (contains_head (Logged e) flight, to.unmade id (omega arith)))
+      (Contains-append_cases state.waiting (it ∷ []) look (fewer look inside))
+
+  -- the answer of a look
+  answer_leads : {runs : List (List Asked)} {flight : List Moment} {state next : FlightView} (e : Happening)
+      → GoesOnTo old runs flight state → LeadsByAnswer state next → GoesOnTo old runs (Logged e ∷ flight) next
+  answer_leads {flight = flight} e to lead = record {
+    table = lead.table ∙ to.table;
+    rests = λ id low high. ap (λ (f : ℕ → Rest). f id) lead.rests ∙ to.rests id low high;
+    unmade = to.unmade;
+    has = λ file inside unclosed. rw lead.removed (to.has file inside (λ was. unclosed (shifted flight was)));
+    only = λ file inside. to.only file (rw lead.removed at inside);
+    waits = same_looks _ e to lead.waiting;
   }
 
   -- a close
@@ -126,35 +192,38 @@ module _ (old : RingState) where
         (λ same. unclosed (zero, omega arith, ap (λ f. Logged (FileClosed f)) (sym same)))
         (to.has file inside (λ was. unclosed (shifted flight was)));
     only = λ file inside. to.only file ((lead.removed file).0 inside);
+    waits = same_looks _ (FileClosed closed) to (λ look inside. rw lead.waiting at inside);
   }
 
   -- an event leads a state on
   pub event_leads : {runs : List (List Asked)} {flight : List Moment} {state next : FlightView} (e : Happening) → GoesOnTo old runs flight state
       → IsNumbered (length runs) e → IsLed rules state next e → GoesOnTo old (runs_with runs e) (Logged e ∷ flight) next
-  event_leads (Called id requests) to numbered led = call_leads to numbered led
+  event_leads (Called id requests) to numbered led =
+      call_leads (Called id requests) to numbered led.0 (same_looks _ (Called id requests) to led.1)
   event_leads (Answered id c) to numbered led = rw led (stays (Answered id c) to)
-  event_leads (LookCalled id slot) to numbered led = absurd led
-  event_leads (LookAnswered id found) to numbered led = absurd led
-  event_leads (Freed id) to numbered led = absurd led
+  event_leads (LookCalled id slot) to numbered led =
+      call_leads (LookCalled id slot) to numbered led.0 (more_looks _ id slot to numbered led.1)
+  event_leads (LookAnswered id found) to numbered led = answer_leads (LookAnswered id found) to led
+  event_leads (Freed id) to numbered led = rw led (stays (Freed id) to)
   event_leads (FileClosed file) to numbered led = close_leads to led
   event_leads AllSettled to numbered led = rw led (stays AllSettled to)
 
   module _ (log : List Happening) (answers : ℕ → List Completed) (fits : AreAnswers log answers) where
     -- a chain goes on after some of its accesses
-    goes_after : (rest : Rest) (told final : List Completed) (front more : List Access) → OfChain old.catalogue old.size rest told final (front ++ more)
-        → (told' : List Completed) × OfChain old.catalogue old.size (rest_after rules rest front) told' final more
-    goes_after rest told final [] more of = (told, of)
-    goes_after rest told final (a ∷ front) more of =
-        let (next, on) = steps_on old.catalogue old.size rest told final a (front ++ more) of in
-        goes_after (step rules rest a).1 (told ++ (step rules rest a).0) final front more on
+    goes_after : (rest : Rest) (answered final : List Completed) (front more : List Access) → OfChain old.catalogue old.size rest answered final (front ++ more)
+        → (answered' : List Completed) × OfChain old.catalogue old.size (rest_after rules rest front) answered' final more
+    goes_after rest answered final [] more of = (answered, of)
+    goes_after rest answered final (a ∷ front) more of =
+        let (next, on) = steps_on old.catalogue old.size rest answered final a (front ++ more) of in
+        goes_after (step rules rest a).1 (answered ++ (step rules rest a).0) final front more on
 
     -- what the log has is answered
     abbrev AreAnswered : ℕ → List Completed → Type 0
-    AreAnswered id told = (c : Completed) → Contains told c → Contains (answers id) c
+    AreAnswered id answered = (c : Completed) → Contains answered c → Contains (answers id) c
 
-    told_part : (id : ℕ) (told now later : List Completed) → answers id ≡ (told ++ now) ++ later → AreAnswered id now
-    told_part id told now later is c inside =
-        rw is (Contains-append_left (told ++ now) later c (Contains-append_right told now c inside))
+    answered_part : (id : ℕ) (answered now later : List Completed) → answers id ≡ (answered ++ now) ++ later → AreAnswered id now
+    answered_part id answered now later is c inside =
+        rw is (Contains-append_left (answered ++ now) later c (Contains-append_right answered now c inside))
 
     -- the next access of a chain that has begun so
     next_access : (id : ℕ) (requests : List Asked) (made : List Access) (a : Access) → IsBegun (setting_of old answers) id requests (made ++ a ∷ [])
@@ -164,16 +233,16 @@ module _ (old : RingState) where
         let whole = rw append_assoc at done in
         let goes = settles old.catalogue old.size rules (are_right old.catalogue old.size) (first_of_call id) requests (fits.memory id) whole in
         let rest : Rest = rest_after rules (origin_of rules id requests) made in
-        let (told, of) = goes_after (origin_of rules id requests) (settled_at rules (first_of_call id) requests).0 (answers id) made (a ∷ more) goes in
-        let (next, on) = steps_on old.catalogue old.size rest told (answers id) a more of in
-        (next, told_part id told (step rules rest a).0 on.later on.whole)
+        let (answered, of) = goes_after (origin_of rules id requests) (settled_at rules (first_of_call id) requests).0 (answers id) made (a ∷ more) goes in
+        let (next, on) = steps_on old.catalogue old.size rest answered (answers id) a more of in
+        (next, answered_part id answered (step rules rest a).0 on.later on.whole)
 
     -- the first answers of a chain
-    first_told : (id : ℕ) (requests : List Asked) → IsBegun (setting_of old answers) id requests []
+    first_answers : (id : ℕ) (requests : List Asked) → IsBegun (setting_of old answers) id requests []
         → AreAnswered id (settled_at rules (first_of_call id) requests).0
-    first_told id requests (more, done) =
+    first_answers id requests (more, done) =
         let goes = settles old.catalogue old.size rules (are_right old.catalogue old.size) (first_of_call id) requests (fits.memory id) done in
-        told_part id [] (settled_at rules (first_of_call id) requests).0 goes.later goes.whole
+        answered_part id [] (settled_at rules (first_of_call id) requests).0 goes.later goes.whole
 
     begun_at : (id : ℕ) (requests : List Asked) (made : List Access) → IsBegun (setting_of old answers) id requests made
         → AreAt (first_of_call id) (answers id)
@@ -184,8 +253,8 @@ module _ (old : RingState) where
         ap (λ (x : Completed). x.place.submission) (sym is) ∙ ap (λ (x : Place). x.submission) (member_at (first_of_call id) (answers id) at k c low)
 
     -- what is answered isn't denied
-    not_denied : (id : ℕ) (told : List Completed) → AreAt (first_of_call id) (answers id) → AreAnswered id told → IsOneDenied log told → ⊥
-    not_denied id told at all (c, inside, (seen, logged, same, differ)) =
+    not_denied : (id : ℕ) (answered : List Completed) → AreAt (first_of_call id) (answers id) → AreAnswered id answered → IsOneDenied log answered → ⊥
+    not_denied id answered at all (c, inside, (seen, logged, same, differ)) =
         let mine = all c inside in
         let call : c.place.submission ≡ id = of_call id c at mine in
         let theirs : Contains (answers id) seen = rw call at (fits.seen c.place.submission seen logged) in
@@ -225,35 +294,141 @@ module _ (old : RingState) where
           answer_is [] later = refl
           answer_is (d ∷ earlier) later = ap (λ cs. d ∷ cs) (answer_is earlier later)
 
-      -- an access that may come is followed
-      pub followed_on : (x : ChainAccess) → MayCome (setting_of old answers) flight (Accesses x)
-          → (x.chain ≤ length runs)
-          × ((fronts : List FlightView) → IsStateFollowed old.catalogue old.size log (length runs) fronts state
-          → (next : FlightView) × Contains fronts next × StepsByAccess rules state x.chain x.access next)
-      followed_on x (permits, inl (requests, was, begun)) =
+      -- a look that waits isn't a chain
+      apart_from : (x : ChainAccess) (requests : List Asked) → WasLogged flight (Called x.chain requests)
+          → IsBegun (setting_of old answers) x.chain requests (made_by x.chain flight ++ x.access ∷ [])
+          → (look : WaitingLook) → Contains state.waiting look → x.chain ≡ look.id → ⊥
+      apart_from x requests was (more, done) look inside same =
+          let (low, high, is) = calls.chain x.chain requests (was_read flight (Called x.chain requests) was) in
+          let (few, many, none) = calls.look look.id look.slot (was_read flight (LookCalled look.id look.slot) (to.waits look inside).0) in
+          let empty : requests ≡ [] = is ∙ (ap (run_at runs) same ∙ none) in
+          let made = ap length (rw empty at done).0 in
+          let one = length-append (made_by x.chain flight ++ x.access ∷ []) more in
+          let two = length-append (made_by x.chain flight) (x.access ∷ []) in
+          omega arith
+
+      -- an access that a chain may make is followed
+      pub followed_on : (x : ChainAccess) (requests : List Asked) → Permits (table_left_by (table_of old) flight) x.access
+          → WasLogged flight (Called x.chain requests)
+          → IsBegun (setting_of old answers) x.chain requests (made_by x.chain flight ++ x.access ∷ [])
+          → (fronts : List FlightView) → IsStateFollowed old.catalogue old.size log (length runs) fronts state
+          → (next : FlightView) × Contains fronts next × GoesOnTo old runs (Accesses x ∷ flight) next
+      followed_on x requests permits was begun fronts each =
           let (low, high, same) = calls.chain x.chain requests (was_read flight (Called x.chain requests) was) in
           let here : state.rests x.chain ≡ rest_after rules (origin_of rules x.chain requests) (made_by x.chain flight) =
           rw same (to.rests x.chain low high) in
-          let (next, told) = next_access x.chain requests (made_by x.chain flight) x.access begun in (
-            high,
-            λ fronts each. ⊎_elim
-                (λ denied. absurd (not_denied x.chain (step rules (state.rests x.chain) x.access).0
-                (begun_at x.chain requests (made_by x.chain flight ++ x.access ∷ []) begun) (rw here told) denied))
-                (λ led. led)
-                (each x.chain low high x.access (rw here next) (rw to.table permits)),
-          )
-      followed_on x (permits, inr (slot, found, was, none, is)) = absurd (calls.look x.chain slot (was_read flight (LookCalled x.chain slot) was))
+          let (next, answered) = next_access x.chain requests (made_by x.chain flight) x.access begun in
+          ⊎_elim
+          (λ denied. absurd (not_denied x.chain (step rules (state.rests x.chain) x.access).0
+          (begun_at x.chain requests (made_by x.chain flight ++ x.access ∷ []) begun) (rw here answered) denied))
+          (λ led. (led.0, led.1, access_leads x to high led.2 (apart_from x requests was begun)))
+          (each x.chain low high x.access (rw here next) (rw to.table permits))
+
+      -- a look that waits can't make this access, since the log denies what it finds
+      waits_not : (x : ChainAccess) {slot : ℕ} {found : Option Identity} → Permits (table_left_by (table_of old) flight) x.access
+          → WasLogged flight (LookCalled x.chain slot) → made_by x.chain flight ≡ [] → x.access ≡ Looks slot found
+          → AreLooksSeen old.size log (Accesses x ∷ flight) → AreWaitsDenied log state
+          → (look : WaitingLook) → Contains state.waiting look → x.chain ≡ look.id → ⊥
+      waits_not x {slot} {found} permits was none is seen denied look inside same =
+          let there = was_read flight (LookCalled look.id look.slot) (to.waits look inside).0 in
+          let slots : slot ≡ look.slot = calls.once x.chain slot look.slot (was_read flight (LookCalled x.chain slot) was) (subst (λ (n : ℕ). Contains (log_of flight) (LookCalled n look.slot)) (sym same) there) in
+          let here : Permits (table_left_by (table_of old) flight) (Looks slot found) = rw is at permits in
+          let size : (table_left_by (table_of old) flight).size ≡ old.size = size_stays (table_of old) flight in
+          let (answer, logged, differs) = denied look found inside (rw (← slots, to.table) here) in
+          let own : made_by x.chain (Accesses x ∷ flight) ≡ Looks slot found ∷ [] =
+          rw (eq-eqb x.chain x.chain refl) (ap (λ (l : List Access). l ++ x.access ∷ []) none ∙ ap (λ (a : Access). a ∷ []) is) in
+          let low = here.0 in
+          differs (seen x.chain slot found answer [] (shifted flight was) (omega arith) own (subst (λ (n : ℕ). Contains log (LookAnswered n answer)) (sym same) logged))
+
+      -- an access that a look may make changes no state
+      pub looks_on : (x : ChainAccess) {slot : ℕ} {found : Option Identity} → Permits (table_left_by (table_of old) flight) x.access
+          → WasLogged flight (LookCalled x.chain slot) → made_by x.chain flight ≡ [] → x.access ≡ Looks slot found
+          → AreLooksSeen old.size log (Accesses x ∷ flight) → AreWaitsDenied log state
+          → GoesOnTo old runs (Accesses x ∷ flight) state
+      looks_on x {slot} permits was none is seen denied =
+          let (low, high, empty) = calls.look x.chain slot (was_read flight (LookCalled x.chain slot) was) in
+          look_leads x to is low high empty (waits_not x permits was none is seen denied)
+
+      -- the answer of a look that may come is possible in the state
+      found_not_stopped : (id : ℕ) (found : Option Identity) → MayFollow (setting_of old answers) flight (LookAnswered id found)
+          → IsStopped rules log runs (log_of flight) state (LookAnswered id found) → ⊥
+      found_not_stopped id found (slot, was, done, unclosed) (inl (file, is, closed)) = unclosed file is (was_logged flight (FileClosed file) closed)
+      found_not_stopped id found (slot, was, done, unclosed) (inr (look, inside, same, unmade)) =
+          let (there, none) = to.waits look inside in
+          let slots : slot ≡ look.slot = calls.once id slot look.slot (was_read flight (LookCalled id slot) was)
+          (subst (λ (n : ℕ). Contains (log_of flight) (LookCalled n look.slot)) same (was_read flight (LookCalled look.id look.slot) there)) in
+          let empty : made_by id flight ≡ [] = subst (λ (n : ℕ). made_by n flight ≡ []) same none in
+          let size : state.table.size ≡ old.size = ap (λ (t : Table). t.size) to.table ∙ size_stays (table_of old) flight in
+          unmade (rw (size, ← slots) (subst (λ (l : List Access). IsLookDone old.size slot l found) empty done))
+
+      -- the close of a file that may come is possible in the state
+      close_not_stopped : (file : Identity) → MayFollow (setting_of old answers) flight (FileClosed file)
+          → IsStopped rules log runs (log_of flight) state (FileClosed file) → ⊥
+      close_not_stopped file may (inl stopped) = stopped (to.has file may.removed may.once)
+      close_not_stopped file may (inr (id, found, unfreed)) =
+          unfreed (was_read flight (Freed id) (may.unheld id (was_logged flight (LookAnswered id (Some file)) found)))
 
       pub not_stopped : (e : Happening) → MayFollow (setting_of old answers) flight e → IsStopped rules log runs (log_of flight) state e → ⊥
       not_stopped (Called id requests) may stopped =
-          not_denied id (settled_at rules (first_of_call id) requests).0 (begun_at id requests [] may) (first_told id requests may) stopped
+          not_denied id (settled_at rules (first_of_call id) requests).0 (begun_at id requests [] may) (first_answers id requests may) stopped
       not_stopped (Answered id c) may stopped = answered_not_stopped id c may stopped
       not_stopped (LookCalled id slot) may stopped = stopped
-      not_stopped (LookAnswered id found) may stopped = stopped
+      not_stopped (LookAnswered id found) may stopped = found_not_stopped id found may stopped
       not_stopped (Freed id) may stopped = stopped
-      not_stopped (FileClosed file) may stopped = stopped (to.has file may.removed may.once)
+      not_stopped (FileClosed file) may stopped = close_not_stopped file may stopped
       not_stopped AllSettled may (file, inside, unclosed) =
           unclosed (was_read flight (FileClosed file) (may file (to.only file inside)))
+
+-- a look that was answered is past the size, or what it found first is its answer
+abbrev HasLooked : ℕ → List Moment → ℕ → Option Identity → Type 0
+HasLooked size flight id found = (slot : ℕ) × WasLogged flight (LookCalled id slot)
+    × ((size ≤ slot) ⊎ ((more : List Access) × (made_by id flight ≡ Looks slot found ∷ more)))
+
+one_more : (x : ChainAccess) (flight : List Moment) (id : ℕ) (first : Access) (more : List Access) → made_by id flight ≡ first ∷ more
+    → (most : List Access) × (made_by id (Accesses x ∷ flight) ≡ first ∷ most)
+one_more x flight id first more made = by_equality x.chain id
+    (λ b. (most : List Access) × ((if b then made_by id flight ++ x.access ∷ [] else made_by id flight) ≡ first ∷ most))
+    (λ _. (more ++ x.access ∷ [], ap (λ (l : List Access). l ++ x.access ∷ []) made)) (λ _. (more, made))
+
+has_looked : (s : FlightSetting) (flight : List Moment) → IsFlight s flight → (id : ℕ) (found : Option Identity)
+    → WasLogged flight (LookAnswered id found) → HasLooked s.old.size flight id found
+has_looked s [] is id found (k, low, at) = absurd (omega arith)
+has_looked s (Logged e ∷ flight) is id found (zero, low, at) =
+    let same : e ≡ LookAnswered id found = cc in
+    let (slot, was, done, unclosed) = rw same at is.1 in (
+      slot,
+      shifted flight was,
+      either_way (nat_le s.old.size slot) (λ past _. inl (leb-true s.old.size slot past)) (λ _ made. inr ([], made)) done,
+    )
+has_looked s (Accesses x ∷ flight) is id found (zero, low, at) = absurd (cc)
+has_looked s (Logged e ∷ flight) is id found (suc k, low, at) =
+    let (slot, was, either) = has_looked s flight is.0 id found (k, omega arith, at) in (slot, shifted flight was, either)
+has_looked s (Accesses x ∷ flight) is id found (suc k, low, at) =
+    let (slot, was, either) = has_looked s flight is.0 id found (k, omega arith, at) in (
+      slot,
+      shifted flight was,
+      ⊎_elim (λ past. inl past) (λ made. inr (one_more x flight id (Looks slot found) made.0 made.1)) either,
+    )
+
+-- in a flight of the log, each look finds what the log has
+pub looks_seen : (s : FlightSetting) (runs : List (List Asked)) (log : List Happening) (flight : List Moment) → AreCalls runs log
+    → IsFlight s flight → log_of flight ≡ log → AreLooksSeen s.old.size log flight
+looks_seen s runs log flight calls is same id slot found seen more was low made inside =
+    let (other, there, either) = has_looked s flight is id seen (was_logged flight (LookAnswered id seen) (rw same inside)) in
+    let slots : other ≡ slot = calls.once id other slot (rw same at (was_read flight (LookCalled id other) there))
+    (rw same at (was_read flight (LookCalled id slot) was)) in
+    ⊎_elim (λ past. absurd (omega arith))
+    (λ own.
+    let both : Looks other seen ∷ own.0 ≡ Looks slot found ∷ more = sym own.1 ∙ made in
+    let first : Looks other seen ≡ Looks slot found = cc in cc) either
+
+-- and before its last moment
+pub seen_before : (size : ℕ) (log : List Happening) (m : Moment) (flight : List Moment) → AreLooksSeen size log (m ∷ flight)
+    → AreLooksSeen size log flight
+seen_before size log (Logged e) flight all id slot found seen more was low made inside = all id slot found seen more (shifted flight was) low made inside
+seen_before size log (Accesses x) flight all id slot found seen more was low made inside =
+    let (most, still) = one_more x flight id (Looks slot found) more made in
+    all id slot found seen most (shifted flight was) low still inside
 
 -- each answer that was seen is one of its call
 pub answered_in : (old : RingState) (answers : ℕ → List Completed) (flight : List Moment) → IsFlight (setting_of old answers) flight

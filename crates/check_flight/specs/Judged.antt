@@ -42,6 +42,7 @@ flight_view runs state = record {
   table = table_of_slots state.slots;
   rests = rest_of runs state;
   removed = state.removed.items;
+  waiting = state.waiting.items;
 }
 
 abbrev pub flight_views : List (List Asked) → List FlightState → List FlightView

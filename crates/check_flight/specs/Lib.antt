@@ -2,4 +2,4 @@ pub mod Refutations
 pub mod States
 pub mod Judged
 pub mod Passages
-pub mod Played
+pub mod Player

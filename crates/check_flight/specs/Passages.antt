@@ -26,7 +26,7 @@ IsPassage log runs read state event (Leads next) =
     (flight_view (runs_with runs event) next) event
 IsPassage log runs read state event IsUnfit = Unit {0}
 
--- the event can't follow in the state, or leads to one of the next states
+-- the event is impossible in the state, or leads to one of the next states
 abbrev pub IsStatePassed : JudgedLog → List (List Asked) → List Happening → List FlightState
     → FlightState → Happening → Type 0
 IsStatePassed log runs read nexts state event =
@@ -50,17 +50,18 @@ pub record IsNextFront (log : JudgedLog) (at : ℕ) (calls : List ChainCall)
       (flight_views (runs_of_calls more) nexts)
 
 -- if no state is left after the other events, the log has no flight from these slots on
-abbrev pub IsRefutedBehind : JudgedLog → Slots → ℕ → List ChainCall → List FlightState → Type 0
-IsRefutedBehind log slots at calls states =
+abbrev pub IsRefutedAfter : JudgedLog → Slots → ℕ → List ChainCall → List FlightState → Type 0
+IsRefutedAfter log slots at calls states =
     (submissions registrations : ℕ)
     → IsRefutedFrom (ring_of_slots (catalogue_in log) slots submissions registrations) (log_in log)
     (runs_of_calls calls) (take at (log_in log)) (flight_views (runs_of_calls calls) states)
     (drop at (log_in log))
     → HasNoFlight (ring_of_slots (catalogue_in log) slots submissions registrations) (log_in log)
 
--- the front before the first event: the table, no call, no removed file
+-- the front before the first event: the table, no call, no removed file, no look
 pub record IsFirstFront (slots : Slots) (states : List FlightState) : Type 0 where
   pub state : FlightState
   pub only : states ≡ state ∷ []
   pub table : table_of_slots state.slots ≡ table_of_slots slots
   pub removed : state.removed.items ≡ []
+  pub waiting : state.waiting.items ≡ []

@@ -1,5 +1,5 @@
--- The states that a flight can reach: the table, where each call is, and the files that were
--- removed.
+-- The states that a flight can reach: the table, where each call is, the files that were removed,
+-- and the looks that wait.
 use Rattle.std.specs.Prelude.{◌≡◌, ◌⊎◌, ◌↔◌, ℕ, ◌+◌, ◌<◌, ◌≤◌, List, []}
 use Rattle.std.specs.Prelude.{◌∷◌, ◌++◌, length, Contains, Option, Some}
 use Rattle.std.specs.List.{AllByRecursion}
@@ -10,14 +10,15 @@ use Rattle.fx_chain.specs.Operation.{Asked}
 use Rattle.fx_order.specs.Access.{Table, Permits, file_removed_by, table_with}
 use Rattle.fx_order.specs.Order.{table_of}
 use Rattle.fx_order.specs.declared.access.Access.{Access}
+use Rattle.fx_order.specs.declared.access.Access.TheVariants.{Looks}
 use Rattle.fx_ring.specs.Ring.{RingState}
 use Rattle.check_outcomes.specs.Rests.{HasMemory, IsNext, Rest, Rules, rules_of, settled_at, step}
 use Rattle.check_outcomes.specs.Views.{run_at}
 use Rattle.fx_flight.specs.Events.{Happening, Called, Answered, LookCalled, LookAnswered, Freed}
 use Rattle.fx_flight.specs.Events.{FileClosed, AllSettled, first_of_call}
-use Rattle.fx_flight.specs.Flight.{FlightSetting, HasFlight, IsFlight, Moment, WasLogged, log_of}
-use Rattle.fx_flight.specs.Flight.{made_by}
-use Rattle.fx_flight.specs.Flight.{taken_in, table_behind}
+use Rattle.fx_flight.specs.Flight.{FlightSetting, HasFlight, IsFlight, IsLookDone, Moment}
+use Rattle.fx_flight.specs.Flight.{WasLogged, log_of, made_by, taken_in, table_left_by}
+use Rattle.check_flight.specs.declared.state.WaitingLook.{WaitingLook}
 
 pub record FlightView : Type 0 where
   pub table : Table
@@ -25,6 +26,8 @@ pub record FlightView : Type 0 where
   pub rests : ℕ → Rest
   -- the files that were taken from their slots and aren't known to be closed
   pub removed : List Identity
+  -- looks that have made no access and aren't answered
+  pub waiting : List WaitingLook
 
 -- the log has another answer at the place of this one
 abbrev pub IsDenied : List Happening → Completed → Type 0
@@ -33,7 +36,16 @@ IsDenied log c =
     × (seen.place ≡ c.place) × (seen ≡ c → ⊥)
 
 abbrev pub IsOneDenied : List Happening → List Completed → Type 0
-IsOneDenied log told = (c : Completed) × Contains told c × IsDenied log c
+IsOneDenied log answered = (c : Completed) × Contains answered c × IsDenied log c
+
+-- the log has another answer of a look that finds this
+abbrev pub IsLookDenied : List Happening → ℕ → Option Identity → Type 0
+IsLookDenied log id found =
+    (seen : Option Identity) × Contains log (LookAnswered id seen) × (seen ≡ found → ⊥)
+
+-- no other look waits
+abbrev pub AreFewer : List WaitingLook → List WaitingLook → Type 0
+AreFewer before after = (look : WaitingLook) → Contains after look → Contains before look
 
 -- the files, and one more if there is one
 abbrev pub AreWith : List Identity → Option Identity → List Identity → Type 0
@@ -54,6 +66,7 @@ pub record StepsByAccess (rules : Rules) (state : FlightView) (id : ℕ) (a : Ac
   pub others : (other : ℕ) → 1 ≤ other → (other ≡ id → ⊥)
       → next.rests other ≡ state.rests other
   pub removed : AreWith state.removed (file_removed_by a) next.removed
+  pub waiting : AreFewer state.waiting next.waiting
 
 -- an access answers what the log denies, or leads to one of the states
 abbrev pub IsFollowed : Rules → List Happening → List FlightView → FlightView → ℕ → Access → Type 0
@@ -69,10 +82,17 @@ IsStateFollowed catalogue size log calls states state =
     → Permits state.table a
     → IsFollowed (rules_of catalogue size) log states state id a
 
+-- a look that waits finds now what the log denies, or no file since its slot is past the size
+abbrev pub AreWaitsDenied : List Happening → FlightView → Type 0
+AreWaitsDenied log state =
+    (look : WaitingLook) (found : Option Identity) → Contains state.waiting look
+    → Permits state.table (Looks look.slot found) → IsLookDenied log look.id found
+
+-- what a call may do next in each state leads to one of them, or is denied
 abbrev pub AreFollowed : List FileEntry → ℕ → List Happening → ℕ → List FlightView → Type 0
 AreFollowed catalogue size log calls states =
     (state : FlightView) → Contains states state
-    → IsStateFollowed catalogue size log calls states state
+    → IsStateFollowed catalogue size log calls states state × AreWaitsDenied log state
 
 -- a call of a chain leads from one state to the other
 pub record LeadsByCall (rules : Rules) (state : FlightView) (id : ℕ) (requests : List Asked)
@@ -82,13 +102,37 @@ pub record LeadsByCall (rules : Rules) (state : FlightView) (id : ℕ) (requests
   pub others : (other : ℕ) → 1 ≤ other → other < id → next.rests other ≡ state.rests other
   pub removed : next.removed ≡ state.removed
 
+-- the answer of a look does: it waits no more
+pub record LeadsByAnswer (state : FlightView) (next : FlightView) : Type 0 where
+  pub table : next.table ≡ state.table
+  pub rests : next.rests ≡ state.rests
+  pub removed : next.removed ≡ state.removed
+  pub waiting : AreFewer state.waiting next.waiting
+
 -- the close of a file does
 pub record LeadsByClose (state : FlightView) (file : Identity) (next : FlightView) : Type 0 where
   pub table : next.table ≡ state.table
   pub rests : next.rests ≡ state.rests
   pub removed : AreWithout state.removed file next.removed
+  pub waiting : next.waiting ≡ state.waiting
 
--- the event can't follow in a state, by what was read
+-- a look found a file that was closed before
+abbrev pub IsFoundClosed : List Happening → Option Identity → Type 0
+IsFoundClosed read found =
+    (file : Identity) × (found ≡ Some file) × Contains read (FileClosed file)
+
+-- the answer of a look was this file, and its hold hasn't begun to end
+abbrev pub IsHeld : List Happening → Identity → Type 0
+IsHeld read file =
+    (id : ℕ) × Contains read (LookAnswered id (Some file)) × (Contains read (Freed id) → ⊥)
+
+-- a look that waits can't be answered so
+abbrev pub IsUnmade : FlightView → ℕ → Option Identity → Type 0
+IsUnmade state id found =
+    (look : WaitingLook) × Contains state.waiting look × (look.id ≡ id)
+    × (IsLookDone state.table.size look.slot [] found → ⊥)
+
+-- the event is impossible in a state, by what was read
 abbrev pub IsStopped : Rules → List Happening → List (List Asked) → List Happening → FlightView
     → Happening → Type 0
 IsStopped rules log runs read state (Called id requests) =
@@ -96,19 +140,23 @@ IsStopped rules log runs read state (Called id requests) =
 IsStopped rules log runs read state (Answered id c) =
     length (run_at runs id) < length (state.rests id).requests + c.place.member
 IsStopped rules log runs read state (LookCalled id slot) = ⊥
-IsStopped rules log runs read state (LookAnswered id found) = ⊥
+IsStopped rules log runs read state (LookAnswered id found) =
+    IsFoundClosed read found ⊎ IsUnmade state id found
 IsStopped rules log runs read state (Freed id) = ⊥
-IsStopped rules log runs read state (FileClosed file) = Contains state.removed file → ⊥
+IsStopped rules log runs read state (FileClosed file) =
+    (Contains state.removed file → ⊥) ⊎ IsHeld read file
 IsStopped rules log runs read state AllSettled =
     (file : Identity) × Contains state.removed file × (Contains read (FileClosed file) → ⊥)
 
 -- it leads from one state to the other
 abbrev pub IsLed : Rules → FlightView → FlightView → Happening → Type 0
-IsLed rules state next (Called id requests) = LeadsByCall rules state id requests next
+IsLed rules state next (Called id requests) =
+    LeadsByCall rules state id requests next × AreFewer state.waiting next.waiting
 IsLed rules state next (Answered id c) = next ≡ state
-IsLed rules state next (LookCalled id slot) = ⊥
-IsLed rules state next (LookAnswered id found) = ⊥
-IsLed rules state next (Freed id) = ⊥
+IsLed rules state next (LookCalled id slot) = LeadsByCall rules state id [] next
+    × AreFewer (state.waiting ++ record { id = id; slot = slot } ∷ []) next.waiting
+IsLed rules state next (LookAnswered id found) = LeadsByAnswer state next
+IsLed rules state next (Freed id) = next ≡ state
 IsLed rules state next (FileClosed file) = LeadsByClose state file next
 IsLed rules state next AllSettled = next ≡ state
 
@@ -131,7 +179,7 @@ origin_of rules id requests = (settled_at rules (first_of_call id) requests).1
 -- a flight leads to a state
 pub record GoesOnTo (old : RingState) (runs : List (List Asked)) (flight : List Moment)
     (state : FlightView) : Type 0 where
-  pub table : state.table ≡ table_behind (table_of old) flight
+  pub table : state.table ≡ table_left_by (table_of old) flight
   pub rests : (id : ℕ) → 1 ≤ id → id ≤ length runs → state.rests id
       ≡ rest_after (rules_of old.catalogue old.size)
       (origin_of (rules_of old.catalogue old.size) id (run_at runs id)) (made_by id flight)
@@ -139,6 +187,8 @@ pub record GoesOnTo (old : RingState) (runs : List (List Asked)) (flight : List 
   pub has : (file : Identity) → Contains (taken_in flight) file
       → (WasLogged flight (FileClosed file) → ⊥) → Contains state.removed file
   pub only : (file : Identity) → Contains state.removed file → Contains (taken_in flight) file
+  pub waits : (look : WaitingLook) → Contains state.waiting look
+      → WasLogged flight (LookCalled look.id look.slot) × (made_by look.id flight ≡ [])
 
 -- the answers of calls are those of the log, where it has them, and no request lacks memory
 pub record AreAnswers (log : List Happening) (answers : ℕ → List Completed) : Type 0 where
@@ -148,19 +198,31 @@ pub record AreAnswers (log : List Happening) (answers : ℕ → List Completed) 
 abbrev pub setting_of : RingState → (ℕ → List Completed) → FlightSetting
 setting_of old answers = record { old = old; first = first_of_call; answers = answers }
 
+-- what a look found in the flight is its answer in the log, where it has one
+abbrev pub AreLooksSeen : ℕ → List Happening → List Moment → Type 0
+AreLooksSeen size log flight =
+    (id slot : ℕ) (found seen : Option Identity) (more : List Access)
+    → WasLogged flight (LookCalled id slot) → slot < size
+    → made_by id flight ≡ Looks slot found ∷ more
+    → Contains log (LookAnswered id seen) → seen ≡ found
+
 -- each flight of what was read leads to one of the states, if its answers are those of the log
 abbrev pub AreReached : RingState → List Happening → List (List Asked) → List Happening
     → List FlightView → Type 0
 AreReached old log runs read states =
     (answers : ℕ → List Completed) → AreAnswers log answers → (flight : List Moment)
-    → IsFlight (setting_of old answers) flight → log_of flight ≡ read
+    → IsFlight (setting_of old answers) flight → AreLooksSeen old.size log flight
+    → log_of flight ≡ read
     → (state : FlightView) × Contains states state × GoesOnTo old runs flight state
 
--- the calls that were read are these chains, numbered from 1, and none is a look
+-- the calls that were read are these chains, numbered from 1. A look is one without requests
 pub record AreCalls (runs : List (List Asked)) (read : List Happening) : Type 0 where
   pub chain : (id : ℕ) (requests : List Asked) → Contains read (Called id requests)
       → (1 ≤ id) × (id ≤ length runs) × (requests ≡ run_at runs id)
-  pub look : (id slot : ℕ) → Contains read (LookCalled id slot) → ⊥
+  pub look : (id slot : ℕ) → Contains read (LookCalled id slot)
+      → (1 ≤ id) × (id ≤ length runs) × (run_at runs id ≡ [])
+  pub once : (id slot other : ℕ) → Contains read (LookCalled id slot)
+      → Contains read (LookCalled id other) → slot ≡ other
 
 -- the log has no flight in which each request finds memory
 abbrev pub HasNoFlight : RingState → List Happening → Type 0
@@ -171,18 +233,18 @@ HasNoFlight old log = (is : HasFlight first_of_call old log)
 abbrev pub runs_with : List (List Asked) → Happening → List (List Asked)
 runs_with runs (Called id requests) = runs ++ requests ∷ []
 runs_with runs (Answered id c) = runs
-runs_with runs (LookCalled id slot) = runs
+runs_with runs (LookCalled id slot) = runs ++ [] ∷ []
 runs_with runs (LookAnswered id found) = runs
 runs_with runs (Freed id) = runs
 runs_with runs (FileClosed file) = runs
 runs_with runs AllSettled = runs
 
--- a call has the next number, and is not a look
+-- a call has the next number
 abbrev pub IsNumbered : ℕ → Happening → Type 0
 IsNumbered calls (Called id requests) = id ≡ calls + 1
 IsNumbered calls (Answered id c) = Unit {0}
-IsNumbered calls (LookCalled id slot) = ⊥
-IsNumbered calls (LookAnswered id found) = ⊥
-IsNumbered calls (Freed id) = ⊥
+IsNumbered calls (LookCalled id slot) = id ≡ calls + 1
+IsNumbered calls (LookAnswered id found) = Unit {0}
+IsNumbered calls (Freed id) = Unit {0}
 IsNumbered calls (FileClosed file) = Unit {0}
 IsNumbered calls AllSettled = Unit {0}

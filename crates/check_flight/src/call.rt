@@ -1,5 +1,5 @@
 //! The chains that a log calls.
-ghost use Rattle.std.specs.Prelude.{◌≡◌, ◌+◌, ◌<◌, ◌≤◌, ◌^◌, All, IfSome, length};
+ghost use Rattle.std.specs.Prelude.{◌≡◌, [], ◌+◌, ◌<◌, ◌≤◌, ◌^◌, All, IfSome, length};
 ghost use Rattle.fx_chain.specs.Accepted.{IsWithinLimits};
 ghost use Rattle.fx_chain.specs.Operation.{all_asked, asked_of};
 ghost use Rattle.fx_flight.specs.Events.{first_of_call};
@@ -22,6 +22,13 @@ impl<'a> ChainCall<'a> {
             Err(_) => None,
         }
     }
+}
+
+/// Returns the call of a look, which has no request.
+pub(crate) fn look_call<'a>() -> ChainCall<'a>
+    ensures { result.requests.now ≡ [] }
+{
+    ChainCall { requests: &[] }
 }
 
 /// Returns the requests of a call, by its number from 0.

@@ -24,10 +24,10 @@ fn states_after(
         return Ok(states);
     };
     for access in &accesses {
-        let mut told = Vec::new(alloc);
-        let next = next_state(log, calls, state, j, access, &mut told)?;
+        let mut answered = Vec::new(alloc);
+        let next = next_state(log, calls, state, j, access, &mut answered)?;
         if let Some(next) = next
-            && !log.is_one_denied(&told)
+            && !log.is_one_denied(&answered)
         {
             states.push(next)?;
         }

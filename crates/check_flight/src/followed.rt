@@ -1,15 +1,16 @@
 //! The check that the accesses of each state of a front lead to states of the front.
-ghost use Rattle.std.specs.Prelude.{◌≡◌, ◌+◌, ◌<◌, All, IfOk, IfSome, IsTrue, length};
+ghost use Rattle.std.specs.Prelude.{◌≡◌, ◌+◌, ◌<◌, All, IfOk, IfSome, IsTrue, List, length};
+ghost use Rattle.fx_chain.specs.Operation.{Asked};
 ghost use Rattle.fx_order.specs.Slots.{table_of_slots};
 ghost use Rattle.check_outcomes.specs.Stands.{HasEachNext};
 ghost use Rattle.check_flight.specs.Judged.{IsAccessFollowed, IsCallFollowed, catalogue_in, log_in};
 ghost use Rattle.check_flight.specs.Judged.{rest_of, runs_of_calls, flight_view, flight_views};
-ghost use Rattle.check_flight.specs.States.{AreFollowed, IsStateFollowed};
+ghost use Rattle.check_flight.specs.States.{AreFollowed, AreWaitsDenied, IsStateFollowed};
 
 use crate::call::{first_place, members_at};
 use crate::front::Front;
 use crate::judged::{ChainCall, JudgedLog};
-use crate::state::{FlightState, next_state};
+use crate::state::{FlightState, next_state, waits};
 use check_outcomes::chain_accesses;
 use fx_base::NoMemory;
 use fx_order::Access;
@@ -31,11 +32,11 @@ fn is_followed(
     if !state.slots.permits(access) {
         return Ok(true);
     }
-    let mut told = Vec::new(log.setting.alloc);
-    let Some(next) = next_state(log, calls, state, j, access, &mut told)? else {
+    let mut answered = Vec::new(log.setting.alloc);
+    let Some(next) = next_state(log, calls, state, j, access, &mut answered)? else {
         return Ok(false);
     };
-    if log.is_one_denied(&told) {
+    if log.is_one_denied(&answered) {
         return Ok(true);
     }
     front.has(&next)
@@ -133,7 +134,21 @@ fn is_state_followed(
     Ok(true)
 }
 
-/// Checks whether each access is followed that a call may make next in a state of the front.
+// Checks whether each look that waits in a state finds there what the log denies.
+fn are_waits_denied(log: &JudgedLog<'_>, state: &FlightState) -> bool
+    ensures { IsTrue result → (runs : List (List Asked))
+        → AreWaitsDenied (log_in log.now) (flight_view runs state.now) }
+{
+    for look in &state.waiting {
+        if !waits(log, &state.slots, look) {
+            return false;
+        }
+    }
+    true
+}
+
+/// Checks whether each access is followed that a call may make next in a state of the front, and
+/// each look that waits there finds what the log denies.
 pub(crate) fn are_states_followed(
     log: &JudgedLog<'_>,
     calls: &[ChainCall<'_>],
@@ -145,6 +160,9 @@ pub(crate) fn are_states_followed(
 {
     for state in &front.states {
         if !is_state_followed(log, calls, front, state)? {
+            return Ok(false);
+        }
+        if !are_waits_denied(log, state) {
             return Ok(false);
         }
     }

@@ -36,6 +36,10 @@ pub(crate) fn key_of(alloc: Global, state: &FlightState) -> Result<Vec<u32>, NoM
     for file in &state.slots.at {
         push_file(&mut key, file)?;
     }
+    for look in &state.waiting {
+        key.push(look.id)?;
+    }
+    key.push(number_of(state.waiting.len()))?;
     for file in &state.removed {
         push_file(&mut key, &Some(*file))?;
     }

@@ -5,6 +5,7 @@ ghost use Rattle.fx_chain.specs.Accepted.{IsWithinLimits};
 ghost use Rattle.fx_chain.specs.Operation.{asked_of};
 ghost use Rattle.fx_chain.specs.declared.fault.TheConstants.{MOST_MEMBERS};
 
+use crate::positions::LogPositions;
 use fx_chain::Request;
 use fx_flight::LogEvent;
 use fx_order::OrderSetting;
@@ -16,13 +17,13 @@ pub(crate) struct JudgedLog<'a> {
     pub(crate) setting: OrderSetting<'a>,
     /// The events.
     pub(crate) events: &'a [LogEvent],
-    /// The positions of the answers among the events, by call and member. Each is a hint.
-    pub(crate) answers: Vec<Vec<usize>>,
+    /// The positions of answers, closes and holds among the events. Each is a hint.
+    pub(crate) positions: LogPositions,
     pub ghost catalogued: { IsCatalogue setting.catalogue.now },
     pub ghost few_slots: { setting.size < 2 ^ 31 },
 }
 
-/// A chain that was called.
+/// A chain that was called, or a look, which has no request.
 #[derive(Drop)]
 pub(crate) struct ChainCall<'a> {
     /// Its requests.

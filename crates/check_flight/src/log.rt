@@ -1,34 +1,15 @@
-//! The answers and closes of the log that is judged.
-ghost use Rattle.std.specs.Prelude.{◌≡◌, Contains, IfSome, IsTrue};
+//! What the log that is judged has at a position: an answer, a close, a hold.
+ghost use Rattle.std.specs.Prelude.{◌≡◌, ◌≤◌, Contains, IfSome, IsTrue, Some, length, take};
 ghost use Rattle.fx_chain.specs.Completed.{all_completed, completed_of};
-ghost use Rattle.fx_flight.specs.Events.{Answered, FileClosed, all_happenings, happening_of};
+ghost use Rattle.fx_flight.specs.Events.{Answered, FileClosed, Freed, LookAnswered};
+ghost use Rattle.fx_flight.specs.Events.{all_happenings, happening_of};
 ghost use Rattle.check_flight.specs.Judged.{log_in};
-ghost use Rattle.check_flight.specs.States.{IsDenied, IsOneDenied};
+ghost use Rattle.check_flight.specs.States.{IsDenied, IsFoundClosed, IsHeld, IsLookDenied, IsOneDenied};
 
 use crate::judged::JudgedLog;
-use fx_base::{Closed, NoMemory};
+use fx_base::Closed;
 use fx_chain::{Completion, Place};
 use fx_flight::LogEvent;
-use std::alloc::Global;
-
-/// Returns the positions of the answers among the events, by call and member.
-pub(crate) fn positions(alloc: Global, events: &[LogEvent]) -> Result<Vec<Vec<usize>>, NoMemory> {
-    let mut answers: Vec<Vec<usize>> = Vec::new(alloc);
-    for (at, event) in events.iter().enumerate() {
-        match event {
-            LogEvent::Call { id: _, chain: _ } => answers.push(Vec::new(alloc))?,
-            LogEvent::Look { id: _, slot: _ } => answers.push(Vec::new(alloc))?,
-            LogEvent::Done(c) => {
-                let call = (c.place.submission as usize).saturating_sub(1);
-                if let Some(own) = answers.get_mut(call) {
-                    own.push(at)?;
-                }
-            }
-            _ => {}
-        }
-    }
-    Ok(answers)
-}
 
 // Checks whether an event is the close of a file.
 fn is_close_of(event: &LogEvent, file: Closed) -> bool
@@ -52,6 +33,48 @@ pub(crate) fn was_closed(events: &[LogEvent], file: Closed) -> bool
     false
 }
 
+// Checks whether an event is the end of the hold of a look.
+fn is_free_of(event: &LogEvent, look: u32) -> bool
+    ensures { happening_of event.now ≡ Freed look → IsTrue result }
+{
+    match event {
+        LogEvent::Free { id } => *id == look,
+        _ => false,
+    }
+}
+
+// Checks whether one of the events is the end of the hold of a look.
+fn was_freed(events: &[LogEvent], look: u32) -> bool
+    ensures { Contains (all_happenings events.now) (Freed look) → IsTrue result }
+{
+    for event in events {
+        if is_free_of(event, look) {
+            return true;
+        }
+    }
+    false
+}
+
+// Checks whether an event is this answer of a look.
+fn is_answer_of(event: &LogEvent, look: u32, found: Option<Closed>) -> bool
+    ensures { IsTrue result → happening_of event.now ≡ LookAnswered look found }
+{
+    match event {
+        LogEvent::Found { id, file } => *id == look && *file == found,
+        _ => false,
+    }
+}
+
+// Checks whether the event at a position is this answer of a look.
+fn is_found_at(events: &[LogEvent], position: usize, look: u32, found: Option<Closed>) -> bool
+    ensures { IsTrue result → Contains (all_happenings events.now) (LookAnswered look found) }
+{
+    match events.get(position) {
+        Some(event) => is_answer_of(event, look, found),
+        None => false,
+    }
+}
+
 impl JudgedLog<'_> {
     // Returns an answer of the log: the one at a place, if there is one.
     fn answer_at(&self, place: Place) -> Option<&Completion>
@@ -60,24 +83,93 @@ impl JudgedLog<'_> {
     {
         let call = (place.submission as usize).saturating_sub(1);
         let member = (place.member as usize).saturating_sub(1);
-        let at = self.answers.get(call)?.get(member)?;
+        let at = self.positions.answers.get(call)?.get(member)?;
         match self.events.get(*at) {
             Some(LogEvent::Done(c)) => Some(c),
             _ => None,
         }
     }
 
-    /// Returns the position of the first answer of a call, by its number from 0, from a position
-    /// on, or a very large number. A hint.
-    pub(crate) fn answer_after(&self, call: usize, at: usize) -> usize {
-        if let Some(own) = self.answers.get(call) {
-            for position in own {
-                if *position >= at {
-                    return *position;
-                }
-            }
+    // Returns the number of a look and what it found, by the position of its answer. A hint.
+    fn found_at(&self, position: usize) -> Option<(u32, Option<Closed>)> {
+        match self.events.get(position) {
+            Some(LogEvent::Found { id, file }) => Some((*id, *file)),
+            _ => None,
         }
-        usize::MAX
+    }
+
+    // Returns the answer of a look in the log: the file, or none. `None` if the log has no answer.
+    fn found_by(&self, look: u32) -> Option<Option<Closed>>
+        ensures { IfSome result (λ found. Contains (log_in self.now) (LookAnswered look found)) }
+    {
+        let call = (look as usize).saturating_sub(1);
+        let at = *self.positions.answers.get(call)?.get(0)?;
+        let (_, found) = self.found_at(at)?;
+        if !is_found_at(self.events, at, look, found) {
+            return None;
+        }
+        Some(found)
+    }
+
+    /// Checks whether the log has another answer of a look that finds this.
+    pub(crate) fn is_look_denied(&self, look: u32, found: Option<Closed>) -> bool
+        ensures { IsTrue result → IsLookDenied (log_in self.now) look found }
+    {
+        match self.found_by(look) {
+            Some(seen) => seen != found,
+            None => false,
+        }
+    }
+
+    // Checks whether a file was closed before the event at a position.
+    fn is_closed_before(&self, at: usize, file: Closed) -> bool
+        requires { at ≤ length self.now.events.now }
+        ensures { IsTrue result → Contains (take at (log_in self.now)) (FileClosed file) }
+    {
+        let Some(close) = self.positions.close_of(file) else {
+            return false;
+        };
+        match self.events[..at].get(close) {
+            Some(LogEvent::Closed(other)) => *other == file,
+            _ => false,
+        }
+    }
+
+    /// Checks whether a look found a file that was closed before the event at a position.
+    pub(crate) fn is_found_closed(&self, at: usize, found: Option<Closed>) -> bool
+        requires { at ≤ length self.now.events.now }
+        ensures { IsTrue result → IsFoundClosed (take at (log_in self.now)) found }
+    {
+        match found {
+            Some(file) => self.is_closed_before(at, file),
+            None => false,
+        }
+    }
+
+    // Checks whether the answer at a position is that of a look which found a file, and its hold
+    // begins to end at none of the first events.
+    fn is_hold_of(&self, at: usize, position: usize, look: u32, held: Closed) -> bool
+        requires { at ≤ length self.now.events.now }
+        ensures { IsTrue result → IsHeld (take at (log_in self.now)) held }
+    {
+        if !is_found_at(&self.events[..at], position, look, Some(held)) {
+            return false;
+        }
+        if was_freed(&self.events[..at], look) {
+            return false;
+        }
+        true
+    }
+
+    /// Checks whether a look holds a file before the event at a position.
+    pub(crate) fn is_held(&self, at: usize, file: Closed) -> bool
+        requires { at ≤ length self.now.events.now }
+        ensures { IsTrue result → IsHeld (take at (log_in self.now)) file }
+    {
+        let Some((look, position)) = self.positions.hold_of(at, file) else {
+            return false;
+        };
+        self.is_hold_of(at, position, look, file)
     }
 
     // Checks whether the log has another answer at the place of this one.
@@ -91,10 +183,10 @@ impl JudgedLog<'_> {
     }
 
     /// Checks whether the log has another answer at the place of one of these.
-    pub(crate) fn is_one_denied(&self, told: &[Completion]) -> bool
-        ensures { IsTrue result → IsOneDenied (log_in self.now) (all_completed told.now) }
+    pub(crate) fn is_one_denied(&self, answered: &[Completion]) -> bool
+        ensures { IsTrue result → IsOneDenied (log_in self.now) (all_completed answered.now) }
     {
-        for c in told {
+        for c in answered {
             if self.is_denied(c) {
                 return true;
             }

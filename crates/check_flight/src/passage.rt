@@ -1,19 +1,23 @@
-//! What an event of the log does to a state: it leads to another one, or can't follow.
-ghost use Rattle.std.specs.Prelude.{◌≡◌, ◌+◌, ◌<◌, ◌≤◌, ℕ, Contains, IfOk, IsTrue, List, length, take};
+//! What an event of the log does to a state: it leads to another one, or is impossible.
+ghost use Rattle.std.specs.Prelude.{◌≡◌, ◌+◌, ◌<◌, ◌≤◌, ℕ, [], Contains, IfOk, IsTrue, List, length, take};
 ghost use Rattle.fx_base.specs.Identity.{Identity};
 ghost use Rattle.fx_chain.specs.Completed.{completed_of};
-ghost use Rattle.fx_chain.specs.Operation.{all_asked};
+ghost use Rattle.fx_chain.specs.Operation.{Asked, all_asked};
 ghost use Rattle.fx_flight.specs.Events.{Answered, Called, FileClosed, AllSettled, Happening};
+ghost use Rattle.fx_flight.specs.Events.{LookAnswered, LookCalled};
 ghost use Rattle.fx_flight.specs.Events.{happening_of};
+ghost use Rattle.fx_flight.specs.Flight.{IsLookDone};
 ghost use Rattle.check_outcomes.specs.Views.{run_at};
-ghost use Rattle.check_flight.specs.Judged.{log_in, rest_of, runs_of_calls};
+ghost use Rattle.check_flight.specs.Judged.{flight_view, log_in, rest_of, runs_of_calls};
 ghost use Rattle.check_flight.specs.Passages.{IsPassage};
-ghost use Rattle.check_flight.specs.States.{IsNumbered};
+ghost use Rattle.check_flight.specs.States.{IsNumbered, IsUnmade};
 
 use crate::call::members_at;
 use crate::judged::{ChainCall, JudgedLog};
 use crate::log::was_closed;
-use crate::state::{FlightState, called_state, closed_state, trimmed};
+use crate::state::{
+    FlightState, WaitingLook, answered_state, called_state, closed_state, looking_state, trimmed,
+};
 use fx_base::{Closed, NoMemory};
 use fx_chain::{Completion, Request};
 use fx_flight::LogEvent;
@@ -21,15 +25,15 @@ use fx_flight::LogEvent;
 /// What an event does to a state.
 #[derive(Drop)]
 pub(crate) enum Passage {
-    /// It can't follow in the state.
+    /// It is impossible in the state.
     Stops,
     /// It leads to this state.
     Leads(FlightState),
-    /// The state isn't one of the log, or the event is one of a look.
+    /// The state isn't one of the log, or the call is not the next one.
     IsUnfit,
 }
 
-// Checks whether an answer can't follow in a state, since its member isn't done there.
+// Checks whether an answer is impossible in a state, since its member isn't done there.
 fn is_early(calls: &[ChainCall<'_>], state: &FlightState, c: &Completion) -> bool
     ensures { IsTrue result
         → length (run_at (runs_of_calls calls.now) c.now.place.submission)
@@ -78,11 +82,11 @@ fn by_call(
     if id == 0 || id as usize - 1 != calls.len() {
         return Ok(Passage::IsUnfit);
     }
-    let mut told = Vec::new(log.setting.alloc);
-    let Some(next) = called_state(log, calls, state, &call, &mut told)? else {
+    let mut answered = Vec::new(log.setting.alloc);
+    let Some(next) = called_state(log, calls, state, &call, &mut answered)? else {
         return Ok(Passage::IsUnfit);
     };
-    if log.is_one_denied(&told) {
+    if log.is_one_denied(&answered) {
         return Ok(Passage::Stops);
     }
     Ok(Passage::Leads(next))
@@ -105,17 +109,90 @@ fn by_answer(
     Ok(Passage::Leads(trimmed(log.setting.alloc, calls, state)?))
 }
 
+// Returns what the call of a look does to a state.
+fn by_look(
+    log: &JudgedLog<'_>,
+    calls: &[ChainCall<'_>],
+    state: &FlightState,
+    look: WaitingLook,
+) -> Result<Passage, NoMemory>
+    ensures { IfOk result (λ passage. (read : List Happening) → IsPassage log.now
+        (runs_of_calls calls.now) read state.now (LookCalled look.id look.slot) passage) }
+{
+    if look.id == 0 || look.id as usize - 1 != calls.len() {
+        return Ok(Passage::IsUnfit);
+    }
+    let Some(next) = looking_state(log, calls, state, look)? else {
+        return Ok(Passage::IsUnfit);
+    };
+    Ok(Passage::Leads(next))
+}
+
+// Checks whether a look that waits is this one, and can't be answered so: within the size of the
+// table by nothing, and past it by no file.
+fn is_look_unmade(size: usize, look: &WaitingLook, id: u32, found: Option<Closed>) -> bool
+    ensures { IsTrue result → (look.now.id ≡ id) × (IsLookDone size look.now.slot [] found → ⊥) }
+{
+    if look.id != id {
+        return false;
+    }
+    if (look.slot as usize) < size {
+        return true;
+    }
+    found.is_some()
+}
+
+// Checks whether a look that waits in a state can't be answered so.
+fn is_unmade(state: &FlightState, id: u32, found: Option<Closed>) -> bool
+    ensures { IsTrue result → (runs : List (List Asked))
+        → IsUnmade (flight_view runs state.now) id found }
+{
+    for look in &state.waiting {
+        if is_look_unmade(state.slots.at.len(), look, id, found) {
+            return true;
+        }
+    }
+    false
+}
+
+// Returns what the answer of a look does to a state.
+fn by_found(
+    log: &JudgedLog<'_>,
+    calls: &[ChainCall<'_>],
+    at: usize,
+    state: &FlightState,
+    id: u32,
+    found: Option<Closed>,
+) -> Result<Passage, NoMemory>
+    requires { at ≤ length log.now.events.now }
+    ensures { IfOk result (λ passage. IsPassage log.now (runs_of_calls calls.now)
+        (take at (log_in log.now)) state.now (LookAnswered id found) passage) }
+{
+    if log.is_found_closed(at, found) {
+        return Ok(Passage::Stops);
+    }
+    if is_unmade(state, id, found) {
+        return Ok(Passage::Stops);
+    }
+    Ok(Passage::Leads(answered_state(log.setting.alloc, calls, state, id)?))
+}
+
 // Returns what the close of a file does to a state.
 fn by_close(
     log: &JudgedLog<'_>,
     calls: &[ChainCall<'_>],
+    at: usize,
     state: &FlightState,
     file: Closed,
 ) -> Result<Passage, NoMemory>
-    ensures { IfOk result (λ passage. (read : List Happening) → IsPassage log.now
-        (runs_of_calls calls.now) read state.now (FileClosed file) passage) }
+    requires { at ≤ length log.now.events.now }
+    ensures { IfOk result (λ passage. IsPassage log.now (runs_of_calls calls.now)
+        (take at (log_in log.now)) state.now (FileClosed file) passage) }
 {
     if !state.removed.contains(&file) {
+        return Ok(Passage::Stops);
+    }
+    if log.is_held(at, file) {
         return Ok(Passage::Stops);
     }
     Ok(Passage::Leads(closed_state(log.setting.alloc, state, file)?))
@@ -153,20 +230,31 @@ pub(crate) fn passage_of(
     match event {
         LogEvent::Call { id, chain } => by_call(log, calls, state, *id, chain.as_slice()),
         LogEvent::Done(c) => by_answer(log, calls, state, c),
-        LogEvent::Closed(file) => by_close(log, calls, state, *file),
+        LogEvent::Look { id, slot } => {
+            by_look(
+                log,
+                calls,
+                state,
+                WaitingLook {
+                    id: *id,
+                    slot: *slot,
+                },
+            )
+        }
+        LogEvent::Found { id, file } => by_found(log, calls, at, state, *id, *file),
+        LogEvent::Free { id: _ } => Ok(Passage::Leads(state.copy(log.setting.alloc)?)),
+        LogEvent::Closed(file) => by_close(log, calls, at, state, *file),
         LogEvent::Settled => at_end(log, calls, at, state),
-        _ => Ok(Passage::IsUnfit),
     }
 }
 
-/// Checks whether a call has the number after that of the last one, and the event isn't one of a
-/// look.
+/// Checks whether a call has the number after that of the last one.
 pub(crate) fn is_numbered(calls: usize, event: &LogEvent) -> bool
     ensures { IsTrue result → IsNumbered calls (happening_of event.now) }
 {
     match event {
         LogEvent::Call { id, chain: _ } => *id != 0 && *id as usize - 1 == calls,
-        LogEvent::Done(_) | LogEvent::Closed(_) | LogEvent::Settled => true,
-        _ => false,
+        LogEvent::Look { id, slot: _ } => *id != 0 && *id as usize - 1 == calls,
+        _ => true,
     }
 }

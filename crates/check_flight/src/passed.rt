@@ -1,5 +1,5 @@
-//! The check that an event leads from each state of a front to one of the next front, or can't
-//! follow in the state.
+//! The check that an event leads from each state of a front to one of the next front, or is
+//! impossible in the state.
 ghost use Rattle.std.specs.Prelude.{◌≤◌, All, IfOk, IsTrue, length, take};
 ghost use Rattle.fx_flight.specs.Events.{happening_of};
 ghost use Rattle.check_flight.specs.Judged.{log_in, rules_of_log, runs_of_calls, flight_views};
@@ -13,8 +13,8 @@ use crate::state::FlightState;
 use fx_base::NoMemory;
 use fx_flight::LogEvent;
 
-// Checks whether the event at a position leads from a state to one of the next states, or can't
-// follow in it.
+// Checks whether the event at a position leads from a state to one of the next states, or is
+// impossible in it.
 fn is_passed(
     log: &JudgedLog<'_>,
     calls: &[ChainCall<'_>],
@@ -35,7 +35,7 @@ fn is_passed(
 }
 
 /// Checks whether the event at a position leads from each state of the front to one of the next
-/// front, or can't follow in it.
+/// front, or is impossible in it.
 pub(crate) fn are_passed(
     log: &JudgedLog<'_>,
     calls: &[ChainCall<'_>],

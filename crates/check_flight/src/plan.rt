@@ -3,7 +3,7 @@ ghost use Rattle.std.specs.Prelude.{◌≡◌, ◌<◌, ◌^◌, IfOk, IsTrue, l
 ghost use Rattle.fx_chain.specs.Completed.{all_completed};
 ghost use Rattle.fx_chain.specs.Operation.{all_asked};
 ghost use Rattle.fx_order.specs.Access.{accesses_of_chain};
-ghost use Rattle.check_flight.specs.Played.{IsCallDone};
+ghost use Rattle.check_flight.specs.Player.{IsCallDone};
 
 use crate::judged::JudgedLog;
 use fx_base::NoMemory;

@@ -5,102 +5,60 @@ ghost use Rattle.fx_base.specs.Identity.{Identity};
 ghost use Rattle.fx_chain.specs.Completed.{completed_of};
 ghost use Rattle.fx_chain.specs.Operation.{all_asked};
 ghost use Rattle.fx_flight.specs.Events.{Answered, Called, FileClosed, AllSettled, Happening};
+ghost use Rattle.fx_flight.specs.Events.{Freed, LookAnswered, LookCalled};
 ghost use Rattle.fx_flight.specs.Events.{happening_of};
 ghost use Rattle.fx_flight.specs.Flight.{IsLegalLog};
 ghost use Rattle.fx_order.specs.Access.{file_removed_by};
 ghost use Rattle.fx_order.specs.Slots.{ring_of_slots, table_of_slots};
 ghost use Rattle.check_flight.specs.Judged.{catalogue_in, log_in};
-ghost use Rattle.check_flight.specs.Played.{IsMemberPlayed, PlaysOn};
+ghost use Rattle.check_flight.specs.Player.{IsLookAnswered, IsMarked, MovesOn};
 ghost use Rattle.check_flight.specs.declared.judged.JudgedLog.{JudgedLog as TheLog};
 ghost use Rattle.check_flight.specs.declared.plan.CallPlan.{CallPlan as Plan};
 
+use crate::hold::{HeldFile, add_hold, is_held, without_hold};
 use crate::judged::JudgedLog;
+use crate::made::{has_file, is_look_made, is_look_plan, is_member_made};
 use crate::plan::{CallPlan, FlightPlan, are_done};
+use crate::positions::file_number;
 use crate::state::without;
-use fx_base::{Closed, Errno, NoMemory};
-use fx_chain::{Completion, Request, count_of};
+use fx_base::{Closed, NoMemory};
+use fx_chain::{Completion, Request};
 use fx_flight::LogEvent;
 use fx_order::{Access, Slots};
+use indexmap::IndexSet;
 use std::alloc::Global;
 
-/// A call of a flight that is played.
+/// A kind of call.
 #[derive(Clone, Copy)]
-pub(crate) struct PlayedCall<'a> {
-    /// Its requests.
-    pub(crate) requests: &'a [Request],
+pub(crate) enum CallKind<'a> {
+    /// A chain of requests.
+    Chain(&'a [Request]),
+    /// A look of a slot.
+    Look(u32),
+}
+
+/// A call of the flight that the player makes.
+#[derive(Clone, Copy)]
+pub(crate) struct FlightCall<'a> {
+    /// The kind.
+    pub(crate) kind: CallKind<'a>,
     /// The number of accesses that it has made.
     pub(crate) made: usize,
 }
 
-/// What a flight has reached that is played.
+/// What the flight that the player makes has reached.
 #[derive(Drop)]
 pub(crate) struct FlightPlayer<'a> {
     /// The files at the slots.
     pub(crate) slots: Slots,
     /// The calls, the first one first.
-    pub(crate) calls: Vec<PlayedCall<'a>>,
+    pub(crate) calls: Vec<FlightCall<'a>>,
     /// The files that were taken from their slots and aren't closed.
     pub(crate) removed: Vec<Closed>,
-    /// The files that are closed.
-    pub(crate) closed: Vec<Closed>,
-}
-
-// Checks whether a file is in a list.
-fn has_file(files: &[Closed], file: Closed) -> bool
-    ensures { IsTrue result → Contains files.now file }
-{
-    files.contains(&file)
-}
-
-// Returns the number of accesses that the first members of a call make that have these answers. A
-// hint.
-fn accesses_made(log: &JudgedLog<'_>, requests: &[Request], answers: &[Completion]) -> usize {
-    let setting = &log.setting;
-    let mut count: usize = 0;
-    for (request, c) in requests.iter().zip(answers) {
-        if c.res != -Errno::ECANCELED.code() {
-            count = count.saturating_add(count_of(setting.catalogue, setting.size, request));
-        }
-    }
-    count
-}
-
-// Checks whether both answers are the same.
-fn is_same_answer(one: &Completion, other: &Completion) -> bool
-    ensures { IsTrue result → completed_of one.now ≡ completed_of other.now }
-{
-    one.is_answer(other.place, other.res, &other.got)
-}
-
-// Checks whether an answer is that of a member of a call, and the member has made its accesses.
-fn is_member_played(
-    log: &JudgedLog<'_>,
-    plan: &CallPlan,
-    call: &PlayedCall<'_>,
-    c: &Completion,
-) -> Result<bool, NoMemory>
-    ensures { IfOk result (λ yes. IsTrue yes → IsMemberPlayed log.now plan.now call.now
-        c.now.place.submission (completed_of c.now)) }
-{
-    let m = c.place.member as usize;
-    if m == 0 || m > plan.answers.len() || m > call.requests.len() {
-        return Ok(false);
-    }
-    if !is_same_answer(&plan.answers[m - 1], c) {
-        return Ok(false);
-    }
-    let (requests, answers) = (&call.requests[..m], &plan.answers[..m]);
-    let own = accesses_made(log, requests, answers);
-    if own > call.made || own > plan.accesses.len() {
-        return Ok(false);
-    }
-    are_done(
-        log,
-        c.place.submission,
-        requests,
-        &plan.accesses[..own],
-        answers,
-    )
+    /// The files that looks hold.
+    pub(crate) holds: Vec<HeldFile>,
+    /// The numbers of the files that are closed.
+    pub(crate) closed: IndexSet<u64>,
 }
 
 impl<'a> FlightPlayer<'a> {
@@ -110,14 +68,32 @@ impl<'a> FlightPlayer<'a> {
             table_of_slots player.slots ≡ table_of_slots slots.now) }
         ensures calls { IfOk result (λ player. player.calls.items ≡ []) }
         ensures removed { IfOk result (λ player. player.removed.items ≡ []) }
-        ensures closed { IfOk result (λ player. player.closed.items ≡ []) }
     {
         Ok(FlightPlayer {
             slots: slots.copy(alloc)?,
             calls: Vec::new(alloc),
             removed: Vec::new(alloc),
-            closed: Vec::new(alloc),
+            holds: Vec::new(alloc),
+            closed: IndexSet::new(alloc),
         })
+    }
+
+    // Checks whether a file may be closed: a file with its number is.
+    fn is_marked(&self, file: Closed) -> bool
+        ensures { IsMarked self.now.closed file → IsTrue result }
+    {
+        self.closed.contains(&file_number(file))
+    }
+
+    // Checks whether a file may be closed, if there is one.
+    fn is_one_marked(&self, found: Option<Closed>) -> bool
+        ensures { (file : Identity) → found ≡ Some file → IsMarked self.now.closed file
+            → IsTrue result }
+    {
+        match found {
+            Some(file) => self.is_marked(file),
+            None => false,
+        }
     }
 
     // Notes the file that an access takes from its slot. Returns whether it isn't closed.
@@ -126,22 +102,23 @@ impl<'a> FlightPlayer<'a> {
             ≡ self.old.removed.items ++ option_to_list (file_removed_by access.now)) }
         ensures open { IfOk result (λ yes. IsTrue yes → (file : Identity)
             → file_removed_by access.now ≡ Some file
-            → Contains self.old.closed.items file → ⊥) }
+            → IsMarked self.old.closed file → ⊥) }
         ensures slots { IfOk result (λ _. self.new.slots ≡ self.old.slots) }
         ensures calls { IfOk result (λ _. self.new.calls ≡ self.old.calls) }
         ensures closed { IfOk result (λ _. self.new.closed ≡ self.old.closed) }
+        ensures holds { IfOk result (λ _. self.new.holds ≡ self.old.holds) }
     {
         let Some(file) = access.removed() else {
             return Ok(true);
         };
         self.removed.push(file)?;
-        Ok(!self.closed.contains(&file))
+        Ok(!self.is_marked(file))
     }
 
     /// Makes the next access of a call, if it is permitted. Returns whether it is.
     pub(crate) fn access(&mut self, plans: &[CallPlan], id: u32) -> Result<bool, NoMemory>
         ensures { IfOk result (λ yes. IsTrue yes → (log : TheLog) (read : List Happening)
-            → PlaysOn log plans.now read self.old read self.new) }
+            → MovesOn log plans.now read self.old read self.new) }
     {
         let i = (id as usize).saturating_sub(1);
         if id == 0 || i >= self.calls.len() || i >= plans.len() {
@@ -168,7 +145,7 @@ impl<'a> FlightPlayer<'a> {
         requests: &'a [Request],
     ) -> Result<bool, NoMemory>
         ensures { IfOk result (λ yes. IsTrue yes → (read : List Happening)
-            → PlaysOn log.now plans.now read self.old
+            → MovesOn log.now plans.now read self.old
             (read ++ Called id (all_asked requests.now) ∷ []) self.new) }
     {
         let i = self.calls.len();
@@ -179,7 +156,81 @@ impl<'a> FlightPlayer<'a> {
         if !are_done(log, id, requests, &plan.accesses, &plan.answers)? {
             return Ok(false);
         }
-        self.calls.push(PlayedCall { requests, made: 0 })?;
+        self.calls.push(FlightCall {
+            kind: CallKind::Chain(requests),
+            made: 0,
+        })?;
+        Ok(true)
+    }
+
+    // Begins a look. Returns whether it may begin.
+    fn look(&mut self, plans: &[CallPlan], id: u32, slot: u32) -> Result<bool, NoMemory>
+        ensures { IfOk result (λ yes. IsTrue yes → (log : TheLog) (read : List Happening)
+            → MovesOn log plans.now read self.old (read ++ LookCalled id slot ∷ []) self.new) }
+    {
+        let i = self.calls.len();
+        if id == 0 || id as usize - 1 != i || i >= plans.len() {
+            return Ok(false);
+        }
+        if !is_look_plan(slot, &plans[i].accesses) {
+            return Ok(false);
+        }
+        self.calls.push(FlightCall {
+            kind: CallKind::Look(slot),
+            made: 0,
+        })?;
+        Ok(true)
+    }
+
+    // Checks whether a look made its access, and found a file that isn't closed, or none.
+    fn has_found(
+        &self,
+        log: &JudgedLog<'_>,
+        plans: &[CallPlan],
+        id: u32,
+        found: Option<Closed>,
+    ) -> bool
+        ensures { IsTrue result → IsLookAnswered log.now plans.now self.now id found }
+    {
+        let i = (id as usize).saturating_sub(1);
+        if id == 0 || i >= self.calls.len() || i >= plans.len() {
+            return false;
+        }
+        let call = self.calls[i];
+        let CallKind::Look(slot) = call.kind else {
+            return false;
+        };
+        if self.is_one_marked(found) {
+            return false;
+        }
+        is_look_made(log.setting.size, slot, &plans[i].accesses, call.made, found)
+    }
+
+    // Notes the answer of a look. Returns whether it may follow.
+    fn find(
+        &mut self,
+        log: &JudgedLog<'_>,
+        plans: &[CallPlan],
+        id: u32,
+        found: Option<Closed>,
+    ) -> Result<bool, NoMemory>
+        ensures { IfOk result (λ yes. IsTrue yes → (read : List Happening)
+            → MovesOn log.now plans.now read self.old
+            (read ++ LookAnswered id found ∷ []) self.new) }
+    {
+        if !self.has_found(log, plans, id, found) {
+            return Ok(false);
+        }
+        add_hold(&mut self.holds, id, found)?;
+        Ok(true)
+    }
+
+    // Notes that the hold of a look begins to end.
+    fn free(&mut self, alloc: Global, id: u32) -> Result<bool, NoMemory>
+        ensures { IfOk result (λ yes. (log : TheLog) (plans : List Plan) (read : List Happening)
+            → MovesOn log plans read self.old (read ++ Freed id ∷ []) self.new) }
+    {
+        self.holds = without_hold(alloc, &self.holds, id)?;
         Ok(true)
     }
 
@@ -191,27 +242,36 @@ impl<'a> FlightPlayer<'a> {
         c: &Completion,
     ) -> Result<bool, NoMemory>
         ensures { IfOk result (λ yes. IsTrue yes → (read : List Happening)
-            → PlaysOn log.now plans.now read self.now
+            → MovesOn log.now plans.now read self.now
             (read ++ Answered c.now.place.submission (completed_of c.now) ∷ []) self.now) }
     {
         let id = c.place.submission as usize;
         if id == 0 || id > self.calls.len() || id > plans.len() {
             return Ok(false);
         }
-        is_member_played(log, &plans[id - 1], &self.calls[id - 1], c)
+        let call = self.calls[id - 1];
+        match call.kind {
+            CallKind::Chain(requests) => {
+                is_member_made(log, &plans[id - 1], requests, call.made, c)
+            }
+            CallKind::Look(_) => Ok(false),
+        }
     }
 
     // Closes a file. Returns whether it may be closed.
     fn close(&mut self, alloc: Global, file: Closed) -> Result<bool, NoMemory>
         ensures { IfOk result (λ yes. IsTrue yes → (log : TheLog) (plans : List Plan)
             (read : List Happening)
-            → PlaysOn log plans read self.old (read ++ FileClosed file ∷ []) self.new) }
+            → MovesOn log plans read self.old (read ++ FileClosed file ∷ []) self.new) }
     {
         if !has_file(&self.removed, file) {
             return Ok(false);
         }
+        if is_held(&self.holds, file) {
+            return Ok(false);
+        }
         self.removed = without(alloc, &self.removed, file)?;
-        self.closed.push(file)?;
+        self.closed.insert(file_number(file))?;
         Ok(true)
     }
 
@@ -219,7 +279,7 @@ impl<'a> FlightPlayer<'a> {
     fn may_settle(&self) -> bool
         ensures { IsTrue result → (log : TheLog) (plans : List Plan)
             (read : List Happening)
-            → PlaysOn log plans read self.now (read ++ AllSettled ∷ []) self.now }
+            → MovesOn log plans read self.now (read ++ AllSettled ∷ []) self.now }
     {
         self.removed.is_empty()
     }
@@ -232,15 +292,17 @@ impl<'a> FlightPlayer<'a> {
         event: &'a LogEvent,
     ) -> Result<bool, NoMemory>
         ensures { IfOk result (λ yes. IsTrue yes → (read : List Happening)
-            → PlaysOn log.now plans.now read self.old
+            → MovesOn log.now plans.now read self.old
             (read ++ happening_of event.now ∷ []) self.new) }
     {
         match event {
             LogEvent::Call { id, chain } => self.call(log, plans, *id, chain.as_slice()),
             LogEvent::Done(c) => self.may_answer(log, plans, c),
+            LogEvent::Look { id, slot } => self.look(plans, *id, *slot),
+            LogEvent::Found { id, file } => self.find(log, plans, *id, *file),
+            LogEvent::Free { id } => self.free(log.setting.alloc, *id),
             LogEvent::Closed(file) => self.close(log.setting.alloc, *file),
             LogEvent::Settled => Ok(self.may_settle()),
-            _ => Ok(false),
         }
     }
 }

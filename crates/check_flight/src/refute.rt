@@ -7,13 +7,14 @@ ghost use Rattle.check_flight.specs.Judged.{catalogue_in, log_in, runs_of_calls}
 ghost use Rattle.check_flight.specs.Passages.{IsFirstFront, IsNextFront};
 ghost use Rattle.check_flight.specs.States.{HasNoFlight, runs_with};
 
+use crate::call::look_call;
 use crate::explore::next_front;
 use crate::followed::are_states_followed;
 use crate::front::Front;
 use crate::judged::{ChainCall, JudgedLog};
-use crate::log::positions;
 use crate::passage::is_numbered;
 use crate::passed::are_passed;
+use crate::positions::positions_in;
 use crate::state::FlightState;
 use fx_base::{Catalogue, NoMemory};
 use fx_flight::LogEvent;
@@ -30,7 +31,8 @@ pub(crate) struct Refutation {
     pub(crate) at: usize,
 }
 
-/// Adds the call of an event to those before it. Returns whether its requests have no fault.
+/// Adds the call of an event to those before it. Returns whether its requests have no fault. A look
+/// is a call without requests.
 pub(crate) fn push_call<'a>(
     calls: &mut Vec<ChainCall<'a>>,
     event: &'a LogEvent,
@@ -40,11 +42,15 @@ pub(crate) fn push_call<'a>(
     ensures front { IfOk result (λ yes. IsTrue yes
         → take (length calls.old.items) calls.new.items ≡ calls.old.items) }
 {
-    if let LogEvent::Call { id: _, chain } = event {
-        let Some(call) = ChainCall::of(chain.as_slice()) else {
-            return Ok(false);
-        };
-        calls.push(call)?;
+    match event {
+        LogEvent::Call { id: _, chain } => {
+            let Some(call) = ChainCall::of(chain.as_slice()) else {
+                return Ok(false);
+            };
+            calls.push(call)?;
+        }
+        LogEvent::Look { id: _, slot: _ } => calls.push(look_call())?,
+        _ => {}
     }
     Ok(true)
 }
@@ -87,12 +93,14 @@ pub(crate) fn first_state(alloc: Global, slots: &Slots) -> Result<FlightState, N
     ensures table { IfOk result (λ state.
         table_of_slots state.slots ≡ table_of_slots slots.now) }
     ensures removed { IfOk result (λ state. state.removed.items ≡ []) }
+    ensures waiting { IfOk result (λ state. state.waiting.items ≡ []) }
 {
     Ok(FlightState {
         slots: slots.copy(alloc)?,
         base: 0,
         chains: Vec::new(alloc),
         removed: Vec::new(alloc),
+        waiting: Vec::new(alloc),
     })
 }
 
@@ -155,7 +163,7 @@ pub(crate) fn refute(
             size: slots.at.len() as u32,
         },
         events,
-        answers: positions(alloc, events)?,
+        positions: positions_in(alloc, events)?,
     };
     refute_log(&log, slots, most)
 }

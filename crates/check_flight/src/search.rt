@@ -1,5 +1,5 @@
-//! A search for one flight of a log, depth first. Nothing is proved of it: the flight is played
-//! (`crate::player`).
+//! A search for one flight of a log, depth first. Nothing is proved of it: the player makes the
+//! flight (`crate::player`).
 
 use crate::followed::accesses_of;
 use crate::front::key_of;
@@ -13,148 +13,58 @@ use std::alloc::Global;
 /// A move of a flight.
 #[derive(Clone, Copy)]
 pub(crate) struct Step {
-    /// The position of the step before it.
-    before: usize,
     /// The number of the call that makes an access, or 0 for the next event.
     pub(crate) call: u32,
     /// The position of the access among those that the call may make next.
     pub(crate) choice: usize,
 }
 
-// A state that is still to be looked at: the position of its last step, and the number of events
-// before it.
+// A state of the search, and which of its moves were tried: the next event first, then the accesses
+// of the calls, the call whose next answer comes first before the others.
 #[derive(Drop)]
-struct Open {
-    step: usize,
+struct Frame {
+    // The number of events before the state.
+    at: usize,
+    state: FlightState,
+    is_event_tried: bool,
+    // The calls, by their position after those that are over.
+    calls: Vec<usize>,
+    // The position of the next call to try, and that of its access.
+    call: usize,
+    choice: usize,
+}
+
+// A move, and the state to which it leads after `at` events.
+#[derive(Drop)]
+struct Lead {
+    step: Step,
     at: usize,
     state: FlightState,
 }
 
-// A search: the steps that were made, the states in numbers that were met, and those to look at.
+// A search: the states from the first one that may be tried again to the last one, the moves that
+// led there, and the states in numbers that lead nowhere.
 #[derive(Drop)]
 struct Search {
+    frames: Vec<Frame>,
     steps: Vec<Step>,
-    met: IndexSet<Vec<u32>>,
-    open: Vec<Open>,
+    dead: IndexSet<Vec<u32>>,
 }
 
-impl Search {
-    // Notes a state, unless it was met.
-    fn add(
-        &mut self,
-        alloc: Global,
-        step: Step,
-        at: usize,
-        state: FlightState,
-    ) -> Result<(), NoMemory> {
-        let mut key = key_of(alloc, &state)?;
-        key.push(at.min(u32::MAX as usize) as u32)?;
-        if self.met.contains(&key) {
-            return Ok(());
-        }
-        self.met.insert(key)?;
-        let number = self.steps.len();
-        self.steps.push(step)?;
-        self.open.push(Open {
-            step: number,
-            at,
-            state,
-        })?;
-        Ok(())
-    }
-
-    // Notes the states to which the accesses of a call lead, the first access last.
-    fn add_accesses(
-        &mut self,
-        log: &JudgedLog<'_>,
-        calls: &[ChainCall<'_>],
-        from: &Open,
-        j: usize,
-    ) -> Result<(), NoMemory> {
-        let alloc = log.setting.alloc;
-        let Some(accesses) = accesses_of(log, calls, &from.state, j)? else {
-            return Ok(());
-        };
-        let call = from.state.base.saturating_add(j).saturating_add(1);
-        for k in 0..accesses.len() {
-            let choice = accesses.len() - 1 - k;
-            let mut told = Vec::new(alloc);
-            let access = &accesses[choice];
-            let next = next_state(log, calls, &from.state, j, access, &mut told)?;
-            let Some(next) = next else {
-                continue;
-            };
-            if !log.is_one_denied(&told) {
-                let step = Step {
-                    before: from.step,
-                    call: call.min(u32::MAX as usize) as u32,
-                    choice,
-                };
-                self.add(alloc, step, from.at, next)?;
-            }
-        }
-        Ok(())
-    }
-
-    // Notes the states to which a state leads: that after the next event last, before it those
-    // after an access of the call whose answer comes first.
-    fn expand(
-        &mut self,
-        log: &JudgedLog<'_>,
-        all: &[ChainCall<'_>],
-        from: &Open,
-    ) -> Result<(), NoMemory> {
-        let alloc = log.setting.alloc;
-        let state = &from.state;
-        let known = state.base.saturating_add(state.chains.len()).min(all.len());
-        let calls = &all[..known];
-        for j in calls_by_answer(log, from)? {
-            self.add_accesses(log, calls, from, j)?;
-        }
-        let Some(event) = log.events.get(from.at) else {
-            return Ok(());
-        };
-        if let Passage::Leads(next) = passage_of(log, calls, from.at, event, state)? {
-            let step = Step {
-                before: from.step,
-                call: 0,
-                choice: 0,
-            };
-            self.add(alloc, step, from.at.saturating_add(1), next)?;
-        }
-        Ok(())
-    }
-
-    // Returns the steps up to a step, the first one first.
-    fn path(&self, alloc: Global, last: usize) -> Result<Vec<Step>, NoMemory> {
-        let mut path = Vec::new(alloc);
-        let mut number = last;
-        for _ in 0..self.steps.len() {
-            match self.steps.get(number) {
-                Some(step) if number > 0 => {
-                    path.push(*step)?;
-                    number = step.before;
-                }
-                _ => break,
-            }
-        }
-        path.reverse();
-        Ok(path)
-    }
-}
-
-// Returns the open calls of a state, by their place behind those that are over: the one whose next
-// answer comes last first.
-fn calls_by_answer(log: &JudgedLog<'_>, from: &Open) -> Result<Vec<usize>, NoMemory> {
+// Returns the open calls of a state, by their position after those that are over: the one whose
+// next answer comes first before the others.
+fn calls_by_answer(
+    log: &JudgedLog<'_>,
+    at: usize,
+    state: &FlightState,
+) -> Result<Vec<usize>, NoMemory> {
     let alloc = log.setting.alloc;
     let mut order: Vec<(usize, usize)> = Vec::new(alloc);
-    for j in 0..from.state.chains.len() {
-        let i = from.state.base.saturating_add(j);
-        let next = log.answer_after(i, from.at);
-        order.push((next, j))?;
+    for j in 0..state.chains.len() {
+        let i = state.base.saturating_add(j);
+        order.push((log.positions.answer_after(i, at), j))?;
     }
     order.sort_unstable();
-    order.reverse();
     let mut calls = Vec::new(alloc);
     for (_, j) in order {
         calls.push(j)?;
@@ -162,8 +72,146 @@ fn calls_by_answer(log: &JudgedLog<'_>, from: &Open) -> Result<Vec<usize>, NoMem
     Ok(calls)
 }
 
-/// Returns the steps of a flight of the log from a state on, by at most `most` states, or `None` if
-/// it found none.
+impl Frame {
+    fn new(alloc: Global, at: usize, state: FlightState) -> Frame {
+        Frame {
+            at,
+            state,
+            is_event_tried: false,
+            calls: Vec::new(alloc),
+            call: 0,
+            choice: 0,
+        }
+    }
+
+    // Returns the state after the next event, if the event is possible.
+    fn after_event(
+        &self,
+        log: &JudgedLog<'_>,
+        calls: &[ChainCall<'_>],
+    ) -> Result<Option<Lead>, NoMemory> {
+        let Some(event) = log.events.get(self.at) else {
+            return Ok(None);
+        };
+        match passage_of(log, calls, self.at, event, &self.state)? {
+            Passage::Leads(state) => Ok(Some(Lead {
+                step: Step { call: 0, choice: 0 },
+                at: self.at.saturating_add(1),
+                state,
+            })),
+            _ => Ok(None),
+        }
+    }
+
+    // Returns the state after the next access of the call to try, if there is one, and whether the
+    // call has more accesses to try.
+    fn after_access(
+        &mut self,
+        log: &JudgedLog<'_>,
+        calls: &[ChainCall<'_>],
+        j: usize,
+    ) -> Result<(Option<Lead>, bool), NoMemory> {
+        let Some(accesses) = accesses_of(log, calls, &self.state, j)? else {
+            return Ok((None, false));
+        };
+        let choice = self.choice;
+        let Some(access) = accesses.get(choice) else {
+            return Ok((None, false));
+        };
+        self.choice = choice.saturating_add(1);
+        let mut answered = Vec::new(log.setting.alloc);
+        let next = next_state(log, calls, &self.state, j, access, &mut answered)?;
+        let Some(state) = next else {
+            return Ok((None, true));
+        };
+        if log.is_one_denied(&answered) {
+            return Ok((None, true));
+        }
+        let call = self.state.base.saturating_add(j).saturating_add(1);
+        let step = Step {
+            call: call.min(u32::MAX as usize) as u32,
+            choice,
+        };
+        let at = self.at;
+        Ok((Some(Lead { step, at, state }), true))
+    }
+
+    // Returns the state after the next move that wasn't tried, or `None` if all were tried.
+    fn next(
+        &mut self,
+        log: &JudgedLog<'_>,
+        all: &[ChainCall<'_>],
+    ) -> Result<Option<Lead>, NoMemory> {
+        let known = self.state.base.saturating_add(self.state.chains.len());
+        let calls = &all[..known.min(all.len())];
+        if !self.is_event_tried {
+            self.is_event_tried = true;
+            if let Some(lead) = self.after_event(log, calls)? {
+                return Ok(Some(lead));
+            }
+            self.calls = calls_by_answer(log, self.at, &self.state)?;
+        } else if self.calls.is_empty() {
+            self.calls = calls_by_answer(log, self.at, &self.state)?;
+        }
+        for _ in 0..usize::MAX {
+            let Some(j) = self.calls.get(self.call).copied() else {
+                return Ok(None);
+            };
+            let (lead, has_more) = self.after_access(log, calls, j)?;
+            if !has_more {
+                self.call = self.call.saturating_add(1);
+                self.choice = 0;
+            }
+            if let Some(lead) = lead {
+                return Ok(Some(lead));
+            }
+        }
+        Ok(None)
+    }
+}
+
+impl Search {
+    // Returns the number of a state that is looked up.
+    fn key(alloc: Global, at: usize, state: &FlightState) -> Result<Vec<u32>, NoMemory> {
+        let mut key = key_of(alloc, state)?;
+        key.push(at.min(u32::MAX as usize) as u32)?;
+        Ok(key)
+    }
+
+    // Goes on to a state, unless it leads nowhere. The first states of many are forgotten.
+    fn enter(&mut self, alloc: Global, lead: Lead, most: usize) -> Result<(), NoMemory> {
+        if !self.dead.is_empty() {
+            let key = Search::key(alloc, lead.at, &lead.state)?;
+            if self.dead.contains(&key) {
+                return Ok(());
+            }
+        }
+        if self.frames.len() / 2 > most {
+            let half = self.frames.len() / 2;
+            self.frames = self.frames.split_off(half)?;
+        }
+        self.steps.push(lead.step)?;
+        self.frames.push(Frame::new(alloc, lead.at, lead.state))?;
+        Ok(())
+    }
+
+    // Leaves the last state, which leads nowhere.
+    fn leave(&mut self, alloc: Global, most: usize) -> Result<(), NoMemory> {
+        let Some(frame) = self.frames.pop() else {
+            return Ok(());
+        };
+        self.steps.pop();
+        if self.dead.len() > most {
+            self.dead = IndexSet::new(alloc);
+        }
+        self.dead
+            .insert(Search::key(alloc, frame.at, &frame.state)?)?;
+        Ok(())
+    }
+}
+
+/// Returns the steps of a flight of the log from a state on, or `None` if it found none: it tries
+/// at most `most` moves after each event, and goes back over as many states.
 pub(crate) fn find(
     log: &JudgedLog<'_>,
     calls: &[ChainCall<'_>],
@@ -172,24 +220,31 @@ pub(crate) fn find(
 ) -> Result<Option<Vec<Step>>, NoMemory> {
     let alloc = log.setting.alloc;
     let mut search = Search {
+        frames: Vec::new(alloc),
         steps: Vec::new(alloc),
-        met: IndexSet::new(alloc),
-        open: Vec::new(alloc),
+        dead: IndexSet::new(alloc),
     };
-    let first = Step {
-        before: 0,
-        call: 0,
-        choice: 0,
-    };
-    search.add(alloc, first, 0, start)?;
-    for _ in 0..most {
-        let Some(open) = search.open.pop() else {
+    search.frames.push(Frame::new(alloc, 0, start))?;
+    let (mut furthest, mut tries) = (0, 0);
+    for _ in 0..usize::MAX {
+        let Some(frame) = search.frames.last_mut() else {
             return Ok(None);
         };
-        if open.at >= log.events.len() {
-            return Ok(Some(search.path(alloc, open.step)?));
+        if frame.at >= log.events.len() {
+            return Ok(Some(search.steps));
         }
-        search.expand(log, calls, &open)?;
+        if frame.at > furthest {
+            furthest = frame.at;
+            tries = 0;
+        }
+        if tries >= most {
+            return Ok(None);
+        }
+        tries += 1;
+        match frame.next(log, calls)? {
+            Some(lead) => search.enter(alloc, lead, most)?,
+            None => search.leave(alloc, most)?,
+        }
     }
     Ok(None)
 }

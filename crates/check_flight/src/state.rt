@@ -1,23 +1,37 @@
-//! A state of the flights of a log, and where an access, a call or a close leads from it.
-ghost use Rattle.std.specs.Prelude.{◌≡◌, ◌+◌, ◌++◌, ◌<◌, ◌≤◌, ◌^◌, ℕ, [], ◌∷◌, Contains, IfOk, IfSome, IsPermutation, IsTrue};
+//! A state of the flights of a log, and where an access, a call, an answer of a look or a close
+//! leads from it.
+ghost use Rattle.std.specs.Prelude.{◌≡◌, ◌+◌, ◌++◌, ◌<◌, ◌≤◌, ◌^◌, ℕ, [], ◌∷◌, Contains, IfOk, IfSome, IsPermutation, IsTrue, Option};
 ghost use Rattle.std.specs.Prelude.{length, slice_index_or};
 ghost use Rattle.std.specs.Option.{option_to_list};
 ghost use Rattle.fx_chain.specs.Completed.{all_completed};
-ghost use Rattle.fx_order.specs.Access.{file_removed_by};
+ghost use Rattle.fx_base.specs.Identity.{Identity};
+ghost use Rattle.fx_order.specs.Access.{Permits, file_removed_by};
+ghost use Rattle.fx_order.specs.declared.access.Access.TheVariants.{Looks};
 ghost use Rattle.fx_order.specs.Slots.{table_of_slots};
 ghost use Rattle.fx_flight.specs.Events.{first_of_call};
 ghost use Rattle.check_outcomes.specs.Rests.{settled_at, step};
 ghost use Rattle.check_outcomes.specs.Views.{not_begun, run_at};
-ghost use Rattle.check_flight.specs.Judged.{requests_of, rest_of, rules_of_log, runs_of_calls, flight_view};
-ghost use Rattle.check_flight.specs.States.{AreWithout, LeadsByCall, StepsByAccess};
+ghost use Rattle.check_flight.specs.Judged.{log_in, requests_of, rest_of, rules_of_log, runs_of_calls};
+ghost use Rattle.check_flight.specs.Judged.{flight_view};
+ghost use Rattle.check_flight.specs.States.{AreFewer, AreWithout, IsLookDenied, LeadsByAnswer};
+ghost use Rattle.check_flight.specs.States.{LeadsByCall, StepsByAccess};
 
-use crate::call::{first_place, members_at};
+use crate::call::{first_place, look_call, members_at};
 use crate::judged::{ChainCall, JudgedLog};
 use check_outcomes::{Progress, settle, step};
 use fx_base::{Closed, NoMemory};
 use fx_chain::Completion;
 use fx_order::{Access, Slots};
 use std::alloc::Global;
+
+/// A look that has made no access and isn't answered.
+#[derive(Clone, Copy, PartialEq, Eq)]
+pub(crate) struct WaitingLook {
+    /// The number of the call.
+    pub(crate) id: u32,
+    /// The slot.
+    pub(crate) slot: u32,
+}
 
 /// A state of the flights of a log.
 #[derive(Drop)]
@@ -30,6 +44,9 @@ pub(crate) struct FlightState {
     pub(crate) chains: Vec<Progress>,
     /// The files that were taken from their slots and aren't known to be closed, in order of mark.
     pub(crate) removed: Vec<Closed>,
+    /// The looks that wait, in the order of their calls. A look makes its access as soon as it
+    /// finds its answer.
+    pub(crate) waiting: Vec<WaitingLook>,
 }
 
 // Returns the files that were removed after an access, in order of mark.
@@ -67,6 +84,53 @@ pub(crate) fn without(
     Ok(after)
 }
 
+// Checks whether a look still waits in a table with these slots: it is past the size, or finds what
+// isn't its answer in the log.
+pub(crate) fn waits(log: &JudgedLog<'_>, slots: &Slots, look: &WaitingLook) -> bool
+    ensures { IsTrue result → (found : Option Identity)
+        → Permits (table_of_slots slots.now) (Looks look.now.slot found)
+        → IsLookDenied (log_in log.now) look.now.id found }
+{
+    match slots.at.get(look.slot as usize) {
+        Some(found) => log.is_look_denied(look.id, *found),
+        None => true,
+    }
+}
+
+// Returns the looks that still wait in a table with these slots.
+fn still_waiting(
+    log: &JudgedLog<'_>,
+    slots: &Slots,
+    waiting: &[WaitingLook],
+) -> Result<Vec<WaitingLook>, NoMemory>
+    ensures { IfOk result (λ after. AreFewer waiting.now after.items) }
+{
+    let mut after = Vec::new(log.setting.alloc);
+    for look in waiting {
+        if waits(log, slots, look) {
+            after.push(*look)?;
+        }
+    }
+    Ok(after)
+}
+
+// Returns the looks without this one.
+fn without_look(
+    alloc: Global,
+    waiting: &[WaitingLook],
+    id: u32,
+) -> Result<Vec<WaitingLook>, NoMemory>
+    ensures { IfOk result (λ after. AreFewer waiting.now after.items) }
+{
+    let mut after = Vec::new(alloc);
+    for look in waiting {
+        if look.id != id {
+            after.push(*look)?;
+        }
+    }
+    Ok(after)
+}
+
 impl FlightState {
     /// Checks whether both are one.
     pub(crate) fn is_same(&self, other: &FlightState) -> bool
@@ -75,8 +139,12 @@ impl FlightState {
         ensures base { IsTrue result → self.now.base ≡ other.now.base }
         ensures chains { IsTrue result → self.now.chains.items ≡ other.now.chains.items }
         ensures removed { IsTrue result → self.now.removed.items ≡ other.now.removed.items }
+        ensures waiting { IsTrue result → self.now.waiting.items ≡ other.now.waiting.items }
     {
         if !self.slots.is_same(&other.slots) || self.chains != other.chains {
+            return false;
+        }
+        if self.waiting != other.waiting {
             return false;
         }
         self.base == other.base && self.removed == other.removed
@@ -89,15 +157,18 @@ impl FlightState {
         ensures base { IfOk result (λ copy. copy.base ≡ self.now.base) }
         ensures chains { IfOk result (λ copy. copy.chains.items ≡ self.now.chains.items) }
         ensures removed { IfOk result (λ copy. copy.removed.items ≡ self.now.removed.items) }
+        ensures waiting { IfOk result (λ copy. copy.waiting.items ≡ self.now.waiting.items) }
     {
         let slots = self.slots.copy(alloc)?;
         let chains = Vec::from_slice(alloc, &self.chains)?;
         let removed = Vec::from_slice(alloc, &self.removed)?;
+        let waiting = Vec::from_slice(alloc, &self.waiting)?;
         Ok(FlightState {
             slots,
             base: self.base,
             chains,
             removed,
+            waiting,
         })
     }
 
@@ -119,11 +190,11 @@ pub(crate) fn next_state(
     state: &FlightState,
     j: usize,
     access: &Access,
-    told: &mut Vec<Completion>,
+    answered: &mut Vec<Completion>,
 ) -> Result<Option<FlightState>, NoMemory>
     requires call { state.now.base + j < length calls.now }
-    requires told { told.old.items ≡ [] }
-    ensures told { IfOk result (λ next. IfSome next (λ next. all_completed told.new.items
+    requires answered { answered.old.items ≡ [] }
+    ensures answered { IfOk result (λ next. IfSome next (λ next. all_completed answered.new.items
         ≡ (step (rules_of_log log.now) (rest_of (runs_of_calls calls.now) state.now
         (state.now.base + j + 1)) access.now).0)) }
     ensures leads { IfOk result (λ next. IfSome next (λ next. StepsByAccess (rules_of_log log.now)
@@ -142,17 +213,26 @@ pub(crate) fn next_state(
         return Ok(None);
     }
     let own = members_at(calls, i);
-    let after = step(&log.setting, first_place(i), own, *progress, *access, told)?;
+    let after = step(
+        &log.setting,
+        first_place(i),
+        own,
+        *progress,
+        *access,
+        answered,
+    )?;
     let mut chains = Vec::from_slice(alloc, &state.chains)?;
     chains[j] = after;
     let mut slots = state.slots.copy(alloc)?;
     slots.make(access);
     let removed = removed_after(alloc, &state.removed, access)?;
+    let waiting = still_waiting(log, &slots, &state.waiting)?;
     Ok(Some(FlightState {
         slots,
         base: state.base,
         chains,
         removed,
+        waiting,
     }))
 }
 
@@ -163,32 +243,68 @@ pub(crate) fn called_state(
     calls: &[ChainCall<'_>],
     state: &FlightState,
     call: &ChainCall<'_>,
-    told: &mut Vec<Completion>,
+    answered: &mut Vec<Completion>,
 ) -> Result<Option<FlightState>, NoMemory>
-    requires told { told.old.items ≡ [] }
-    ensures told { IfOk result (λ next. IfSome next (λ next. all_completed told.new.items
+    requires answered { answered.old.items ≡ [] }
+    ensures answered { IfOk result (λ next. IfSome next (λ next. all_completed answered.new.items
         ≡ (settled_at (rules_of_log log.now) (first_of_call (length calls.now + 1))
         (requests_of call.now)).0)) }
     ensures leads { IfOk result (λ next. IfSome next (λ next. LeadsByCall (rules_of_log log.now)
         (flight_view (runs_of_calls calls.now) state.now) (length calls.now + 1)
         (requests_of call.now)
         (flight_view (runs_of_calls calls.now ++ requests_of call.now ∷ []) next))) }
+    ensures waiting { IfOk result (λ next. IfSome next (λ next.
+        next.waiting.items ≡ state.now.waiting.items)) }
 {
     let alloc = log.setting.alloc;
     let i = calls.len();
     if i >= u32::MAX as usize - 1 || state.base > i || state.chains.len() != i - state.base {
         return Ok(None);
     }
-    let done = settle(&log.setting, first_place(i), call.requests, told)?;
+    let done = settle(&log.setting, first_place(i), call.requests, answered)?;
     let mut chains = Vec::from_slice(alloc, &state.chains)?;
     chains.push(Progress { done, made: 0 })?;
     let slots = state.slots.copy(alloc)?;
     let removed = Vec::from_slice(alloc, &state.removed)?;
+    let waiting = Vec::from_slice(alloc, &state.waiting)?;
     Ok(Some(FlightState {
         slots,
         base: state.base,
         chains,
         removed,
+        waiting,
+    }))
+}
+
+/// Returns where the next call leads if it is a look of a slot. `None` if the state isn't one of
+/// the log.
+pub(crate) fn looking_state(
+    log: &JudgedLog<'_>,
+    calls: &[ChainCall<'_>],
+    state: &FlightState,
+    look: WaitingLook,
+) -> Result<Option<FlightState>, NoMemory>
+    ensures leads { IfOk result (λ next. IfSome next (λ next. LeadsByCall (rules_of_log log.now)
+        (flight_view (runs_of_calls calls.now) state.now) (length calls.now + 1) []
+        (flight_view (runs_of_calls calls.now ++ [] ∷ []) next))) }
+    ensures waiting { IfOk result (λ next. IfSome next (λ next.
+        AreFewer (state.now.waiting.items ++ look ∷ []) next.waiting.items)) }
+{
+    let alloc = log.setting.alloc;
+    let mut answered = Vec::new(alloc);
+    let call = look_call();
+    let Some(next) = called_state(log, calls, state, &call, &mut answered)? else {
+        return Ok(None);
+    };
+    let mut looks = Vec::from_slice(alloc, &state.waiting)?;
+    looks.push(look)?;
+    let waiting = still_waiting(log, &next.slots, &looks)?;
+    Ok(Some(FlightState {
+        slots: next.slots,
+        base: next.base,
+        chains: next.chains,
+        removed: next.removed,
+        waiting,
     }))
 }
 
@@ -223,12 +339,30 @@ pub(crate) fn trimmed(
     let slots = state.slots.copy(alloc)?;
     let chains = Vec::from_slice(alloc, &state.chains[count..])?;
     let removed = Vec::from_slice(alloc, &state.removed)?;
+    let waiting = Vec::from_slice(alloc, &state.waiting)?;
     Ok(FlightState {
         slots,
         base: state.base + count,
         chains,
         removed,
+        waiting,
     })
+}
+
+/// Returns where the answer of a look leads: it waits no more.
+pub(crate) fn answered_state(
+    alloc: Global,
+    calls: &[ChainCall<'_>],
+    state: &FlightState,
+    id: u32,
+) -> Result<FlightState, NoMemory>
+    ensures { IfOk result (λ next. LeadsByAnswer (flight_view (runs_of_calls calls.now) state.now)
+        (flight_view (runs_of_calls calls.now) next)) }
+{
+    let waiting = without_look(alloc, &state.waiting, id)?;
+    let mut next = trimmed(alloc, calls, state)?;
+    next.waiting = waiting;
+    Ok(next)
 }
 
 /// Returns where the close of a file leads.
@@ -243,14 +377,17 @@ pub(crate) fn closed_state(
     ensures chains { IfOk result (λ next. next.chains.items ≡ state.now.chains.items) }
     ensures removed { IfOk result (λ next.
         AreWithout state.now.removed.items file next.removed.items) }
+    ensures waiting { IfOk result (λ next. next.waiting.items ≡ state.now.waiting.items) }
 {
     let slots = state.slots.copy(alloc)?;
     let chains = Vec::from_slice(alloc, &state.chains)?;
     let removed = without(alloc, &state.removed, file)?;
+    let waiting = Vec::from_slice(alloc, &state.waiting)?;
     Ok(FlightState {
         slots,
         base: state.base,
         chains,
         removed,
+        waiting,
     })
 }

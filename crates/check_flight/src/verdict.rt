@@ -9,8 +9,8 @@ ghost use Rattle.check_flight.specs.States.{HasNoFlight};
 ghost use Rattle.check_flight.specs.declared.verdict.FlightVerdict.TheVariants.{Faulty, Legal, NotLegal};
 
 use crate::judged::JudgedLog;
-use crate::log::positions;
 use crate::player::is_flight;
+use crate::positions::positions_in;
 use crate::propose::propose;
 use crate::refute::{first_state, push_call, refute};
 use check_search::Limits;
@@ -36,8 +36,8 @@ pub enum FlightVerdict {
     Undecided,
 }
 
-// Returns the largest number of states at an event. A slot of a state takes 40 bytes, and its
-// numbers in the key up to 48.
+// Returns the largest number of states at an event, and of those that a search goes back over. A
+// slot of a state takes 40 bytes, and its numbers in the key up to 48.
 fn room_for(slots: &Slots, limits: Limits) -> usize {
     let weight = slots.at.len().saturating_mul(88).saturating_add(768);
     limits
@@ -80,7 +80,7 @@ fn refuted_beginning(
     Ok(Some(high))
 }
 
-// Checks whether the log has a flight, by a search of at most `most` states.
+// Checks whether the log has a flight, by a search that goes back over at most `most` states.
 fn has_flight(
     alloc: Global,
     catalogue: &Catalogue,
@@ -101,7 +101,7 @@ fn has_flight(
             size: slots.at.len() as u32,
         },
         events,
-        answers: positions(alloc, events)?,
+        positions: positions_in(alloc, events)?,
     };
     let mut calls = Vec::new(alloc);
     for event in events {
@@ -128,7 +128,7 @@ fn lacks_memory(events: &[LogEvent]) -> bool {
 }
 
 /// Judges the events of a log whose table has these slots at first: its size is constant, and no
-/// file of it is closed. A log with a look, or with an answer -12, is undecided.
+/// file of it is closed. A log with an answer -12 is undecided.
 ///
 /// # Errors
 /// `NoMemory` if an allocation fails.

@@ -115,15 +115,15 @@ module _ (catalogue : List FileEntry) (size : ℕ) where
       let tail : x.3 ≡ front ++ c ∷ rest = cc (x.5, is) in
       let done : IsRequestDone catalogue size place request.operation x.0 d = rw same at x.6 in
       let count : length (d ∷ front) + 1 ≡ suc (length front + 1) = omega arith in
-      let behind : (own : List Access) × (others : List Access) × (x.1 ≡ own ++ others)
+      let parted : (own : List Access) × (others : List Access) × (x.1 ≡ own ++ others)
       × MatchBool (severs request d) ((own ≡ []) × (front ++ c ∷ [] ≡ canceled (next_member place) (take (length front + 1) requests)))
       (IsChainDone catalogue size (next_member place) (take (length front + 1) requests) own (front ++ c ∷ [])) =
       parts (severs request d) (rw same at x.7)
       (λ y. (y.0, canceled_part (next_member place) requests front c rest (sym y.1 ∙ tail)))
       (λ y. part_done (next_member place) requests x.1 x.3 front c rest y tail) in
       rw count (
-        x.0 ++ behind.0,
-        behind.1,
-        x.4 ∙ (ap (λ l. x.0 ++ l) behind.2 ∙ sym (append_assoc x.0 behind.0 behind.1)),
-        (x.0, behind.0, d, front ++ c ∷ [], refl, refl, done, behind.3),
+        x.0 ++ parted.0,
+        parted.1,
+        x.4 ∙ (ap (λ l. x.0 ++ l) parted.2 ∙ sym (append_assoc x.0 parted.0 parted.1)),
+        (x.0, parted.0, d, front ++ c ∷ [], refl, refl, done, parted.3),
       )

@@ -4,7 +4,7 @@ use Rattle.fx_flight.proofs.Words.{◌≡◌, ◌⊎◌, ℕ, ◌+◌, ◌<◌, 
 use Rattle.fx_flight.proofs.Words.{append_assoc, append-nil, length-append, Option, ⊎_elim, Contains}
 use Rattle.fx_flight.proofs.Words.{Contains-append_left, Contains-append_right, contains_cases, contains_none, contains_tail}
 use Rattle.fx_flight.proofs.Words.{Identity, Asked, IsChainDone, Access, Happening, Called, Answered}
-use Rattle.fx_flight.proofs.Words.{LookCalled, LookAnswered, Moment, Logged, Accesses, FlightSetting, WasLogged, log_of, made_by, table_behind}
+use Rattle.fx_flight.proofs.Words.{LookCalled, LookAnswered, Moment, Logged, Accesses, FlightSetting, WasLogged, log_of, made_by, table_left_by}
 use Rattle.fx_flight.proofs.Words.{IsBegun, MayAccess, MayFollow, IsFlight}
 use Rattle.fx_flight.proofs.Beginnings.{earlier_part}
 use Rattle.fx_flight.proofs.Chains.{answer_place, same_length}
@@ -57,10 +57,10 @@ same_size table (Takes slot removed) = refl
 same_size table (Allocates slot file) = refl
 same_size table FindsFull = refl
 
-pub size_stays : (table : Table) (flight : List Moment) → (table_behind table flight).size ≡ table.size
+pub size_stays : (table : Table) (flight : List Moment) → (table_left_by table flight).size ≡ table.size
 size_stays table [] = refl
 size_stays table (Logged e ∷ flight) = size_stays table flight
-size_stays table (Accesses x ∷ flight) = same_size (table_behind table flight) x.access ∙ size_stays table flight
+size_stays table (Accesses x ∷ flight) = same_size (table_left_by table flight) x.access ∙ size_stays table flight
 
 -- the flight before an event, and what the event needs there
 pub record Seen (s : FlightSetting) (flight : List Moment) (e : Happening) : Type 0 where
@@ -85,8 +85,8 @@ reach between after m before parts here =
     ∙ sym (append_assoc between (after ++ m ∷ []) before ∙ ap (λ l. between ++ l) (append_assoc after (m ∷ []) before)))
 
 -- an event of its beginning is in the flight
-lift : (flight behind before : List Moment) (d : Happening) → flight ≡ behind ++ before → WasLogged before d → WasLogged flight d
-lift flight behind before d parts h = rw parts (Contains-append_right behind before (Logged d) h)
+lift : (flight newer before : List Moment) (d : Happening) → flight ≡ newer ++ before → WasLogged before d → WasLogged flight d
+lift flight newer before d parts h = rw parts (Contains-append_right newer before (Logged d) h)
 
 module _ (s : FlightSetting) where
   -- the access is of a call that was called before
@@ -143,10 +143,10 @@ module _ (s : FlightSetting) where
         let answered : WasLogged rest (Answered id c) = all_at (λ d. WasLogged rest (Answered id d)) front c (rw whole at all) in
         let moment : Seen s rest (Answered id c) = seen s rest (Answered id c) is answered in
         let (own_requests, own_there, member) = moment.may in
-        let behind : List Moment = between ++ (moment.after ++ Logged (Answered id c) ∷ []) in
-        let reaches : flight ≡ behind ++ moment.before = reach between moment.after (Logged (Answered id c)) moment.before parts moment.parts in
+        let newer : List Moment = between ++ (moment.after ++ Logged (Answered id c) ∷ []) in
+        let reaches : flight ≡ newer ++ moment.before = reach between moment.after (Logged (Answered id c)) moment.before parts moment.parts in
         let lifted : WasLogged flight (Called id own_requests) =
-        lift flight behind moment.before (Called id own_requests) reaches own_there in
+        lift flight newer moment.before (Called id own_requests) reaches own_there in
         let same_call : Called id own_requests ≡ Called id (request ∷ requests) = one (Called id own_requests) (Called id (request ∷ requests)) lifted there refl refl in
         let same : own_requests ≡ request ∷ requests = cc in
         let place = answer_place s.old.catalogue s.old.size (s.first id) (request ∷ requests) _ (s.answers id) front c [] done whole in
@@ -160,8 +160,8 @@ module _ (s : FlightSetting) where
         let answers : member.earlier ++ c ∷ [] ≡ s.answers id = sym (member.answer ∙ ap (λ l. member.earlier ++ c ∷ l) none) in
         let mine : IsChainDone s.old.catalogue s.old.size (s.first id) (request ∷ requests) member.own (s.answers id) = rw (all_of, answers) at member.done in
         let made = same_length s.old.catalogue s.old.size (s.first id) (request ∷ requests) member.own accesses (s.answers id) mine done in
-        let third = ap length (ap (made_by id) reaches ∙ made_by-parts id behind moment.before)
-        ∙ length-append (made_by id moment.before) (made_by id behind) in
+        let third = ap length (ap (made_by id) reaches ∙ made_by-parts id newer moment.before)
+        ∙ length-append (made_by id moment.before) (made_by id newer) in
         let fourth = ap length member.accesses ∙ length-append member.own member.others in
         omega arith
 
@@ -187,21 +187,21 @@ module _ (s : FlightSetting) where
     look_over flight one between parts is found answered slot there none inside =
         let moment : Seen s rest (LookAnswered id found) = seen s rest (LookAnswered id found) is answered in
         let (own_slot, own_there, done, unclosed) = moment.may in
-        let behind : List Moment = between ++ (moment.after ++ Logged (LookAnswered id found) ∷ []) in
-        let reaches : flight ≡ behind ++ moment.before = reach between moment.after (Logged (LookAnswered id found)) moment.before parts moment.parts in
+        let newer : List Moment = between ++ (moment.after ++ Logged (LookAnswered id found) ∷ []) in
+        let reaches : flight ≡ newer ++ moment.before = reach between moment.after (Logged (LookAnswered id found)) moment.before parts moment.parts in
         let lifted : WasLogged flight (LookCalled id own_slot) =
-        lift flight behind moment.before (LookCalled id own_slot) reaches own_there in
+        lift flight newer moment.before (LookCalled id own_slot) reaches own_there in
         let same_call : LookCalled id own_slot ≡ LookCalled id slot = one (LookCalled id own_slot) (LookCalled id slot) lifted there refl refl in
         let same : own_slot ≡ slot = cc in
-        let count : length (made_by id moment.before) + length (made_by id behind) ≡ 0 =
-        sym (ap length (ap (made_by id) reaches ∙ made_by-parts id behind moment.before)
-        ∙ length-append (made_by id moment.before) (made_by id behind)) ∙ ap length none in
+        let count : length (made_by id moment.before) + length (made_by id newer) ≡ 0 =
+        sym (ap length (ap (made_by id) reaches ∙ made_by-parts id newer moment.before)
+        ∙ length-append (made_by id moment.before) (made_by id newer)) ∙ ap length none in
         either_way {R = ⊥} (nat_le s.old.size own_slot) (λ past y. let low = leb-true s.old.size own_slot past in omega arith)
         (λ _ y. let some = ap length y in omega arith) done
 
     -- so a call that is over makes no further access
     further : (later : List Moment) → IsOne (later ++ rest) → IsFlight s (later ++ rest) → IsAllOver s rest id → (a : Access)
-        → MayAccess s (later ++ rest) id a → Permits (table_behind (table_of s.old) (later ++ rest)) a → ⊥
+        → MayAccess s (later ++ rest) id a → Permits (table_left_by (table_of s.old) (later ++ rest)) a → ⊥
     further later one is (inl over) a (inl next) permits =
         chain_over (later ++ rest) one later refl (earlier_part s later rest is) over.2 next.0 next.1 a next.2.0 next.2.1
     further later one is (inl over) a (inr next) permits =
@@ -210,13 +210,13 @@ module _ (s : FlightSetting) where
         cc
     further later one is (inr over) a (inl next) permits =
         let moment : Seen s rest (LookAnswered id over.0) = seen s rest (LookAnswered id over.0) (earlier_part s later rest is) over.1 in
-        let behind : List Moment = later ++ (moment.after ++ Logged (LookAnswered id over.0) ∷ []) in
-        let lifted = lift (later ++ rest) behind moment.before (LookCalled id moment.may.0)
+        let newer : List Moment = later ++ (moment.after ++ Logged (LookAnswered id over.0) ∷ []) in
+        let lifted = lift (later ++ rest) newer moment.before (LookCalled id moment.may.0)
         (reach later moment.after (Logged (LookAnswered id over.0)) moment.before refl moment.parts) moment.may.1 in
         let same : LookCalled id moment.may.0 ≡ Called id next.0 = one (LookCalled id moment.may.0) (Called id next.0) lifted next.1 refl refl in
         cc
     further later one is (inr over) a (inr next) permits =
-        let may : Permits (table_behind (table_of s.old) (later ++ rest)) (Looks next.0 next.1) = rw next.4 at permits in
+        let may : Permits (table_left_by (table_of s.old) (later ++ rest)) (Looks next.0 next.1) = rw next.4 at permits in
         let size = size_stays (table_of s.old) (later ++ rest) in
         look_over (later ++ rest) one later refl (earlier_part s later rest is) over.0 over.1 next.0 next.2 next.3 (omega (arith, may.0, size))
 

@@ -5,7 +5,7 @@ use Rattle.fx_flight.proofs.Words.{append_assoc, append-nil, Some, ⊎_elim, Con
 use Rattle.fx_flight.proofs.Words.{Contains-append_left, Contains-append_right, contains_cases, contains_head, contains_none, contains_tail}
 use Rattle.fx_flight.proofs.Words.{Identity, Completed, Asked, IsChainDone, Access, ChainAccess, RingState, Happening, Called, Answered}
 use Rattle.fx_flight.proofs.Words.{LookAnswered, FileClosed, AllSettled, Moment, Logged, Accesses, FlightSetting, WasLogged, log_of}
-use Rattle.fx_flight.proofs.Words.{made_by, taken_in, table_behind, MayAccess, MayFollow, IsFlight, HasFlight, first_member}
+use Rattle.fx_flight.proofs.Words.{made_by, taken_in, table_left_by, MayAccess, MayFollow, IsFlight, HasFlight, first_member}
 use Rattle.fx_flight.proofs.Chains.{answer_chain, part_done}
 use Rattle.fx_flight.specs.Laws.{answer_of_chain, calls_of, log_of_submission}
 use Rattle.fx_base.specs.Catalogue.{FileEntry}
@@ -48,7 +48,7 @@ made_by-logging : (id : ℕ) (es : List Happening) (flight : List Moment) → ma
 made_by-logging id [] flight = refl
 made_by-logging id (e ∷ es) flight = made_by-logging id es (Logged e ∷ flight)
 
-table-logging : (es : List Happening) (flight : List Moment) (table : Table) → table_behind table (logging es flight) ≡ table_behind table flight
+table-logging : (es : List Happening) (flight : List Moment) (table : Table) → table_left_by table (logging es flight) ≡ table_left_by table flight
 table-logging [] flight table = refl
 table-logging (e ∷ es) flight table = table-logging es (Logged e ∷ flight) table
 
@@ -255,7 +255,7 @@ module _ (old : RingState) (requests : List Asked) (report : Reported) (order : 
   -- the accesses, in their order
   made_all : (front xs : List ChainAccess) (flight : List Moment) → order ≡ front ++ xs
       → ((id : ℕ) → made_by id flight ≡ accesses_of_chain id front)
-      → PermitsAll (table_behind (table_of old) flight) (accesses_of xs)
+      → PermitsAll (table_left_by (table_of old) flight) (accesses_of xs)
       → ((x : ChainAccess) → Contains xs x → (1 ≤ x.chain) × (x.chain ≤ length runs))
       → ((e : Happening) → Contains (calls_of 1 runs) e → WasLogged flight e)
       → IsFlight setting flight → IsFlight setting (making xs flight)

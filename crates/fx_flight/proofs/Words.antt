@@ -6,7 +6,7 @@ pub use Rattle.fx_chain.specs.Operation.{Asked}
 pub use Rattle.fx_chain.specs.declared.completion.Place.{Place}
 pub use Rattle.fx_flight.specs.Events.{AllSettled, Answered, Called, FileClosed, Freed, Happening, LookAnswered, LookCalled}
 pub use Rattle.fx_flight.specs.Flight.{Accesses, HasFlight, IsBegun, IsFlight, IsLegalLog, IsMemberDone, MayAccess, Logged, MayCome, MayFollow, Moment}
-pub use Rattle.fx_flight.specs.Flight.{FlightSetting, WasLogged, log_of, made_by, taken_in, table_behind}
+pub use Rattle.fx_flight.specs.Flight.{FlightSetting, WasLogged, log_of, made_by, taken_in, table_left_by}
 pub use Rattle.fx_order.specs.Requests.{IsChainDone, IsRequestDone}
 pub use Rattle.fx_order.specs.declared.access.Access.{Access}
 pub use Rattle.fx_order.specs.declared.access.ChainAccess.{ChainAccess}

@@ -34,10 +34,10 @@ log_of (Logged event ∷ flight) = log_of flight ++ event ∷ []
 log_of (Accesses x ∷ flight) = log_of flight
 
 -- the table after a flight's accesses
-abbrev pub table_behind : Table → List Moment → Table
-table_behind table [] = table
-table_behind table (Logged event ∷ flight) = table_behind table flight
-table_behind table (Accesses x ∷ flight) = table_with (table_behind table flight) x.access
+abbrev pub table_left_by : Table → List Moment → Table
+table_left_by table [] = table
+table_left_by table (Logged event ∷ flight) = table_left_by table flight
+table_left_by table (Accesses x ∷ flight) = table_with (table_left_by table flight) x.access
 
 -- the accesses of a call, the oldest first
 abbrev pub made_by : ℕ → List Moment → List Access
@@ -129,7 +129,7 @@ MayFollow s flight AllSettled =
 abbrev pub MayCome : FlightSetting → List Moment → Moment → Type 0
 MayCome s flight (Logged event) = MayFollow s flight event
 MayCome s flight (Accesses x) =
-    Permits (table_behind (table_of s.old) flight) x.access × MayAccess s flight x.chain x.access
+    Permits (table_left_by (table_of s.old) flight) x.access × MayAccess s flight x.chain x.access
 
 -- each moment may come after those before it
 abbrev pub IsFlight : FlightSetting → List Moment → Type 0

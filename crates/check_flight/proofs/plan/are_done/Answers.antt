@@ -4,7 +4,7 @@ use Rattle.fx_chain.specs.Accepted.{members_of}
 use Rattle.fx_chain.specs.Completed.{all_completed}
 use Rattle.fx_chain.specs.Operation.{all_asked, asked_of}
 use Rattle.fx_chain.specs.declared.chain.Chain.{Chain}
-use Rattle.check_flight.proofs.Playing.{one_chain, one_done}
+use Rattle.check_flight.proofs.Moves.{one_chain, one_done}
 use Rattle.check_flight.proofs.plan.are_done.Goals as goal
 
 abbrev no_chain : Chain

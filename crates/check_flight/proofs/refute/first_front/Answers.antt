@@ -7,4 +7,5 @@ returns c = IfOk-weaker c.with.result _ _ (λ front is. record {
   only = is;
   table = c.in_ok-state.ensures.table;
   removed = c.in_ok-state.ensures.removed;
+  waiting = c.in_ok-state.ensures.waiting;
 }) c.with.ensures

@@ -16,6 +16,7 @@ returns-clause-leads c =
       base = state.base;
       chains = with_item c.in_ok-chains.chains c.args.j c.in_ok-after.after;
       removed = c.in_ok-removed.removed;
+      waiting = c.in_ok-waiting.waiting;
     } in
     stepped (runs_of_calls c.args.calls.now) state next refl refl found.3.0 (sym (found.3.1 not_begun))
     (ap (λ l. slice_set l c.args.j c.in_ok-after.after) (c.in_ok-chains.ensures.items ∙ c.deref-2.ensures.value)) c.members_at-own.ensures.run
@@ -23,3 +24,4 @@ returns-clause-leads c =
     (c.make.ensures ∙ ap (λ table. table_with table c.args.access.now) c.in_ok-slots.ensures)
     (are_with state.removed.items c.in_ok-removed.removed.items (file_removed_by c.args.access.now)
     (rw c.deref-3.ensures.value at c.in_ok-removed.ensures))
+    (rw c.deref-4.ensures.value at c.in_ok-waiting.ensures)

@@ -15,8 +15,10 @@ returns c =
       base = state.base + count;
       chains = c.in_ok-chains.chains;
       removed = c.in_ok-removed.removed;
+      waiting = c.in_ok-waiting.waiting;
     } in
     without_first (runs_of_calls c.args.calls.now) state count c.count_over-count.ensures.over next c.in_ok-slots.ensures refl
     (c.in_ok-chains.ensures.items
     ∙ take_all (length c.deref.result.now - count) (drop count c.deref.result.now) (omega (arith, length-drop count c.deref.result.now))
     ∙ ap (drop count) c.deref.ensures.value) (c.in_ok-removed.ensures.items ∙ c.deref-2.ensures.value)
+    (c.in_ok-waiting.ensures.items ∙ c.deref-3.ensures.value)

@@ -1,8 +1,8 @@
 use Rattle.check_flight.proofs.Words.{◌-◌, ◌<◌, ◌∙◌, ap, arith, length, sym}
 use Rattle.check_outcomes.proofs.Words.{IfOk-weaker, get_or-map, length-map}
 use Rattle.fx_chain.specs.Completed.{completed_of}
-use Rattle.check_flight.proofs.Playing.{member_done}
-use Rattle.check_flight.proofs.player.is_member_played.Goals as goal
+use Rattle.check_flight.proofs.Moves.{member_done}
+use Rattle.check_flight.proofs.made.is_member_made.Goals as goal
 
 pub returns : goal.returns
 returns c =
@@ -17,8 +17,8 @@ returns c =
       answer = get_or-map completed_of answers (m - 1) c.index.result.now (completed_of c.args.c.now) few
           ∙ (ap completed_of (sym c.index.ensures) ∙ c.is_same_answer.ensures c.if-not-is_same_answer.false);
       own = c.accesses_made-own.result;
-      few = c.if-own-call.false;
-      done = member_done c.args.log.now plan c.args.call.now c.args.c.now.place.submission m c.accesses_made-own.result c.deref-2.result.now
+      few = c.if-own-made.false;
+      done = member_done c.args.log.now plan c.args.requests.now c.args.c.now.place.submission m c.accesses_made-own.result c.deref-2.result.now
           c.deref.result.now (omega (arith, c.if-m-eq0.false)) c.deref-2.ensures.value c.deref.ensures.value (done it);
     })
     c.are_done.ensures

@@ -1,0 +1,137 @@
+-- A flight that the player makes move by move.
+use Rattle.std.specs.Prelude.{◌≡◌, ◌⊎◌, ℕ, ◌+◌, ◌*◌, ◌-◌, ◌%◌, ◌<◌, ◌≤◌, true, List, [], ◌∷◌}
+use Rattle.std.specs.Prelude.{length, map, take, slice_index_or, nat_eq, Contains, Option, Some}
+use Rattle.indexmap.specs.IndexSet.{IndexSet, contains}
+use Rattle.fx_base.specs.Identity.{Identity}
+use Rattle.fx_base.specs.declared.mark.Mark.{Mark}
+use Rattle.fx_base.specs.declared.mark.Mark.TheVariants.{Registered, Submitted}
+use Rattle.fx_chain.specs.Completed.{Completed, all_completed}
+use Rattle.fx_chain.specs.Operation.{Asked, all_asked}
+use Rattle.fx_ring.specs.Ring.{RingState}
+use Rattle.fx_order.specs.Order.{table_of}
+use Rattle.fx_order.specs.Requests.{IsChainDone}
+use Rattle.fx_order.specs.Slots.{table_of_slots}
+use Rattle.fx_order.specs.declared.access.Access.{Access}
+use Rattle.fx_order.specs.declared.access.Access.TheVariants.{Looks}
+use Rattle.fx_flight.specs.Events.{Happening, Called, LookCalled, LookAnswered, Freed, FileClosed}
+use Rattle.fx_flight.specs.Events.{first_of_call}
+use Rattle.fx_flight.specs.Flight.{IsFlight, IsLookDone, Moment, WasLogged, log_of, made_by}
+use Rattle.fx_flight.specs.Flight.{table_left_by, taken_in}
+use Rattle.check_flight.specs.Judged.{catalogue_in}
+use Rattle.check_flight.specs.States.{setting_of}
+use Rattle.check_flight.specs.declared.hold.HeldFile.{HeldFile}
+use Rattle.check_flight.specs.declared.judged.JudgedLog.{JudgedLog}
+use Rattle.check_flight.specs.declared.plan.CallPlan.{CallPlan}
+use Rattle.check_flight.specs.declared.player.CallKind.{CallKind}
+use Rattle.check_flight.specs.declared.player.CallKind.TheVariants.{Chain, Look}
+use Rattle.check_flight.specs.declared.player.FlightPlayer.{FlightPlayer}
+use Rattle.check_flight.specs.declared.player.FlightCall.{FlightCall}
+
+abbrev pub answers_of_plan : CallPlan → List Completed
+answers_of_plan plan = all_completed plan.answers.items
+
+abbrev pub accesses_of_plan : CallPlan → List Access
+accesses_of_plan plan = plan.accesses.items
+
+-- what each call answers in the end, by its number
+abbrev pub answers_in : List CallPlan → ℕ → List Completed
+answers_in plans id = slice_index_or (map answers_of_plan plans) (id - 1) []
+
+-- the accesses that each call makes in the end
+abbrev pub accesses_in : List CallPlan → ℕ → List Access
+accesses_in plans id = slice_index_or (map accesses_of_plan plans) (id - 1) []
+
+-- the requests of a call are done by these accesses, with these answers
+abbrev pub IsCallDone : JudgedLog → ℕ → List Asked → List Access → List Completed → Type 0
+IsCallDone log id requests accesses answers =
+    IsChainDone (catalogue_in log) log.setting.size (first_of_call id) requests accesses answers
+
+-- a member of a call has this answer, and has made its accesses
+pub record IsMemberMade (log : JudgedLog) (plan : CallPlan) (requests : List Asked) (made id : ℕ)
+    (c : Completed) : Type 0 where
+  -- its position among the members, from 0
+  pub at : ℕ
+  pub inside : at < length (answers_of_plan plan)
+  pub answer : slice_index_or (answers_of_plan plan) at c ≡ c
+  -- the number of accesses that it and those before it have made
+  pub own : ℕ
+  pub few : own ≤ made
+  pub done : IsCallDone log id (take (at + 1) requests)
+      (take own plan.accesses.items) (take (at + 1) (answers_of_plan plan))
+
+-- a look of a slot makes one access, or none
+abbrev pub IsLookPlan : ℕ → List Access → Type 0
+IsLookPlan slot accesses =
+    (accesses ≡ []) ⊎ ((found : Option Identity) × (accesses ≡ Looks slot found ∷ []))
+
+-- the call was logged, and its plan fits it
+abbrev pub IsCallLogged : JudgedLog → List CallPlan → List Moment → ℕ → CallKind → Type 0
+IsCallLogged log plans flight id (Chain requests) =
+    WasLogged flight (Called id (all_asked requests.now))
+    × IsCallDone log id (all_asked requests.now) (accesses_in plans id) (answers_in plans id)
+IsCallLogged log plans flight id (Look slot) =
+    WasLogged flight (LookCalled id slot) × IsLookPlan slot (accesses_in plans id)
+
+-- a call of a flight has made as many of its accesses as the player counts
+pub record IsCallMade (log : JudgedLog) (plans : List CallPlan) (flight : List Moment) (id : ℕ)
+    (call : FlightCall) : Type 0 where
+  pub logged : IsCallLogged log plans flight id call.kind
+  pub made : made_by id flight ≡ take call.made (accesses_in plans id)
+
+-- a number of a file, by its mark
+abbrev pub mark_number : Mark → ℕ
+mark_number (Registered k i) = 35184372088832 + i
+mark_number (Submitted submission chain member entry) =
+    submission * 4096 + (member % 64 * 64 + entry % 64)
+
+abbrev pub file_number : Identity → ℕ
+file_number file = mark_number file.mark
+
+-- the number of the file is one of these
+abbrev pub IsMarked : {S : Type 0} → IndexSet ℕ S → Identity → Type 0
+IsMarked closed file = contains nat_eq closed (file_number file) ≡ true
+
+-- the player has made a flight of these events
+pub record HasMadeFlight (old : RingState) (log : JudgedLog) (plans : List CallPlan)
+    (read : List Happening) (player : FlightPlayer) : Type 0 where
+  pub flight : List Moment
+  pub is : IsFlight (setting_of old (answers_in plans)) flight
+  pub logged : log_of flight ≡ read
+  pub table : table_of_slots player.slots ≡ table_left_by (table_of old) flight
+  pub calls : (k : ℕ) (d : FlightCall) → k < length player.calls.items
+      → IsCallMade log plans flight (k + 1) (slice_index_or player.calls.items k d)
+  pub unmade : (id : ℕ) → length player.calls.items < id → made_by id flight ≡ []
+  pub taken : (file : Identity) → Contains (taken_in flight) file
+      → Contains player.removed.items file ⊎ WasLogged flight (FileClosed file)
+  pub removed : (file : Identity) → Contains player.removed.items file
+      → Contains (taken_in flight) file × (WasLogged flight (FileClosed file) → ⊥)
+  pub closed : (file : Identity) → WasLogged flight (FileClosed file)
+      → IsMarked player.closed file
+  pub holds : (id : ℕ) (file : Identity) → WasLogged flight (LookAnswered id (Some file))
+      → Contains player.holds.items (record { id = id; file = file })
+      ⊎ WasLogged flight (Freed id)
+
+-- the answer of a look is what its access found, and the file isn't closed
+pub record IsLookAnswered (log : JudgedLog) (plans : List CallPlan) (player : FlightPlayer) (id : ℕ)
+    (found : Option Identity) : Type 0 where
+  -- its position among the calls, from 0
+  pub at : ℕ
+  pub is : id ≡ at + 1
+  pub inside : at < length player.calls.items
+  pub slot : ℕ
+  pub call : FlightCall
+  pub here : slice_index_or player.calls.items at call ≡ call
+  pub kind : call.kind ≡ Look slot
+  pub done : IsLookDone log.setting.size slot (take call.made (accesses_in plans id)) found
+  pub unclosed : (file : Identity) → found ≡ Some file → IsMarked player.closed file → ⊥
+
+-- the ring has the catalogue and the size by which a log is judged
+pub record IsRingOf (old : RingState) (log : JudgedLog) : Type 0 where
+  pub catalogue : old.catalogue ≡ catalogue_in log
+  pub size : old.size ≡ log.setting.size
+
+-- a flight of these events follows, whatever flight the player had made
+abbrev pub MovesOn : JudgedLog → List CallPlan → List Happening → FlightPlayer → List Happening
+    → FlightPlayer → Type 0
+MovesOn log plans read player more next = (old : RingState) → IsRingOf old log
+    → HasMadeFlight old log plans read player → HasMadeFlight old log plans more next

@@ -1,0 +1,102 @@
+//! What the calls of a flight have made: whether an answer, or what a look found, is that of the
+//! accesses so far.
+ghost use Rattle.std.specs.Prelude.{◌≡◌, Contains, IfOk, IsTrue, take};
+ghost use Rattle.fx_chain.specs.Completed.{completed_of};
+ghost use Rattle.fx_chain.specs.Operation.{all_asked};
+ghost use Rattle.fx_flight.specs.Flight.{IsLookDone};
+ghost use Rattle.check_flight.specs.Player.{IsLookPlan, IsMemberMade};
+
+use crate::judged::JudgedLog;
+use crate::plan::{CallPlan, are_done};
+use fx_base::{Closed, Errno, NoMemory};
+use fx_chain::{Completion, Request, count_of};
+use fx_order::Access;
+
+/// Checks whether a file is in a list.
+pub(crate) fn has_file(files: &[Closed], file: Closed) -> bool
+    ensures { IsTrue result → Contains files.now file }
+{
+    files.contains(&file)
+}
+
+// Returns the number of accesses that the first members of a call make that have these answers. A
+// hint.
+fn accesses_made(log: &JudgedLog<'_>, requests: &[Request], answers: &[Completion]) -> usize {
+    let setting = &log.setting;
+    let mut count: usize = 0;
+    for (request, c) in requests.iter().zip(answers) {
+        if c.res != -Errno::ECANCELED.code() {
+            count = count.saturating_add(count_of(setting.catalogue, setting.size, request));
+        }
+    }
+    count
+}
+
+// Checks whether both answers are the same.
+fn is_same_answer(one: &Completion, other: &Completion) -> bool
+    ensures { IsTrue result → completed_of one.now ≡ completed_of other.now }
+{
+    one.is_answer(other.place, other.res, &other.got)
+}
+
+/// Checks whether an answer is that of a member of a call, and the member has made its accesses.
+pub(crate) fn is_member_made(
+    log: &JudgedLog<'_>,
+    plan: &CallPlan,
+    requests: &[Request],
+    made: usize,
+    c: &Completion,
+) -> Result<bool, NoMemory>
+    ensures { IfOk result (λ yes. IsTrue yes → IsMemberMade log.now plan.now
+        (all_asked requests.now) made c.now.place.submission (completed_of c.now)) }
+{
+    let m = c.place.member as usize;
+    if m == 0 || m > plan.answers.len() || m > requests.len() {
+        return Ok(false);
+    }
+    if !is_same_answer(&plan.answers[m - 1], c) {
+        return Ok(false);
+    }
+    let (requests, answers) = (&requests[..m], &plan.answers[..m]);
+    let own = accesses_made(log, requests, answers);
+    if own > made || own > plan.accesses.len() {
+        return Ok(false);
+    }
+    are_done(
+        log,
+        c.place.submission,
+        requests,
+        &plan.accesses[..own],
+        answers,
+    )
+}
+
+/// Checks whether a look of a slot may make these accesses: one of the slot, or none.
+pub(crate) fn is_look_plan(slot: u32, accesses: &[Access]) -> bool
+    ensures { IsTrue result → IsLookPlan slot accesses.now }
+{
+    match accesses {
+        [] => true,
+        [Access::Looks(at, _)] => *at == slot,
+        _ => false,
+    }
+}
+
+/// Checks whether a look that made the first accesses found a file, or none.
+pub(crate) fn is_look_made(
+    size: u32,
+    slot: u32,
+    accesses: &[Access],
+    made: usize,
+    found: Option<Closed>,
+) -> bool
+    ensures { IsTrue result → IsLookDone size slot (take made accesses.now) found }
+{
+    if slot >= size {
+        return made == 0 && found.is_none();
+    }
+    match accesses {
+        [Access::Looks(at, file)] => *at == slot && *file == found && made == 1,
+        _ => false,
+    }
+}
