@@ -295,7 +295,7 @@ def _array(kind: type[Any], data: bytearray) -> tuple[Any, int]:
 
 def judge_events(log: yachtlog.Log, events: Sequence[yachtlog.Event] | None = None, states: int = STATES, memory: int = MEMORY) -> LogVerdict:
     """Decides whether a log of calls in flight that yachtlog has read is legal, by searches of at most `states` states and `memory` MiB. Its
-    events are those of the log, without its tags, or others of the same calls. A log with a look, or with an answer -12, is undecided.
+    events are those of the log, without its tags, or others of the same calls. A log with an answer -12 is undecided.
 
     Raises BadEvent if an event has a fault, or says what no call can; BadScript if its files aren't a catalogue; NoMemory if an allocation
     fails; TypeError or ValueError if a limit is none; and ValueError if two files have one name, or the table has too many slots."""

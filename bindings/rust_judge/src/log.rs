@@ -87,7 +87,7 @@ pub enum LogVerdict {
         /// The position of the event, from 0.
         at: usize,
     },
-    /// Neither was shown within the limits, or the log has a look or an answer -12.
+    /// Neither was shown within the limits, or the log has an answer -12.
     Undecided,
 }
 
