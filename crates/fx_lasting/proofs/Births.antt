@@ -133,7 +133,6 @@ module _ (turn : Turn) where
             stepped = tells_less turn (read_before turn (Searching e.0) v.glance r.history x.front) refl carried carried refl e.1.0;
             carried = refl;
           };
-          front = ap (λ (l : List Log). (first_log l).front) (sym one);
           block = subst (λ (p : ℕ). IsInBlock v.start p e.0) (sym (ap (λ (l : List Log). (first_log l).number) one)) e.1.2;
           here = λ is. ap (word_of v.start) (sym (e.1.3 is));
           other = λ not_so same. e.1.4 not_so (omega arith);

@@ -1,4 +1,4 @@
--- A pass that has no file: it does nothing, or it has chosen the node of its next file.
+-- A pass that has no file: it does nothing, or it has found a free node.
 use Rattle.fx_lasting.proofs.Words.{◌≡◌, ℕ, ap, ⊎_elim, None, Work, Idle, Searching, HasNoFile, HoldAgrees, held_in, taking}
 use Rattle.fx_lasting.proofs.Frames.{busy}
 

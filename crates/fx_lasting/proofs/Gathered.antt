@@ -86,7 +86,7 @@ module _ {id : TableId} (k : Start) {p : ℕ} (low : 1 ≤ p) (high : p ≤ k.pa
     record {
       seated = seated;
       calm = ap (λ (m : Sat). m.0.glance) me;
-      knows = subst (IsBetweenCalls k.passes x.idle x.guarded x.next_visit x.next_node) (sym (ap (λ (m : Sat). m.0.work) me)) new.flag;
+      knows = subst (IsBetweenCalls k.passes x.idle x.guarded x.next_visit) (sym (ap (λ (m : Sat). m.0.work) me)) new.flag;
       front = rw me record { legal = legal; mine = refl };
     },
     ap (λ (m : Sat). record (pass_of m.0) { numbers_left = 0 }) me,

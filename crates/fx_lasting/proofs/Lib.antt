@@ -47,6 +47,5 @@ pub mod Skimming
 pub mod Rounds
 pub mod WordBounds
 pub mod Holds
-pub mod Choices
 pub mod Showing
 pub mod WholeHistory

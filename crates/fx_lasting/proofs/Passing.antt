@@ -11,7 +11,6 @@ use Rattle.fx_table.specs.Calls.{Use, no_use, one_number, one_look, Adds, IsNewF
 use Rattle.fx_table.proofs.Calls.{adds_then, adds_nothing}
 use Rattle.fx_lasting.proofs.Words.{new_round, LooksByTake, LetsMarkGo, Announced, first_visit, heat_in, cond, inl, inr}
 use Rattle.fx_table.specs.Opening.{Opening}
-use Rattle.fx_table.specs.declared.limits.TheConstants.{PASS_LOOKS}
 use Rattle.fx_table.specs.Pass.{PassView, IsIdle, IsFileRemoval}
 use Rattle.fx_table.specs.declared.values.Doing.{Doing}
 use Rattle.fx_table.specs.declared.values.Doing.TheVariants.{Idle as DoesNothing, Holding, Retiring as Retires}
@@ -21,7 +20,7 @@ use Rattle.fx_table.specs.declared.values.LookFault.{LookFault}
 use Rattle.fx_table.specs.declared.values.LookFault.TheVariants.{Spent, Empty as EmptySlot}
 use Rattle.fx_table.specs.declared.values.Retired.{Retired}
 use Rattle.fx_lasting.proofs.Running.{runs_one, runs_then, turns_then, does_then, still_at_work, number_is, at_listed}
-use Rattle.fx_lasting.proofs.Words.{dite, dec_le, lt-ltb, IsIdleSeatOf, HasNoFile, Searching, is_in, account, uncounted, group_of, ⊎_elim}
+use Rattle.fx_lasting.proofs.Words.{dite, dec_le, lt-ltb, IsIdleSeatOf, HasNoFile, Searching, is_in, account, uncounted, group_of}
 
 -- the changes that a seat's steps make to its view
 pub adds_run : (m : Sat) {k : Start} → m.0.start ≡ k → {m' : Sat} {xs : List Action} {w : Work} {g : Glance} {c : Change} {n : ℕ} → Runs m xs w g c n m'
@@ -64,11 +63,11 @@ module _ {id : TableId} {k : Start} {p : LastingPass} (seated : IsSeatOf id k p)
 
   pub still_pass : (q : LastingPass) {xs : List Action} {w : Work} {n : ℕ} → Runs p.seat.me xs w Nothing Outside n q.seat.me
       → (q.number ≡ p.number) × ◌≡◌ {A = Bool × Bool} (q.listed, q.sure) (p.listed, p.sure) → q.seat.table_id ≡ p.seat.table_id → q.seat.me.1 ≡ []
-      → IsInBlock k q.number q.next_node → IsBetweenCalls k.passes q.idle q.guarded q.next_visit q.next_node w → IsPassOf id k q
+      → IsInBlock k q.number q.next_node → IsBetweenCalls k.passes q.idle q.guarded q.next_visit w → IsPassOf id k q
   still_pass q r same table places block knows = record {
     seated = still_seat q r same table places block;
     calm = r.glance;
-    knows = subst (IsBetweenCalls k.passes q.idle q.guarded q.next_visit q.next_node) (sym r.work) knows;
+    knows = subst (IsBetweenCalls k.passes q.idle q.guarded q.next_visit) (sym r.work) knows;
     front = (adds_so r no_use).front;
   }
 
@@ -94,25 +93,6 @@ module _ {id : TableId} {k : Start} {p : LastingPass} (seated : IsSeatOf id k p)
     sure = λ is. r.asked ∙ seated.sure (sym (ap (λ (z : Bool × Bool). z.1) same.1) ∙ is);
   }
 
--- a pass that has no file does nothing for its caller
-pub does_nothing : {w : Work} → HasNoFile w → DoesNothing ≡ doing_in w
-does_nothing free_of = ⊎_elim (λ i. sym (ap doing_in i)) (λ z. sym (ap doing_in z.1)) free_of
-
--- a pass that has seen no more
-pub same_view : (p : LastingPass) {m' : Sat} {w : Work} {g : Glance} {c : Change} {n : ℕ} → Runs p.seat.me [] w g c n m'
-    → (pass_in m').front ≡ (pass_in p.seat.me).front → doing_in w ≡ (view_of p).doing → pass_of m'.0 ≡ view_of p
-same_view p {m'} r front same = λ i. record {
-  number = r.number i;
-  front = front i;
-  own = part_of_pass (r.number i) (front i);
-  chain = 0;
-  drawn = [];
-  no_chains_left = false;
-  numbers_left = numbers_of_pass (r.start i).installing (r.number i);
-  looks_left = PASS_LOOKS;
-  doing = (ap doing_in r.work ∙ same) i;
-}
-
 -- a pass that looks nothing up, outside a change
 pub at_rest : {id : TableId} {k : Start} {p : LastingPass} → IsPassOf id k p → {m' : Sat} {xs : List Action} {w : Work} {n : ℕ}
     → Runs p.seat.me xs w p.seat.me.0.glance p.seat.me.0.change n m' → Runs p.seat.me xs w Nothing Outside n m'
@@ -125,8 +105,8 @@ IsToRetire passes visit f retired w = (w ≡ Retiring f retired.node retired.tak
     × ((visit ≡ 1) ⊎ (visit ≡ passes + 1))
 
 -- The work of a pass between two calls, by its activity
-module _ (passes visit next : ℕ) (idle guarded : Bool) where
-  work_idle : (w : Work) → IsBetweenCalls passes idle guarded visit next w → doing_in w ≡ DoesNothing → HasNoFile w
+module _ (passes visit : ℕ) (idle guarded : Bool) where
+  work_idle : (w : Work) → IsBetweenCalls passes idle guarded visit w → doing_in w ≡ DoesNothing → HasNoFile w
   work_idle Idle knows is = inl refl
   work_idle (Searching n) knows is = inr (n, refl)
   work_idle (Counted f n) knows is = absurd (cc is)
@@ -134,24 +114,16 @@ module _ (passes visit next : ℕ) (idle guarded : Bool) where
   work_idle (Retiring f n t nx m) knows is = absurd (cc is)
   work_idle _ knows is = absurd knows
 
-  work_flag : (w : Work) → IsBetweenCalls passes idle guarded visit next w → doing_in w ≡ DoesNothing → idle ≡ true
+  work_flag : (w : Work) → IsBetweenCalls passes idle guarded visit w → doing_in w ≡ DoesNothing → idle ≡ true
   work_flag Idle knows is = knows
-  work_flag (Searching n) knows is = knows.0
+  work_flag (Searching n) knows is = knows
   work_flag (Counted f n) knows is = absurd (cc is)
   work_flag (Guarded f n) knows is = absurd (cc is)
   work_flag (Retiring f n t nx m) knows is = absurd (cc is)
   work_flag _ knows is = absurd knows
 
-  work_flagged : (w : Work) → IsBetweenCalls passes idle guarded visit next w → idle ≡ true → HasNoFile w
-  work_flagged Idle knows is = inl refl
-  work_flagged (Searching n) knows is = inr (n, refl)
-  work_flagged (Counted f n) knows is = let bad : true ≡ false = sym is ∙ knows.0 in absurd (cc bad)
-  work_flagged (Guarded f n) knows is = let bad : true ≡ false = sym is ∙ knows.0 in absurd (cc bad)
-  work_flagged (Retiring f n t nx m) knows is = let bad : true ≡ false = sym is ∙ knows.0 in absurd (cc bad)
-  work_flagged _ knows is = absurd knows
-
   module _ (f : File) (hold : Hold) where
-    work_guarded : (w : Work) → IsBetweenCalls passes idle guarded visit next w → doing_in w ≡ Holding f hold → guarded ≡ true → w ≡ Guarded f hold.node
+    work_guarded : (w : Work) → IsBetweenCalls passes idle guarded visit w → doing_in w ≡ Holding f hold → guarded ≡ true → w ≡ Guarded f hold.node
     work_guarded Idle knows is guards = absurd (cc is)
     work_guarded (Searching n) knows is guards = absurd (cc is)
     work_guarded (Counted g n) knows is guards = let bad : false ≡ true = sym knows.1 ∙ guards in absurd (cc bad)
@@ -160,7 +132,7 @@ module _ (passes visit next : ℕ) (idle guarded : Bool) where
     work_guarded (Retiring g n t nx m) knows is guards = absurd (cc is)
     work_guarded _ knows is guards = absurd knows
 
-    work_counted : (w : Work) → IsBetweenCalls passes idle guarded visit next w → doing_in w ≡ Holding f hold → guarded ≡ false → w ≡ Counted f hold.node
+    work_counted : (w : Work) → IsBetweenCalls passes idle guarded visit w → doing_in w ≡ Holding f hold → guarded ≡ false → w ≡ Counted f hold.node
     work_counted Idle knows is guards = absurd (cc is)
     work_counted (Searching n) knows is guards = absurd (cc is)
     work_counted (Counted g n) knows is guards = let same : g ≡ f = cc is in let value : hold_at g n ≡ hold = cc is in
@@ -169,7 +141,7 @@ module _ (passes visit next : ℕ) (idle guarded : Bool) where
     work_counted (Retiring g n t nx m) knows is guards = absurd (cc is)
     work_counted _ knows is guards = absurd knows
 
-  work_retiring : (f : File) (retired : Retired) (w : Work) → IsBetweenCalls passes idle guarded visit next w → doing_in w ≡ Retires f retired
+  work_retiring : (f : File) (retired : Retired) (w : Work) → IsBetweenCalls passes idle guarded visit w → doing_in w ≡ Retires f retired
       → IsToRetire passes visit f retired w
   work_retiring f retired Idle knows is = absurd (cc is)
   work_retiring f retired (Searching n) knows is = absurd (cc is)
@@ -184,27 +156,20 @@ module _ (passes visit next : ℕ) (idle guarded : Bool) where
 
 module _ {id : TableId} {k : Start} {p : LastingPass} (fits : IsPassOf id k p) where
   pub its_idle : IsIdle (view_of p) → HasNoFile p.seat.me.0.work
-  its_idle = work_idle k.passes p.next_visit p.next_node p.idle p.guarded p.seat.me.0.work fits.knows
-
-  pub its_no_file : p.idle ≡ true → HasNoFile p.seat.me.0.work
-  its_no_file = work_flagged k.passes p.next_visit p.next_node p.idle p.guarded p.seat.me.0.work fits.knows
-
-  -- the node that it has chosen, if it has
-  pub its_choice : (node : ℕ) → p.seat.me.0.work ≡ Searching node → p.next_node ≡ node
-  its_choice node is = (subst (IsBetweenCalls k.passes p.idle p.guarded p.next_visit p.next_node) is fits.knows).1
+  its_idle = work_idle k.passes p.next_visit p.idle p.guarded p.seat.me.0.work fits.knows
 
   pub its_flag : IsIdle (view_of p) → p.idle ≡ true
-  its_flag = work_flag k.passes p.next_visit p.next_node p.idle p.guarded p.seat.me.0.work fits.knows
+  its_flag = work_flag k.passes p.next_visit p.idle p.guarded p.seat.me.0.work fits.knows
 
   pub its_guarded : {f : File} {hold : Hold} → (view_of p).doing ≡ Holding f hold → p.guarded ≡ true → p.seat.me.0.work ≡ Guarded f hold.node
-  its_guarded {f} {hold} = work_guarded k.passes p.next_visit p.next_node p.idle p.guarded f hold p.seat.me.0.work fits.knows
+  its_guarded {f} {hold} = work_guarded k.passes p.next_visit p.idle p.guarded f hold p.seat.me.0.work fits.knows
 
   pub its_counted : {f : File} {hold : Hold} → (view_of p).doing ≡ Holding f hold → p.guarded ≡ false → p.seat.me.0.work ≡ Counted f hold.node
-  its_counted {f} {hold} = work_counted k.passes p.next_visit p.next_node p.idle p.guarded f hold p.seat.me.0.work fits.knows
+  its_counted {f} {hold} = work_counted k.passes p.next_visit p.idle p.guarded f hold p.seat.me.0.work fits.knows
 
   pub its_retiring : {f : File} {retired : Retired} → (view_of p).doing ≡ Retires f retired
       → IsToRetire k.passes p.next_visit f retired p.seat.me.0.work
-  its_retiring {f} {retired} = work_retiring k.passes p.next_visit p.next_node p.idle p.guarded f retired p.seat.me.0.work fits.knows
+  its_retiring {f} {retired} = work_retiring k.passes p.next_visit p.idle p.guarded f retired p.seat.me.0.work fits.knows
 
 -- a step between a begin and an end, if there are such
 pub goes_around : {m m' m'' m₃ : Sat} {action : Action} {w w' : Work} {g : Glance} {c c' : Change} → Runs m [] w g c 3 m'
@@ -277,11 +242,11 @@ module _ {id : TableId} {k : Start} {p : LastingPass} (seated : IsSeatOf id k p)
   looked_so (Err EmptySlot) t = adds_so seated t one_look
 
   -- it is one run of steps, and the pass knows how it ended
-  pub took_run : (r : Result Hold LookFault) → LooksByTake slot p.seat.me r m' → (idle : Bool) → is_err r ≡ idle → (passes visit next : ℕ)
-      → (xs : List Action) × (w : Work) × Runs p.seat.me xs w Nothing p.seat.me.0.change 2 m' × IsBetweenCalls passes idle false visit next w
-  took_run (Ok hold) t idle is passes visit next = ([] ▷ Look slot (Some t.0), Counted t.0 hold.node, t.2, (sym is, refl))
-  took_run (Err Spent) t idle is passes visit next = absurd t
-  took_run (Err EmptySlot) t idle is passes visit next = ([] ▷ Look slot None, Idle, t, sym is)
+  pub took_run : (r : Result Hold LookFault) → LooksByTake slot p.seat.me r m' → (idle : Bool) → is_err r ≡ idle → (passes visit : ℕ)
+      → (xs : List Action) × (w : Work) × Runs p.seat.me xs w Nothing p.seat.me.0.change 2 m' × IsBetweenCalls passes idle false visit w
+  took_run (Ok hold) t idle is passes visit = ([] ▷ Look slot (Some t.0), Counted t.0 hold.node, t.2, (sym is, refl))
+  took_run (Err Spent) t idle is passes visit = absurd t
+  took_run (Err EmptySlot) t idle is passes visit = ([] ▷ Look slot None, Idle, t, sym is)
 
   pub never_spent : (r : Result Hold LookFault) → LooksByTake slot p.seat.me r m' → r ≢ Err Spent
   never_spent (Ok hold) t is = cc is
@@ -339,11 +304,11 @@ marks_run m m' n None lets = ([], lets)
 marks_run m m' n (Some file) lets = ([] ▷ Close lets.0, lets.2)
 
 -- a removal, and a pass that knows of it
-pub knows_removed : (k : Start) (found : ℕ) (file : Option File) (removed : Option Retired) (idle guarded : Bool) (visit next : ℕ)
+pub knows_removed : (k : Start) (found : ℕ) (file : Option File) (removed : Option Retired) (idle guarded : Bool) (visit : ℕ)
     → removed ≡ option_map (λ (f : File). retired_at f (name_in found - 1) (count_in found)) file → is_some removed ≡ not idle
-    → visit ≡ first_visit k.passes found → IsBetweenCalls k.passes idle guarded visit next (retiring_work k found file)
-knows_removed k found None removed idle guarded visit next is says first = not-false idle (sym says ∙ ap is_some is)
-knows_removed k found (Some f) removed idle guarded visit next is says first = (
+    → visit ≡ first_visit k.passes found → IsBetweenCalls k.passes idle guarded visit (retiring_work k found file)
+knows_removed k found None removed idle guarded visit is says first = not-false idle (sym says ∙ ap is_some is)
+knows_removed k found (Some f) removed idle guarded visit is says first = (
   not-true idle (sym says ∙ ap is_some is),
   ap new_round (sym first),
   refl,

@@ -1,5 +1,5 @@
 -- A pass that asks whether the range is full: what its steps leave, one after another.
-use Rattle.fx_lasting.proofs.Words.{◌≡◌, ℕ, ◌+◌, [], ◌▷◌, Full, subst, Bool, true, false, Sat, Work, Glance, Change, Runs, Survey, Covered, as_asked, sym, ◌∙◌, refl, ap}
+use Rattle.fx_lasting.proofs.Words.{◌≡◌, ℕ, ◌+◌, [], ◌▷◌, Full, subst, Bool, true, false, Sat, Work, Glance, Change, Runs, Survey, Covered, as_asked, sym, ◌∙◌, ap}
 use Rattle.fx_lasting.proofs.Words.{IsAtWork, Start, LastingTable, LastingPass, IsPassOfTable, IsBetweenCalls, groups_in, range_at_start, opening_of}
 use Rattle.fx_lasting.proofs.Words.{view_of, Option, Closed, View, List, Action, arith, HasQuestionOf, pass_in}
 use Rattle.atomic_table.specs.declared.shared.Seat.{Seat}
@@ -80,7 +80,7 @@ module _ (t : LastingTable) {p : LastingPass} (fits : IsPassOfTable t p) (seat :
         sure = λ is. run.asked ∙ its is;
       };
       calm = run.glance ∙ fits.calm;
-      knows = subst (IsBetweenCalls k.passes p.idle p.guarded p.next_visit p.next_node) (sym run.work) fits.knows;
+      knows = subst (IsBetweenCalls k.passes p.idle p.guarded p.next_visit) (sym run.work) fits.knows;
       front = adds.front;
     }
 
@@ -88,15 +88,11 @@ module _ (t : LastingTable) {p : LastingPass} (fits : IsPassOfTable t p) (seat :
   has_asked true tells = let same : groups_in t.range_len ≡ groups_in (range_at_start k).1 = ap (λ (z : ℕ × ℕ). groups_in z.1) t.same_range in record {
     fits = still_fits (Covered (groups_in t.range_len)) tells true (λ _. ap Covered same);
     adds = adds (Covered (groups_in t.range_len)) tells true (λ _. ap Covered same);
-    work = tells.work;
-    next = refl;
     steps = tells.steps;
   }
   has_asked false tells = record {
     fits = still_fits tells.0 tells.1 false (λ is. absurd (cc is));
     adds = adds tells.0 tells.1 false (λ is. absurd (cc is));
-    work = tells.1.work;
-    next = refl;
     steps = tells.1.steps;
   }
 
@@ -105,8 +101,6 @@ pub has_not_asked : (t : LastingTable) {p : LastingPass} → IsPassOfTable t p �
 has_not_asked t {p} fits = record {
   fits = fits;
   adds = adds_nothing (opening_of t.table.shared.key) (view_of p) fits.front;
-  work = refl;
-  next = refl;
   steps = omega arith;
 }
 

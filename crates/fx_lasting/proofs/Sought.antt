@@ -14,9 +14,6 @@ IsAhead start len count node e = ((node ≡ start + count) × ((e < start) ⊎ (
 pub record Sought (k : Start) (p len start count node : ℕ) (m m' : Sat) : Type 0 where
   pub inside : IsInBlock k p node
   pub before : count ≡ 0 → (node ≡ start) × (m' ≡ m)
-  -- a pass that has chosen a node finds it by its first load, and sees no more of the history
-  pub first_load : (n : ℕ) → m.0.work ≡ Searching n → (count ≡ 0) × (start ≡ n)
-  pub front : (pass_in m').front ≡ (pass_in m).front
   pub free : 0 < count → (e : ℕ) × IsInBlock k p e × IsAhead start len count node e × Runs m [] (Searching e) m.0.glance m.0.change count m'
 
 -- the node after one of a block
@@ -95,9 +92,6 @@ module _ {k : Start} {p len start count node : ℕ} {m m' : Sat} (at : IsAtWork 
     pub sought_here : found ≡ 0 → Runs m [] (Searching node) m.0.glance m.0.change (count + 1) m''
     sought_here is = let same = did.here is in runs_on (omega (arith, same, same_place))
 
-    pub front_kept : (pass_in m'').front ≡ (pass_in m).front
-    front_kept = did.front ∙ so_far.front
-
     -- another one is
     pub sought_more : {first : ℕ} → found ≢ 0 → first ≡ block_start (slots_of k) k.passes p → len ≡ block_for (slots_of k) k.passes
         → IsInBlock k p start → count < len → Sought k p len start (count + 1) (next_of first len node) m m''
@@ -123,8 +117,5 @@ module _ {k : Start} {p len start count node : ℕ} {m m' : Sat} (at : IsAtWork 
         record {
           inside = (omega (arith, is, next_l), omega (arith, is, long, next_h));
           before = λ bad. absurd (omega arith);
-          first_load = λ n chosen. let f = so_far.first_load n chosen in let b = so_far.before f.0 in
-              let stays = did.stays n (ap (λ (z : Sat). z.0.work) b.1 ∙ chosen) not_so in absurd (other (stays ∙ (sym f.1 ∙ sym b.0)));
-          front = front_kept;
           free = λ _. (did.node, its_block, ahead_next low high node_low node_high e_low e_high other more ahead, runs_on refl);
         }

@@ -33,7 +33,7 @@ without_first v = record v { logs = drop 1 v.logs }
 abbrev pub first_alone : View → View
 first_alone v = record v { logs = take 1 v.logs }
 
--- a view with the passes of another: each keeps its own front, and none has chosen a node
+-- a view with the passes of another: each keeps its own front, and none has found a node
 abbrev pub together : View → View → View
 together v w = record v { logs = v.logs ++ w.logs; work = Idle }
 

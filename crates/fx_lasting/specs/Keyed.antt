@@ -12,11 +12,10 @@ use Rattle.fx_table.specs.declared.values.Doing.TheVariants.{Idle as DoesNothing
 use Rattle.fx_table.specs.declared.values.Doing.TheVariants.{Retiring as Retires}
 use Rattle.fx_words.specs.Words.{name_in}
 use Rattle.fx_lasting.specs.Agrees.{Names}
-use Rattle.fx_lasting.specs.Choices.{UsesChoice, KeepsChoice}
 use Rattle.fx_lasting.specs.Ends.{Does}
 use Rattle.fx_lasting.specs.Passes.{Sat, node_of_number, state_after_all}
 use Rattle.fx_lasting.specs.Runs.{Runs}
-use Rattle.fx_lasting.specs.Tables.{opening_of, view_of}
+use Rattle.fx_lasting.specs.Tables.{opening_of}
 use Rattle.fx_lasting.specs.Tells.{pass_in, retiring_work}
 use Rattle.fx_lasting.specs.declared.answers.Miss.{Miss}
 use Rattle.fx_lasting.specs.declared.answers.Miss.TheVariants.{Empty, Other, Again}
@@ -24,7 +23,6 @@ use Rattle.fx_lasting.specs.declared.answers.PutIf.{PutIf}
 use Rattle.fx_lasting.specs.declared.answers.PutIf.TheVariants as put
 use Rattle.fx_lasting.specs.declared.answers.TakenIf.{TakenIf}
 use Rattle.fx_lasting.specs.declared.answers.TakenIf.TheVariants.{Removed, Missed}
-use Rattle.fx_lasting.specs.declared.pass.LastingPass.{LastingPass}
 use Rattle.fx_lasting.specs.declared.view.Change.TheVariants.{Outside}
 use Rattle.fx_lasting.specs.declared.view.Start.{Start}
 
@@ -66,11 +64,6 @@ HasPutIf k v slot node file (put.Replaced x) w = (new : File) × (f : File) × (
     × Adds (opening_of k) v ([] ▷ Put slot new (Some f)) (Retires f x) one_number w
 HasPutIf k v slot node file (put.Missed miss back) w =
     (back ≡ file) × HasMissed k v slot node miss w
-
--- a file that was placed is on the node that the pass had chosen; otherwise the choice stays
-abbrev pub PutsIfChoice : Start → LastingPass → PutIf → LastingPass → Type 0
-PutsIfChoice k p (put.Replaced x) p' = UsesChoice k p (view_of p')
-PutsIfChoice k p (put.Missed miss back) p' = KeepsChoice p p'
 
 -- a call tries no more only after four tries, each of which is a step
 abbrev pub HasTriedIf : Miss → ℕ → ℕ → Type 0

@@ -13,7 +13,6 @@ pub mod Cuts
 pub mod Laws
 pub mod Bounds
 pub mod Holds
-pub mod Choices
 pub mod WholeHistory
 pub mod Opens
 pub mod AtWork

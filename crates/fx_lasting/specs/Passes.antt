@@ -99,7 +99,7 @@ held_in (Guarded f node) = Some f
 held_in (Yielding f node) = Some f
 held_in _ = None
 
--- the pass does nothing, or has chosen the node of its next file
+-- the pass does nothing, or has found a free node
 abbrev pub HasNoFile : Work → Type 0
 HasNoFile w = (w ≡ Idle) ⊎ ((node : ℕ) × (w ≡ Searching node))
 

@@ -1,5 +1,5 @@
 -- A pass that asks whether the allocation range is full.
-use Rattle.std.specs.Prelude.{◌≡◌, ℕ, ◌+◌, ◌≤◌, Bool, true, false, [], if◌then◌else◌}
+use Rattle.std.specs.Prelude.{ℕ, ◌+◌, ◌≤◌, Bool, true, false, [], if◌then◌else◌}
 use Rattle.fx_plain.specs.History.{◌▷◌}
 use Rattle.fx_plain.specs.declared.event.Action.TheVariants.{Full}
 use Rattle.fx_table.specs.Calls.{Adds, no_use}
@@ -34,6 +34,4 @@ pub record HasAsked (t : LastingTable) (most : ℕ) (p : LastingPass) (sure : Bo
   pub fits : IsPassOfTable t p'
   pub adds : Adds (opening_of_table t) (view_of p) (if sure then [] ▷ Full else [])
       (view_of p).doing no_use (view_of p')
-  pub work : p'.seat.me.0.work ≡ p.seat.me.0.work
-  pub next : p'.next_node ≡ p.next_node
   pub steps : steps_taken p' ≤ steps_taken p + most

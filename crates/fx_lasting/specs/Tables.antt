@@ -78,17 +78,17 @@ view_of p = pass_of p.seat.me.0
 abbrev pub steps_taken : LastingPass → ℕ
 steps_taken p = (first_log p.seat.me.0.logs).steps
 
--- between two calls a pass is idle, has chosen the node of its next file, holds a file by a take or
+-- between two calls a pass is idle, maybe with a free node that it found, holds a file by a take or
 -- by its hold word, or has one to retire and has visited no hold word yet; its fields say which
-abbrev pub IsBetweenCalls : ℕ → Bool → Bool → ℕ → ℕ → Work → Type 0
-IsBetweenCalls passes idle guarded visit next Idle = idle ≡ true
-IsBetweenCalls passes idle guarded visit next (Searching node) = (idle ≡ true) × (next ≡ node)
-IsBetweenCalls passes idle guarded visit next (Counted f node) = (idle ≡ false) × (guarded ≡ false)
-IsBetweenCalls passes idle guarded visit next (Guarded f node) = (idle ≡ false) × (guarded ≡ true)
-IsBetweenCalls passes idle guarded visit next (Retiring f node takes round marks) =
+abbrev pub IsBetweenCalls : ℕ → Bool → Bool → ℕ → Work → Type 0
+IsBetweenCalls passes idle guarded visit Idle = idle ≡ true
+IsBetweenCalls passes idle guarded visit (Searching node) = idle ≡ true
+IsBetweenCalls passes idle guarded visit (Counted f node) = (idle ≡ false) × (guarded ≡ false)
+IsBetweenCalls passes idle guarded visit (Guarded f node) = (idle ≡ false) × (guarded ≡ true)
+IsBetweenCalls passes idle guarded visit (Retiring f node takes round marks) =
     (idle ≡ false) × (round ≡ new_round visit) × (marks ≡ 0) × (takes < 2 ^ 21)
     × ((visit ≡ 1) ⊎ (visit ≡ passes + 1))
-IsBetweenCalls passes idle guarded visit next _ = ⊥
+IsBetweenCalls passes idle guarded visit _ = ⊥
 
 -- a seat of the table, with one pass that has no place, and on whose account no group's word counts
 -- a slot too few
@@ -106,8 +106,7 @@ pub record IsSeatOf (id : TableId) (k : Start) (p : LastingPass) : Type 0 where
 pub record IsPassOf (id : TableId) (k : Start) (p : LastingPass) : Type 0 where
   pub seated : IsSeatOf id k p
   pub calm : p.seat.me.0.glance ≡ Nothing
-  pub knows : IsBetweenCalls k.passes p.idle p.guarded p.next_visit p.next_node
-      p.seat.me.0.work
+  pub knows : IsBetweenCalls k.passes p.idle p.guarded p.next_visit p.seat.me.0.work
   pub front : IsFront (opening_of k) (pass_of p.seat.me.0)
 
 -- the opening of the table

@@ -199,7 +199,6 @@ pub record LettingGo (st : At) (m : Sat) (found : ℕ) (m' : Sat) : Type 0 where
 pub record Seeks (st : At) (m : Sat) (found : ℕ) (m' : Sat) : Type 0 where
   pub node : ℕ
   pub goes : Goes m [] (Searching node) m.0.glance m'
-  pub front : (pass_in m').front ≡ (pass_in m).front
   pub block : IsInBlock m.0.start (pass_in m).number node
   pub here : found ≡ 0 → st.word ≡ word_of m.0.start node
   pub other : found ≢ 0 → st.word ≢ word_of m.0.start node
@@ -210,7 +209,7 @@ pub record Births (st : At) (m : Sat) (found : ℕ) (m' : Sat) : Type 0 where
   pub goes : (node : ℕ) → m.0.work ≡ Searching node
       → Stepped m [] (Placing node) m.0.glance m.0.change m' × (m'.1 ≡ (node, None) ∷ m.1)
 
--- what a pass does after a rest: a node that it placed in vain is free, and still its choice
+-- what a pass does after a rest: a node that it placed in vain is free
 abbrev pub rested : Work → Work
 rested (Placing node) = Searching node
 rested _ = Idle

@@ -9,15 +9,13 @@ use Rattle.fx_table.specs.Calls.{Adds, IsNewFile, no_use, one_number}
 use Rattle.fx_table.specs.Opening.{Opening}
 use Rattle.fx_table.specs.Pass.{PassView}
 use Rattle.fx_table.specs.declared.values.Doing.TheVariants.{Idle as DoesNothing}
-use Rattle.fx_lasting.specs.Choices.{UsesChoice, KeepsChoice}
 use Rattle.fx_lasting.specs.Ends.{Does}
 use Rattle.fx_lasting.specs.Keyed.{WasSo}
 use Rattle.fx_lasting.specs.Passes.{Sat}
-use Rattle.fx_lasting.specs.Tables.{opening_of, view_of}
+use Rattle.fx_lasting.specs.Tables.{opening_of}
 use Rattle.fx_lasting.specs.Tells.{pass_in}
 use Rattle.fx_lasting.specs.declared.answers.PutEmpty.{PutEmpty}
 use Rattle.fx_lasting.specs.declared.answers.PutEmpty.TheVariants.{Installed, HasFile, Lost}
-use Rattle.fx_lasting.specs.declared.pass.LastingPass.{LastingPass}
 use Rattle.fx_lasting.specs.declared.view.Start.{Start}
 
 -- a slot with this content has a file, or has none
@@ -42,11 +40,6 @@ HasPutEmpty k v slot file Installed w = (new : File) × IsNewFile (opening_of k)
     × Adds (opening_of k) v ([] ▷ Allocate slot new) DoesNothing one_number w
 HasPutEmpty k v slot file (HasFile back) w = (back ≡ file) × PutsNothing k v slot true w
 HasPutEmpty k v slot file (Lost back) w = (back ≡ file) × PutsNothing k v slot false w
-
--- a file that was installed is on the node that the pass had chosen; otherwise the choice stays
-abbrev pub PutsEmptyChoice : Start → LastingPass → PutEmpty → LastingPass → Type 0
-PutsEmptyChoice k p Installed p' = UsesChoice k p (view_of p')
-PutsEmptyChoice k p _ p' = KeepsChoice p p'
 
 -- every slot of the range had a file at a step of the call, or nothing was done
 abbrev pub TellsFull : Opening → PassView → Bool → PassView → Type 0

@@ -8,7 +8,6 @@ ghost use Rattle.fx_table.specs.Opening.{size_of};
 ghost use Rattle.fx_table.specs.Pass.{IsIdle, IsHoldOf, IsRetiredOf};
 ghost use Rattle.fx_table.specs.declared.values.LookFault.TheVariants.{Spent};
 ghost use Rattle.fx_words.specs.Words.{name_in};
-ghost use Rattle.fx_lasting.specs.Choices.{UsesChoice};
 ghost use Rattle.fx_lasting.specs.Layout.{block_for};
 ghost use Rattle.fx_lasting.specs.Parts.{count_in};
 ghost use Rattle.fx_lasting.specs.Tables.{view_of, steps_taken, retired_at, opening_of_table, IsPassOfTable, IsSeatOfTable};
@@ -158,10 +157,9 @@ impl LastingTable {
     }
 
     /// Installs a file at a slot below `size`, under a number that no file has had, for an idle
-    /// pass (`is_idle`) that installs files (`numbers_left`), on the node that it has chosen, if it
-    /// has (`next_node`). It makes at most three atomic steps more than the pass's block has nodes.
-    /// Returns the file that it replaced, to be retired, or `None` (io_uring_prep_openat(3),
-    /// `io_uring_prep_openat_direct`).
+    /// pass (`is_idle`) that installs files (`numbers_left`). It makes at most three atomic steps
+    /// more than the pass's block has nodes. Returns the file that it replaced, to be retired, or
+    /// `None` (io_uring_prep_openat(3), `io_uring_prep_openat_direct`).
     #[inline(always)]
     pub fn put(&self, pass: &mut LastingPass, slot: u32, file: OpenFile) -> Option<Retired>
         requires fits { IsPassOfTable self.now pass.old }
@@ -171,7 +169,6 @@ impl LastingTable {
         ensures fits { IsPassOfTable self.now pass.new }
         ensures placed { Placed (opening_of_table self.now) (view_of pass.old) slot file result
             (view_of pass.new) }
-        ensures used { UsesChoice self.now.table.shared.key pass.old (view_of pass.new) }
         ensures steps { let block = block_for self.now.size self.now.passes in
             steps_taken pass.new ≤ steps_taken pass.old + (block + 3) }
     {

@@ -11,7 +11,7 @@ ghost use Rattle.fx_table.specs.Opening.{size_of};
 ghost use Rattle.fx_table.specs.Pass.{IsIdle};
 ghost use Rattle.fx_words.specs.Words.{entry_in, name_in};
 ghost use Rattle.fx_lasting.specs.AtWork.{IsAtWork};
-ghost use Rattle.fx_lasting.specs.Keyed.{HasPutIf, HasTakenIf, PutsIfChoice, SawIf, SaysIf, TriedReplace, TriedTake, TriesPut, TriesTake};
+ghost use Rattle.fx_lasting.specs.Keyed.{HasPutIf, HasTakenIf, SawIf, SaysIf, TriedReplace, TriedTake, TriesPut, TriesTake};
 ghost use Rattle.fx_lasting.specs.Laws.{IsOffCount};
 ghost use Rattle.fx_lasting.specs.Layout.{block_for};
 ghost use Rattle.fx_lasting.specs.Parts.{count_in};
@@ -69,10 +69,9 @@ impl LastingTable {
 
     /// Installs a file at a slot below `size`, in place of a file that is on this node, under a
     /// number that no file has had, for an idle pass (`is_idle`) that installs files
-    /// (`numbers_left`), on the node that it has chosen, if it has (`next_node`). It makes at most
-    /// seven atomic steps more than the pass's block has nodes (io_uring_prep_openat(3),
-    /// `io_uring_prep_openat_direct`). The file that was there is to be retired. Otherwise nothing
-    /// changes, and the new file comes back.
+    /// (`numbers_left`). It makes at most seven atomic steps more than the pass's block has nodes
+    /// (io_uring_prep_openat(3), `io_uring_prep_openat_direct`). The file that was there is to be
+    /// retired. Otherwise nothing changes, and the new file comes back.
     pub fn put_if(&self, pass: &mut LastingPass, slot: u32, node: u32, file: OpenFile) -> PutIf
         requires fits { IsPassOfTable self.now pass.old }
         requires idle { IsIdle (view_of pass.old) }
@@ -81,7 +80,6 @@ impl LastingTable {
         ensures fits { IsPassOfTable self.now pass.new }
         ensures placed { HasPutIf self.now.table.shared.key (view_of pass.old) slot node file result
             (view_of pass.new) }
-        ensures used { PutsIfChoice self.now.table.shared.key pass.old result pass.new }
         ensures tries { TriesPut result (steps_taken pass.old) (steps_taken pass.new) }
         ensures steps { let block = block_for self.now.size self.now.passes in
             steps_taken pass.new ≤ steps_taken pass.old + (block + 7) }

@@ -3,7 +3,6 @@
 ghost use Rattle.std.specs.Prelude.{◌≡◌, ◌≤◌, ℕ};
 ghost use Rattle.fx_words.specs.Words.{last_node};
 ghost use Rattle.fx_lasting.specs.Bounds.{WordsAreBounded};
-ghost use Rattle.fx_lasting.specs.Choices.{ChosenNodesAreFree};
 ghost use Rattle.fx_lasting.specs.Holds.{NodesAreOfOneFile, HeldNodesNameFiles};
 ghost use Rattle.fx_lasting.specs.Layout.{PlacesAreInside, PlacesAreApart};
 ghost use Rattle.fx_lasting.specs.Opens.{OpeningKeeps};
@@ -248,13 +247,6 @@ pub fn nodes_are_of_one_file()
 /// the held file or nothing.
 pub fn held_nodes_name_files()
     ensures { HeldNodesNameFiles }
-{}
-
-/// While the rule holds, the node that a pass has chosen for its next file
-/// (`LastingTable::next_node`) is free: its word is 0, no slot's word names it, it is that of no
-/// file that is at a slot, held, or removed and not closed. No other pass has chosen it.
-pub fn chosen_nodes_are_free()
-    ensures { ChosenNodesAreFree }
 {}
 
 /// While the rule holds, one legal history is that of all passes: what a pass has seen is a

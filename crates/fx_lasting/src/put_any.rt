@@ -3,7 +3,6 @@ ghost use Rattle.std.specs.Prelude.{◌≡◌, ℕ, ◌+◌, ◌*◌, ◌<◌, �
 ghost use Rattle.fx_table.specs.Calls.{Allocated};
 ghost use Rattle.fx_table.specs.Pass.{IsIdle};
 ghost use Rattle.fx_lasting.specs.AtWork.{IsAtWork};
-ghost use Rattle.fx_lasting.specs.Choices.{AllocatesChoice, TriesChoice};
 ghost use Rattle.fx_lasting.specs.Laws.{IsInRange};
 ghost use Rattle.fx_lasting.specs.Layout.{block_for, groups_in};
 ghost use Rattle.fx_lasting.specs.Questions.{HasAsked};
@@ -31,10 +30,9 @@ const STEPS: [u32; 8] = [67, 71, 73, 79, 83, 89, 97, 101];
 
 impl LastingTable {
     /// Installs a file at an empty slot of the allocation range, under a number that no file has
-    /// had, for an idle pass (`is_idle`) that installs files (`numbers_left`), on the node that it
-    /// has chosen, if it has (`next_node`), and returns the slot (io_uring_prep_openat(3),
-    /// "IORING_FILE_INDEX_ALLOC"). It tries again while other passes change the range, and yields
-    /// its thread between two tries.
+    /// had, for an idle pass (`is_idle`) that installs files (`numbers_left`), and returns the slot
+    /// (io_uring_prep_openat(3), "IORING_FILE_INDEX_ALLOC"). It tries again while other passes
+    /// change the range, and yields its thread between two tries.
     ///
     /// # Errors
     /// Returns the file if every slot of the range has a file (ENFILE).
@@ -50,7 +48,6 @@ impl LastingTable {
         ensures fits { IsPassOfTable self.now pass.new }
         ensures allocated { Allocated (opening_of_table self.now) (view_of pass.old) file result
             (view_of pass.new) }
-        ensures used { AllocatesChoice self.now.table.shared.key pass.old result pass.new }
     {
         let mut left = file;
         for _ in rt.forever() {
@@ -78,7 +75,6 @@ impl LastingTable {
         ensures fits { IsPassOfTable self.now pass.new }
         ensures tried { TriedSo (opening_of_table self.now) (view_of pass.old) file result
             (view_of pass.new) }
-        ensures used { TriesChoice self.now.table.shared.key pass.old result pass.new }
         ensures steps { let block = block_for self.now.size self.now.passes in
             let len = self.now.range_len in
             steps_taken pass.new ≤ steps_taken pass.old + (block + scan_steps len
@@ -108,8 +104,6 @@ impl LastingTable {
         ensures fits { IsPassOfTable self.now pass.new }
         ensures tried { TriedSo (opening_of_table self.now) (view_of pass.old) file
             (without_asking result) (view_of pass.new) }
-        ensures used { TriesChoice self.now.table.shared.key pass.old (without_asking result)
-            pass.new }
         ensures steps { let block = block_for self.now.size self.now.passes in
             let len = self.now.range_len in
             steps_taken pass.new ≤ steps_taken pass.old + (block + scan_steps len + 2) }

@@ -1,21 +1,16 @@
 //! The search for a free node of a pass's own block. One is always free, and none of them goes away
 //! while the pass looks.
 ghost use Rattle.std.specs.Prelude.{◌≡◌, ℕ, ◌+◌, ◌<◌, ◌≤◌, []};
-ghost use Rattle.fx_table.specs.Pass.{IsIdle};
 ghost use Rattle.fx_lasting.specs.AtWork.{IsAtWork};
-ghost use Rattle.fx_lasting.specs.Choices.{HasChosen};
 ghost use Rattle.fx_lasting.specs.Ends.{Does};
 ghost use Rattle.fx_lasting.specs.Layout.{block_for, block_start};
 ghost use Rattle.fx_lasting.specs.declared.layout.TheConstants.{MOST_NODES};
-ghost use Rattle.fx_lasting.specs.Passes.{HasNoFile, IsInBlock, nodes_of};
+ghost use Rattle.fx_lasting.specs.Passes.{HasNoFile, IsInBlock};
 ghost use Rattle.fx_lasting.specs.Searches.{next_of};
-ghost use Rattle.fx_lasting.specs.Tables.{view_of, steps_taken, IsPassOfTable};
-ghost use Rattle.fx_lasting.specs.Tells.{pass_in};
 ghost use Rattle.fx_lasting.specs.declared.view.Work.TheVariants.{Searching};
 
 use crate::kinds::Seeking;
 use crate::layout::{block_for, block_start, node_place};
-use crate::pass::LastingPass;
 use crate::table::LastingTable;
 use crate::view::View;
 use atomic_table::Seat;
@@ -23,7 +18,7 @@ use fx_base::OpenFile;
 
 impl LastingTable {
     // Finds a free node of the pass's block, from `start` on, in at most as many steps as the block
-    // has nodes: `start` itself, if the pass has chosen it.
+    // has nodes.
     pub(crate) fn seek(
         &self,
         seat: &mut Seat<Option<OpenFile>, View>,
@@ -33,15 +28,12 @@ impl LastingTable {
         requires table { seat.old.table_id ≡ self.now.table.shared.table_id }
         requires at { IsAtWork self.now.table.shared.key number seat.old.me }
         requires idle { HasNoFile seat.old.me.0.work }
-        requires chosen { (node : ℕ) → seat.old.me.0.work ≡ Searching node → start ≡ node }
         requires block { IsInBlock self.now.table.shared.key number start }
         requires installs { number ≤ self.now.installing }
         ensures table { seat.new.table_id ≡ seat.old.table_id }
         ensures places { seat.new.me.1 ≡ seat.old.me.1 }
-        ensures front { (pass_in seat.new.me).front ≡ (pass_in seat.old.me).front }
         ensures found { Does seat.old.me [] (Searching result)
             (block_for self.now.size self.now.passes) seat.new.me }
-        ensures kept { (node : ℕ) → seat.old.me.0.work ≡ Searching node → result ≡ node }
         ensures block { IsInBlock self.now.table.shared.key number result }
     {
         let first = block_start(self.size, self.passes, number);
@@ -58,28 +50,6 @@ impl LastingTable {
         unreachable!()
     }
 
-    /// Chooses the node of the next file of an idle pass (`is_idle`), and returns it, in at most as
-    /// many steps as the pass's block has nodes. The next installation uses it, if no look-up or
-    /// removal comes between. No open file is on it until then (`chosen_nodes_are_free`). For a
-    /// pass that isn't idle it returns the node where the pass's next search begins.
-    pub fn next_node(&self, pass: &mut LastingPass) -> u32
-        requires fits { IsPassOfTable self.now pass.old }
-        requires numbers { 0 < (view_of pass.old).numbers_left }
-        ensures fits { IsPassOfTable self.now pass.new }
-        ensures same { view_of pass.new ≡ view_of pass.old }
-        ensures chosen { IsIdle (view_of pass.old) → HasChosen pass.new result }
-        ensures steps { steps_taken pass.new
-            ≤ steps_taken pass.old + block_for self.now.size self.now.passes }
-        ensures block { IsInBlock self.now.table.shared.key pass.new.number result }
-        ensures inside { result < nodes_of self.now.table.shared.key }
-    {
-        if pass.idle {
-            let node = self.seek(&mut pass.seat, pass.number, pass.next_node);
-            pass.next_node = node;
-            return node;
-        }
-        pass.next_node
-    }
 }
 
 // Returns the node after this one in a block of `len` nodes from `first` on; the last one's is the

@@ -3,11 +3,10 @@
 ghost use Rattle.std.specs.Prelude.{◌≡◌, ℕ, ◌+◌, ◌<◌, ◌≤◌, true, false};
 ghost use Rattle.fx_table.specs.Pass.{IsIdle};
 ghost use Rattle.fx_lasting.specs.AtWork.{IsAtWork};
-ghost use Rattle.fx_lasting.specs.Choices.{KeepsChoice};
 ghost use Rattle.fx_lasting.specs.Laws.{IsInRange};
 ghost use Rattle.fx_lasting.specs.Layout.{block_for, groups_in};
 ghost use Rattle.fx_lasting.specs.Tables.{view_of, steps_taken, opening_of_table, IsPassOfTable};
-ghost use Rattle.fx_lasting.specs.Vacant.{HasPutEmpty, PutsEmptyChoice, SeesFile, TellsFull};
+ghost use Rattle.fx_lasting.specs.Vacant.{HasPutEmpty, SeesFile, TellsFull};
 
 use crate::answers::PutEmpty;
 use crate::kinds::Seeing;
@@ -30,9 +29,8 @@ impl LastingTable {
 
     /// Installs a file at a slot of the allocation range (`allocates`) if it is empty, under a
     /// number that no file has had, for an idle pass (`is_idle`) that installs files
-    /// (`numbers_left`), on the node that it has chosen, if it has (`next_node`). It makes at most
-    /// six atomic steps more than the pass's block has nodes. Otherwise nothing changes, and the
-    /// file comes back.
+    /// (`numbers_left`). It makes at most six atomic steps more than the pass's block has nodes.
+    /// Otherwise nothing changes, and the file comes back.
     pub fn put_empty(&self, pass: &mut LastingPass, slot: u32, file: OpenFile) -> PutEmpty
         requires fits { IsPassOfTable self.now pass.old }
         requires idle { IsIdle (view_of pass.old) }
@@ -41,7 +39,6 @@ impl LastingTable {
         ensures fits { IsPassOfTable self.now pass.new }
         ensures placed { HasPutEmpty self.now.table.shared.key (view_of pass.old) slot file result
             (view_of pass.new) }
-        ensures used { PutsEmptyChoice self.now.table.shared.key pass.old result pass.new }
         ensures steps { let block = block_for self.now.size self.now.passes in
             steps_taken pass.new ≤ steps_taken pass.old + (block + 6) }
     {
@@ -61,7 +58,7 @@ impl LastingTable {
     /// Checks whether every slot of the allocation range has a file, for an idle pass (`is_idle`)
     /// that installs files (`numbers_left`), in at most four atomic steps more than the range has
     /// groups. `true`: at one step of the call every slot had one (ENFILE). `false`: other passes
-    /// may be changing the range. Nothing changes, and a node that the pass has chosen stays so.
+    /// may be changing the range. Nothing changes.
     pub fn is_range_full(&self, pass: &mut LastingPass) -> bool
         requires fits { IsPassOfTable self.now pass.old }
         requires idle { IsIdle (view_of pass.old) }
@@ -69,7 +66,6 @@ impl LastingTable {
         ensures fits { IsPassOfTable self.now pass.new }
         ensures told { TellsFull (opening_of_table self.now) (view_of pass.old) result
             (view_of pass.new) }
-        ensures used { KeepsChoice pass.old pass.new }
         ensures steps { let groups = groups_in self.now.range_len in
             steps_taken pass.new ≤ steps_taken pass.old + (groups + 4) }
     {

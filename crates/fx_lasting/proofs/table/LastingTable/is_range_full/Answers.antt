@@ -1,4 +1,4 @@
-use Rattle.fx_lasting.proofs.Words.{◌∙◌, arith, true, false}
+use Rattle.fx_lasting.proofs.Words.{arith, true, false}
 use Rattle.fx_lasting.specs.Questions.{HasAsked}
 use Rattle.fx_lasting.proofs.Questions.{asked_full, asked_nothing}
 use Rattle.fx_lasting.proofs.EmptySlots.{tells_so}
@@ -9,7 +9,6 @@ returns-then-is_still_full c =
     let h : HasAsked c.args.self.now 1 c.args.pass.now true c.is_still_full.new.pass = rw c.if-is_still_full.true at c.is_still_full.ensures in record {
       fits = h.fits;
       told = asked_full h c.requires.idle;
-      used = λ n chosen. h.work ∙ chosen;
       steps = let few = h.steps in omega arith;
     }
 
@@ -26,6 +25,5 @@ returns c =
       fits = asked.fits;
       told = tells_so c.args.self.now c.args.pass.now c.is_still_full.new.pass c.is_all_full.new.pass c.is_all_full.result
           (asked_nothing h c.requires.idle) asked;
-      used = λ n chosen. asked.work ∙ (h.work ∙ chosen);
       steps = omega (arith, h.steps, asked.steps);
     }

@@ -2,20 +2,16 @@ use Rattle.fx_lasting.proofs.Words.{◌≡◌, ℕ, ◌<◌, ◌≤◌, refl, ap
 use Rattle.fx_lasting.proofs.Words.{rest, retiring_work, doing_in, Start, Glance, Outside, slot_word_of, IsAtWork}
 use Rattle.fx_table.specs.Calls.{Adds, one_number}
 use Rattle.fx_lasting.proofs.Calling.{slot_inside, slot_low, in_block, few_nodes}
-use Rattle.fx_lasting.proofs.Words.{node_of_number}
 use Rattle.fx_lasting.proofs.Words.{account, range_at_start}
 use Rattle.fx_lasting.proofs.Places.{slot_back}
 use Rattle.fx_lasting.proofs.Running.{still_at_work, does_then, runs_then, runs_one, turns_then}
 use Rattle.fx_lasting.proofs.SlotLaws.{installs_keep}
-use Rattle.fx_lasting.proofs.Passing.{adds_so, still_pass, its_idle, its_choice, may_install, account_so, knows_removed, placed_so, at_ease_looking, first_by}
+use Rattle.fx_lasting.proofs.Passing.{adds_so, still_pass, its_idle, may_install, account_so, knows_removed, placed_so, at_ease_looking, first_by}
 use Rattle.fx_lasting.proofs.table.LastingTable.put.Goals.{After-put_in}
 use Rattle.fx_lasting.proofs.table.LastingTable.put.Goals as goal
 
 pub seek-node-requires-clause-idle : goal.seek-node-requires-clause-idle
 seek-node-requires-clause-idle c = its_idle c.requires.fits c.requires.idle
-
-pub seek-node-requires-clause-chosen : goal.seek-node-requires-clause-chosen
-seek-node-requires-clause-chosen c = its_choice c.requires.fits
 
 pub seek-node-requires-clause-installs : goal.seek-node-requires-clause-installs
 seek-node-requires-clause-installs c = omega (arith, may_install c.requires.fits.seated c.requires.numbers, c.args.self.now.key.1)
@@ -96,9 +92,8 @@ returns c =
     record {
       fits = still_pass s _ run (refl, refl) (c.raise.ensures.table ∙ (c.swap-found.ensures.0 ∙ (born.table ∙ c.seek-node.ensures.table)))
           (c.raise.ensures.places ∙ (went.carried ∙ ap rest born.place)) c.seek-node.ensures.block
-          (knows_removed k found replaced c.removed_in-replaced.result _ _ _ _ is c.is_none-pass.ensures
+          (knows_removed k found replaced c.removed_in-replaced.result _ _ _ is c.is_none-pass.ensures
           (c.first_visit-pass.ensures ∙ first_by c.args.self.now found));
       placed = placed_so k v c.args.slot found w replaced c.removed_in-replaced.result is stepped.0 file adds;
-      used = λ n chosen. rw adds.own (subst (λ (z : Start). node_of_number z stepped.0 ≡ c.seek-node.result) start stepped.1 ∙ c.seek-node.ensures.kept n chosen);
       steps = let few = run.steps in omega arith;
     }

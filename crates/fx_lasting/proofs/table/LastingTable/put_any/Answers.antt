@@ -9,7 +9,6 @@ pub loop-init : goal.loop-init
 loop-init g c = record {
   fits = c.requires.fits;
   adds = nothing_yet c.requires.fits c.requires.idle;
-  chosen = λ n is. is;
   file = refl;
   can = tt;
   ends = tt;
@@ -35,12 +34,6 @@ returns-in-At-clause-allocated g c =
       ),
     )
 
-pub returns-in-At-clause-used : goal.returns-in-At-clause-used
-returns-in-At-clause-used g c n is = c.in-At.ensures.used n (c.loop.invariant.chosen n is)
-
-pub returns-in-Full-clause-used : goal.returns-in-Full-clause-used
-returns-in-Full-clause-used g c n is = c.in-Full.ensures.used n (c.loop.invariant.chosen n is)
-
 pub returns-in-Full-clause-allocated : goal.returns-in-Full-clause-allocated
 returns-in-Full-clause-allocated g c =
     let k = c.args.self.now.table.shared.key in
@@ -60,7 +53,6 @@ loop-preserved g c =
       fits = c.try_put_any.ensures.fits;
       adds = adds_then (opening_of k) (view_of c.args.pass.now) (view_of c.loop.pass) (view_of c.try_put_any.new.pass) [] [] DoesNothing DoesNothing
           no_use no_use i.adds t.1;
-      chosen = λ n is. c.in-Again.ensures.used n (i.chosen n is);
       file = t.0 ∙ i.file;
       can = tt;
       ends = tt;

@@ -1,4 +1,3 @@
-use Rattle.fx_lasting.specs.Choices.{KeepsChoice}
 use Rattle.fx_lasting.proofs.Words.{◌≡◌, [], IsPassOfTable, view_of, opening_of_table}
 use Rattle.fx_table.specs.Calls.{Adds, no_use}
 use Rattle.fx_table.specs.declared.values.Doing.TheVariants.{Idle as DoesNothing}
@@ -9,7 +8,6 @@ abbrev pub invariant-loop : goal.invariant-loop
 invariant-loop g l = record {
   fits : IsPassOfTable l.self l.pass;
   adds : Adds (opening_of_table l.self) (view_of l.initial.pass) [] DoesNothing no_use (view_of l.pass);
-  chosen : KeepsChoice l.initial.pass l.pass;
   file : l.left ≡ l.initial.left;
   can : (goal.iterator-loop g).can_next l.iterator';
   ends : (goal.iterator-loop g).is_finite l.iterator';

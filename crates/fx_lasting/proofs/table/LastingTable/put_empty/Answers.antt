@@ -1,10 +1,10 @@
-use Rattle.fx_lasting.proofs.Words.{ℕ, ◌≡◌, ◌∷◌, inr, refl, sym, ap, ◌∙◌, subst, arith, [], Some, Closed, HasPlace, numbered}
-use Rattle.fx_lasting.proofs.Words.{Start, Work, Searching, Runs, rested, pass_in, node_of_number, true, false}
+use Rattle.fx_lasting.proofs.Words.{◌∷◌, inr, refl, sym, ap, ◌∙◌, subst, arith, [], Some, Closed, HasPlace, numbered}
+use Rattle.fx_lasting.proofs.Words.{Start, Work, Runs, rested, pass_in, true, false}
 use Rattle.fx_table.specs.Calls.{no_use, one_number}
 use Rattle.fx_lasting.specs.Tries.{HasAllocated, StillPlaces}
 use Rattle.fx_lasting.specs.Vacant.{SeesFile}
 use Rattle.fx_lasting.proofs.ByNode.{adds_none, was_further}
-use Rattle.fx_lasting.proofs.Passing.{adds_so, at_rest, still_pass, its_idle, its_flag, its_choice, may_install}
+use Rattle.fx_lasting.proofs.Passing.{adds_so, at_rest, still_pass, its_idle, its_flag, may_install}
 use Rattle.fx_lasting.proofs.Running.{still_at_work, does_then}
 use Rattle.fx_lasting.proofs.Trying.{in_size, until_put}
 use Rattle.fx_lasting.proofs.table.LastingTable.put_empty.Goals as goal
@@ -23,7 +23,6 @@ returns-then-sees_file c =
     record {
       fits = still_pass s _ run (refl, refl) c.sees_file.ensures.table (c.sees_file.ensures.places ∙ s.places) s.block fits.knows;
       placed = (refl, record { was = saw.0; adds = adds_none fits c.requires.idle saw.1 });
-      used = λ n chosen. saw.1.work ∙ chosen;
       steps = let few = run.steps in omega arith;
     }
 
@@ -36,7 +35,6 @@ seek-node-requires c =
       table = c.sees_file.ensures.table ∙ f.seated.table;
       at = still_at_work f.seated.at saw.1;
       idle = rw saw.1.work (its_idle f c.requires.idle);
-      chosen = λ n chosen. its_choice f n (sym saw.1.work ∙ chosen);
       block = f.seated.block;
       installs = omega (arith, may_install f.seated c.requires.numbers, t.key.1);
     }
@@ -89,8 +87,6 @@ returns-then-try_slot c =
         record { identity = c.identity-identity.ensures; same = λ e. absurd (cc e) },
         adds,
       );
-      used = λ n chosen. rw adds.own (subst (λ (k : Start). node_of_number k found.0 ≡ c.seek-node.result) (placed.start ∙ s.at.pass.0) found.1
-          ∙ sought.kept n (saw.1.work ∙ chosen));
       steps = let few = run.steps in omega arith;
     }
 
@@ -127,11 +123,10 @@ returns c =
     record {
       fits = still_pass s _ run (refl, refl)
           (end.table ∙ (c.try_slot.ensures.table ∙ (c.put_in.ensures.table ∙ (sought.table ∙ c.sees_file.ensures.table)))) end.empty
-          sought.block (its_flag fits c.requires.idle, refl);
+          sought.block (its_flag fits c.requires.idle);
       placed = (
         end.file c.args.file place,
         record { was = was_further (pass_in m₄).front saw.0 (does_then since rests).seen; adds = adds_so s run no_use },
       );
-      used = λ n chosen. run.work ∙ ap (λ (i : ℕ). Searching i) (sought.kept n (saw.1.work ∙ chosen));
       steps = let few = run.steps in omega arith;
     }

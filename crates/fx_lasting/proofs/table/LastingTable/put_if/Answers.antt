@@ -1,10 +1,10 @@
-use Rattle.fx_lasting.proofs.Words.{ℕ, ◌-◌, ◌∷◌, inr, refl, sym, ap, ◌∙◌, subst, arith, [], ◌▷◌, Put, numbered, Some, Closed, HasPlace, false}
-use Rattle.fx_lasting.proofs.Words.{Start, Work, Searching, Runs, rested, name_in, count_in, retired_at, opening_of, view_of, pass_of}
+use Rattle.fx_lasting.proofs.Words.{◌-◌, ◌∷◌, inr, refl, sym, ap, ◌∙◌, subst, arith, [], ◌▷◌, Put, numbered, Some, Closed, HasPlace, false}
+use Rattle.fx_lasting.proofs.Words.{Start, Work, Runs, rested, name_in, count_in, retired_at, opening_of, view_of, pass_of}
 use Rattle.fx_table.specs.Calls.{Adds, no_use, one_number}
 use Rattle.fx_table.specs.declared.values.Doing.TheVariants.{Retiring as Retires}
 use Rattle.fx_table.specs.declared.values.Retired.{Retired}
 use Rattle.fx_lasting.proofs.ByNode.{acts_then, stands_then, missed_so, tried_none, tried_so, value_so, removal_so, is_on, adds_none}
-use Rattle.fx_lasting.proofs.Passing.{adds_so, at_rest, still_pass, its_idle, its_flag, its_choice, may_install, knows_removed, at_ease_looking, first_by}
+use Rattle.fx_lasting.proofs.Passing.{adds_so, at_rest, still_pass, its_idle, its_flag, may_install, knows_removed, at_ease_looking, first_by}
 use Rattle.fx_lasting.proofs.Running.{still_at_work, does_then}
 use Rattle.fx_lasting.proofs.Trying.{until_put}
 use Rattle.fx_lasting.proofs.table.LastingTable.put_if.Goals as goal
@@ -21,7 +21,6 @@ returns-in-Err c =
     record {
       fits = still_pass s _ run (refl, refl) c.see.ensures.table (c.see.ensures.places ∙ s.places) s.block fits.knows;
       placed = (refl, record { was = saw.0; adds = adds_none fits c.requires.idle saw.1 });
-      used = λ n chosen. saw.1.work ∙ chosen;
       tries = tried_none c.in-Err.miss _ _ saw.2;
       steps = let few = run.steps in omega arith;
     }
@@ -35,7 +34,6 @@ seek-own-requires c =
       table = c.see.ensures.table ∙ f.seated.table;
       at = still_at_work f.seated.at saw.2;
       idle = rw saw.2.work (its_idle f c.requires.idle);
-      chosen = λ n chosen. its_choice f n (sym saw.2.work ∙ chosen);
       block = f.seated.block;
       installs = omega (arith, may_install f.seated c.requires.numbers, t.key.1);
     }
@@ -91,7 +89,7 @@ returns-in-Ok-try_replace c =
     record {
       fits = still_pass s _ run (refl, refl)
           (c.try_replace.ensures.table ∙ (c.put_in.ensures.table ∙ (sought.table ∙ c.see.ensures.table))) did.6 sought.block
-          (knows_removed k found (Some f) (Some (retired_at f (name_in found - 1) (count_in found))) _ false _ 0 refl refl
+          (knows_removed k found (Some f) (Some (retired_at f (name_in found - 1) (count_in found))) _ false _ refl refl
           (c.first_visit-pass.ensures ∙ first_by t found));
       placed = (
         new,
@@ -103,7 +101,6 @@ returns-in-Ok-try_replace c =
         subst (λ (z : Retired). Adds (opening_of k) v ([] ▷ Put c.args.slot new (Some f)) (Retires f z) one_number w)
             (value_so found x its.node its.entry its.takes did.3 f did.4.1) adds,
       );
-      used = λ n chosen. rw adds.own (did.2 ∙ sought.kept n (saw.2.work ∙ chosen));
       tries = tt;
       steps = let few = run.steps in omega arith;
     }
@@ -144,7 +141,7 @@ returns-in-Err-try_replace c =
     record {
       fits = still_pass s _ run (refl, refl)
           (end.table ∙ (c.try_replace.ensures.table ∙ (c.put_in.ensures.table ∙ (sought.table ∙ c.see.ensures.table)))) end.empty sought.block
-          (its_flag fits c.requires.idle, refl);
+          (its_flag fits c.requires.idle);
       placed = (
         end.file c.args.file place,
         record {
@@ -152,7 +149,6 @@ returns-in-Err-try_replace c =
           adds = adds_so s run no_use;
         },
       );
-      used = λ n chosen. run.work ∙ ap (λ (i : ℕ). Searching i) (sought.kept n (saw.2.work ∙ chosen));
       tries = tried_so k c.args.slot c.args.node _ _ m₂ m₃ c.in-Err-try_replace.miss failed.0 placed.begun rests.begun;
       steps = let few = run.steps in omega arith;
     }

@@ -3,7 +3,7 @@ use Rattle.fx_lasting.proofs.Births.{seeks_keep}
 use Rattle.fx_lasting.proofs.Words.{block_start, block_for, slots_of}
 use Rattle.fx_lasting.proofs.Calling.{node_inside, node_word, in_block, few_nodes, first_of, length_of}
 use Rattle.fx_lasting.proofs.Running.{runs_within}
-use Rattle.fx_lasting.proofs.Sought.{sought_at, sought_work, sought_here, sought_more, none_ahead, front_kept}
+use Rattle.fx_lasting.proofs.Sought.{sought_at, sought_work, sought_here, sought_more, none_ahead}
 use Rattle.fx_lasting.proofs.table.LastingTable.seek.Goals.{After-block_for-len}
 use Rattle.fx_lasting.proofs.table.LastingTable.seek.Goals as goal
 
@@ -14,8 +14,6 @@ loop-init c = record {
   sought = record {
     inside = c.requires.block;
     before = λ _. (refl, refl);
-    first_load = λ n chosen. (refl, c.requires.chosen n chosen);
-    front = refl;
     free = λ bad. absurd (omega arith);
   };
 }
@@ -44,14 +42,6 @@ returns-then-word-eq0-clause-found c =
     let len = c.block_for-len.ensures in
     runs_within (omega (arith, more, len)) (sought_here c.requires.at c.requires.idle c.loop.invariant.sought
     (node_word t c.loop.node c.node_place-place.ensures) c.load-word.ensures.2 c.if-word-eq0.true)
-
-pub returns-then-word-eq0-clause-front : goal.returns-then-word-eq0-clause-front
-returns-then-word-eq0-clause-front c =
-    let t = c.args.self.now in
-    front_kept c.requires.at c.requires.idle c.loop.invariant.sought (node_word t c.loop.node c.node_place-place.ensures) c.load-word.ensures.2
-
-pub returns-then-word-eq0-clause-kept : goal.returns-then-word-eq0-clause-kept
-returns-then-word-eq0-clause-kept c n chosen = let s = c.loop.invariant.sought in let f = s.first_load n chosen in (s.before f.0).0 ∙ f.1
 
 -- the block that the search reads
 first_is : (c : After-block_for-len) → c.block_start-first.result

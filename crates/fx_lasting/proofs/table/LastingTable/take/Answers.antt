@@ -56,7 +56,7 @@ returns c =
     record {
       fits = still_pass s _ run (refl, refl) (c.raise.ensures.table ∙ (c.swap-found.ensures.0 ∙ began.table))
           (c.raise.ensures.places ∙ (went.carried ∙ (began.places ∙ s.places))) s.block
-          (knows_removed k found file removed _ _ _ _ is c.is_none-pass.ensures (c.first_visit-pass.ensures ∙ first_by c.args.self.now found));
+          (knows_removed k found file removed _ _ _ is c.is_none-pass.ensures (c.first_visit-pass.ensures ∙ first_by c.args.self.now found));
       taken = taken_so k v c.args.slot found w file removed is _ _ c.ok_or.ensures.value adds;
       steps = let few = run.steps in omega arith;
     }

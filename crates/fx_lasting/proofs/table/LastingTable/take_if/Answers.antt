@@ -64,7 +64,7 @@ returns-in-Ok-try_take c =
     record {
       fits = still_pass s _ run (refl, refl) (c.try_take.ensures.table ∙ (began.table ∙ c.see.ensures.table))
           (c.try_take.ensures.places ∙ (began.places ∙ (c.see.ensures.places ∙ s.places))) s.block
-          (knows_removed k found (Some f) (Some (retired_at f (name_in found - 1) (count_in found))) _ false _ 0 refl refl
+          (knows_removed k found (Some f) (Some (retired_at f (name_in found - 1) (count_in found))) _ false _ refl refl
           (c.first_visit-pass.ensures ∙ first_by t found));
       taken = (
         f,

@@ -1,4 +1,4 @@
-use Rattle.fx_lasting.proofs.Words.{◌∙◌, refl, arith, [], ◌▷◌, Allocate, Full, opening_of, view_of, true, false}
+use Rattle.fx_lasting.proofs.Words.{refl, arith, [], ◌▷◌, Allocate, Full, opening_of, view_of, true, false}
 use Rattle.fx_lasting.specs.Questions.{HasAsked}
 use Rattle.fx_table.proofs.Calls.{adds_then}
 use Rattle.fx_table.specs.Calls.{no_use, one_number}
@@ -12,7 +12,6 @@ returns-then-is_still_full c =
     let h : HasAsked c.args.self.now 1 c.args.pass.now true c.is_still_full.new.pass = rw c.if-is_still_full.true at c.is_still_full.ensures in record {
       fits = h.fits;
       tried = (refl, asked_full h c.requires.idle);
-      used = λ n chosen. h.work ∙ chosen;
       steps = let few = h.steps in omega arith;
     }
 
@@ -42,7 +41,6 @@ returns-in-Ok c =
               ([] ▷ Allocate c.in-Ok.slot t.1.0) DoesNothing DoesNothing no_use one_number (asked_nothing h c.requires.idle) t.1.2,
         ),
       );
-      used = λ n chosen. c.in-Ok.ensures.used n (h.work ∙ chosen);
       steps = omega (arith, h.steps, c.in-Ok.ensures.steps);
     }
 
@@ -66,7 +64,6 @@ returns-then-is_all_full c =
         adds_then (opening_of k) (view_of c.args.pass.now) (view_of c.try_slots.new.pass) (view_of c.is_all_full.new.pass) [] ([] ▷ Full)
             DoesNothing DoesNothing no_use no_use before (asked_full sure t.1.now),
       );
-      used = λ n chosen. sure.work ∙ c.in-Err.ensures.used n (h.work ∙ chosen);
       steps = omega (arith, h.steps, c.in-Err.ensures.steps, sure.steps);
     }
 
@@ -85,6 +82,5 @@ returns-else-is_all_full c =
         adds_then (opening_of k) (view_of c.args.pass.now) (view_of c.try_slots.new.pass) (view_of c.is_all_full.new.pass) [] []
             DoesNothing DoesNothing no_use no_use before (asked_nothing sure t.1.now),
       );
-      used = λ n chosen. sure.work ∙ c.in-Err.ensures.used n (h.work ∙ chosen);
       steps = omega (arith, h.steps, c.in-Err.ensures.steps, sure.steps);
     }

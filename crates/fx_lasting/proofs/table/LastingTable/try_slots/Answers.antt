@@ -1,8 +1,8 @@
 use Rattle.fx_lasting.proofs.Words.{◌∷◌, Closed, inr, refl, ap, ◌∙◌, sym, subst, arith, HasPlace, Some, Work, numbered}
-use Rattle.fx_lasting.proofs.Words.{Runs, [], rested, ℕ, ◌≡◌, node_of_number, Searching, Start}
+use Rattle.fx_lasting.proofs.Words.{Runs, [], rested}
 use Rattle.fx_table.specs.Calls.{no_use, one_number}
 use Rattle.fx_lasting.proofs.Running.{still_at_work, does_then}
-use Rattle.fx_lasting.proofs.Passing.{adds_so, at_rest, still_pass, its_idle, its_flag, its_choice, may_install}
+use Rattle.fx_lasting.proofs.Passing.{adds_so, at_rest, still_pass, its_idle, its_flag, may_install}
 use Rattle.fx_lasting.proofs.Trying.{until_put}
 use Rattle.fx_lasting.proofs.table.LastingTable.try_slots.Goals as goal
 
@@ -15,11 +15,6 @@ pub seek-node-requires-clause-idle : goal.seek-node-requires-clause-idle
 seek-node-requires-clause-idle c =
     let s = c.requires.fits.seated in
     its_idle c.requires.fits c.requires.idle
-
-pub seek-node-requires-clause-chosen : goal.seek-node-requires-clause-chosen
-seek-node-requires-clause-chosen c n chosen =
-    let s = c.requires.fits.seated in
-    its_choice c.requires.fits n chosen
 
 pub seek-node-requires-clause-installs : goal.seek-node-requires-clause-installs
 seek-node-requires-clause-installs c = omega (arith, may_install c.requires.fits.seated c.requires.numbers, c.args.self.now.key.1)
@@ -70,8 +65,6 @@ returns-in-Some c =
           adds,
         ),
       );
-      used = λ n chosen. rw adds.own (subst (λ (k : Start). node_of_number k found.0 ≡ c.seek-node.result) (before.start ∙ s.at.pass.0) found.1
-          ∙ c.seek-node.ensures.kept n chosen);
       steps = let few = run.steps in omega arith;
     }
 
@@ -100,8 +93,7 @@ returns-in-None c =
     record {
       fits = still_pass s _ run (refl, refl)
           (c.take_out.ensures.table ∙ (c.scan.ensures.table ∙ (c.put_in.ensures.table ∙ c.seek-node.ensures.table)))
-          c.take_out.ensures.empty c.seek-node.ensures.block (its_flag fits c.requires.idle, refl);
+          c.take_out.ensures.empty c.seek-node.ensures.block (its_flag fits c.requires.idle);
       tried = (c.take_out.ensures.file c.args.file place, adds_so s run no_use);
-      used = λ n chosen. run.work ∙ ap (λ (i : ℕ). Searching i) (c.seek-node.ensures.kept n chosen);
       steps = let few = run.steps in omega arith;
     }
