@@ -9,12 +9,13 @@ use Rattle.fx_lasting.proofs.Histories.{grows_none, each_changed}
 use Rattle.fx_lasting.proofs.Frames.{busy, does_now}
 use Rattle.fx_lasting.proofs.Keeping.{Turn, turn_of, After, Homes, word_at, slot_word, Made, by_turn, its_log, its_work, in_range, tells, tells_less, w, end}
 use Rattle.fx_lasting.proofs.NodeSteps.{after, node_kept, own_keeps, guards_else}
-use Rattle.fx_lasting.proofs.Places.{node_words, node_here, node_else, node_slot, node_hold, node_alike, node_list}
+use Rattle.fx_lasting.proofs.Places.{node_words, node_here, node_else, node_slot, node_hold, node_alike, node_list, node_label}
 use Rattle.fx_lasting.proofs.Calm.{read_before, read_before_kept, Reads}
 use Rattle.fx_lasting.proofs.Choosing.{no_file, no_take, not_busy, holds_none}
 use Rattle.fx_lasting.proofs.Words.{HasNoFile, HoldAgrees, IsAllowed, GuardAgrees, rested, IsInside, changed_at}
 use Rattle.fx_lasting.proofs.FreeNodes.{some_free}
 use Rattle.fx_lasting.proofs.Unheld.{NodeNow, in_phase}
+use Rattle.fx_lasting.proofs.Words.{HasItsPlace, Written, Unlabelled}
 use Rattle.std.proofs.Common.{suc-mul}
 
 -- the nodes of a pass's block are the table's
@@ -38,7 +39,7 @@ module _ (turn : Turn) where
     where
       go : (ph : Phase) → r.phase n ≡ ph → NodeNow turn n ph → r.phase n ≡ free
       go free at o = at
-      go (placed j) at o = let a = o.counts in absurd (omega arith)
+      go (placed j l) at o = let a = o.counts in absurd (omega arith)
       go (seated s f) at o = let a = o.counts in absurd (omega arith)
       go (leaving j t nx m f) at o = let a = o.counts in let b = o.few_takes in let c = o.few_marks in let d = o.few_visits in absurd (omega arith)
       go (retired f) at o = let a = o.counts in absurd (omega arith)
@@ -152,11 +153,11 @@ module _ (turn : Turn) where
     words₁ = node_words turn n its.0 birth_word
 
     abbrev born_after : After turn
-    born_after = after turn n its.0 (placed id) r.history words₁ homes₁ r.debt (Placing n) v.glance
+    born_after = after turn n its.0 (placed id Unlabelled) r.history words₁ homes₁ r.debt (Placing n Unlabelled) v.glance
 
     birth : Agrees v.start (end turn born_after)
     birth = let o = its_log turn in let h = rw works at o.hold in let node = in_phase turn its.0 its.1 in let same = node_slot turn n its.0 birth_word in
-        node_kept turn n its.0 (placed id) r.history words₁ homes₁ r.debt (Placing n) v.glance record {
+        node_kept turn n its.0 (placed id Unlabelled) r.history words₁ homes₁ r.debt (Placing n Unlabelled) v.glance record {
           words = length-set st.words (word_of v.start n) birth_word;
           homes = length-set st.homes n none;
           grows = grows_none x.number r.history;
@@ -169,6 +170,8 @@ module _ (turn : Turn) where
           alike = node_alike turn n its.0 birth_word;
           lists = node_list turn n its.0 birth_word;
           node_words = λ m l other. node_else turn n its.0 birth_word m other;
+          label_else = λ m other. node_label turn n its.0 birth_word m;
+          label = tt;
           home_else = λ m l other. set_else st.homes n m none other;
           owed_else = λ m other. refl;
           taken_else = λ m other. sym (ap (taking m) works);
@@ -177,7 +180,7 @@ module _ (turn : Turn) where
           its_block = λ _. rw works at o.allowed;
           at_slot = λ s f is. cc (sym its.1 ∙ is);
           open_file = λ j u f other there holds is. let bad : None ≡ Some f = sym (ap file_in its.1) ∙ is in cc bad;
-          guards = λ p e other range. guards_else turn n its.0 (placed id) r.history words₁ homes₁ r.debt (Placing n) v.glance same p e
+          guards = λ p e other range. guards_else turn n its.0 (placed id Unlabelled) r.history words₁ homes₁ r.debt (Placing n Unlabelled) v.glance same p e
               (node_hold turn n its.0 birth_word p range.1) refl (λ may. rw its.1 at may);
           node = let t = sum_set (taken_of n) st.views id v (w turn born_after) here in let a = ap (taking n) works in let b = node.untaken in
               rw (node_here turn n its.0 birth_word) record {
@@ -186,11 +189,11 @@ module _ (turn : Turn) where
                 untaken = omega arith;
                 unowed = node.unowed;
               };
-          known = does_now st.views id v (w turn born_after) (Placing n) here refl;
+          known = does_now st.views id v (w turn born_after) (Placing n Unlabelled) here refl;
           held = o.held ∙ ap held_in works;
           allowed = rw works at o.allowed;
-          its_own = own_keeps turn n its.0 (placed id) r.history words₁ homes₁ r.debt (Placing n) v.glance same refl
-              (node_hold turn n its.0 birth_word x.number (in_range turn).1 ∙ h.0, h.1) tt (its.0, changed_here r.phase n (placed id) n refl);
+          its_own = own_keeps turn n its.0 (placed id Unlabelled) r.history words₁ homes₁ r.debt (Placing n Unlabelled) v.glance same refl
+              (node_hold turn n its.0 birth_word x.number (in_range turn).1 ∙ h.0, h.1) tt (its.0, changed_here r.phase n (placed id Unlabelled) n refl);
           holds = λ m. let a = ap (λ (d : Work). if_file m (held_in d)) works in omega arith;
         }
 
@@ -208,14 +211,14 @@ module _ (turn : Turn) where
     )
 
   -- a rest, of a node whose file is closed, or which was placed in vain
-  module _ (n : ℕ) (works : (v.work ≡ Emptying n) ⊎ (v.work ≡ Placing n)) where
+  module _ (n : ℕ) (works : HasItsPlace v.work n) where
     its_node : (n < nodes_of v.start) × (owner (r.phase n) ≡ id + 1) × (file_in (r.phase n) ≡ None) × ((m : ℕ) → removed_in m (r.phase n) ≡ None)
         × ((p : ℕ) → MayBeUnmarked (slot_word st.words) p (r.phase n) → ⊥) × (sum_by (taken_of n) st.views ≡ 0) × (owed r.debt v.start.passes n ≡ 0)
         × (r.phase n ≢ free)
     its_node = ⊎_elim
         (λ e. let o = subst (WorkAgrees v.start r.phase id) e (its_work turn) in let z = in_phase turn o.0 o.1 in
         (o.0, ap owner o.1, ap file_in o.1, λ m. ap (removed_in m) o.1, λ p may. rw o.1 at may, z.untaken, z.unowed, λ bad. cc (sym o.1 ∙ bad)))
-        (λ e. let o = subst (WorkAgrees v.start r.phase id) e (its_work turn) in let z = in_phase turn o.0 o.1 in
+        (λ e. let o = subst (WorkAgrees v.start r.phase id) e.1 (its_work turn) in let z = in_phase turn o.0 o.1 in
         (o.0, ap owner o.1, ap file_in o.1, λ m. ap (removed_in m) o.1, λ p may. rw o.1 at may, z.untaken, z.unowed, λ bad. cc (sym o.1 ∙ bad))) works
 
     -- what the pass does has nothing to do with files
@@ -223,7 +226,8 @@ module _ (turn : Turn) where
         × (word_at st.words (hold_word_of v.start x.number) ≡ 0) × (r.debt x.number ≡ 0)
     its_calm = let o = its_log turn in ⊎_elim
         (λ (e : v.work ≡ Emptying n). let h = rw e at o.hold in (ap held_in e, ap busy e, λ m. ap (taking m) e, h.0, h.1))
-        (λ (e : v.work ≡ Placing n). let h = rw e at o.hold in (ap held_in e, ap busy e, λ m. ap (taking m) e, h.0, h.1)) works
+        (λ (e : (l : Written) × (v.work ≡ Placing n l)). let h = rw e.1 at o.hold in
+        (ap held_in e.1, ap busy e.1, λ m. ap (taking m) e.1, h.0, h.1)) works
 
     abbrev homes₀ : Homes
     homes₀ = set st.homes n (some None)
@@ -257,6 +261,8 @@ module _ (turn : Turn) where
             alike = node_alike turn n q.0 0;
             lists = node_list turn n q.0 0;
             node_words = λ m l other. node_else turn n q.0 0 m other;
+            label_else = λ m other. node_label turn n q.0 0 m;
+            label = tt;
             home_else = λ m l other. set_else st.homes n m (some None) other;
             owed_else = λ m other. refl;
             taken_else = λ m other. no_take to m ∙ sym (c.2 m);
@@ -284,7 +290,8 @@ module _ (turn : Turn) where
 
     after_rest : HasNoFile (rested v.work) × IsAllowed v.start x.number x.listed (rested v.work) × ((m : ℕ) → rested v.work ≡ Searching m → m ≡ n)
     after_rest = ⊎_elim (λ (e : v.work ≡ Emptying n). rw e (inl refl, tt, λ m bad. cc bad))
-        (λ (e : v.work ≡ Placing n). let block = rw e at (its_log turn).allowed in rw e (inr (n, refl), block, λ m is. let same : n ≡ m = cc is in sym same))
+        (λ (e : (l : Written) × (v.work ≡ Placing n l)). let block = rw e.1 at (its_log turn).allowed in
+        rw e.1 (inr (n, refl), block, λ m is. let same : n ≡ m = cc is in sym same))
         works
 
     pub rests : (slots : ℕ) (carried : List (ℕ × Option Closed)) → carried ≡ (n, None) ∷ []

@@ -9,9 +9,11 @@ use Rattle.fx_lasting.proofs.Histories.{Grows}
 use Rattle.fx_lasting.proofs.Frames.{busy, owner_stays, owner_same, slot_same, node_same, Leaves, keeps_other, guards_same, covers_same}
 use Rattle.fx_lasting.proofs.Frames.{sees_same}
 use Rattle.fx_lasting.proofs.Keeping.{Turn, After, Keeps, word_at, slot_word, step_kept, w, end, its_log, in_range, asks_alike, few_slots}
+use Rattle.fx_lasting.proofs.Keeping.{LabelSame, labels_same}
+use Rattle.fx_lasting.proofs.Words.{written_in}
 use Rattle.fx_lasting.proofs.Groups.{counts_same}
 use Rattle.fx_lasting.proofs.Lists.{ListGoesOn}
-use Rattle.fx_lasting.proofs.Places.{hold_words, hold_here, hold_node, hold_slot, hold_else, hold_alike, hold_list}
+use Rattle.fx_lasting.proofs.Places.{hold_words, hold_here, hold_node, hold_slot, hold_else, hold_alike, hold_list, hold_label}
 
 module _ (turn : Turn) (h' front : List Event) (words' : List ℕ) (d : Work) (g : Glance) (c : Change) (q : Survey) (l : Bool)
     (still : turn.x.listed ≡ true → l ≡ true) where
@@ -46,6 +48,7 @@ module _ (turn : Turn) (h' front : List Event) (words' : List ℕ) (d : Work) (g
     pub removed : (state_after_all v.start h').removed ≡ (state_after_all v.start r.history).removed
     pub slot_words : (s : ℕ) → s < slots_of v.start → slot_word words' s ≡ slot_word st.words s
     pub node_words : (n : ℕ) → word_at words' (word_of v.start n) ≡ word_at st.words (word_of v.start n)
+    pub label_words : (n : ℕ) → LabelSame v.start words' st.words n
     pub hold_words : (p : ℕ) → p ≢ x.number → 0 < p → word_at words' (hold_word_of v.start p) ≡ word_at st.words (hold_word_of v.start p)
     pub counts : RangeCounts (state_after_all v.start r.history).at (range_at_start v.start) (set st.views id (w turn calm_after)) words'
     pub taken : (n : ℕ) → taking n d ≡ taking n v.work
@@ -72,6 +75,7 @@ module _ (turn : Turn) (h' front : List Event) (words' : List ℕ) (d : Work) (g
             refl refl (r.phase n) (λ i f is there. (at_is i, ap count_in (s.slot_words i (inside n l i f is)))) (r.each_node n l);
         owners = λ n l. ⊎_elim (λ same. owner_same st.views id v (w turn calm_after) here same n (r.phase n) (r.each_owner n l))
             (λ none. owner_stays st.views id v (w turn calm_after) here n (λ bad. omega arith) (r.phase n) (r.each_owner n l)) s.owners;
+        labels = λ n l. labels_same v.start _ _ _ (written_in (r.phase n)) (s.label_words n) (r.each_label n l);
         removed = λ number. ap (λ (f : ℕ → Option File). f number) s.removed ∙ r.removed number;
         unborn = r.unborn;
         fresh = λ number l. ap (λ (f : ℕ → Bool). f number) s.fresh ∙ r.fresh number l;
@@ -139,6 +143,7 @@ module _ (turn : Turn) (new : ℕ) (d : Work) where
         removed = s.removed;
         slot_words = same;
         node_words = hold_node turn x.number low high new;
+        label_words = hold_label turn x.number low high new;
         hold_words = λ p other more. hold_else turn x.number low high new p other;
         counts = counts_same id (w turn (own_after h')) here r.counts (few_slots turn) refl (hold_alike turn x.number low high new) refl
             (asks_alike turn (own_after h') refl);
@@ -200,6 +205,7 @@ module _ (turn : Turn) (d : Work) (g : Glance) where
     removed = s.removed;
     slot_words = λ s l. refl;
     node_words = λ n. refl;
+    label_words = λ n. (refl, refl);
     hold_words = λ p other more. refl;
     counts = counts_same id (w turn (read_before h' front)) here r.counts (few_slots turn) refl (refl, λ g l. refl) refl
         (asks_alike turn (read_before h' front) refl);

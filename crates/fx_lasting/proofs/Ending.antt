@@ -42,7 +42,7 @@ module _ {k : Start} {s : Shared} (r : Agrees k s) (all_idle : (i : ℕ) (u : Vi
   removed_none m n (leaving i t nx z f) a o = let bad = nobody i o in absurd (omega arith)
   removed_none m n (retired f) a o = let w = a.somebody in let h = untaken n in let q = unowed n in absurd (omega arith)
   removed_none m n free a o = refl
-  removed_none m n (placed i) a o = refl
+  removed_none m n (placed i l) a o = refl
   removed_none m n (seated i f) a o = refl
   removed_none m n (emptied i) a o = refl
 
@@ -62,7 +62,7 @@ module _ {k : Start} {s : Shared} (r : Agrees k s) (all_idle : (i : ℕ) (u : Vi
   home_by : {n : ℕ} (ph : Phase) → Node n ph → OwnerAgrees s.views n ph
       → (x : Option Closed) × (get_elem? s.homes n ≡ some (some x)) × AtItsSlot n x
   home_by {n} free a o = (None, a.at_home, λ file e. absurd (cc e))
-  home_by {n} (placed i) a o = let bad = nobody i o in absurd (omega arith)
+  home_by {n} (placed i l) a o = let bad = nobody i o in absurd (omega arith)
   home_by {n} (seated slot f) a o = (
     Some f.identity,
     a.file.at_home,

@@ -8,15 +8,30 @@ use Rattle.fx_lasting.proofs.Words.{block_for, block_start, Start, tally, Phase,
 use Rattle.fx_lasting.proofs.Words.{View, Work, Idle, Announced, Counted, Guarded, Owing, Yielding, Searching, Placing, Retiring, Emptying, Nothing}
 use Rattle.fx_lasting.proofs.Words.{Hot, Cold, Heating, taken_of, owed, sum_by, suc}
 use Rattle.fx_lasting.proofs.Words.{Deed, untouched, over, heated, has_acted, has_heated}
+use Rattle.fx_lasting.proofs.Words.{Written, Unlabelled, label_of, written_in, file_in}
 use Rattle.fx_lasting.proofs.Counts.{tally_same}
 use Rattle.fx_lasting.proofs.Keeping.{Turn, After, Keeps, w, word_at, slot_word}
 
 -- the node that a pass alone works with, plus 1, or 0
 abbrev pub busy : Work → ℕ
-busy (Placing n) = n + 1
+busy (Placing n w) = n + 1
 busy (Retiring f n takes next marks) = n + 1
 busy (Emptying n) = n + 1
 busy _ = 0
+
+-- the label of a file, if there is one
+abbrev label_in : Option File → Written
+label_in None = Unlabelled
+label_in (Some f) = label_of f.identity
+
+-- a node with an open file has the file's label
+pub written_of : (ph : Phase) {f : File} → file_in ph ≡ Some f → written_in ph ≡ label_of f.identity
+written_of (seated s f) is = ap (λ (o : Option File). label_in o) is
+written_of (leaving j t nx m f) is = ap (λ (o : Option File). label_in o) is
+written_of (retired f) is = ap (λ (o : Option File). label_in o) is
+written_of free is = absurd (cc is)
+written_of (placed j l) is = absurd (cc is)
+written_of (emptied j) is = absurd (cc is)
 
 -- two blocks have no node together
 pub one_block : (k : Start) {p q n : ℕ} → 0 < p → 0 < q → IsInBlock k p n → IsInBlock k q n → p ≡ q
@@ -34,7 +49,7 @@ one_block k {p} {q} {n} low low' a b = dite (ℕ_discrete p q) (λ same. same) (
 pub owner_map : (views others : List View) (n : ℕ)
     → ((j : ℕ) (d : Work) → busy d ≡ n + 1 → Does views j d → Does others j d) → (ph : Phase) → OwnerAgrees views n ph
     → OwnerAgrees others n ph
-owner_map views others n f (placed j) o = f j (Placing n) refl o
+owner_map views others n f (placed j l) o = f j (Placing n l) refl o
 owner_map views others n f (leaving j t next marks g) o = f j (Retiring g n t next marks) refl o
 owner_map views others n f (emptied j) o = f j (Emptying n) refl o
 owner_map views others n f _ o = tt
@@ -85,7 +100,7 @@ module _ {at at' : ℕ → Option File} (size : ℕ) {takes_at takes_at' : ℕ �
       → NodeAgrees at size takes_at node_of next n word taken owing home ph
       → NodeAgrees at' size takes_at' node_of next' n word' taken' owing' home' ph
   node_same free same o = vacant_same o
-  node_same (placed j) same o = vacant_same o
+  node_same (placed j l) same o = vacant_same o
   node_same (seated s f) same o = let z = same s f refl o.there in let a = o.counts in let b = z.1 in record {
     file = file_same later homed o.file;
     counts = omega arith;
@@ -181,7 +196,7 @@ module _ (turn : Turn) (a : After turn) where
     work_stays (Guarded f m) is at = leaves.open_file j u f m other there (ap held_in is) at
     work_stays (Yielding f m) is at = leaves.open_file j u f m other there (ap held_in is) at
     work_stays (Searching m) is at = (at.0, leaves.spare m z.number at.1 range.0 (rw is at o.allowed) n)
-    work_stays (Placing m) is at = (at.0, same_for at.1 refl)
+    work_stays (Placing m w) is at = (at.0, same_for at.1 refl)
     work_stays (Retiring f m t next marks) is at = (at.0, same_for at.1 refl)
     work_stays (Emptying m) is at = (at.0, same_for at.1 refl)
     work_stays Idle is at = tt
@@ -214,7 +229,7 @@ module _ (turn : Turn) (a : After turn) where
       go (Owing n) g = tt
       go (Yielding f n) g = tt
       go (Searching n) g = tt
-      go (Placing n) g = tt
+      go (Placing n w) g = tt
       go (Retiring f n t nx m) g = tt
       go (Emptying n) g = tt
 
@@ -241,6 +256,6 @@ module _ (turn : Turn) (words' : List ℕ) (same : (s : ℕ) → s < slots_of tu
       go (seated i f) o hot = rw (same i o.inside) hot
       go (leaving j t nx m f) o l = l
       go free o m = absurd m
-      go (placed j) o m = absurd m
+      go (placed j l) o m = absurd m
       go (retired f) o m = absurd m
       go (emptied j) o m = absurd m

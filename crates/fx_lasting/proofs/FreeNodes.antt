@@ -67,7 +67,7 @@ named_by (Counted f n) = n + 1
 named_by (Guarded f n) = n + 1
 named_by (Owing n) = n + 1
 named_by (Yielding f n) = n + 1
-named_by (Placing n) = n + 1
+named_by (Placing n w) = n + 1
 named_by (Retiring f n t nx m) = n + 1
 named_by (Emptying n) = n + 1
 named_by _ = 0
@@ -83,7 +83,7 @@ found_below P dec (suc n) = ⊎_elim (λ p. inl (n, omega arith, p))
 
 is_free : (ph : Phase) → (ph ≡ free) ⊎ (ph ≡ free → ⊥)
 is_free free = inl refl
-is_free (placed s) = inr (λ e. cc e)
+is_free (placed s l) = inr (λ e. cc e)
 is_free (seated s f) = inr (λ e. cc e)
 is_free (leaving s t nx m f) = inr (λ e. cc e)
 is_free (retired f) = inr (λ e. cc e)
@@ -115,7 +115,7 @@ module _ {k : Start} {st : Shared} (r : Agrees k st) where
   owes_use n word Idle o = absurd (let a = o.1 in omega arith)
   owes_use n word (Counted f m) o = absurd (let a = o.1 in omega arith)
   owes_use n word (Searching m) o = absurd (let a = o.1 in omega arith)
-  owes_use n word (Placing m) o = absurd (let a = o.1 in omega arith)
+  owes_use n word (Placing m w) o = absurd (let a = o.1 in omega arith)
   owes_use n word (Retiring f m t nx z) o = absurd (let a = o.1 in omega arith)
   owes_use n word (Emptying m) o = absurd (let a = o.1 in omega arith)
 
@@ -125,7 +125,7 @@ module _ {k : Start} {st : Shared} (r : Agrees k st) where
       (word_at st.words (word_of k n)) (sum_by (taken_of n) st.views) (owed r.debt k.passes n) (get_elem? st.homes n) ph
       → OwnerAgrees st.views n ph → 1 ≤ slot_use n + view_use n
   used n l free is not_free o own = absurd (not_free refl)
-  used n l (placed j) is not_free o own = let a = does_use n j own refl in omega arith
+  used n l (placed j z) is not_free o own = let a = does_use n j own refl in omega arith
   used n l (seated s f) is not_free o own = let b = (r.each_slot s o.inside).names in
       let names = subst (Names r.node_of (slot_word st.words s)) o.there b in let e = o.file.its_node in let at = names.0 in
       let c = below_at (λ i. one_if (eqb (name_in (slot_word st.words i)) (n + 1))) (slots_of k) s o.inside in

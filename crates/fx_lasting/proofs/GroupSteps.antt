@@ -14,7 +14,7 @@ use Rattle.fx_lasting.proofs.Counts.{bit_few}
 use Rattle.fx_lasting.proofs.Frames.{sees_same, guards_same, covers_same}
 use Rattle.fx_lasting.proofs.Groups.{in_group, is_group, few_groups, counts_after, counts_kept, full_still, full_same, group_same, visited_map}
 use Rattle.fx_lasting.proofs.Groups as groups
-use Rattle.fx_lasting.proofs.Places.{group_back}
+use Rattle.fx_lasting.proofs.Places.{group_back, label_same}
 use Rattle.fx_lasting.proofs.Keeping.{Turn, turn_of, After, word_at, slot_word, Made, by_turn, its_log, its_work, in_range, tells}
 use Rattle.fx_lasting.proofs.Keeping.{tells_asked, asks_alike, few_slots, has_x, logged, w, end}
 use Rattle.fx_lasting.proofs.Calm.{calm_after, calm_kept}
@@ -33,7 +33,7 @@ is_inside k phase seat (Counted f n) o = o.0
 is_inside k phase seat (Guarded f n) o = o.0
 is_inside k phase seat (Yielding f n) o = o.0
 is_inside k phase seat (Searching n) o = o.0
-is_inside k phase seat (Placing n) o = o.0
+is_inside k phase seat (Placing n w) o = o.0
 is_inside k phase seat (Retiring f n t nx m) o = o.0
 is_inside k phase seat (Emptying n) o = o.0
 
@@ -138,6 +138,7 @@ module _ (turn : Turn) where
           removed = ap (λ (z : State). z.removed) quiet.state;
           slot_words = same;
           node_words = λ n. read_else (word_of v.start n) (λ bad. omega arith);
+          label_words = label_same v.start st.words place y (omega arith);
           hold_words = λ p other more. read_else (hold_word_of v.start p) (λ bad. omega arith);
           counts = counts;
           taken = λ n. refl;

@@ -8,6 +8,7 @@ use Rattle.fx_lasting.proofs.Words.{count_in, slot_place, word_of, hold_word_of,
 use Rattle.fx_lasting.proofs.Words.{IsHistory, held_in, held_of, taken_of, logs_of, owed, Sat, Stepped, IsInside, pass_event, HasPass, Phase}
 use Rattle.fx_lasting.proofs.Words.{free, removed_in, Change, Glance, Log, Start, View, Work, found_sum, found_by, at_index}
 use Rattle.fx_lasting.proofs.Words.{◌⊎◌, list_place, IsListedIn, Deed, untouched, Survey, as_asked}
+use Rattle.fx_lasting.proofs.Words.{Labels, Written, tag_word_of, number_word_of, written_in}
 use Rattle.fx_lasting.proofs.Groups.{AskAlike}
 use Rattle.fx_lasting.proofs.Histories.{Grows, legal_before}
 use Rattle.fx_seen.proofs.Views.{of_replaced}
@@ -23,6 +24,14 @@ Homes = List (maybe.Option (Option Closed))
 
 abbrev pub word_at : List ℕ → ℕ → ℕ
 word_at words place = get_or words place 0
+
+-- the two words of a node's label are as they were
+abbrev pub LabelSame : Start → List ℕ → List ℕ → ℕ → Type 0
+LabelSame k words' words n = (word_at words' (tag_word_of k n) ≡ word_at words (tag_word_of k n))
+    × (word_at words' (number_word_of k n) ≡ word_at words (number_word_of k n))
+
+pub labels_same : (k : Start) (words' words : List ℕ) (n : ℕ) (l : Written) → LabelSame k words' words n → Labels k words n l → Labels k words' n l
+labels_same k words' words n l same o = rw (same.0, same.1) o
 
 -- the word of a slot
 abbrev pub slot_word : List ℕ → ℕ → ℕ
@@ -172,6 +181,7 @@ module _ (turn : Turn) where
           (λ s. count_in (slot_word a.words s)) r.node_of a.next_number n (word_at a.words (word_of v.start n))
           (sum_by (taken_of n) views') (owed a.debt v.start.passes n) (get_elem? a.homes n) (a.phase n)
       pub owners : (n : ℕ) → n < nodes_of v.start → OwnerAgrees views' n (a.phase n)
+      pub labels : (n : ℕ) → n < nodes_of v.start → Labels v.start a.words n (written_in (a.phase n))
       pub removed : (number : ℕ) → (state_after_all v.start a.h).removed number ≡ removed_in number (a.phase (r.node_of number))
       pub unborn : (n : ℕ) → nodes_of v.start ≤ n → a.phase n ≡ free
       pub fresh : (number : ℕ) → a.next_number ≤ number → (state_after_all v.start a.h).fresh number ≡ true
@@ -251,6 +261,7 @@ module _ (turn : Turn) where
         each_slot = s.slots;
         each_node = s.nodes;
         each_owner = s.owners;
+        each_label = s.labels;
         removed = s.removed;
         unborn = s.unborn;
         fresh = s.fresh;

@@ -107,7 +107,7 @@ module _ (turn : Turn) (n : ℕ) where
       go (retired f) is o = (f, (l, ap file_in is))
       go (seated s f) is o = let a = o.unowed in absurd (omega arith)
       go free is o = let a = o.unowed in absurd (omega arith)
-      go (placed j) is o = let a = o.unowed in absurd (omega arith)
+      go (placed j l) is o = let a = o.unowed in absurd (omega arith)
       go (emptied j) is o = let a = o.unowed in absurd (omega arith)
 
   -- the debt of the pass is paid

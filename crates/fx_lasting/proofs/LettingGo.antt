@@ -7,12 +7,14 @@ use Rattle.fx_lasting.proofs.Words.{taking, if_file, owed, count_in, IsHistory, 
 use Rattle.fx_lasting.proofs.Words.{changed_at, changed_here, changed_else, View, Work, Idle, Counted, Emptying, Goes, TakesOut, length-set, inr, ◌⊎◌}
 use Rattle.fx_lasting.proofs.Words.{dite, ℕ_discrete, eq-eqb, ne_eqb, one_if, sum_by, closed_word, by_equality, sum_set, Agrees, get_elem?}
 use Rattle.fx_lasting.proofs.Histories.{Grows, grows_more, legal_more, part_mine, held_mine, each_changed}
-use Rattle.fx_lasting.proofs.Frames.{busy, does_now}
+use Rattle.fx_lasting.proofs.Frames.{busy, does_now, written_of}
 use Rattle.fx_lasting.proofs.Keeping.{Turn, After, Homes, word_at, slot_word, in_range, tells, w, end}
 use Rattle.fx_lasting.proofs.NodeSteps.{own_keeps, guards_else}
 use Rattle.fx_lasting.proofs.NodeSteps.{after, node_kept}
-use Rattle.fx_lasting.proofs.Places.{node_words, node_here, node_else, node_slot, node_hold, node_alike, node_list}
+use Rattle.fx_lasting.proofs.Places.{node_words, node_here, node_else, node_slot, node_hold, node_alike, node_list, node_label}
 use Rattle.fx_lasting.proofs.Unheld.{held_alone, held_not, on_node}
+use Rattle.fx_lasting.proofs.Keeping.{labels_same}
+use Rattle.fx_lasting.proofs.Words.{Labels, written_in, subst}
 
 pub taking_few : (n : ℕ) (d : Work) → taking n d ≤ 1
 taking_few n (Counted f m) = by_equality m n (λ b. one_if b ≤ 1) (λ _. omega arith) (λ _. omega arith)
@@ -97,6 +99,9 @@ module _ {turn : Turn} {n : ℕ} {f : File} {h₁ : List Event} {debt' : ℕ →
       alike = node_alike turn n g.its.0 less;
       lists = node_list turn n g.its.0 less;
       node_words = λ m l other. node_else turn n g.its.0 less m other;
+      label_else = λ m other. node_label turn n g.its.0 less m;
+      label = labels_same v.start _ _ _ (written_in ph) (node_label turn n g.its.0 less n) (subst (Labels v.start st.words n)
+          (written_of (r.phase n) g.its.1 ∙ sym (written_of ph filed)) (r.each_label n g.its.0));
       home_else = λ m l other. refl;
       owed_else = g.owed_else;
       taken_else = λ m other. sym (g.taken_else m other);
@@ -177,6 +182,8 @@ module _ {turn : Turn} {n : ℕ} {f : File} {h₁ : List Event} {debt' : ℕ →
       alike = node_alike turn n g.its.0 less;
       lists = node_list turn n g.its.0 less;
       node_words = λ m l other. node_else turn n g.its.0 less m other;
+      label_else = λ m other. node_label turn n g.its.0 less m;
+      label = tt;
       home_else = λ m l other. set_else st.homes n m none other;
       owed_else = g.owed_else;
       taken_else = λ m other. sym (g.taken_else m other);

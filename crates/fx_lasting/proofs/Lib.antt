@@ -15,6 +15,7 @@ pub mod LetGoLaws
 pub mod Calm
 pub mod HoldWords
 pub mod Births
+pub mod Labelling
 pub mod Listing
 pub mod Looking
 pub mod SlotSteps

@@ -8,14 +8,14 @@ use Rattle.fx_lasting.proofs.Calm.{calm_after, calm_kept}
 use Rattle.fx_lasting.proofs.Words.{◌≡◌, ◌+◌, ◌%◌, ◌<◌, ◌∙◌, sym, false}
 use Rattle.fx_lasting.proofs.Lists.{ListGoesOn, now_listed, bit_added}
 use Rattle.fx_lasting.proofs.GroupSteps.{its_inside}
-use Rattle.fx_lasting.proofs.Places.{list_words, list_here, list_apart, list_node, list_hold, list_slot, list_alike}
+use Rattle.fx_lasting.proofs.Places.{list_words, list_here, list_apart, list_node, list_hold, list_slot, list_alike, list_label}
 use Rattle.fx_lasting.proofs.Groups.{counts_same}
 use Rattle.fx_lasting.specs.Agrees.{Agrees}
 
 -- a pass that is listed may do what it did
 allowed_more : (k : Start) (p : ℕ) (l : Bool) (d : Work) → IsAllowed k p l d → IsAllowed k p true d
 allowed_more k p l (Searching n) ok = ok
-allowed_more k p l (Placing n) ok = ok
+allowed_more k p l (Placing n w) ok = ok
 allowed_more k p l (Announced n) ok = refl
 allowed_more k p l (Guarded f n) ok = refl
 allowed_more k p l Idle ok = tt
@@ -66,6 +66,7 @@ module _ (turn : Turn) (not_yet : turn.x.listed ≡ false) (fits : word_at turn.
         removed = refl;
         slot_words = same;
         node_words = list_node turn x.number few new;
+        label_words = list_label turn x.number few new;
         hold_words = λ p other low. list_hold turn x.number few new p low;
         counts = counts_same id (w turn listed_after) here r.counts (few_slots turn) refl (list_alike turn x.number few new) refl
             (asks_alike turn listed_after refl);

@@ -10,6 +10,8 @@ use Rattle.fx_lasting.proofs.Histories.{Grows, each_changed}
 use Rattle.fx_lasting.proofs.Frames.{busy, owner_stays, slot_same, node_same, Leaves, keeps_other, one_block}
 use Rattle.fx_lasting.proofs.Frames.{sees_same, covers_same, guards_same}
 use Rattle.fx_lasting.proofs.Keeping.{Turn, After, Keeps, Homes, word_at, slot_word, step_kept, w, end, in_range, its_log, asks_alike, few_slots}
+use Rattle.fx_lasting.proofs.Keeping.{LabelSame, labels_same}
+use Rattle.fx_lasting.proofs.Words.{Labels, written_in}
 use Rattle.fx_lasting.proofs.Groups.{CountAlike, counts_same}
 
 module _ (turn : Turn) (q : ℕ) (its : q < nodes_of turn.v.start) (ph : Phase) (h' : List Event) (words' : List ℕ) (homes' : Homes)
@@ -52,6 +54,7 @@ module _ (turn : Turn) (q : ℕ) (its : q < nodes_of turn.v.start) (ph : Phase) 
     pub lists : (p : ℕ) → p ≤ 1024 → word_at words' (list_place p) ≡ word_at st.words (list_place p)
     -- other nodes
     pub node_words : (n : ℕ) → n < nodes_of v.start → n ≢ q → word_at words' (word_of v.start n) ≡ word_at st.words (word_of v.start n)
+    pub label_else : (n : ℕ) → n ≢ q → LabelSame v.start words' st.words n
     pub home_else : (n : ℕ) → n < nodes_of v.start → n ≢ q → get_elem? homes' n ≡ get_elem? st.homes n
     pub owed_else : (n : ℕ) → n ≢ q → owed debt' v.start.passes n ≡ owed r.debt v.start.passes n
     pub taken_else : (n : ℕ) → n ≢ q → taking n d ≡ taking n v.work
@@ -69,6 +72,7 @@ module _ (turn : Turn) (q : ℕ) (its : q < nodes_of turn.v.start) (ph : Phase) 
         (word_at words' (word_of v.start q)) (sum_by (taken_of q) (set st.views id (w turn after))) (owed debt' v.start.passes q)
         (get_elem? homes' q) ph
     pub known : OwnerAgrees (set st.views id (w turn after)) q ph
+    pub label : Labels v.start words' q (written_in ph)
     -- the pass
     pub held : held_by h' x.number ≡ held_in d
     pub allowed : IsAllowed v.start x.number x.listed d
@@ -144,6 +148,8 @@ module _ (turn : Turn) (q : ℕ) (its : q < nodes_of turn.v.start) (ph : Phase) 
           (λ i f is there. (at_is i, ap count_in (s.slot_words i (inside_else n l i f is)))) (r.each_node n l));
       owners = λ n l. each_changed (OwnerAgrees (set st.views id (w turn after))) r.phase
           (λ same. rw same s.known) (λ other. owner_stays st.views id v (w turn after) here n (s.free_else n other) (r.phase n) (r.each_owner n l));
+      labels = λ n l. each_changed (λ n z. Labels v.start words' n (written_in z)) r.phase (λ same. rw same s.label)
+          (λ other. labels_same v.start _ _ _ (written_in (r.phase n)) (s.label_else n other) (r.each_label n l));
       removed = s.removed;
       unborn = λ n l. each_changed (λ m z. z ≡ free) r.phase (λ same. absurd (omega (arith, same, l, its))) (λ _. r.unborn n l);
       fresh = λ number l. ap (λ (f : ℕ → Bool). f number) s.fresh ∙ r.fresh number l;

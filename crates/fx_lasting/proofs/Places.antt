@@ -1,9 +1,10 @@
 -- Places are inside, and apart; and what a write to one of them leaves as it was.
 use Rattle.fx_lasting.proofs.Words.{◌≡◌, ◌≢◌, ℕ, ◌<◌, ◌≤◌, List, set, arith, get_or-set_other, get_or-set_same, list_place, slot_place, word_of}
 use Rattle.fx_lasting.proofs.Words.{hold_word_of, slots_of, nodes_of, slot_of, group_at, group_place, pass_at, Start}
-use Rattle.fx_lasting.specs.Layout.{PlacesAreInside, PlacesAreApart}
+use Rattle.fx_lasting.specs.Layout.{PlacesAreInside, PlacesAreApart, LabelsAreApart}
 use Rattle.fx_lasting.proofs.Groups.{CountAlike}
-use Rattle.fx_lasting.proofs.Keeping.{Turn, word_at, slot_word}
+use Rattle.fx_lasting.proofs.Keeping.{Turn, word_at, slot_word, LabelSame}
+use Rattle.fx_lasting.proofs.Words.{tag_word_of, number_word_of}
 
 pub places_inside : (size passes nodes : ℕ) → PlacesAreInside size passes nodes
 places_inside size passes nodes = record {
@@ -13,6 +14,8 @@ places_inside size passes nodes = record {
   slot = λ slot l. omega arith;
   hold = λ pass l. omega arith;
   node = λ node l. omega arith;
+  tag = λ node l. omega arith;
+  number = λ node l. omega arith;
 }
 
 pub places_apart : (size passes : ℕ) → PlacesAreApart size passes
@@ -39,6 +42,19 @@ places_apart size passes = record {
   node_and_hold = λ node pass l same. omega arith;
 }
 
+pub labels_apart : (size passes nodes : ℕ) → LabelsAreApart size passes nodes
+labels_apart size passes nodes = record {
+  tags = λ node other same. omega arith;
+  numbers = λ node other same. omega arith;
+  tag_and_number = λ node other same. omega arith;
+  tag_and_node = λ node other l. omega arith;
+  tag_and_hold = λ node pass l. omega arith;
+  tag_and_slot = λ node slot l. omega arith;
+  tag_and_group = λ node group few. omega arith;
+  tag_and_list = λ node pass few. omega arith;
+  tag_and_question = λ node. omega arith;
+}
+
 pub slot_back : (s : ℕ) → slot_of (slot_place s) ≡ s
 slot_back s = omega arith
 
@@ -47,6 +63,13 @@ group_back g = omega arith
 
 pub pass_back : (k : Start) (p : ℕ) → pass_at k (hold_word_of k p) ≡ p
 pass_back k p = omega arith
+
+-- a write before the labels leaves them as they were
+pub label_same : (k : Start) (words : List ℕ) (place new : ℕ) → place < tag_word_of k 0 → (n : ℕ) → LabelSame k (set words place new) words n
+label_same k words place new low n = (
+  get_or-set_other words place (tag_word_of k n) new 0 (λ same. omega arith),
+  get_or-set_other words place (number_word_of k n) new 0 (λ same. omega arith),
+)
 
 -- the word of a node is written
 module _ (turn : Turn) (q : ℕ) (its : q < nodes_of turn.v.start) (new : ℕ) where
@@ -72,6 +95,9 @@ module _ (turn : Turn) (q : ℕ) (its : q < nodes_of turn.v.start) (new : ℕ) w
 
   pub node_list : (p : ℕ) → p ≤ 1024 → word_at node_words (list_place p) ≡ word_at st.words (list_place p)
   node_list p few = node_apart (λ same. omega arith)
+
+  pub node_label : (n : ℕ) → LabelSame v.start node_words st.words n
+  node_label = label_same v.start st.words (word_of v.start q) new (omega arith)
 
   pub node_alike : CountAlike node_words st.words
   node_alike = (node_apart (λ same. omega arith), λ g l. node_apart (λ same. omega arith))
@@ -101,6 +127,9 @@ module _ (turn : Turn) (p : ℕ) (low : 0 < p) (high : p ≤ turn.v.start.passes
   pub hold_list : (p : ℕ) → p ≤ 1024 → word_at hold_words (list_place p) ≡ word_at st.words (list_place p)
   hold_list p few = hold_apart (λ same. omega arith)
 
+  pub hold_label : (n : ℕ) → LabelSame v.start hold_words st.words n
+  hold_label = label_same v.start st.words (hold_word_of v.start p) new (omega arith)
+
   pub hold_alike : CountAlike hold_words st.words
   hold_alike = (hold_apart (λ same. omega arith), λ g l. hold_apart (λ same. omega arith))
 
@@ -129,6 +158,9 @@ module _ (turn : Turn) (s : ℕ) (inside : s < slots_of turn.v.start) (new : ℕ
   pub slot_list : (p : ℕ) → p ≤ 1024 → word_at slot_words (list_place p) ≡ word_at st.words (list_place p)
   slot_list p few = slot_apart (λ same. omega arith)
 
+  pub slot_label : (n : ℕ) → LabelSame v.start slot_words st.words n
+  slot_label = label_same v.start st.words (slot_place s) new (omega arith)
+
   pub slot_alike : CountAlike slot_words st.words
   slot_alike = (slot_apart (λ same. omega arith), λ g l. slot_apart (λ same. omega arith))
 
@@ -153,6 +185,9 @@ module _ (turn : Turn) (p : ℕ) (few : p ≤ 1024) (new : ℕ) where
 
   pub list_slot : (s : ℕ) → s < slots_of v.start → slot_word list_words s ≡ slot_word st.words s
   list_slot s l = list_apart (λ same. omega arith)
+
+  pub list_label : (n : ℕ) → LabelSame v.start list_words st.words n
+  list_label = label_same v.start st.words (list_place p) new (omega arith)
 
   pub list_alike : CountAlike list_words st.words
   list_alike = (list_apart (λ same. omega arith), λ g l. list_apart (λ same. omega arith))

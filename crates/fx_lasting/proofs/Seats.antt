@@ -51,6 +51,7 @@ module _ (k : Start) (s : Shared) (r : Agrees k s) (views : List View) (a : AreR
     each_node = λ n l. subst (λ (t : ℕ). NodeAgrees (state_after_all k r.history).at (slots_of k) (λ i. count_in (slot_word s.words i)) r.node_of
         r.next_number n (word_at s.words (word_of k n)) t (owed r.debt k.passes n) (get_elem? s.homes n) (r.phase n))
         (sym (by_work (taking n) refl)) (r.each_node n l);
+    each_label = r.each_label;
     each_owner = λ n l. owner_map s.views views n (λ j d is o.
         (o.0, a.others j o.0 o.1 (λ idle. let e : busy d ≡ 0 = ap busy (sym o.2 ∙ idle.0) in omega arith), o.2)) (r.phase n) (r.each_owner n l);
     removed = r.removed;
@@ -128,6 +129,7 @@ module _ (k : Start) (s : Shared) (r : Agrees k s) (id : ℕ) (v : View) (here :
     each_node = λ n l. subst (λ (t : ℕ). NodeAgrees (state_after_all k r.history).at (slots_of k) (λ i. count_in (slot_word s.words i)) r.node_of
         r.next_number n (word_at s.words (word_of k n)) t (owed r.debt k.passes n) (get_elem? s.homes n) (r.phase n))
         (let t = sum_set (taken_of n) s.views id v forgot here in let e = no_take free_of n in omega arith) (r.each_node n l);
+    each_label = r.each_label;
     each_owner = λ n l. owner_stays s.views id v forgot here n (λ bad. let e = not_busy free_of in omega arith) (r.phase n) (r.each_owner n l);
     removed = r.removed;
     unborn = r.unborn;

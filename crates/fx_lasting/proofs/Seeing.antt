@@ -3,7 +3,7 @@
 use Rattle.fx_lasting.proofs.Words.{◌≡◌, ◌≢◌, ℕ, ◌+◌, ◌^◌, ◌<◌, ◌≤◌, List, [], ◌∷◌, sym, refl, ap, ◌∙◌, Option, Some, None, none}
 use Rattle.fx_lasting.proofs.Words.{keeps, gives, rest, eqb, Closed, File, Take, Names, slots_of, slot_place, slot_word_of, state_after_all}
 use Rattle.fx_lasting.proofs.Words.{node_of_number, HasNoFile, IsOffCount, Placing, Outside, Sees, TakesIf, Replaces, SeesKeep, TakesIfKeep, ReplacesKeep}
-use Rattle.fx_lasting.proofs.Words.{step, exchanged}
+use Rattle.fx_lasting.proofs.Words.{step, exchanged, label_of}
 use prog.Atomic.{either}
 use Rattle.fx_lasting.proofs.Keeping.{Turn, turn_of, Made, by_turn, word_at, slot_word, w}
 use Rattle.fx_lasting.proofs.Calm.{read_after, read_kept}
@@ -66,7 +66,7 @@ module _ (turn : Turn) (s : ℕ) (inside : s < slots_of turn.v.start) (carried :
     )
 
   -- It is exchanged for the word of the file that the pass places
-  module _ (n : ℕ) (file : Closed) (works : turn.v.work ≡ Placing n) (small : file.entry < 2 ^ 8) (out : turn.v.change ≡ Outside)
+  module _ (n : ℕ) (file : Closed) (works : turn.v.work ≡ Placing n (label_of file)) (small : file.entry < 2 ^ 8) (out : turn.v.change ≡ Outside)
       (carries : carried ≡ (n, Some file) ∷ []) (number : ℕ) (late : turn.r.next_number ≤ number) (on_n : turn.r.node_of number ≡ n)
       (slots old_word : ℕ) where
     abbrev Puts : ℕ → Type 0

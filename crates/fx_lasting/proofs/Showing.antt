@@ -46,6 +46,7 @@ module _ (k : Start) (s : Shared) (r : Agrees k s) (h : List Event) (seen : IsSe
     each_node = λ n l. subst (λ (t : ℕ). NodeAgrees (state_after_all k r.history).at (slots_of k) (λ i. count_in (slot_word s.words i)) r.node_of
         r.next_number n (word_at s.words (word_of k n)) t (owed r.debt k.passes n) (get_elem? s.homes n) (r.phase n))
         (let t = sum_by-append (taken_of n) s.views (u ∷ []) in omega arith) (r.each_node n l);
+    each_label = r.each_label;
     each_owner = λ n l. owner_map s.views views' n (λ j d is o. (o.0, at_longer s.views (u ∷ []) j o.0 o.1, o.2)) (r.phase n) (r.each_owner n l);
     removed = r.removed;
     unborn = r.unborn;
@@ -127,6 +128,7 @@ module _ (k : Start) (id : ℕ) (v w : View) (x : Log) (one : v.logs ≡ x ∷ [
     each_node = λ n l. subst (λ (t : ℕ). NodeAgrees (state_after_all k r.history).at (slots_of k) (λ i. count_in (slot_word s.words i)) r.node_of
         r.next_number n (word_at s.words (word_of k n)) t (owed r.debt k.passes n) (get_elem? s.homes n) (r.phase n))
         (let t = sum_set (taken_of n) s.views id v learned at in omega arith) (r.each_node n l);
+    each_label = r.each_label;
     each_owner = λ n l. owner_same s.views id v learned at refl n (r.phase n) (r.each_owner n l);
     removed = r.removed;
     unborn = r.unborn;

@@ -17,7 +17,7 @@ speaks k p l debt (Counted f n) some hold allowed = absurd (some hold.0)
 speaks k p l debt (Owing n) some hold allowed = absurd (some hold.0)
 speaks k p l debt (Yielding f n) some hold allowed = absurd (some hold.0)
 speaks k p l debt (Searching n) some hold allowed = absurd (some hold.0)
-speaks k p l debt (Placing n) some hold allowed = absurd (some hold.0)
+speaks k p l debt (Placing n w) some hold allowed = absurd (some hold.0)
 speaks k p l debt (Retiring f n t nx m) some hold allowed = absurd (some hold.0)
 speaks k p l debt (Emptying n) some hold allowed = absurd (some hold.0)
 
@@ -60,7 +60,7 @@ module _ (turn : Turn) (f : File) (n t : ℕ) (nx : Round) (m : ℕ) (works : tu
   guard_on p (Owing k) ne range hold guard = tt
   guard_on p (Yielding h k) ne range hold guard = tt
   guard_on p (Searching k) ne range hold guard = tt
-  guard_on p (Placing k) ne range hold guard = tt
+  guard_on p (Placing k w) ne range hold guard = tt
   guard_on p (Retiring h k a b c) ne range hold guard = tt
   guard_on p (Emptying k) ne range hold guard = tt
 
@@ -75,6 +75,7 @@ module _ (turn : Turn) (f : File) (n t : ℕ) (nx : Round) (m : ℕ) (works : tu
     own_debt = refl;
     owed_else = λ k ne. refl;
     owed_more = refl;
+    labels = λ k. (refl, refl);
     few_marks = omega arith;
     few_visits = omega arith;
     guards = λ p e ne range hold guard. (hold, guard_on p e ne range hold guard);

@@ -10,6 +10,7 @@ use Rattle.fx_lasting.proofs.Words.{length-set, exchanged, IsInside, retiring_wo
 use Rattle.fx_lasting.proofs.Words.{◌*◌, ◌≤◌, HasNoFile}
 use Rattle.std.proofs.lemmas.Nat.{mod-mul-add}
 use Rattle.std.proofs.Math.Nat.{le-mul_of_pos_right}
+use Rattle.fx_lasting.proofs.Words.{Labels, Written, written_in, label_of}
 use prog.Atomic.{either}
 use Rattle.fx_lasting.proofs.Histories.{grows_one, legal_more, part_mine, held_mine, each_changed, same_shape}
 use Rattle.fx_lasting.proofs.Frames.{busy, owner_stays, node_same}
@@ -88,6 +89,7 @@ module _ (act : ℕ → Option File → Action) (does : IsRemoval act) (turn : T
         (r.each_node n l);
     old_home = λ f is. refl;
     owners = λ n l apart. owner_stays st.views id v (w turn removal) here n (λ bad. let a = not_busy free_of in omega arith) (r.phase n) (r.each_owner n l);
+    labels = λ n l apart. r.each_label n l;
     idle_hands = (no_file free_of, no_take free_of, h.0, h.1);
     counts = counts_swap id (w turn removal) here r.counts s old None (few_slots turn) refl (slot_alike turn s inside 0) (asks_alike turn removal refl) refl
         (removal_balances (range_at_start v.start) s old off) (removal_keeps id (w turn removal) here s old off refl);
@@ -139,17 +141,17 @@ takes_out_keep k slots id i s m x has works inside off place = by_turn slots (λ
     (λ st r here is fits. removal_made Take taken (turn_of m x has.1 id st r here) s is.0 works is.1 slots m.1)
 
 -- a number that none had before, and which says the node
-pub new_number : (turn : Turn) {n : ℕ} → turn.v.work ≡ Placing n → (m : ℕ) × (turn.r.next_number ≤ m) × (turn.r.node_of m ≡ n)
-new_number turn {n} works = let r = turn.r in let nodes = nodes_of turn.v.start in
-    let l = (subst (WorkAgrees turn.v.start r.phase turn.id) works (its_work turn)).0 in (
+pub new_number : (turn : Turn) {n : ℕ} {l : Written} → turn.v.work ≡ Placing n l → (m : ℕ) × (turn.r.next_number ≤ m) × (turn.r.node_of m ≡ n)
+new_number turn {n} {l} works = let r = turn.r in let nodes = nodes_of turn.v.start in
+    let low = (subst (WorkAgrees turn.v.start r.phase turn.id) works (its_work turn)).0 in (
       r.next_number * nodes + n,
-      omega (arith, le-mul_of_pos_right {m = nodes} r.next_number (omega (arith, l))),
-      r.numbering (r.next_number * nodes + n) ∙ mod-mul-add r.next_number nodes n l,
+      omega (arith, le-mul_of_pos_right {m = nodes} r.next_number (omega (arith, low))),
+      r.numbering (r.next_number * nodes + n) ∙ mod-mul-add r.next_number nodes n low,
     )
 
 -- The slot gets the file that a pass places, under a number that none had before.
 module _ (turn : Turn) (s : ℕ) (inside : s < slots_of turn.v.start) (old : Option File) (was : (state_after_all turn.v.start turn.r.history).at s ≡ old)
-    (n : ℕ) (file : Closed) (works : turn.v.work ≡ Placing n) (small : file.entry < 2 ^ 8) (out : turn.v.change ≡ Outside)
+    (n : ℕ) (file : Closed) (works : turn.v.work ≡ Placing n (label_of file)) (small : file.entry < 2 ^ 8) (out : turn.v.change ≡ Outside)
     (number : ℕ) (late : turn.r.next_number ≤ number) (on_n : turn.r.node_of number ≡ n) (a : Action) where
   open turn use {st, v, r, id, x, here, one}
 
@@ -162,7 +164,7 @@ module _ (turn : Turn) (s : ℕ) (inside : s < slots_of turn.v.start) (old : Opt
   abbrev h₂ : List Event
   h₂ = pass_event x a ∷ r.history
 
-  its : (n < nodes_of v.start) × (r.phase n ≡ placed id)
+  its : (n < nodes_of v.start) × (r.phase n ≡ placed id (label_of file))
   its = subst (WorkAgrees v.start r.phase id) works (its_work turn)
 
   abbrev new_word : ℕ
@@ -254,8 +256,11 @@ module _ (turn : Turn) (s : ℕ) (inside : s < slots_of turn.v.start) (old : Opt
       seat = rw on_n (its.0, changed_here r.phase n (seated s new_file) n refl);
       seat_apart = λ f is. let e : number ≡ f.number = (let z : new_file ≡ f = cc is in ap (λ (y : File). y.number) z) in
           subst (λ (i : ℕ). NotOf r.node_of (r.node_of i) old) e (rw on_n apart);
-      kept = λ m. each_changed (λ m ph. (ph ≡ r.phase m) ⊎ (r.phase m ≡ placed id)) r.phase
-          (λ same. inr (ap r.phase same ∙ its.1)) (λ other. inl refl);
+      kept = λ m. each_changed (λ m ph. (ph ≡ r.phase m) ⊎ ((l : Written) × (r.phase m ≡ placed id l))) r.phase
+          (λ same. inr (label_of file, ap r.phase same ∙ its.1)) (λ other. inl refl);
+      labels = λ m l apart. each_changed (λ m ph. Labels v.start st.words m (written_in ph)) r.phase
+          (λ same. subst (λ (i : ℕ). Labels v.start st.words i (label_of file)) (sym same)
+          (subst (λ (ph : Phase). Labels v.start st.words n (written_in ph)) its.1 (r.each_label n its.0))) (λ other. r.each_label m l);
       nodes = λ m l apart. each_changed Node₁ r.phase (λ same. subst (λ (i : ℕ). Node₁ i (seated s new_file)) (sym same) node_here₁)
           (λ other. node_else₁ l other apart);
       old_home = λ f is. set_else st.homes n (r.node_of f.number) (some (Some file)) (λ same. apart f is (sym same));
@@ -284,7 +289,7 @@ abbrev pub file_carried : List (ℕ × Option Closed) → Option Closed
 file_carried [] = None
 file_carried (c ∷ cs) = c.1
 
-module _ (turn : Turn) (s : ℕ) (inside : s < slots_of turn.v.start) (n : ℕ) (file : Closed) (works : turn.v.work ≡ Placing n)
+module _ (turn : Turn) (s : ℕ) (inside : s < slots_of turn.v.start) (n : ℕ) (file : Closed) (works : turn.v.work ≡ Placing n (label_of file))
     (small : file.entry < 2 ^ 8) (out : turn.v.change ≡ Outside) (slots : ℕ) (carried : List (ℕ × Option Closed))
     (carries : carried ≡ (n, Some file) ∷ []) (number : ℕ) (late : turn.r.next_number ≤ number) (on_n : turn.r.node_of number ≡ n) where
   open turn use {st, v, r, id, x, here, one}
@@ -323,7 +328,7 @@ module _ (turn : Turn) (s : ℕ) (inside : s < slots_of turn.v.start) (n : ℕ) 
     },
   )
 
-module _ (turn : Turn) (slots s n old_word : ℕ) (file : Closed) (carried : List (ℕ × Option Closed)) (works : turn.v.work ≡ Placing n)
+module _ (turn : Turn) (slots s n old_word : ℕ) (file : Closed) (carried : List (ℕ × Option Closed)) (works : turn.v.work ≡ Placing n (label_of file))
     (carries : carried ≡ (n, Some file) ∷ []) (small : file.entry < 2 ^ 8) (out : turn.v.change ≡ Outside) (in_range : IsInRange turn.v.start s)
     (empty : name_in old_word ≡ 0) (number : ℕ) (late : turn.r.next_number ≤ number) (on_n : turn.r.node_of number ≡ n) where
   open turn use {st, v, r, id, x, here, one}

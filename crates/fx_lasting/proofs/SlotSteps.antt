@@ -9,7 +9,9 @@ use Rattle.fx_lasting.proofs.Histories.{Grows}
 use Rattle.fx_lasting.proofs.Frames.{busy, owner_stays, owner_same, slot_same, node_same, Leaves, keeps_other, guards_same}
 use Rattle.fx_lasting.proofs.Keeping.{Turn, After, Keeps, word_at, slot_word, step_kept, w, end, asks_alike, few_slots}
 use Rattle.fx_lasting.proofs.Groups.{counts_same}
-use Rattle.fx_lasting.proofs.Places.{slot_words, slot_here, slot_node, slot_else, slot_hold, slot_alike, slot_list}
+use Rattle.fx_lasting.proofs.Places.{slot_words, slot_here, slot_node, slot_else, slot_hold, slot_alike, slot_list, slot_label}
+use Rattle.fx_lasting.proofs.Keeping.{labels_same}
+use Rattle.fx_lasting.proofs.Words.{written_in}
 
 module _ (turn : Turn) (s : ℕ) (inside : s < slots_of turn.v.start) (new : ℕ) (h' : List Event) (d : Work) (g : Glance) (deed' : ℕ → ℕ → Deed) where
   open turn use {st, v, r, id, x, here, one}
@@ -78,7 +80,7 @@ module _ (turn : Turn) (s : ℕ) (inside : s < slots_of turn.v.start) (new : ℕ
           (λ other. rw (slot_else turn s inside new i other) is_hot)
       go (leaving j t nx m f) o l = l
       go free o m = absurd m
-      go (placed j) o m = absurd m
+      go (placed j l) o m = absurd m
       go (retired f) o m = absurd m
       go (emptied j) o m = absurd m
 
@@ -144,7 +146,7 @@ module _ (turn : Turn) (s : ℕ) (inside : s < slots_of turn.v.start) (new : ℕ
         })
         (λ other. same_else n l (seated i f) is (λ h bad. other (cc bad)))
     node_now n l free is = same_else n l free is (λ h bad. cc bad)
-    node_now n l (placed j) is = same_else n l (placed j) is (λ h bad. cc bad)
+    node_now n l (placed j z) is = same_else n l (placed j z) is (λ h bad. cc bad)
     node_now n l (leaving j t nx m f) is = same_else n l (leaving j t nx m f) is (λ h bad. cc bad)
     node_now n l (retired f) is = same_else n l (retired f) is (λ h bad. cc bad)
     node_now n l (emptied j) is = same_else n l (emptied j) is (λ h bad. cc bad)
@@ -163,6 +165,7 @@ module _ (turn : Turn) (s : ℕ) (inside : s < slots_of turn.v.start) (new : ℕ
       nodes = λ n l. node_now n l (r.phase n) refl;
       owners = λ n l. ⊎_elim (λ same. owner_same st.views id v (w turn slot_after) here same n (r.phase n) (r.each_owner n l))
           (λ none. owner_stays st.views id v (w turn slot_after) here n (λ bad. omega arith) (r.phase n) (r.each_owner n l)) p.owners;
+      labels = λ n l. labels_same v.start _ _ _ (written_in (r.phase n)) (slot_label turn s inside new n) (r.each_label n l);
       removed = λ number. ap (λ (f : ℕ → Option File). f number) p.removed ∙ r.removed number;
       unborn = r.unborn;
       fresh = λ number l. ap (λ (f : ℕ → Bool). f number) p.fresh ∙ r.fresh number l;

@@ -13,7 +13,9 @@ use Rattle.fx_lasting.proofs.Counts.{tally_same, tally_none}
 use Rattle.fx_lasting.proofs.Histories.{Grows, each_changed}
 use Rattle.fx_lasting.proofs.Frames.{does_now, slot_same, file_same, Leaves, keeps_other, guards_same, SlotGoesOn, sees_on, heats_on}
 use Rattle.fx_lasting.proofs.Keeping.{Turn, After, Homes, word_at, slot_word, step_kept, w, end, its_log, in_range}
-use Rattle.fx_lasting.proofs.Places.{slot_words, slot_here, slot_node, slot_else, slot_hold, slot_list}
+use Rattle.fx_lasting.proofs.Places.{slot_words, slot_here, slot_node, slot_else, slot_hold, slot_list, slot_label}
+use Rattle.fx_lasting.proofs.Keeping.{labels_same}
+use Rattle.fx_lasting.proofs.Words.{Labels, Written, written_in, label_of}
 use Rattle.fx_lasting.proofs.Unheld.{in_phase}
 
 -- the node isn't that of the file
@@ -134,10 +136,11 @@ module _ (turn : Turn) (s : ℕ) (inside : s < slots_of turn.v.start) where
         pub seat : IsSeated v.start r.node_of phase₁ s new
         pub seat_apart : (f : File) → new ≡ Some f → NotOf r.node_of (r.node_of f.number) old
         -- the phases change at most where the pass was placing
-        pub kept : (n : ℕ) → (phase₁ n ≡ r.phase n) ⊎ (r.phase n ≡ placed id)
+        pub kept : (n : ℕ) → (phase₁ n ≡ r.phase n) ⊎ ((l : Written) × (r.phase n ≡ placed id l))
         pub nodes : (n : ℕ) → n < nodes_of v.start → NotOf r.node_of n old → Node n (phase₁ n)
         pub old_home : (f : File) → old ≡ Some f → get_elem? homes' (r.node_of f.number) ≡ get_elem? st.homes (r.node_of f.number)
         pub owners : (n : ℕ) → n < nodes_of v.start → NotOf r.node_of n old → OwnerAgrees (set st.views id (w turn swap_after)) n (phase₁ n)
+        pub labels : (n : ℕ) → n < nodes_of v.start → NotOf r.node_of n old → Labels v.start st.words n (written_in (phase₁ n))
         -- the pass
         pub idle_hands : (held_in v.work ≡ None) × ((n : ℕ) → taking n v.work ≡ 0)
             × (word_at st.words (hold_word_of v.start x.number) ≡ 0) × (r.debt x.number ≡ 0)
@@ -156,8 +159,8 @@ module _ (turn : Turn) (s : ℕ) (inside : s < slots_of turn.v.start) where
             go (Some f) is = changed_else phase₁ (r.node_of f.number) (gone_as f) n (apart f is)
 
         -- a node that is neither the old file's nor placed
-        same_phase : {n : ℕ} {ph : Phase} → r.phase n ≡ ph → NotOf r.node_of n old → (ph ≡ placed id → ⊥) → phase' n ≡ ph
-        same_phase {n} is apart other = else_phase apart ∙ ⊎_elim (λ same. same ∙ is) (λ mine. absurd (other (sym is ∙ mine))) (p.kept n)
+        same_phase : {n : ℕ} {ph : Phase} → r.phase n ≡ ph → NotOf r.node_of n old → ((l : Written) → ph ≢ placed id l) → phase' n ≡ ph
+        same_phase {n} is apart other = else_phase apart ∙ ⊎_elim (λ same. same ∙ is) (λ mine. absurd (other mine.0 (sym is ∙ mine.1))) (p.kept n)
 
         at_else : (i : ℕ) → i ≢ s → after.at i ≡ state.at i
         at_else i other = ap (λ (z : State). z.at i) p.leads ∙ changed_else state.at s new i other
@@ -187,6 +190,11 @@ module _ (turn : Turn) (s : ℕ) (inside : s < slots_of turn.v.start) where
             first_few = let a = r.shape.passes in dite (ℕ_discrete (heat_in found) 0) (λ c. rw (eq-eqb (heat_in found) 0 c) (omega arith))
                 (λ h. rw (ne_eqb (heat_in found) 0 h) (omega arith))
 
+        -- its label is still that of the file
+        old_label : {f : File} → old ≡ Some f → Labels v.start (slot_words turn s inside new_word) (r.node_of f.number) (label_of f.identity)
+        old_label {f} is = let its = old_at is in labels_same v.start _ _ _ (label_of f.identity) (slot_label turn s inside new_word (r.node_of f.number))
+            (subst (λ (ph : Phase). Labels v.start st.words (r.node_of f.number) (written_in ph)) its.1 (r.each_label (r.node_of f.number) its.0))
+
         -- who guards the old file is still to be visited
         guard_old : {f : File} (q : ℕ) → 0 < q → q ≤ v.start.passes → old ≡ Some f → IsHot found → IsToVisit (new_round (first_visit v.start.passes found)) q
         guard_old q low high is hot = (rw (ne_eqb (heat_in found) 0 (λ none. omega (arith, hot, none))) (omega arith), λ idle. let a = idle.0 in omega arith)
@@ -209,11 +217,11 @@ module _ (turn : Turn) (s : ℕ) (inside : s < slots_of turn.v.start) where
             go : NotOf r.node_of n old → (ph : Phase) → r.phase n ≡ ph → MayBeUnmarked (slot_word st.words) q ph
                 → MayBeUnmarked (slot_word (slot_words turn s inside new_word)) q (phase' n)
             go apart (seated i f) is hot = subst (MayBeUnmarked (slot_word (slot_words turn s inside new_word)) q)
-                (sym (same_phase is apart (λ bad. cc bad))) (rw (slot_else turn s inside new_word i (λ same. at_slot apart i f is same)) hot)
+                (sym (same_phase is apart (λ l bad. cc bad))) (rw (slot_else turn s inside new_word i (λ same. at_slot apart i f is same)) hot)
             go apart (leaving j t nx m f) is l = subst (MayBeUnmarked (slot_word (slot_words turn s inside new_word)) q)
-                (sym (same_phase is apart (λ bad. cc bad))) l
+                (sym (same_phase is apart (λ l bad. cc bad))) l
             go apart free is m = absurd m
-            go apart (placed j) is m = absurd m
+            go apart (placed j l) is m = absurd m
             go apart (retired f) is m = absurd m
             go apart (emptied j) is m = absurd m
 
@@ -229,13 +237,13 @@ module _ (turn : Turn) (s : ℕ) (inside : s < slots_of turn.v.start) where
         leaves : Leaves turn swap_after
         leaves = record {
           guards = λ q e other range. guards_same turn swap_after q e (slot_hold turn s inside new_word q range.0) refl (covers q range);
-          owned = λ n some not_mine. same_phase refl (not_old refl (λ f bad. some (ap owner bad))) (λ bad. not_mine (ap owner bad));
-          spare = λ n q is low block other. same_phase is (not_old is (λ f bad. cc bad)) (λ bad. cc bad);
+          owned = λ n some not_mine. same_phase refl (not_old refl (λ f bad. some (ap owner bad))) (λ l bad. not_mine (ap owner bad));
+          spare = λ n q is low block other. same_phase is (not_old is (λ f bad. cc bad)) (λ l bad. cc bad);
           open_file = λ j u f n other there holds at. (
             at.0,
             by_old r.node_of old {n = n} (file_in (phase' n) ≡ Some f)
                 (λ g is same. ap file_in (ap phase' same ∙ out_here is) ∙ (sym (ap file_in (ap r.phase same ∙ (old_at is).1)) ∙ at.1))
-                (λ apart. ap file_in (same_phase refl apart (λ bad. let z : None ≡ Some f = sym (ap file_in bad) ∙ at.1 in cc z)) ∙ at.1),
+                (λ apart. ap file_in (same_phase refl apart (λ l bad. let z : None ≡ Some f = sym (ap file_in bad) ∙ at.1 in cc z)) ∙ at.1),
           );
           slots = λ i q l other. slots_on q i;
         }
@@ -252,7 +260,7 @@ module _ (turn : Turn) (s : ℕ) (inside : s < slots_of turn.v.start) where
                 (λ other. changed_else state.removed f.number (Some f) m other ∙ (r.removed m ∙ (sym (p.removed_else m)
                 ∙ sym (each_changed (λ k z. removed_in m z ≡ removed_in m (phase₁ k)) phase₁
                 (λ at. rw (ne_eqb f.number m (λ e. other (sym e))) (sym (ap (λ (k : ℕ). removed_in m (phase₁ k)) at
-                ∙ ap (removed_in m) (⊎_elim (λ e. e ∙ (old_at is).1) (λ bad. let z : placed id ≡ seated s f = sym bad ∙ (old_at is).1 in absurd (cc z))
+                ∙ ap (removed_in m) (⊎_elim (λ e. e ∙ (old_at is).1) (λ bad. let z : placed id bad.0 ≡ seated s f = sym bad.1 ∙ (old_at is).1 in absurd (cc z))
                 (p.kept (r.node_of f.number)))))) (λ _. refl)))))
 
         seat_now : (o : Option File) → new ≡ o → IsSeated v.start r.node_of phase₁ s o → IsSeated v.start r.node_of phase' s o
@@ -264,7 +272,7 @@ module _ (turn : Turn) (s : ℕ) (inside : s < slots_of turn.v.start) where
         slot_other i l other = slot_same (slot_else turn s inside new_word i other) (at_else i other)
             (λ q low high. ap (λ (f : ℕ → Deed). f q) (changed_else r.deed s (λ p. untouched) i other))
             (λ f there seat. let its = subst (IsSeated v.start r.node_of r.phase i) there (r.each_slot i l).seat in
-            same_phase its.1 (not_old its.1 (λ g bad. other (cc bad))) (λ bad. cc bad) ∙ sym its.1)
+            same_phase its.1 (not_old its.1 (λ g bad. other (cc bad))) (λ l bad. cc bad) ∙ sym its.1)
             (r.each_slot i l)
 
         pub swap_kept : Agrees v.start (end turn swap_after)
@@ -288,8 +296,11 @@ module _ (turn : Turn) (s : ℕ) (inside : s < slots_of turn.v.start) where
               (λ f is same. rw (same, out_here is) (does_now st.views id v (w turn swap_after)
               (Retiring f (r.node_of f.number) (count_in found) (new_round (first_visit v.start.passes found)) 0) here (d_is f is)))
               (λ apart. rw (else_phase apart) (p.owners n l apart));
+          labels = λ n l. by_old r.node_of old {n = n} (Labels v.start (slot_words turn s inside new_word) n (written_in (phase' n)))
+              (λ f is same. rw (same, out_here is) (old_label is))
+              (λ apart. rw (else_phase apart) (labels_same v.start _ _ _ (written_in (phase₁ n)) (slot_label turn s inside new_word n) (p.labels n l apart)));
           removed = removed_now;
-          unborn = λ n l. same_phase (r.unborn n l) (not_old (r.unborn n l) (λ f bad. cc bad)) (λ bad. cc bad);
+          unborn = λ n l. same_phase (r.unborn n l) (not_old (r.unborn n l) (λ f bad. cc bad)) (λ z bad. cc bad);
           fresh = λ number l. ap (λ (z : State). z.fresh number) p.leads ∙ p.fresh_on number l;
           others = λ j u z other there at n range o work. keeps_other turn swap_after leaves j u z other there n range o work;
           held = p.held ∙ (o.held ∙ (hands.0 ∙ by_retiring (λ q. None ≡ held_in q) refl (λ f is. refl)));

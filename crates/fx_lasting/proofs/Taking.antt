@@ -338,7 +338,7 @@ module _ (turn : Turn) (s : ℕ) (inside : s < slots_of turn.v.start) where
         go (Guarded f n) o = o.0
         go (Yielding f n) o = o.0
         go (Searching n) o = o.0
-        go (Placing n) o = o.0
+        go (Placing n w) o = o.0
         go (Retiring f n t nx m) o = o.0
         go (Emptying n) o = o.0
 

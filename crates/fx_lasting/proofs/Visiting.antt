@@ -13,8 +13,10 @@ use Rattle.fx_lasting.proofs.Histories.{grows_none, each_changed}
 use Rattle.fx_lasting.proofs.Frames.{busy, does_now, covers_same}
 use Rattle.fx_lasting.proofs.Keeping.{Turn, turn_of, After, word_at, slot_word, Made, by_turn, its_log, its_work, tells, w, end, find_pass}
 use Rattle.fx_lasting.proofs.NodeSteps.{after, node_kept, own_keeps, guards_else}
+use Rattle.fx_lasting.proofs.Keeping.{LabelSame, labels_same}
+use Rattle.fx_lasting.proofs.Words.{Labels, label_of, written_in}
 use Rattle.fx_lasting.proofs.Groups.{CountAlike}
-use Rattle.fx_lasting.proofs.Places.{hold_words, hold_here, hold_node, hold_slot, hold_else, hold_alike, hold_list, pass_back}
+use Rattle.fx_lasting.proofs.Places.{hold_words, hold_here, hold_node, hold_slot, hold_else, hold_alike, hold_list, hold_label, pass_back}
 use Rattle.fx_lasting.proofs.Unheld.{NodeNow, in_phase}
 
 module _ (turn : Turn) (f : File) (n t : ℕ) (nx : Round) (m : ℕ) (works : turn.v.work ≡ Retiring f n t nx m) where
@@ -43,6 +45,7 @@ module _ (turn : Turn) (f : File) (n t : ℕ) (nx : Round) (m : ℕ) (works : tu
       pub alike : CountAlike words' st.words
       pub lists : (p : ℕ) → p ≤ 1024 → word_at words' (list_place p) ≡ word_at st.words (list_place p)
       pub nodes : (k : ℕ) → word_at words' (word_of v.start k) ≡ word_at st.words (word_of v.start k)
+      pub labels : (k : ℕ) → LabelSame v.start words' st.words k
       pub own : word_at words' (hold_word_of v.start x.number) ≡ word_at st.words (hold_word_of v.start x.number)
       pub own_debt : debt' x.number ≡ r.debt x.number
       pub owed_else : (k : ℕ) → k ≢ n → owed debt' v.start.passes k ≡ owed r.debt v.start.passes k
@@ -68,6 +71,9 @@ module _ (turn : Turn) (f : File) (n t : ℕ) (nx : Round) (m : ℕ) (works : tu
           alike = s.alike;
           lists = s.lists;
           node_words = λ k l other. s.nodes k;
+          label_else = λ k other. s.labels k;
+          label = labels_same v.start _ _ _ (label_of f.identity) (s.labels n)
+              (subst (λ (z : Phase). Labels v.start st.words n (written_in z)) its.1 (r.each_label n its.0));
           home_else = λ k l other. refl;
           owed_else = s.owed_else;
           taken_else = λ k other. sym (ap (taking k) works);
@@ -125,7 +131,7 @@ module _ (turn : Turn) (f : File) (n t : ℕ) (nx : Round) (m : ℕ) (works : tu
     guard_else words' m' same p (Owing k) ne not_pass guard = tt
     guard_else words' m' same p (Yielding h k) ne not_pass guard = tt
     guard_else words' m' same p (Searching k) ne not_pass guard = tt
-    guard_else words' m' same p (Placing k) ne not_pass guard = tt
+    guard_else words' m' same p (Placing k w) ne not_pass guard = tt
     guard_else words' m' same p (Retiring h k a b c) ne not_pass guard = tt
     guard_else words' m' same p (Emptying k) ne not_pass guard = tt
 
@@ -142,7 +148,7 @@ module _ (turn : Turn) (f : File) (n t : ℕ) (nx : Round) (m : ℕ) (works : tu
     guard_here not_so (Owing k) hold guard = tt
     guard_here not_so (Yielding h k) hold guard = tt
     guard_here not_so (Searching k) hold guard = tt
-    guard_here not_so (Placing k) hold guard = tt
+    guard_here not_so (Placing k w) hold guard = tt
     guard_here not_so (Retiring h k a b c) hold guard = tt
     guard_here not_so (Emptying k) hold guard = tt
 
@@ -165,6 +171,7 @@ module _ (turn : Turn) (f : File) (n t : ℕ) (nx : Round) (m : ℕ) (works : tu
           alike = (refl, λ g l. refl);
           lists = λ p few. refl;
           nodes = λ k. refl;
+          labels = λ k. (refl, refl);
           own = refl;
           own_debt = refl;
           owed_else = λ k ne. refl;
@@ -185,7 +192,7 @@ module _ (turn : Turn) (f : File) (n t : ℕ) (nx : Round) (m : ℕ) (works : tu
     clean_debt (Owing k) hold is = absurd (let a = hold.0 in omega arith)
     clean_debt (Yielding h k) hold is = absurd (let a = hold.0 in omega arith)
     clean_debt (Searching k) hold is = hold.1
-    clean_debt (Placing k) hold is = hold.1
+    clean_debt (Placing k w) hold is = hold.1
     clean_debt (Retiring h k a b c) hold is = hold.1
     clean_debt (Emptying k) hold is = hold.1
 
@@ -202,7 +209,7 @@ module _ (turn : Turn) (f : File) (n t : ℕ) (nx : Round) (m : ℕ) (works : tu
     now_marked (Owing k) hold is = absurd (let a = hold.0 in omega arith)
     now_marked (Yielding h k) hold is = absurd (let a = hold.0 in omega arith)
     now_marked (Searching k) hold is = absurd (let a = hold.0 in omega arith)
-    now_marked (Placing k) hold is = absurd (let a = hold.0 in omega arith)
+    now_marked (Placing k w) hold is = absurd (let a = hold.0 in omega arith)
     now_marked (Retiring h k a b c) hold is = absurd (let a = hold.0 in omega arith)
     now_marked (Emptying k) hold is = absurd (let a = hold.0 in omega arith)
 
@@ -215,7 +222,7 @@ module _ (turn : Turn) (f : File) (n t : ℕ) (nx : Round) (m : ℕ) (works : tu
     excused sw phase' (Owing k) = tt
     excused sw phase' (Yielding h k) = tt
     excused sw phase' (Searching k) = tt
-    excused sw phase' (Placing k) = tt
+    excused sw phase' (Placing k w) = tt
     excused sw phase' (Retiring h k a b c) = tt
     excused sw phase' (Emptying k) = tt
 
@@ -255,6 +262,7 @@ module _ (turn : Turn) (f : File) (n t : ℕ) (nx : Round) (m : ℕ) (works : tu
             alike = hold_alike turn pass more high (announced n + mark);
             lists = hold_list turn pass more high (announced n + mark);
             nodes = hold_node turn pass more high (announced n + mark);
+            labels = hold_label turn pass more high (announced n + mark);
             own = hold_else turn pass more high (announced n + mark) x.number (λ e. other (sym e));
             own_debt = changed_else r.debt pass (n + 1) x.number (λ e. other (sym e));
             owed_else = λ k ne. let o = owes k in let z = bit_else (k + 1) (n + 1) (λ e. ne (omega arith)) in omega arith;
@@ -312,6 +320,7 @@ module _ (turn : Turn) (f : File) (n t : ℕ) (nx : Round) (m : ℕ) (works : tu
               alike = (refl, λ g l. refl);
               lists = λ p few. refl;
               nodes = λ k. refl;
+              labels = λ k. (refl, refl);
               own = refl;
               own_debt = refl;
               owed_else = λ k ne. refl;

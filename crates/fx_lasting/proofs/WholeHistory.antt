@@ -69,7 +69,7 @@ module _ (k : Start) (s : Shared) (r : Agrees k s) where
   is_there n f (retired g) at o is = removed_there n f (retired g) at (let same : g ≡ f = cc is in rw (← same) o.file.its_node)
       (let same : g ≡ f = cc is in rw same (has_number f))
   is_there n f free at o is = absurd (cc is)
-  is_there n f (placed seat) at o is = absurd (cc is)
+  is_there n f (placed seat l) at o is = absurd (cc is)
   is_there n f (emptied seat) at o is = absurd (cc is)
 
   -- so no file of its number was closed
@@ -108,7 +108,7 @@ module _ (k : Start) (s : Shared) (r : Agrees k s) where
         go (Owing m) is at = absurd (omega arith)
         go (Yielding g m) is at = absurd (omega arith)
         go (Searching m) is at = absurd (omega arith)
-        go (Placing m) is at = absurd (omega arith)
+        go (Placing m w) is at = absurd (omega arith)
         go (Retiring g m t rd k) is at = absurd (omega arith)
         go (Emptying m) is at = absurd (omega arith)
 
@@ -121,7 +121,7 @@ module _ (k : Start) (s : Shared) (r : Agrees k s) where
     owes seat Idle word debt is h at = let a = h.1 in absurd (omega arith)
     owes seat (Counted g m) word debt is h at = let a = h.1 in absurd (omega arith)
     owes seat (Searching m) word debt is h at = let a = h.1 in absurd (omega arith)
-    owes seat (Placing m) word debt is h at = let a = h.1 in absurd (omega arith)
+    owes seat (Placing m w) word debt is h at = let a = h.1 in absurd (omega arith)
     owes seat (Retiring g m t rd k) word debt is h at = let a = h.1 in absurd (omega arith)
     owes seat (Emptying m) word debt is h at = let a = h.1 in absurd (omega arith)
 
@@ -144,7 +144,7 @@ module _ (k : Start) (s : Shared) (r : Agrees k s) where
   user_of number n f (retired g) at o who is = let e = found_file number g f is in
       (e.1, somebody n f (ap file_in at ∙ ap (λ (x : File). Some x) e.0) o.somebody)
   user_of number n f free at o who is = absurd (cc is)
-  user_of number n f (placed seat) at o who is = absurd (cc is)
+  user_of number n f (placed seat l) at o who is = absurd (cc is)
   user_of number n f (seated slot g) at o who is = absurd (cc is)
   user_of number n f (emptied seat) at o who is = absurd (cc is)
 

@@ -5,7 +5,7 @@ pub use Rattle.atomic_table.specs.Table.{Act, keeps, Valid, stepped, carried_aft
 pub use Rattle.fx_base.specs.declared.open_file.Closed.{Closed}
 pub use Rattle.fx_lasting.specs.Agrees.{HoldAgrees, MayBeUnmarked, GuardAgrees, GlanceAgrees, Heats, LogAgrees, ViewAgrees, Agrees, NodeAgrees, Does}
 pub use Rattle.fx_lasting.specs.Agrees.{OwnerAgrees, HoldsAt, WorkAgrees, IsAllowed, IsIdleIn, IsToVisit, NamesNode, Nodes, Names, IsSeated}
-pub use Rattle.fx_lasting.specs.Agrees.{SlotAgrees, Home, IsFileOfNode, IsVacant}
+pub use Rattle.fx_lasting.specs.Agrees.{SlotAgrees, Home, IsFileOfNode, IsVacant, Labels}
 pub use Rattle.fx_lasting.specs.AtWork.{IsAtWork, IsReleasing, HasPlace}
 pub use Rattle.fx_lasting.specs.Groups.{owing, owing_of, is_in, uncounted, account, GroupCounts, AreFull, HasQuestionOf, HasVisitedFull, RangeCounts}
 pub use Rattle.fx_lasting.specs.Counts.{tally, owed}
@@ -15,8 +15,12 @@ pub use Rattle.fx_lasting.specs.Laws.{HasToLetGo, IsOffCount, ClearsKeep, TakesO
 pub use Rattle.fx_lasting.specs.Laws.{ConfirmsKeep, WithdrawsKeep, TakesOnceKeep, HeatsKeep, SplitsKeep, JoinsKeep, LowersKeep, RaisesKeep, AsksKeep}
 pub use Rattle.fx_lasting.specs.Laws.{ChecksKeep, BreaksKeep, BeginsKeep, CountsKeep, DecidesKeep, IsGroup}
 pub use Rattle.fx_lasting.specs.Laws.{PeeksKeep, InstallsKeep, StepsDownKeep, LettingGoKeeps, SeeksKeep, BirthsKeep, RestsKeep, VisitsKeep, MarksKeep}
+pub use Rattle.fx_lasting.specs.LabelSteps.{Tags, Numbers, ReadsTag, ReadsNumber}
+pub use Rattle.fx_lasting.specs.Labels.{number_of_mark, label_of, HasWritten}
+pub use Rattle.fx_lasting.specs.Laws.{HasItsPlace, TagsKeep, NumbersKeep, ReadsTagKeep, ReadsNumberKeep}
 pub use Rattle.fx_lasting.specs.Laws.{RetiresKeep, IsInRange, ListsKeep, SkimsKeep, IsPassed, SeesKeep, TakesIfKeep, ReplacesKeep}
 pub use Rattle.fx_lasting.specs.Layout.{question_place, group_place, list_place, slot_place, hold_place, node_place, block_for, block_start}
+pub use Rattle.fx_lasting.specs.Layout.{tag_place, number_place}
 pub use Rattle.fx_lasting.specs.Layout.{group_size, groups_in, group_of, group_start, group_len}
 pub use Rattle.fx_lasting.specs.Opens.{word_for, node_for, home_for, first_file, OpensWith}
 pub use Rattle.fx_lasting.specs.Deeds.{Deed, untouched, over, heated, has_acted, has_heated}
@@ -24,8 +28,8 @@ pub use Rattle.fx_lasting.specs.Parts.{heat_unit, count_in, heat_in, IsHot, cold
 pub use Rattle.fx_lasting.specs.Parts.{bit_of, IsListedIn}
 pub use Rattle.fx_lasting.specs.Passes.{node_of_number, HasNoFile, Shared, Sat, state_at_start, slots_of, range_at_start, nodes_of, IsInBlock}
 pub use Rattle.fx_lasting.specs.Passes.{word_of, hold_word_of, logs_of, lengths, state_after_all, IsHistory, new_log, first_log, held_in, if_file}
-pub use Rattle.fx_lasting.specs.Passes.{held_of, taking, taken_of}
-pub use Rattle.fx_lasting.specs.Phases.{Phase, owner, file_in, file_if_numbered, removed_in, free, placed, seated, leaving, retired, emptied}
+pub use Rattle.fx_lasting.specs.Passes.{held_of, taking, taken_of, tag_word_of, number_word_of, HoldsOn}
+pub use Rattle.fx_lasting.specs.Phases.{Phase, owner, file_in, file_if_numbered, removed_in, written_in, free, placed, seated, leaving, retired, emptied}
 pub use Rattle.fx_lasting.specs.Runs.{Runs}
 pub use Rattle.fx_lasting.specs.Tables.{hold_at, retired_at, doing_in, numbers_of_pass, pass_of, opening_of, view_of, steps_taken, IsBetweenCalls}
 pub use Rattle.fx_lasting.specs.Tables.{IsSeatOf, IsPassOf, opening_of_table, IsPassOfTable, IsSeatOfTable}
@@ -51,6 +55,8 @@ pub use Rattle.fx_lasting.specs.declared.view.View.{View}
 pub use Rattle.fx_lasting.specs.declared.view.Work.{Work}
 pub use Rattle.fx_lasting.specs.declared.view.Work.TheVariants.{Idle, Announced, Counted, Guarded, Owing, Yielding, Searching, Placing, Retiring}
 pub use Rattle.fx_lasting.specs.declared.view.Work.TheVariants.{Emptying}
+pub use Rattle.fx_lasting.specs.declared.view.Written.{Written}
+pub use Rattle.fx_lasting.specs.declared.view.Written.TheVariants.{Nothing as Unlabelled, Tag, Label}
 pub use Rattle.fx_plain.proofs.Cells.{changed_here, changed_else, by_equality}
 pub use Rattle.fx_plain.specs.Contents.{state_of, Contents, IsPrepared}
 pub use Rattle.fx_plain.specs.History.{◌▷◌, held_by, held_after, part_of_pass, IsSeenBy, action_of, ◌▷▷◌, ReleasesItsOwn}

@@ -16,16 +16,17 @@ use Rattle.fx_words.specs.Words.{name_in, entry_in}
 use Rattle.fx_lasting.specs.Groups.{RangeCounts}
 use Rattle.fx_lasting.specs.Counts.{tally, owed}
 use Rattle.fx_lasting.specs.Deeds.{Deed, untouched, over, heated, has_acted, has_heated}
+use Rattle.fx_lasting.specs.Labels.{HasWritten}
 use Rattle.fx_lasting.specs.Layout.{list_place, slot_place, words_for}
 use Rattle.fx_lasting.specs.Parts.{IsHot, count_in, heat_in, cold_takes, birth_word, closed_word}
 use Rattle.fx_lasting.specs.Parts.{announced, mark, bit_of, IsListedIn}
 use Rattle.fx_lasting.specs.Passes.{Shared, slots_of, range_at_start, nodes_of, IsInBlock}
-use Rattle.fx_lasting.specs.Passes.{word_of}
+use Rattle.fx_lasting.specs.Passes.{word_of, tag_word_of, number_word_of}
 use Rattle.fx_lasting.specs.Passes.{hold_word_of, state_after_all, IsHistory, held_in, held_of}
 use Rattle.fx_lasting.specs.Passes.{taken_of}
 use Rattle.fx_lasting.specs.Passes.{logs_of, lengths, node_of_number}
 use Rattle.fx_lasting.specs.Phases.{Phase, free, placed, seated, leaving, retired, emptied, file_in}
-use Rattle.fx_lasting.specs.Phases.{removed_in}
+use Rattle.fx_lasting.specs.Phases.{removed_in, written_in}
 use Rattle.fx_lasting.specs.declared.layout.TheConstants.{MOST_SLOTS}
 use Rattle.fx_lasting.specs.declared.view.Change.TheVariants.{Outside}
 use Rattle.fx_lasting.specs.declared.view.Glance.{Glance}
@@ -35,6 +36,7 @@ use Rattle.fx_lasting.specs.declared.view.Round.{Round}
 use Rattle.fx_lasting.specs.declared.view.Start.{Start}
 use Rattle.fx_lasting.specs.declared.view.View.{View}
 use Rattle.fx_lasting.specs.declared.view.Work.{Work}
+use Rattle.fx_lasting.specs.declared.view.Written.{Written}
 use Rattle.fx_lasting.specs.declared.view.Work.TheVariants.{Idle, Announced, Counted, Guarded}
 use Rattle.fx_lasting.specs.declared.view.Work.TheVariants.{Owing}
 use Rattle.fx_lasting.specs.declared.view.Work.TheVariants.{Yielding, Searching, Placing, Retiring}
@@ -110,11 +112,16 @@ module _ (at : ℕ → Option File) (size : ℕ) (takes_at : ℕ → ℕ) (node_
   -- what the node's phase says
   abbrev pub NodeAgrees : Phase → Type 0
   NodeAgrees free = IsVacant 0 (some (some None))
-  NodeAgrees (placed seat) = IsVacant birth_word (some none)
+  NodeAgrees (placed seat written) = IsVacant birth_word (some none)
   NodeAgrees (seated slot f) = IsAtSlot slot f
   NodeAgrees (leaving seat takes round marks f) = IsLeaving takes round marks f
   NodeAgrees (retired f) = IsRetired f
   NodeAgrees (emptied seat) = IsVacant closed_word (some none)
+
+-- the label of the node is so, as far as it is written
+abbrev pub Labels : Start → List ℕ → ℕ → Written → Type 0
+Labels k words node written =
+    HasWritten written (slice_index words (tag_word_of k node)) (slice_index words (number_word_of k node))
 
 -- the pass of the seat does this work
 abbrev pub Does : List View → ℕ → Work → Type 0
@@ -122,7 +129,7 @@ Does views seat work = (v : View) × (get_elem? views seat ≡ some v) × (v.wor
 
 -- a node that a pass works with alone is known to the pass
 abbrev pub OwnerAgrees : List View → ℕ → Phase → Type 0
-OwnerAgrees views node (placed seat) = Does views seat (Placing node)
+OwnerAgrees views node (placed seat written) = Does views seat (Placing node written)
 OwnerAgrees views node (leaving seat takes round marks f) =
     Does views seat (Retiring f node takes round marks)
 OwnerAgrees views node (emptied seat) = Does views seat (Emptying node)
@@ -145,7 +152,7 @@ WorkAgrees k phase seat (Guarded f node) = HoldsAt k phase f node
 WorkAgrees k phase seat (Owing node) = node < nodes_of k
 WorkAgrees k phase seat (Yielding f node) = HoldsAt k phase f node
 WorkAgrees k phase seat (Searching node) = IsIn k phase node free
-WorkAgrees k phase seat (Placing node) = IsIn k phase node (placed seat)
+WorkAgrees k phase seat (Placing node written) = IsIn k phase node (placed seat written)
 WorkAgrees k phase seat (Retiring f node takes round marks) =
     IsIn k phase node (leaving seat takes round marks f)
 WorkAgrees k phase seat (Emptying node) = IsIn k phase node (emptied seat)
@@ -154,7 +161,7 @@ WorkAgrees k phase seat (Emptying node) = IsIn k phase node (emptied seat)
 -- node, or holds a file by its hold word, only if it is listed
 abbrev pub IsAllowed : Start → ℕ → Bool → Work → Type 0
 IsAllowed k pass listed (Searching node) = IsInBlock k pass node
-IsAllowed k pass listed (Placing node) = IsInBlock k pass node
+IsAllowed k pass listed (Placing node written) = IsInBlock k pass node
 IsAllowed k pass listed (Announced node) = listed ≡ true
 IsAllowed k pass listed (Guarded f node) = listed ≡ true
 IsAllowed k pass listed _ = Unit {0}
@@ -264,6 +271,8 @@ pub record Agrees (k : Start) (s : Shared) : Type 0 where
       (slice_index s.words (word_of k n)) (sum_by (taken_of n) s.views) (owed debt k.passes n)
       (get_elem? s.homes n) (phase n)
   pub each_owner : (n : ℕ) → n < nodes_of k → OwnerAgrees s.views n (phase n)
+  -- the two words of a node's label are those of its file
+  pub each_label : (n : ℕ) → n < nodes_of k → Labels k s.words n (written_in (phase n))
   -- what was removed and isn't closed is what nodes have that aren't at a slot
   pub removed : (number : ℕ)
       → (state_after_all k history).removed number ≡ removed_in number (phase (node_of number))

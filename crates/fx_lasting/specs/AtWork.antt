@@ -2,13 +2,13 @@
 use Rattle.std.specs.Prelude.{◌≡◌, ℕ, ◌<◌, ◌≤◌, ◌⊎◌, [], ◌∷◌, Option}
 use Rattle.fx_base.specs.Identity.{Identity}
 use Rattle.fx_plain.specs.declared.event.File.{File}
-use Rattle.fx_lasting.specs.Laws.{HasPass}
+use Rattle.fx_lasting.specs.Laws.{HasPass, HasItsPlace}
 use Rattle.fx_lasting.specs.Passes.{Sat, IsHistory}
 use Rattle.fx_lasting.specs.Tells.{IsInside}
 use Rattle.fx_lasting.specs.declared.view.Log.{Log}
 use Rattle.fx_lasting.specs.declared.view.Start.{Start}
 use Rattle.fx_lasting.specs.declared.view.Work.{Work}
-use Rattle.fx_lasting.specs.declared.view.Work.TheVariants.{Yielding, Counted, Placing, Emptying}
+use Rattle.fx_lasting.specs.declared.view.Work.TheVariants.{Yielding, Counted}
 
 -- a seat with one pass of the table, which has this number, and whose front is legal
 pub record IsAtWork (k : Start) (number : ℕ) (m : Sat) : Type 0 where
@@ -27,5 +27,5 @@ IsReleasing w f node = (w ≡ Yielding f node) ⊎ (w ≡ Counted f node)
 -- the seat's pass has the place of the node, to install its file or because its file is closed; the
 -- place has this content
 pub record HasPlace (node : ℕ) (inside : Option Identity) (m : Sat) : Type 0 where
-  pub work : (m.0.work ≡ Emptying node) ⊎ (m.0.work ≡ Placing node)
+  pub work : HasItsPlace m.0.work node
   pub place : m.1 ≡ (node, inside) ∷ []

@@ -1,11 +1,14 @@
 -- The first words of a shared table, from the table of one thread.
-use Rattle.std.specs.Prelude.{◌≡◌, ℕ, ◌<◌, ◌≤◌, List, Some, length, slice_index}
+use Rattle.std.specs.Prelude.{◌≡◌, ℕ, ◌<◌, ◌≤◌, List, Option, Some, length, slice_index}
+use Rattle.fx_base.specs.Identity.{Identity}
 use Rattle.fx_plain.specs.State.{State}
 use Rattle.fx_plain.specs.declared.event.File.{File}
 use Rattle.fx_table.specs.FullSlots.{full_in, first_at}
+use Rattle.fx_table.specs.Shells.{file_in_place}
+use Rattle.fx_lasting.specs.Labels.{HasWritten, label_of}
 use Rattle.fx_lasting.specs.Layout.{question_place, group_place, list_place, slot_place}
 use Rattle.fx_lasting.specs.Layout.{hold_place, node_place, words_for, groups_in, group_start}
-use Rattle.fx_lasting.specs.Layout.{group_len}
+use Rattle.fx_lasting.specs.Layout.{group_len, tag_place, number_place}
 use Rattle.fx_lasting.specs.Opens.{word_for, node_for}
 
 -- the first words of a table with these passes and nodes: those of the slots and of their nodes,
@@ -22,8 +25,18 @@ pub record AreFirstWords (st : State) (passes nodes : ℕ) (words : List ℕ) : 
       → slice_index words (slot_place slot) ≡ word_for (first_at st slot)
   pub node_words : (slot : ℕ) → slot < st.size
       → slice_index words (node_place st.size passes slot) ≡ node_for (first_at st slot)
-  pub free : (node : ℕ) → st.size ≤ node
+  pub free : (node : ℕ) → st.size ≤ node → node < nodes
       → slice_index words (node_place st.size passes node) ≡ 0
   pub lists : (pass : ℕ) → pass ≤ 1024 → slice_index words (list_place pass) ≡ 0
   pub holds : (pass : ℕ) → 0 < pass → pass ≤ passes
       → slice_index words (hold_place st.size pass) ≡ 0
+
+-- the labels of the files in the first `done` places were written, and no other word
+pub record AreLabelled (size passes nodes : ℕ) (homes : List (Option Identity)) (done : ℕ)
+    (before words : List ℕ) : Type 0 where
+  pub count : length words ≡ length before
+  pub others : (place : ℕ) → place < tag_place size passes nodes 0
+      → slice_index words place ≡ slice_index before place
+  pub labels : (slot : ℕ) (file : Identity) → slot < done → file_in_place homes slot ≡ Some file
+      → HasWritten (label_of file) (slice_index words (tag_place size passes nodes slot))
+      (slice_index words (number_place size passes nodes slot))

@@ -10,12 +10,13 @@ use Rattle.fx_plain.specs.declared.event.File.{File}
 use Rattle.fx_words.specs.Words.{name_in, slot_word_of}
 use Rattle.fx_lasting.specs.Agrees.{Agrees, IsIdleIn}
 use Rattle.fx_lasting.specs.Groups.{is_in, uncounted}
+use Rattle.fx_lasting.specs.Labels.{label_of}
 use Rattle.fx_lasting.specs.Layout.{question_place, group_place, list_place}
 use Rattle.fx_lasting.specs.Layout.{slot_place, groups_in, group_of}
 use Rattle.fx_lasting.specs.Parts.{heat_unit, birth_word, announced, mark, retirement_amount}
 use Rattle.fx_lasting.specs.Parts.{bit_of}
 use Rattle.fx_lasting.specs.Passes.{Sat, HasNoFile, slots_of, range_at_start, word_of}
-use Rattle.fx_lasting.specs.Passes.{hold_word_of, IsInBlock}
+use Rattle.fx_lasting.specs.Passes.{hold_word_of, IsInBlock, HoldsOn, tag_word_of, number_word_of}
 use Rattle.fx_lasting.specs.Tells.{At}
 use Rattle.fx_lasting.specs.declared.layout.TheConstants.{MOST_INSTALLING}
 use Rattle.fx_lasting.specs.declared.view.Survey.TheVariants.{None as NotAsked, Covered}
@@ -31,6 +32,8 @@ use Rattle.fx_lasting.specs.declared.view.Work.TheVariants.{Idle, Announced, Cou
 use Rattle.fx_lasting.specs.declared.view.Work.TheVariants.{Owing}
 use Rattle.fx_lasting.specs.declared.view.Work.TheVariants.{Yielding, Searching, Placing, Retiring}
 use Rattle.fx_lasting.specs.declared.view.Work.TheVariants.{Emptying}
+use Rattle.fx_lasting.specs.declared.view.Written.{Written}
+use Rattle.fx_lasting.specs.declared.view.Written.TheVariants.{Nothing as Unlabelled, Tag}
 
 -- the effect of a kind of step on its pass
 abbrev pub Kind : Type 1
@@ -120,10 +123,39 @@ BirthsKeep tells = (k : Start) (slots id i node : ℕ) (m : Sat) (x : Log) → H
     → Allows (Agrees k) slots id m i (λ _. birth_word)
     (λ _. tells (step slots i birth_word 0 none) m birth_word)
 
+-- a pass stores the tag of its file in the node's word for it
+abbrev pub TagsKeep : Kind → Type 0
+TagsKeep tells = (k : Start) (slots id i node tag : ℕ) (m : Sat) (x : Log) → HasPass k m x
+    → m.0.work ≡ Placing node Unlabelled → i ≡ tag_word_of k node
+    → Allows (Agrees k) slots id m i (λ _. tag) (λ _. tells (step slots i tag 0 none) m tag)
+
+-- and then the number
+abbrev pub NumbersKeep : Kind → Type 0
+NumbersKeep tells = (k : Start) (slots id i node tag number : ℕ) (m : Sat) (x : Log)
+    → HasPass k m x → m.0.work ≡ Placing node (Tag tag) → i ≡ number_word_of k node
+    → Allows (Agrees k) slots id m i (λ _. number)
+    (λ _. tells (step slots i number 0 none) m number)
+
+-- a pass loads the tag of the file that it holds
+abbrev pub ReadsTagKeep : Kind → Type 0
+ReadsTagKeep tells = (k : Start) (slots id i node : ℕ) (f : File) (m : Sat) (x : Log)
+    → HasPass k m x → HoldsOn m.0.work f node → i ≡ tag_word_of k node
+    → Allows (Agrees k) slots id m i (λ word. word) (tells (step slots i 0 0 none) m)
+
+-- or the number
+abbrev pub ReadsNumberKeep : Kind → Type 0
+ReadsNumberKeep tells = (k : Start) (slots id i node : ℕ) (f : File) (m : Sat) (x : Log)
+    → HasPass k m x → HoldsOn m.0.work f node → i ≡ number_word_of k node
+    → Allows (Agrees k) slots id m i (λ word. word) (tells (step slots i 0 0 none) m)
+
+-- the node's place is with the pass, whose file is closed or was placed in vain
+abbrev pub HasItsPlace : Work → ℕ → Type 0
+HasItsPlace w node = (w ≡ Emptying node) ⊎ ((written : Written) × (w ≡ Placing node written))
+
 -- a pass stores 0 in the word of a node whose file is closed, or which was placed in vain
 abbrev pub RestsKeep : Kind → Type 0
 RestsKeep tells = (k : Start) (slots id i n : ℕ) (m : Sat) (x : Log) → HasPass k m x
-    → (m.0.work ≡ Emptying n) ⊎ (m.0.work ≡ Placing n) → m.1 ≡ (n, None) ∷ [] → i ≡ word_of k n
+    → HasItsPlace m.0.work n → m.1 ≡ (n, None) ∷ [] → i ≡ word_of k n
     → Allows (Agrees k) slots id m i (λ _. 0) (λ _. tells (step slots i 0 0 none) m 0)
 
 -- the pass is the one that retires a file, or one that the round needn't visit
@@ -251,7 +283,7 @@ PeeksKeep tells = (k : Start) (slots id i : ℕ) (m : Sat) (x : Log) → HasPass
 -- a pass swaps the word of the file that it places into a slot
 abbrev pub InstallsKeep : Kind → Type 0
 InstallsKeep tells = (k : Start) (slots id i slot n new : ℕ) (file : Identity) (m : Sat) (x : Log)
-    → HasPass k m x → m.0.work ≡ Placing n → m.1 ≡ (n, Some file) ∷ []
+    → HasPass k m x → m.0.work ≡ Placing n (label_of file) → m.1 ≡ (n, Some file) ∷ []
     → file.entry < 2 ^ 8 → slot < slots_of k → m.0.change ≡ Outside
     → i ≡ slot_place slot → new ≡ slot_word_of n file.entry
     → Allows (Agrees k) slots id m i (λ _. new) (tells (step slots i new 0 none) m)
@@ -272,7 +304,7 @@ TakesOutKeep tells = (k : Start) (slots id i slot : ℕ) (m : Sat) (x : Log) →
 -- the file that it places
 abbrev pub ExchangesKeep : Kind → Type 0
 ExchangesKeep tells = (k : Start) (slots id i slot n old new : ℕ) (file : Identity) (m : Sat)
-    (x : Log) → HasPass k m x → m.0.work ≡ Placing n → m.1 ≡ (n, Some file) ∷ []
+    (x : Log) → HasPass k m x → m.0.work ≡ Placing n (label_of file) → m.1 ≡ (n, Some file) ∷ []
     → file.entry < 2 ^ 8 → m.0.change ≡ Outside → IsInRange k slot → i ≡ slot_place slot
     → name_in old ≡ 0 → new ≡ slot_word_of n file.entry
     → Allows (Agrees k) slots id m i (λ word. either (word == old) new word)
@@ -294,7 +326,7 @@ TakesIfKeep tells = (k : Start) (slots id i slot old : ℕ) (m : Sat) (x : Log) 
 -- a pass exchanges the word of a slot that it saw for the word of the file that it places
 abbrev pub ReplacesKeep : Kind → Type 0
 ReplacesKeep tells = (k : Start) (slots id i slot n old new : ℕ) (file : Identity) (m : Sat)
-    (x : Log) → HasPass k m x → m.0.work ≡ Placing n → m.1 ≡ (n, Some file) ∷ []
+    (x : Log) → HasPass k m x → m.0.work ≡ Placing n (label_of file) → m.1 ≡ (n, Some file) ∷ []
     → file.entry < 2 ^ 8 → slot < slots_of k → m.0.change ≡ Outside → i ≡ slot_place slot
     → new ≡ slot_word_of n file.entry
     → Allows (Agrees k) slots id m i (λ word. either (word == old) new word)

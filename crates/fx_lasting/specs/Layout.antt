@@ -26,13 +26,20 @@ slot_place slot = 536 + 8 * slot
 abbrev pub hold_place : ℕ → ℕ → ℕ
 hold_place size pass = 528 + 8 * size + 8 * pass
 
--- the word of a node: these follow all others, side by side
+-- the word of a node: these follow all others but the labels, side by side
 abbrev pub node_place : ℕ → ℕ → ℕ → ℕ
 node_place size passes node = 536 + 8 * size + 8 * passes + node
 
+-- the two words of a node's label, the tag of its file and the number: these come last
+abbrev pub tag_place : ℕ → ℕ → ℕ → ℕ → ℕ
+tag_place size passes nodes node = 536 + 8 * size + 8 * passes + nodes + 2 * node
+
+abbrev pub number_place : ℕ → ℕ → ℕ → ℕ → ℕ
+number_place size passes nodes node = tag_place size passes nodes node + 1
+
 -- the number of words of a table with `nodes` nodes
 abbrev pub words_for : ℕ → ℕ → ℕ → ℕ
-words_for size passes nodes = 536 + 8 * size + 8 * passes + nodes
+words_for size passes nodes = 536 + 8 * size + 8 * passes + 3 * nodes
 
 -- the number of nodes in a pass's block: one of them is free whenever the pass does nothing
 abbrev pub block_for : ℕ → ℕ → ℕ
@@ -75,6 +82,10 @@ pub record PlacesAreInside (size passes nodes : ℕ) : Type 0 where
   pub hold : (pass : ℕ) → pass ≤ passes → hold_place size pass < words_for size passes nodes
   pub node : (node : ℕ) → node < nodes
       → node_place size passes node < words_for size passes nodes
+  pub tag : (node : ℕ) → node < nodes
+      → tag_place size passes nodes node < words_for size passes nodes
+  pub number : (node : ℕ) → node < nodes
+      → number_place size passes nodes node < words_for size passes nodes
 
 -- different words have different places
 pub record PlacesAreApart (size passes : ℕ) : Type 0 where
@@ -108,3 +119,23 @@ pub record PlacesAreApart (size passes : ℕ) : Type 0 where
       → node_place size passes node ≢ slot_place slot
   pub node_and_hold : (node pass : ℕ) → pass ≤ passes
       → node_place size passes node ≢ hold_place size pass
+
+-- the words of labels have different places, after those of all other words
+pub record LabelsAreApart (size passes nodes : ℕ) : Type 0 where
+  pub tags : (node other : ℕ) → tag_place size passes nodes node
+      ≡ tag_place size passes nodes other → node ≡ other
+  pub numbers : (node other : ℕ) → number_place size passes nodes node
+      ≡ number_place size passes nodes other → node ≡ other
+  pub tag_and_number : (node other : ℕ) → tag_place size passes nodes node
+      ≢ number_place size passes nodes other
+  pub tag_and_node : (node other : ℕ) → other < nodes → node_place size passes other
+      < tag_place size passes nodes node
+  pub tag_and_hold : (node pass : ℕ) → pass ≤ passes → hold_place size pass
+      < tag_place size passes nodes node
+  pub tag_and_slot : (node slot : ℕ) → slot < size → slot_place slot
+      < tag_place size passes nodes node
+  pub tag_and_group : (node group : ℕ) → group < 64 → group_place group
+      < tag_place size passes nodes node
+  pub tag_and_list : (node pass : ℕ) → pass ≤ 1024 → list_place pass
+      < tag_place size passes nodes node
+  pub tag_and_question : (node : ℕ) → question_place < tag_place size passes nodes node

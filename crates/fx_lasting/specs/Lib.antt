@@ -1,11 +1,13 @@
 pub mod Parts
 pub mod Layout
+pub mod Labels
 pub mod Counts
 pub mod Deeds
 pub mod Phases
 pub mod Passes
 pub mod Groups
 pub mod Tells
+pub mod LabelSteps
 pub mod Runs
 pub mod Questions
 pub mod Agrees

@@ -8,6 +8,8 @@ use Rattle.fx_base.specs.Identity.{Identity}
 use Rattle.fx_plain.specs.declared.event.File.{File}
 use Rattle.fx_words.specs.Words.{slot_word_of}
 use Rattle.fx_table.specs.FullSlots.{full_in}
+use Rattle.fx_lasting.specs.Agrees.{Labels}
+use Rattle.fx_lasting.specs.Labels.{label_of}
 use Rattle.fx_lasting.specs.Layout.{question_place, group_place, list_place, slot_place}
 use Rattle.fx_lasting.specs.Layout.{words_for, groups_in, group_start, group_len}
 use Rattle.fx_lasting.specs.Parts.{birth_word}
@@ -56,6 +58,9 @@ pub record OpensWith (k : Start) (words : List ℕ) (homes : List (Option Identi
       → slice_index words (slot_place slot) ≡ word_for (first_file k slot)
   pub node_words : (slot : ℕ) → slot < slots_of k
       → slice_index words (word_of k slot) ≡ node_for (first_file k slot)
+  -- each file's label is written
+  pub labels : (slot : ℕ) (f : File) → slot < slots_of k → first_file k slot ≡ Some f
+      → Labels k words slot (label_of f.identity)
   pub files : (slot : ℕ) → slot < slots_of k
       → get_elem? homes slot ≡ some (home_for (first_file k slot))
   pub free_words : (n : ℕ) → slots_of k ≤ n → n < nodes_of k → slice_index words (word_of k n) ≡ 0

@@ -11,6 +11,7 @@ use Rattle.fx_plain.specs.State.{State, opening}
 use Rattle.fx_plain.specs.declared.event.Event.{Event}
 use Rattle.fx_plain.specs.declared.event.File.{File}
 use Rattle.fx_lasting.specs.Layout.{block_for, block_start, nodes_for, hold_place, node_place}
+use Rattle.fx_lasting.specs.Layout.{tag_place, number_place}
 use Rattle.fx_lasting.specs.declared.view.Survey.TheVariants.{None as NotAsked}
 use Rattle.fx_lasting.specs.declared.view.Log.{Log}
 use Rattle.fx_lasting.specs.declared.view.Start.{Start}
@@ -72,6 +73,13 @@ IsInBlock k pass node = let first = block_start (slots_of k) k.passes pass in
 abbrev pub word_of : Start → ℕ → ℕ
 word_of k node = node_place (slots_of k) k.passes node
 
+-- where the two words of a node's label are
+abbrev pub tag_word_of : Start → ℕ → ℕ
+tag_word_of k node = tag_place (slots_of k) k.passes (nodes_of k) node
+
+abbrev pub number_word_of : Start → ℕ → ℕ
+number_word_of k node = number_place (slots_of k) k.passes (nodes_of k) node
+
 abbrev pub hold_word_of : Start → ℕ → ℕ
 hold_word_of k pass = hold_place (slots_of k) pass
 
@@ -98,6 +106,10 @@ held_in (Counted f node) = Some f
 held_in (Guarded f node) = Some f
 held_in (Yielding f node) = Some f
 held_in _ = None
+
+-- the pass holds the file of the node, by a take or by its hold word
+abbrev pub HoldsOn : Work → File → ℕ → Type 0
+HoldsOn w f node = (w ≡ Counted f node) ⊎ (w ≡ Guarded f node)
 
 -- the pass does nothing, or has found a free node
 abbrev pub HasNoFile : Work → Type 0

@@ -1,14 +1,17 @@
 -- Where each node is in its life.
 use Rattle.std.specs.Prelude.{ℕ, ◌+◌, ◌==◌, if◌then◌else◌, Option, Some, None}
 use Rattle.fx_plain.specs.declared.event.File.{File}
+use Rattle.fx_lasting.specs.Labels.{label_of}
 use Rattle.fx_lasting.specs.declared.view.Round.{Round}
+use Rattle.fx_lasting.specs.declared.view.Written.{Written}
+use Rattle.fx_lasting.specs.declared.view.Written.TheVariants.{Nothing}
 
 -- where a node is
 pub data Phase : Type 0 where
   -- it has no file
   free : Phase
-  -- the pass at the seat is about to install its file
-  placed : ℕ → Phase
+  -- the pass at the seat is about to install its file, and has stored so much of the file's label
+  placed : ℕ → Written → Phase
   -- its file is at the slot
   seated : ℕ → File → Phase
   -- its file was removed by the pass at the seat, which found `takes` takes, has come so far on its
@@ -21,7 +24,7 @@ pub data Phase : Type 0 where
 
 -- the seat that alone may go on with it, plus 1, or 0
 abbrev pub owner : Phase → ℕ
-owner (placed seat) = seat + 1
+owner (placed seat written) = seat + 1
 owner (leaving seat takes round marks f) = seat + 1
 owner (emptied seat) = seat + 1
 owner _ = 0
@@ -32,6 +35,14 @@ file_in (seated slot f) = Some f
 file_in (leaving seat takes round marks f) = Some f
 file_in (retired f) = Some f
 file_in _ = None
+
+-- the label that its two words have: that of its file
+abbrev pub written_in : Phase → Written
+written_in (placed seat written) = written
+written_in (seated slot f) = label_of f.identity
+written_in (leaving seat takes round marks f) = label_of f.identity
+written_in (retired f) = label_of f.identity
+written_in _ = Nothing
 
 -- the file, if it has the number
 abbrev pub file_if_numbered : ℕ → File → Option File

@@ -1,8 +1,7 @@
 -- Each kind of step: its effect on the pass that makes it.
 use Rattle.std.specs.Prelude.{◌≡◌, ◌≢◌, ℕ, ◌+◌, ◌-◌, ◌*◌, ◌/◌, ◌<◌, ◌==◌, nat_lt}
-use Rattle.std.specs.Prelude.{if◌then◌else◌}
-use Rattle.std.specs.Prelude.{◌≤◌, true, List, []}
-use Rattle.std.specs.Prelude.{◌∷◌, ◌++◌, map, Option, Some, None}
+use Rattle.std.specs.Prelude.{if◌then◌else◌, ◌≤◌, true, List, [], ◌∷◌, ◌++◌, map, Option, Some}
+use Rattle.std.specs.Prelude.{None}
 use Rattle.atomic_table.specs.Table.{Step, rest}
 use Rattle.fx_base.specs.Identity.{Identity}
 use Rattle.fx_plain.specs.History.{◌▷◌, IsSeenBy, part_of_pass}
@@ -14,12 +13,12 @@ use Rattle.fx_plain.specs.declared.event.Action.TheVariants.{Look, Release, Put,
 use Rattle.fx_plain.specs.declared.event.Action.TheVariants.{Close, Take}
 use Rattle.fx_words.specs.Words.{name_in, entry_in}
 use Rattle.fx_lasting.specs.Agrees.{Names}
+use Rattle.fx_lasting.specs.Labels.{label_of}
 use Rattle.fx_lasting.specs.Layout.{list_place, group_of, group_len}
 use Rattle.fx_lasting.specs.Parts.{heat_in, IsHot, count_in, cold_takes, announced, IsListedIn}
 use Rattle.fx_lasting.specs.Groups.{account, HasQuestionOf}
 use Rattle.fx_lasting.specs.Passes.{Sat, slots_of, nodes_of, range_at_start, IsInBlock, word_of}
-use Rattle.fx_lasting.specs.Passes.{IsHistory, node_of_number}
-use Rattle.fx_lasting.specs.Passes.{first_log, state_after_all}
+use Rattle.fx_lasting.specs.Passes.{IsHistory, node_of_number, first_log, state_after_all}
 use Rattle.fx_lasting.specs.declared.view.Survey.{Survey}
 use Rattle.fx_lasting.specs.declared.view.Survey.TheVariants.{None as NotAsked, Covered}
 use Rattle.fx_lasting.specs.declared.view.Change.{Change}
@@ -31,9 +30,9 @@ use Rattle.fx_lasting.specs.declared.view.Round.{Round}
 use Rattle.fx_lasting.specs.declared.view.Start.{Start}
 use Rattle.fx_lasting.specs.declared.view.Work.{Work}
 use Rattle.fx_lasting.specs.declared.view.Work.TheVariants.{Idle, Announced, Counted, Guarded}
-use Rattle.fx_lasting.specs.declared.view.Work.TheVariants.{Owing}
-use Rattle.fx_lasting.specs.declared.view.Work.TheVariants.{Yielding, Searching, Placing, Retiring}
-use Rattle.fx_lasting.specs.declared.view.Work.TheVariants.{Emptying}
+use Rattle.fx_lasting.specs.declared.view.Work.TheVariants.{Owing, Yielding, Searching, Placing}
+use Rattle.fx_lasting.specs.declared.view.Work.TheVariants.{Retiring, Emptying}
+use Rattle.fx_lasting.specs.declared.view.Written.TheVariants.{Nothing as Unlabelled}
 
 -- a step of a table whose places have an open file or none
 abbrev pub At : Type 0
@@ -68,7 +67,7 @@ IsInside k (Guarded f node) = node < nodes_of k
 IsInside k (Owing node) = node < nodes_of k
 IsInside k (Yielding f node) = node < nodes_of k
 IsInside k (Searching node) = node < nodes_of k
-IsInside k (Placing node) = node < nodes_of k
+IsInside k (Placing node written) = node < nodes_of k
 IsInside k (Retiring f node takes round marks) = node < nodes_of k
 IsInside k (Emptying node) = node < nodes_of k
 
@@ -207,11 +206,12 @@ pub record Seeks (st : At) (m : Sat) (found : ℕ) (m' : Sat) : Type 0 where
 -- Birth: the place of the node is with the pass
 pub record Births (st : At) (m : Sat) (found : ℕ) (m' : Sat) : Type 0 where
   pub goes : (node : ℕ) → m.0.work ≡ Searching node
-      → Stepped m [] (Placing node) m.0.glance m.0.change m' × (m'.1 ≡ (node, None) ∷ m.1)
+      → Stepped m [] (Placing node Unlabelled) m.0.glance m.0.change m'
+      × (m'.1 ≡ (node, None) ∷ m.1)
 
 -- what a pass does after a rest: a node that it placed in vain is free
 abbrev pub rested : Work → Work
-rested (Placing node) = Searching node
+rested (Placing node written) = Searching node
 rested _ = Idle
 
 -- Rest: the place is home, without a file
@@ -294,7 +294,8 @@ Found found (Some f) = (name_in found ≢ 0) × Shows found f
 pub record Installs (st : At) (m : Sat) (found : ℕ) (m' : Sat) : Type 0 where
   pub replaced : Option File
   pub names : Found found replaced
-  pub stepped : (n : ℕ) (file : Identity) → m.0.work ≡ Placing n → m.1 ≡ (n, Some file) ∷ []
+  pub stepped : (n : ℕ) (file : Identity) → m.0.work ≡ Placing n (label_of file)
+      → m.1 ≡ (n, Some file) ∷ []
       → (number : ℕ) × (node_of_number m.0.start number ≡ n)
       × Stepped m ([] ▷ Put (slot_of st.word) (numbered number file) replaced)
       (retiring_work m.0.start found replaced) m.0.glance
@@ -364,7 +365,8 @@ pub record Peeks (st : At) (m : Sat) (found : ℕ) (m' : Sat) : Type 0 where
 
 -- Exchange: the file that the pass places is at the slot, which was empty; or nothing changed
 pub record Exchanges (st : At) (m : Sat) (found : ℕ) (m' : Sat) : Type 0 where
-  pub wins : (n : ℕ) (file : Identity) → m.0.work ≡ Placing n → m.1 ≡ (n, Some file) ∷ []
+  pub wins : (n : ℕ) (file : Identity) → m.0.work ≡ Placing n (label_of file)
+      → m.1 ≡ (n, Some file) ∷ []
       → found ≡ st.first
       → (number : ℕ) × (node_of_number m.0.start number ≡ n)
       × Stepped m ([] ▷ Allocate (slot_of st.word) (numbered number file)) Idle m.0.glance
@@ -389,7 +391,8 @@ pub record TakesIf (st : At) (m : Sat) (found : ℕ) (m' : Sat) : Type 0 where
 -- Replace, if the slot's word is the one that the pass saw: the file that the pass places is at the
 -- slot then; or nothing changed
 pub record Replaces (st : At) (m : Sat) (found : ℕ) (m' : Sat) : Type 0 where
-  pub wins : (n : ℕ) (file : Identity) → m.0.work ≡ Placing n → m.1 ≡ (n, Some file) ∷ []
+  pub wins : (n : ℕ) (file : Identity) → m.0.work ≡ Placing n (label_of file)
+      → m.1 ≡ (n, Some file) ∷ []
       → found ≡ st.first
       → (replaced : Option File) × (number : ℕ) × Names (node_of_number m.0.start) found replaced
       × (node_of_number m.0.start number ≡ n)

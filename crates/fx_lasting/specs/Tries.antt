@@ -11,6 +11,7 @@ use Rattle.fx_table.specs.Opening.{Opening, size_of}
 use Rattle.fx_table.specs.Pass.{PassView}
 use Rattle.fx_table.specs.declared.values.Doing.TheVariants.{Idle as DoesNothing}
 use Rattle.fx_lasting.specs.Ends.{Does}
+use Rattle.fx_lasting.specs.Labels.{label_of}
 use Rattle.fx_lasting.specs.Layout.{group_size, groups_in}
 use Rattle.fx_lasting.specs.Passes.{Sat, node_of_number}
 use Rattle.fx_lasting.specs.declared.tried.TriedPut.{TriedPut}
@@ -19,7 +20,7 @@ use Rattle.fx_lasting.specs.declared.view.Work.TheVariants.{Idle, Placing}
 
 -- the seat's pass has the place of the node, with the file that it is about to install
 pub record IsPlacing (node : ℕ) (file : Identity) (m : Sat) : Type 0 where
-  pub work : m.0.work ≡ Placing node
+  pub work : m.0.work ≡ Placing node (label_of file)
   pub place : m.1 ≡ (node, Some file) ∷ []
 
 -- the file is at the slot, which was empty before, on the node
@@ -28,8 +29,9 @@ HasAllocated node file slot most m m' = (number : ℕ) × (node_of_number m.0.st
     × Does m ([] ▷ Allocate slot (numbered number file)) Idle most m' × (m'.1 ≡ [])
 
 -- the file is still to be installed
-abbrev pub StillPlaces : ℕ → ℕ → Sat → Sat → Type 0
-StillPlaces node most m m' = Does m [] (Placing node) most m' × (m'.1 ≡ m.1)
+abbrev pub StillPlaces : ℕ → Identity → ℕ → Sat → Sat → Type 0
+StillPlaces node file most m m' =
+    Does m [] (Placing node (label_of file)) most m' × (m'.1 ≡ m.1)
 
 -- the steps of a try at each slot of a group, and of one at each slot of the range
 abbrev pub group_steps : ℕ → ℕ
@@ -41,7 +43,7 @@ scan_steps len = groups_in len * group_steps len + 3
 -- a try at one slot
 abbrev pub Tries : ℕ → Identity → ℕ → Sat → Bool → Sat → Type 0
 Tries node file slot m true m' = HasAllocated node file slot 3 m m'
-Tries node file slot m false m' = StillPlaces node 3 m m'
+Tries node file slot m false m' = StillPlaces node file 3 m m'
 
 -- the result of a search that doesn't ask whether all is full
 abbrev pub without_asking : Result ℕ Identity → TriedPut

@@ -157,7 +157,7 @@ impl LastingTable {
     }
 
     /// Installs a file at a slot below `size`, under a number that no file has had, for an idle
-    /// pass (`is_idle`) that installs files (`numbers_left`). It makes at most three atomic steps
+    /// pass (`is_idle`) that installs files (`numbers_left`). It makes at most five atomic steps
     /// more than the pass's block has nodes. Returns the file that it replaced, to be retired, or
     /// `None` (io_uring_prep_openat(3), `io_uring_prep_openat_direct`).
     #[inline(always)]
@@ -170,7 +170,7 @@ impl LastingTable {
         ensures placed { Placed (opening_of_table self.now) (view_of pass.old) slot file result
             (view_of pass.new) }
         ensures steps { let block = block_for self.now.size self.now.passes in
-            steps_taken pass.new ≤ steps_taken pass.old + (block + 3) }
+            steps_taken pass.new ≤ steps_taken pass.old + (block + 5) }
     {
         let node = self.seek(&mut pass.seat, pass.number, pass.next_node);
         let word = slot_word(node, file.entry());

@@ -10,7 +10,7 @@ ghost use Rattle.fx_lasting.specs.Lives.{IsIdleSeatOf, logs_in, AllAreIdle, Leav
 ghost use Rattle.fx_lasting.specs.Tables.{view_of, opening_of_table, IsPassOfTable};
 
 use crate::kinds::Gather;
-use crate::layout::{nodes_for, slot_place};
+use crate::layout::slot_place;
 use crate::pass::LastingPass;
 use crate::table::LastingTable;
 use crate::view::View;
@@ -79,13 +79,13 @@ impl LastingTable {
     {
         let LastingTable {
             table,
-            passes,
-            installing,
+            passes: _,
+            installing: _,
+            nodes,
             size,
             range_start: _,
             range_len: _,
         } = self;
-        let nodes = nodes_for(size, passes, installing);
         let mut closed = table.close_with(seat);
         for slot in 0..size {
             if let Some(node) = node_of(closed.word(slot_place(slot))) {
@@ -110,6 +110,7 @@ impl LastingTable {
             table,
             passes: _,
             installing: _,
+            nodes: _,
             size: _,
             range_start: _,
             range_len: _,

@@ -69,7 +69,7 @@ impl LastingTable {
 
     /// Installs a file at a slot below `size`, in place of a file that is on this node, under a
     /// number that no file has had, for an idle pass (`is_idle`) that installs files
-    /// (`numbers_left`). It makes at most seven atomic steps more than the pass's block has nodes
+    /// (`numbers_left`). It makes at most nine atomic steps more than the pass's block has nodes
     /// (io_uring_prep_openat(3), `io_uring_prep_openat_direct`). The file that was there is to be
     /// retired. Otherwise nothing changes, and the new file comes back.
     pub fn put_if(&self, pass: &mut LastingPass, slot: u32, node: u32, file: OpenFile) -> PutIf
@@ -82,7 +82,7 @@ impl LastingTable {
             (view_of pass.new) }
         ensures tries { TriesPut result (steps_taken pass.old) (steps_taken pass.new) }
         ensures steps { let block = block_for self.now.size self.now.passes in
-            steps_taken pass.new ≤ steps_taken pass.old + (block + 7) }
+            steps_taken pass.new ≤ steps_taken pass.old + (block + 9) }
     {
         let word = match self.see(&mut pass.seat, slot, node) {
             Ok(word) => word,

@@ -140,6 +140,42 @@ impl Play<Option<OpenFile>, View> for Birth {
     ghost then = { Births };
 }
 
+/// Tag: a pass stores the tag of the file that it is about to install.
+pub struct Tagging;
+
+impl Play<Option<OpenFile>, View> for Tagging {
+    ghost use Rattle.fx_lasting.specs.LabelSteps.{Tags};
+
+    ghost then = { Tags };
+}
+
+/// Number: a pass stores the number of the file that it is about to install.
+pub struct Numbering;
+
+impl Play<Option<OpenFile>, View> for Numbering {
+    ghost use Rattle.fx_lasting.specs.LabelSteps.{Numbers};
+
+    ghost then = { Numbers };
+}
+
+/// Read tag: a pass loads the tag of the file that it holds.
+pub struct ReadingTag;
+
+impl Play<Option<OpenFile>, View> for ReadingTag {
+    ghost use Rattle.fx_lasting.specs.LabelSteps.{ReadsTag};
+
+    ghost then = { ReadsTag };
+}
+
+/// Read number: a pass loads the number of the file that it holds.
+pub struct ReadingNumber;
+
+impl Play<Option<OpenFile>, View> for ReadingNumber {
+    ghost use Rattle.fx_lasting.specs.LabelSteps.{ReadsNumber};
+
+    ghost then = { ReadsNumber };
+}
+
 /// Rest: the place of a node goes home without a file.
 pub struct Resting;
 

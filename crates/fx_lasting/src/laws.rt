@@ -4,17 +4,18 @@ ghost use Rattle.std.specs.Prelude.{◌≡◌, ◌≤◌, ℕ};
 ghost use Rattle.fx_words.specs.Words.{last_node};
 ghost use Rattle.fx_lasting.specs.Bounds.{WordsAreBounded};
 ghost use Rattle.fx_lasting.specs.Holds.{NodesAreOfOneFile, HeldNodesNameFiles};
-ghost use Rattle.fx_lasting.specs.Layout.{PlacesAreInside, PlacesAreApart};
+ghost use Rattle.fx_lasting.specs.Layout.{PlacesAreInside, PlacesAreApart, LabelsAreApart};
 ghost use Rattle.fx_lasting.specs.Opens.{OpeningKeeps};
 ghost use Rattle.fx_lasting.specs.WholeHistory.{HasOneHistory, RemovedFilesHaveUsers};
 ghost use Rattle.fx_lasting.specs.declared.layout.TheConstants.{MOST_SLOTS, MOST_NODES, MOST_PASSES, MOST_INSTALLING};
-ghost use Rattle.fx_lasting.specs.Laws.{GlancesKeep, ListsKeep, AnnouncesKeep, ConfirmsKeep, WithdrawsKeep, TakesOnceKeep, HeatsKeep, StepsDownKeep, LettingGoKeeps, SeeksKeep, BirthsKeep, RestsKeep, SkimsKeep, VisitsKeep, MarksKeep, RetiresKeep, LowersKeep, ChecksKeep, BreaksKeep, RaisesKeep, BeginsKeep, AsksKeep, CountsKeep, DecidesKeep, PeeksKeep, SplitsKeep, JoinsKeep, ClearsKeep, TakesOutKeep, InstallsKeep, ExchangesKeep, SeesKeep, TakesIfKeep, ReplacesKeep};
+ghost use Rattle.fx_lasting.specs.Laws.{GlancesKeep, ListsKeep, AnnouncesKeep, ConfirmsKeep, WithdrawsKeep, TakesOnceKeep, HeatsKeep, StepsDownKeep, LettingGoKeeps, SeeksKeep, BirthsKeep, TagsKeep, NumbersKeep, ReadsTagKeep, ReadsNumberKeep, RestsKeep, SkimsKeep, VisitsKeep, MarksKeep, RetiresKeep, LowersKeep, ChecksKeep, BreaksKeep, RaisesKeep, BeginsKeep, AsksKeep, CountsKeep, DecidesKeep, PeeksKeep, SplitsKeep, JoinsKeep, ClearsKeep, TakesOutKeep, InstallsKeep, ExchangesKeep, SeesKeep, TakesIfKeep, ReplacesKeep};
 
 use crate::kinds::{
     Announcing, Asking, Beginning, Birth, Breaking, Checking, Clearing, Confirming, Counting, Deal,
     Deciding, Exchanging, Gather, Glancing, HeatingUp, Installing, Letting, Listing, Lowering,
-    Marking, OneHistory, Peeking, Raising, Replacing, Resting, Retire, Seeing, Seeking, Skimming,
-    SteppingDown, Taking, TakingIf, TakingOut, Visiting, Withdrawing,
+    Marking, Numbering, OneHistory, Peeking, Raising, ReadingNumber, ReadingTag, Replacing,
+    Resting, Retire, Seeing, Seeking, Skimming, SteppingDown, Tagging, Taking, TakingIf, TakingOut,
+    Visiting, Withdrawing,
 };
 use crate::view::{Start, View};
 use atomic_table::{Join, Play, Split, TableRule};
@@ -93,6 +94,29 @@ pub fn seek_keeps_rule()
 /// and has its place.
 pub fn birth_keeps_rule()
     ensures { BirthsKeep ⟦<Birth as Play<Option<OpenFile>, View>>⟧.then }
+{}
+
+/// A pass that stores the tag of the file that it places in the word for it keeps the rule.
+pub fn tag_keeps_rule()
+    ensures { TagsKeep ⟦<Tagging as Play<Option<OpenFile>, View>>⟧.then }
+{}
+
+/// A pass that has stored that tag and stores the file's number keeps the rule, and has stored the
+/// file's label.
+pub fn number_keeps_rule()
+    ensures { NumbersKeep ⟦<Numbering as Play<Option<OpenFile>, View>>⟧.then }
+{}
+
+/// A pass that holds the file of a node and loads the node's word for the tag keeps the rule, and
+/// has the file's tag.
+pub fn read_tag_keeps_rule()
+    ensures { ReadsTagKeep ⟦<ReadingTag as Play<Option<OpenFile>, View>>⟧.then }
+{}
+
+/// A pass that holds the file of a node and loads the node's word for the number keeps the rule,
+/// and has the number of the file's mark.
+pub fn read_number_keeps_rule()
+    ensures { ReadsNumberKeep ⟦<ReadingNumber as Play<Option<OpenFile>, View>>⟧.then }
 {}
 
 /// A pass that stores 0 in the word of a node whose file is closed, or which it placed in vain,
@@ -272,5 +296,6 @@ pub fn places_are_inside()
 
 /// Different words of such a table have different places.
 pub fn places_are_apart()
-    ensures { (size passes : ℕ) → PlacesAreApart size passes }
+    ensures places { (size passes : ℕ) → PlacesAreApart size passes }
+    ensures labels { (size passes nodes : ℕ) → LabelsAreApart size passes nodes }
 {}

@@ -1,8 +1,9 @@
 //! The places of a table's words. The question word, each group's word, each slot's word and each
 //! pass's hold word have a cache line of their own, and so has the list of passes that ever looked
-//! a file up, a bit for each. The nodes' words follow them, side by side.
+//! a file up, a bit for each. The nodes' words follow them, side by side, and then the two words of
+//! each node's label: the tag of its file, and the number of the file's mark.
 ghost use Rattle.std.specs.Prelude.{◌≡◌, ◌<◌, ◌≤◌};
-ghost use Rattle.fx_lasting.specs.Layout.{question_place, group_place, group_size, groups_in, group_len, list_place, slot_place, hold_place, node_place, words_for, block_for, block_start, nodes_for};
+ghost use Rattle.fx_lasting.specs.Layout.{question_place, group_place, group_size, groups_in, group_len, list_place, slot_place, hold_place, node_place, tag_place, number_place, words_for, block_for, block_start, nodes_for};
 
 /// The greatest number of slots of a table.
 pub const MOST_SLOTS: u32 = 4096;
@@ -100,6 +101,30 @@ pub(crate) fn node_place(size: u32, passes: u32, node: u32) -> usize
     (536 + 8 * size + 8 * passes + node) as usize
 }
 
+// Returns the place of the tag of a node's file, in a table with `nodes` nodes.
+#[inline(always)]
+pub(crate) fn tag_place(size: u32, passes: u32, nodes: u32, node: u32) -> usize
+    requires size { size ≤ MOST_SLOTS }
+    requires passes { passes ≤ MOST_PASSES }
+    requires nodes { nodes ≤ MOST_NODES }
+    requires node { node < nodes }
+    ensures { result ≡ tag_place size passes nodes node }
+{
+    (536 + 8 * size + 8 * passes + nodes + 2 * node) as usize
+}
+
+// Returns the place of the number of a node's file, in a table with `nodes` nodes.
+#[inline(always)]
+pub(crate) fn number_place(size: u32, passes: u32, nodes: u32, node: u32) -> usize
+    requires size { size ≤ MOST_SLOTS }
+    requires passes { passes ≤ MOST_PASSES }
+    requires nodes { nodes ≤ MOST_NODES }
+    requires node { node < nodes }
+    ensures { result ≡ number_place size passes nodes node }
+{
+    tag_place(size, passes, nodes, node) + 1
+}
+
 // Returns the number of words of a table with `nodes` nodes.
 pub(crate) fn words_for(size: u32, passes: u32, nodes: u32) -> usize
     requires size { size ≤ MOST_SLOTS }
@@ -107,7 +132,7 @@ pub(crate) fn words_for(size: u32, passes: u32, nodes: u32) -> usize
     requires nodes { nodes ≤ MOST_NODES }
     ensures { result ≡ words_for size passes nodes }
 {
-    (536 + 8 * size + 8 * passes + nodes) as usize
+    (536 + 8 * size + 8 * passes + 3 * nodes) as usize
 }
 
 // Returns the number of nodes in a pass's block.

@@ -13,6 +13,7 @@ mod close;
 mod emptied;
 mod keyed;
 mod kinds;
+mod labels;
 pub mod laws;
 mod layout;
 mod letting;

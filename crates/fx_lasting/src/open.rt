@@ -6,8 +6,8 @@ ghost use Rattle.fx_table.specs.FullSlots.{full_in, first_at};
 ghost use Rattle.fx_table.specs.Opening.{IsGivenBack, lasting_opening, size_of};
 ghost use Rattle.fx_table.specs.Pass.{IsIdle};
 ghost use Rattle.fx_words.specs.Words.{slot_word_of};
-ghost use Rattle.fx_lasting.specs.Firsts.{AreFirstWords};
-ghost use Rattle.fx_lasting.specs.Layout.{slot_place, node_place, block_start};
+ghost use Rattle.fx_lasting.specs.Firsts.{AreFirstWords, AreLabelled};
+ghost use Rattle.fx_lasting.specs.Layout.{slot_place, node_place, words_for, block_start};
 ghost use Rattle.fx_lasting.specs.Lives.{HasAllPasses, IsNewPass};
 ghost use Rattle.fx_lasting.specs.Parts.{birth_word};
 ghost use Rattle.fx_lasting.specs.Passes.{empty_slots};
@@ -15,9 +15,10 @@ ghost use Rattle.fx_lasting.specs.Tables.{view_of, opening_of_table, first_passe
 ghost use Rattle.fx_lasting.specs.declared.layout.TheConstants.{MOST_SLOTS, MOST_NODES, MOST_PASSES, MOST_INSTALLING};
 
 use crate::kinds::Deal;
+use crate::labels::number_of_mark;
 use crate::layout::{
     MOST_INSTALLING, MOST_PASSES, MOST_SLOTS, block_start, group_len, group_place, group_size,
-    groups_in, node_place, nodes_for, slot_place, words_for,
+    groups_in, node_place, nodes_for, number_place, slot_place, tag_place, words_for,
 };
 use crate::parts::BORN;
 use crate::pass::LastingPass;
@@ -150,6 +151,7 @@ impl LastingTable {
             table,
             passes,
             installing,
+            nodes,
             size,
             range_start,
             range_len,
@@ -185,12 +187,13 @@ impl LastingTable {
             installing,
         };
         let nodes = nodes_for(size, passes, installing);
-        let Ok(words) = first_words(alloc, &plain, passes, nodes) else {
+        let Ok(mut words) = first_words(alloc, &plain, passes, nodes) else {
             return Err((plain, NoMemory));
         };
         let Ok(homes) = move_out(alloc, &mut plain, nodes as usize) else {
             return Err((plain, NoMemory));
         };
+        write_labels(&mut words, &homes, size, passes, nodes);
         match Table::new(alloc, words.as_slice(), homes, &key) {
             Ok((table, seat)) => {
                 plain.dismiss();
@@ -199,6 +202,7 @@ impl LastingTable {
                         table,
                         passes,
                         installing,
+                        nodes,
                         size,
                         range_start,
                         range_len,
@@ -296,4 +300,27 @@ fn first_words(
         }
     }
     Ok(words)
+}
+
+// Writes the labels of the files in the places of the slots' nodes.
+fn write_labels(
+    words: &mut Vec<u64>,
+    homes: &Vec<Option<OpenFile>>,
+    size: u32,
+    passes: u32,
+    nodes: u32,
+)
+    requires size { size ≤ MOST_SLOTS }
+    requires passes { passes ≤ MOST_PASSES }
+    requires nodes { (size ≤ nodes) × (nodes ≤ MOST_NODES) }
+    requires homes { length homes.now.items ≡ nodes }
+    requires words { length words.old.items ≡ words_for size passes nodes }
+    ensures { AreLabelled size passes nodes homes.now.items size words.old.items words.new.items }
+{
+    for slot in 0..size {
+        if let Some(file) = &homes[slot as usize] {
+            words[tag_place(size, passes, nodes, slot)] = file.tag();
+            words[number_place(size, passes, nodes, slot)] = number_of_mark(file.mark());
+        }
+    }
 }

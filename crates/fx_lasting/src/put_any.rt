@@ -64,7 +64,7 @@ impl LastingTable {
     /// Tries once to install a file at an empty slot of the allocation range, under a number that
     /// no file has had, for an idle pass (`is_idle`) that installs files (`numbers_left`). It never
     /// waits: it makes at most three atomic steps for each slot of a group, two for each group, and
-    /// nine more than the pass's block has nodes. It tries the slot that the pass emptied last, or
+    /// eleven more than the pass's block has nodes. It tries the slot that the pass emptied last, or
     /// else the one after the slot that it filled last, and then goes once over the groups that
     /// aren't full. Returns the slot, or the file if every slot of the range had a file at one
     /// moment (ENFILE), or if neither was found; then nothing has changed.
@@ -78,7 +78,7 @@ impl LastingTable {
         ensures steps { let block = block_for self.now.size self.now.passes in
             let len = self.now.range_len in
             steps_taken pass.new ≤ steps_taken pass.old + (block + scan_steps len
-            + groups_in len + 6) }
+            + groups_in len + 8) }
     {
         if self.is_still_full(pass) {
             return TriedPut::Full(file);
@@ -106,7 +106,7 @@ impl LastingTable {
             (without_asking result) (view_of pass.new) }
         ensures steps { let block = block_for self.now.size self.now.passes in
             let len = self.now.range_len in
-            steps_taken pass.new ≤ steps_taken pass.old + (block + scan_steps len + 2) }
+            steps_taken pass.new ≤ steps_taken pass.old + (block + scan_steps len + 4) }
     {
         let node = self.seek(&mut pass.seat, pass.number, pass.next_node);
         let identity = file.identity();
@@ -169,7 +169,7 @@ impl LastingTable {
         ensures found { IfSome result (λ slot.
             HasAllocated node file slot (scan_steps self.now.range_len) seat.old.me seat.new.me) }
         ensures none { result ≡ None
-            → StillPlaces node (scan_steps self.now.range_len) seat.old.me seat.new.me }
+            → StillPlaces node file (scan_steps self.now.range_len) seat.old.me seat.new.me }
     {
         if self.range_len == 0 {
             return None;
@@ -209,7 +209,7 @@ impl LastingTable {
         ensures found { IfSome result (λ slot.
             HasAllocated node file slot (group_steps self.now.range_len) seat.old.me seat.new.me) }
         ensures none { result ≡ None
-            → StillPlaces node (group_steps self.now.range_len) seat.old.me seat.new.me }
+            → StillPlaces node file (group_steps self.now.range_len) seat.old.me seat.new.me }
     {
         let word = self.table.shared.load::<Peeking>(seat, group_place(group));
         let len = group_len(self.range_len, group);

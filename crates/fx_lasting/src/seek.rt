@@ -49,7 +49,6 @@ impl LastingTable {
         }
         unreachable!()
     }
-
 }
 
 // Returns the node after this one in a block of `len` nodes from `first` on; the last one's is the

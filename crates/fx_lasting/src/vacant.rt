@@ -29,7 +29,7 @@ impl LastingTable {
 
     /// Installs a file at a slot of the allocation range (`allocates`) if it is empty, under a
     /// number that no file has had, for an idle pass (`is_idle`) that installs files
-    /// (`numbers_left`). It makes at most six atomic steps more than the pass's block has nodes.
+    /// (`numbers_left`). It makes at most eight atomic steps more than the pass's block has nodes.
     /// Otherwise nothing changes, and the file comes back.
     pub fn put_empty(&self, pass: &mut LastingPass, slot: u32, file: OpenFile) -> PutEmpty
         requires fits { IsPassOfTable self.now pass.old }
@@ -40,7 +40,7 @@ impl LastingTable {
         ensures placed { HasPutEmpty self.now.table.shared.key (view_of pass.old) slot file result
             (view_of pass.new) }
         ensures steps { let block = block_for self.now.size self.now.passes in
-            steps_taken pass.new ≤ steps_taken pass.old + (block + 6) }
+            steps_taken pass.new ≤ steps_taken pass.old + (block + 8) }
     {
         if self.sees_file(&mut pass.seat, slot) {
             return PutEmpty::HasFile(file);

@@ -55,6 +55,17 @@ pub struct Round {
     pub last: u64,
 }
 
+/// The words that a pass has stored of the label of the file that it is about to install, as
+/// contracts see them. No value of it is made.
+pub enum Written {
+    /// Neither word.
+    Nothing,
+    /// The tag.
+    Tag(u64),
+    /// The tag, and the number.
+    Label(u64, u64),
+}
+
 /// The work of a seat's pass between two steps, as contracts see it. A node is named by its number.
 /// No value of it is made.
 pub enum Work {
@@ -74,8 +85,9 @@ pub enum Work {
     Yielding(File, u32),
     /// It looks for a free node of its block, and this one is free.
     Searching(u32),
-    /// It has the place of the node, whose file it is about to install.
-    Placing(u32),
+    /// It has the place of the node, whose file it is about to install, and has stored these words
+    /// of the file's label.
+    Placing(u32, Written),
     /// It removed the file of the node with this many takes, has come so far on its round through
     /// the other passes, and made this many marks.
     Retiring(File, u32, u32, Round, u32),

@@ -1,5 +1,8 @@
-use Rattle.fx_lasting.proofs.Places.{places_apart}
+use Rattle.fx_lasting.proofs.Places.{places_apart, labels_apart}
 use Rattle.fx_lasting.proofs.laws.places_are_apart.Goals as goal
 
-pub returns : goal.returns
-returns c = places_apart
+pub returns-clause-places : goal.returns-clause-places
+returns-clause-places c = places_apart
+
+pub returns-clause-labels : goal.returns-clause-labels
+returns-clause-labels c = labels_apart

@@ -1,0 +1,206 @@
+-- A pass stores the label of the file that it places, and loads that of the file that it holds.
+use Rattle.fx_lasting.proofs.Words.{◌≡◌, ◌≢◌, ℕ, ◌+◌, ◌<◌, ◌≤◌, List, [], set, sym, refl, ap, ◌∙◌, subst, arith, Option, Some, None, inr, ⊎_elim}
+use Rattle.fx_lasting.proofs.Words.{none, keeps, step, length-set, get_or-set_other, get_or-set_same, Closed, File, Agrees, WorkAgrees, HoldsAt, Labels}
+use Rattle.fx_lasting.proofs.Words.{slots_of, nodes_of, slot_place, group_place, list_place, question_place, word_of, hold_word_of, tag_word_of}
+use Rattle.fx_lasting.proofs.Words.{number_word_of, held_in, if_file, taken_of, taking, HoldsOn, Phase, placed, owner, file_in, removed_in, written_in}
+use Rattle.fx_lasting.proofs.Words.{changed_here, sum_set, Work, Placing, Written, Unlabelled, Tag, Label, label_of, number_of_mark, Goes, Start, Log, first_log}
+use Rattle.fx_lasting.proofs.Words.{Tags, Numbers, ReadsTag, ReadsNumber, TagsKeep, NumbersKeep, ReadsTagKeep, ReadsNumberKeep}
+use Rattle.fx_lasting.proofs.Histories.{grows_none, each_changed}
+use Rattle.fx_lasting.proofs.Frames.{busy, does_now, written_of}
+use Rattle.fx_lasting.proofs.Groups.{CountAlike}
+use Rattle.fx_lasting.proofs.GroupSteps.{its_inside}
+use Rattle.fx_lasting.proofs.Keeping.{Turn, turn_of, After, word_at, slot_word, LabelSame, Made, by_turn, its_log, its_work, in_range, tells, tells_less, w, end}
+use Rattle.fx_lasting.proofs.NodeSteps.{after, node_kept, own_keeps, guards_else}
+use Rattle.fx_lasting.proofs.Calm.{read_before, read_before_kept}
+use Rattle.fx_lasting.proofs.Peeking.{still}
+use Rattle.fx_lasting.proofs.Unheld.{in_phase}
+
+-- the file that a pass holds
+held_file : {d : Work} {f : File} {n : ℕ} → HoldsOn d f n → held_in d ≡ Some f
+held_file holds = ⊎_elim (λ is. ap held_in is) (λ is. ap held_in is) holds
+
+module _ (turn : Turn) where
+  open turn use {st, v, r, id, x, here, one}
+
+  -- The pass has the place of the node, and stores one word of a label
+  module _ (n : ℕ) (l : Written) (works : v.work ≡ Placing n l) (place new : ℕ) (late : tag_word_of v.start 0 ≤ place) (l' : Written) where
+    its : (n < nodes_of v.start) × (r.phase n ≡ placed id l)
+    its = subst (WorkAgrees v.start r.phase id) works (its_work turn)
+
+    abbrev words' : List ℕ
+    words' = set st.words place new
+
+    same : (other : ℕ) → other < tag_word_of v.start 0 → word_at words' other ≡ word_at st.words other
+    same other low = get_or-set_other st.words place other new 0 (λ bad. omega (arith, bad, late, low))
+
+    same_slots : (s : ℕ) → s < slots_of v.start → slot_word words' s ≡ slot_word st.words s
+    same_slots s inside = same (slot_place s) (omega (arith, inside))
+
+    same_hold : (p : ℕ) → p ≤ v.start.passes → word_at words' (hold_word_of v.start p) ≡ word_at st.words (hold_word_of v.start p)
+    same_hold p high = same (hold_word_of v.start p) (omega (arith, high))
+
+    same_node : (m : ℕ) → m < nodes_of v.start → word_at words' (word_of v.start m) ≡ word_at st.words (word_of v.start m)
+    same_node m inside = same (word_of v.start m) (omega (arith, inside))
+
+    alike : CountAlike words' st.words
+    alike = (same question_place (omega arith), λ g few. same (group_place g) (omega (arith, few)))
+
+    abbrev stored_after : After turn
+    stored_after = after turn n its.0 (placed id l') r.history words' st.homes r.debt (Placing n l') v.glance
+
+    stored : ((m : ℕ) → m ≢ n → LabelSame v.start words' st.words m) → Labels v.start words' n l' → Agrees v.start (end turn stored_after)
+    stored else label = let o = its_log turn in let h = rw works at o.hold in let node = in_phase turn its.0 its.1 in
+        node_kept turn n its.0 (placed id l') r.history words' st.homes r.debt (Placing n l') v.glance record {
+          words = length-set st.words place new;
+          homes = refl;
+          grows = grows_none x.number r.history;
+          legal = r.legal;
+          at = refl;
+          fresh = refl;
+          removed = λ m. r.removed m ∙ sym (each_changed (λ i z. removed_in m z ≡ removed_in m (r.phase i)) r.phase
+              (λ is. sym (ap (λ (i : ℕ). removed_in m (r.phase i)) is ∙ ap (removed_in m) its.1)) (λ _. refl));
+          slot_words = same_slots;
+          alike = alike;
+          lists = λ p few. same (list_place p) (omega (arith, few));
+          node_words = λ m inside other. same_node m inside;
+          label_else = else;
+          label = label;
+          home_else = λ m inside other. refl;
+          owed_else = λ m other. refl;
+          taken_else = λ m other. sym (ap (taking m) works);
+          free_else = λ m other bad. let a = ap busy works in other (omega arith);
+          may = inr (inr (ap owner its.1));
+          its_block = λ is. cc (sym its.1 ∙ is);
+          at_slot = λ s f is. cc (sym its.1 ∙ is);
+          open_file = λ j u f other there holds is. let bad : None ≡ Some f = sym (ap file_in its.1) ∙ is in cc bad;
+          guards = λ p e other range. guards_else turn n its.0 (placed id l') r.history words' st.homes r.debt (Placing n l') v.glance same_slots p e
+              (same_hold p range.1) refl (λ may. rw its.1 at may);
+          node = let t = sum_set (taken_of n) st.views id v (w turn stored_after) here in let a = ap (taking n) works in let b = node.untaken in record {
+            counts = same_node n its.0 ∙ node.counts;
+            at_home = node.at_home;
+            untaken = omega arith;
+            unowed = node.unowed;
+          };
+          known = does_now st.views id v (w turn stored_after) (Placing n l') here refl;
+          held = o.held ∙ ap held_in works;
+          allowed = rw works at o.allowed;
+          its_own = own_keeps turn n its.0 (placed id l') r.history words' st.homes r.debt (Placing n l') v.glance same_slots refl
+              (same_hold x.number (in_range turn).1 ∙ h.0, h.1) tt (its.0, changed_here r.phase n (placed id l') n refl);
+          holds = λ m. let a = ap (λ (d : Work). if_file m (held_in d)) works in omega arith;
+        }
+
+    goes : (carried : List (ℕ × Option Closed)) → Goes (v, carried) [] (Placing n l') v.glance (w turn stored_after, carried)
+    goes carried = record { stepped = tells turn stored_after refl carried carried [] (grows_none x.number r.history) r.legal refl its.0; carried = refl }
+
+  -- the tag
+  tag : (n tag : ℕ) → v.work ≡ Placing n Unlabelled → (slots : ℕ) (carried : List (ℕ × Option Closed))
+      → Made turn carried (tag_word_of v.start n) (λ _. tag) (λ _. Tags (step slots (tag_word_of v.start n) tag 0 none) (v, carried) tag)
+  tag n t works slots carried = let place = tag_word_of v.start n in let low : tag_word_of v.start 0 ≤ place = omega arith in
+      let inside = (its n Unlabelled works place t low (Tag t)).0 in (
+        w turn (stored_after n Unlabelled works place t low (Tag t)),
+        keeps,
+        tt,
+        stored n Unlabelled works place t low (Tag t)
+            (λ m other. (
+              get_or-set_other st.words place (tag_word_of v.start m) t 0 (λ bad. other (omega (arith, bad))),
+              get_or-set_other st.words place (number_word_of v.start m) t 0 (λ bad. omega (arith, bad)),
+            ))
+            (get_or-set_same st.words place t 0 (omega (arith, r.shape.words, inside))),
+        record { goes = λ m works'. let e : n ≡ m = cc (sym works ∙ works') in rw (← e) (goes n Unlabelled works place t low (Tag t) carried) },
+      )
+
+  -- the number
+  number : (n t number : ℕ) → v.work ≡ Placing n (Tag t) → (slots : ℕ) (carried : List (ℕ × Option Closed))
+      → Made turn carried (number_word_of v.start n) (λ _. number)
+      (λ _. Numbers (step slots (number_word_of v.start n) number 0 none) (v, carried) number)
+  number n t new works slots carried = let place = number_word_of v.start n in let low : tag_word_of v.start 0 ≤ place = omega arith in
+      let at = its n (Tag t) works place new low (Label t new) in (
+        w turn (stored_after n (Tag t) works place new low (Label t new)),
+        keeps,
+        tt,
+        stored n (Tag t) works place new low (Label t new)
+            (λ m other. (
+              get_or-set_other st.words place (tag_word_of v.start m) new 0 (λ bad. omega (arith, bad)),
+              get_or-set_other st.words place (number_word_of v.start m) new 0 (λ bad. other (omega (arith, bad))),
+            )) (
+              get_or-set_other st.words place (tag_word_of v.start n) new 0 (λ bad. omega (arith, bad))
+                  ∙ subst (λ (ph : Phase). Labels v.start st.words n (written_in ph)) at.1 (r.each_label n at.0),
+              get_or-set_same st.words place new 0 (omega (arith, r.shape.words, at.0)),
+            ),
+        record {
+          goes = λ m u works'. let e : n ≡ m = cc (sym works ∙ works') in let f : t ≡ u = cc (sym works ∙ works') in
+              rw (← e, ← f) (goes n (Tag t) works place new low (Label t new) carried);
+        },
+      )
+
+  -- The pass holds the file of the node
+  module _ (f : File) (n : ℕ) (holds : HoldsOn v.work f n) where
+    its_file : HoldsAt v.start r.phase f n
+    its_file = ⊎_elim (λ is. subst (WorkAgrees v.start r.phase id) is (its_work turn)) (λ is. subst (WorkAgrees v.start r.phase id) is (its_work turn)) holds
+
+    its_label : Labels v.start st.words n (label_of f.identity)
+    its_label = subst (Labels v.start st.words n) (written_of (r.phase n) its_file.1) (r.each_label n its_file.0)
+
+    same_file : (g : File) (m : ℕ) → HoldsOn v.work g m → f ≡ g
+    same_file g m its = let e = sym (held_file holds) ∙ held_file its in cc e
+
+    loads : (i : ℕ) → Agrees v.start record {
+      words = set st.words i (word_at st.words i);
+      homes = st.homes;
+      views = set st.views id (w turn (read_before turn v.work v.glance r.history x.front));
+    }
+    loads i = read_before_kept turn v.work v.glance x.front i (its_log turn).seen (its_log turn).own (still turn)
+
+    sees : (carried : List (ℕ × Option Closed)) → Goes (v, carried) [] v.work v.glance (w turn (read_before turn v.work v.glance r.history x.front), carried)
+    sees carried = record {
+      stepped = tells_less turn (read_before turn v.work v.glance r.history x.front) refl carried carried refl (its_inside turn);
+      carried = refl;
+    }
+
+    reads_tag : (slots : ℕ) (carried : List (ℕ × Option Closed))
+        → Made turn carried (tag_word_of v.start n) (λ word. word) (ReadsTag (step slots (tag_word_of v.start n) 0 0 none) (v, carried))
+    reads_tag slots carried = (
+      w turn (read_before turn v.work v.glance r.history x.front),
+      keeps,
+      tt,
+      loads (tag_word_of v.start n),
+      record {
+        goes = sees carried;
+        front = ap (λ (l : List Log). (first_log l).front) (sym one);
+        tag = λ g m its. its_label.0 ∙ ap (λ (h : File). h.identity.tag) (same_file g m its);
+      },
+    )
+
+    reads_number : (slots : ℕ) (carried : List (ℕ × Option Closed))
+        → Made turn carried (number_word_of v.start n) (λ word. word) (ReadsNumber (step slots (number_word_of v.start n) 0 0 none) (v, carried))
+    reads_number slots carried = (
+      w turn (read_before turn v.work v.glance r.history x.front),
+      keeps,
+      tt,
+      loads (number_word_of v.start n),
+      record {
+        goes = sees carried;
+        front = ap (λ (l : List Log). (first_log l).front) (sym one);
+        number = λ g m its. its_label.1 ∙ ap (λ (h : File). number_of_mark h.identity.mark) (same_file g m its);
+      },
+    )
+
+pub tags_keep : TagsKeep Tags
+tags_keep k slots id i n t m x has works place = by_turn slots (λ _. Unit {0}) (λ k. tag_word_of k n) (λ _. t)
+    (λ i _. Tags (step slots i t 0 none) m t) has tt place
+    (λ st r here _ fits. tag (turn_of m x has.1 id st r here) n t works slots m.1)
+
+pub numbers_keep : NumbersKeep Numbers
+numbers_keep k slots id i n t new m x has works place = by_turn slots (λ _. Unit {0}) (λ k. number_word_of k n) (λ _. new)
+    (λ i _. Numbers (step slots i new 0 none) m new) has tt place
+    (λ st r here _ fits. number (turn_of m x has.1 id st r here) n t new works slots m.1)
+
+pub reads_tag_keep : ReadsTagKeep ReadsTag
+reads_tag_keep k slots id i n f m x has holds place = by_turn slots (λ _. Unit {0}) (λ k. tag_word_of k n) (λ word. word)
+    (λ i. ReadsTag (step slots i 0 0 none) m) has tt place
+    (λ st r here _ fits. reads_tag (turn_of m x has.1 id st r here) f n holds slots m.1)
+
+pub reads_number_keep : ReadsNumberKeep ReadsNumber
+reads_number_keep k slots id i n f m x has holds place = by_turn slots (λ _. Unit {0}) (λ k. number_word_of k n) (λ word. word)
+    (λ i. ReadsNumber (step slots i 0 0 none) m) has tt place
+    (λ st r here _ fits. reads_number (turn_of m x has.1 id st r here) f n holds slots m.1)

@@ -1,0 +1,5 @@
+use Rattle.fx_lasting.proofs.Labelling.{tags_keep}
+use Rattle.fx_lasting.proofs.laws.tag_keeps_rule.Goals as goal
+
+pub returns : goal.returns
+returns c = tags_keep
