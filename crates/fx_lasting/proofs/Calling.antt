@@ -2,6 +2,7 @@
 use Rattle.fx_lasting.proofs.Words.{◌≡◌, ◌<◌, ◌≤◌, ℕ, ◌*◌, arith, ⊎_elim, Start, LastingTable, list_place, slot_place, hold_place}
 use Rattle.fx_lasting.proofs.Words.{node_place, word_of, hold_word_of, nodes_of, slots_of, block_for, block_start, HasPlace, IsAtWork, Sat, Emptying, Placing}
 use Rattle.fx_lasting.proofs.Words.{Option, Closed, IsInBlock, mul-le-mul_right, ap, groups_in, group_place, range_at_start, IsGroup}
+use Rattle.fx_lasting.proofs.Words.{tag_place, number_place, tag_word_of, number_word_of, Written}
 use Rattle.fx_lasting.proofs.Groups.{few_groups}
 use Rattle.fx_lasting.proofs.Births.{block_inside}
 use Rattle.fx_lasting.proofs.Running.{its_inside}
@@ -47,9 +48,25 @@ node_inside t {n} l is = omega (arith, l, is, t.words)
 pub node_word : (t : LastingTable) (n : ℕ) {i : ℕ} → i ≡ node_place t.size t.passes n → i ≡ word_of t.table.shared.key n
 node_word t n is = omega (arith, is, t.same_size, t.key.0)
 
+-- the words of a node's label are words of the table
+pub tag_inside : (t : LastingTable) {n i : ℕ} → n < nodes_of t.table.shared.key → i ≡ tag_place t.size t.passes t.nodes n
+    → i < t.table.shared.table_id.words
+tag_inside t {n} l is = omega (arith, l, is, t.words, t.same_nodes)
+
+pub tag_word : (t : LastingTable) (n : ℕ) {i : ℕ} → i ≡ tag_place t.size t.passes t.nodes n → i ≡ tag_word_of t.table.shared.key n
+tag_word t n is = omega (arith, is, t.same_size, t.key.0, t.same_nodes)
+
+pub number_inside : (t : LastingTable) {n i : ℕ} → n < nodes_of t.table.shared.key → i ≡ number_place t.size t.passes t.nodes n
+    → i < t.table.shared.table_id.words
+number_inside t {n} l is = omega (arith, l, is, t.words, t.same_nodes)
+
+pub number_word : (t : LastingTable) (n : ℕ) {i : ℕ} → i ≡ number_place t.size t.passes t.nodes n → i ≡ number_word_of t.table.shared.key n
+number_word t n is = omega (arith, is, t.same_size, t.key.0, t.same_nodes)
+
 -- the node whose place is with the pass
 pub place_inside : {k : Start} {p n : ℕ} {x : Option Closed} {m : Sat} → IsAtWork k p m → HasPlace n x m → n < nodes_of k
-place_inside {n = n} {m = m} at has = ⊎_elim (λ (e : m.0.work ≡ Emptying n). its_inside at e) (λ (e : m.0.work ≡ Placing n). its_inside at e) has.work
+place_inside {n = n} {m = m} at has = ⊎_elim (λ (e : m.0.work ≡ Emptying n). its_inside at e)
+    (λ (e : (l : Written) × (m.0.work ≡ Placing n l)). its_inside at e.1) has.work
 
 -- a table has few nodes
 pub few_nodes : (t : LastingTable) → nodes_of t.table.shared.key ≤ 659456

@@ -7,7 +7,7 @@ use Rattle.fx_lasting.proofs.Words.{LogAgrees, ViewAgrees, Agrees, new_logs, wor
 use Rattle.fx_lasting.proofs.Words.{state_after_all, new_log, Phase, free, seated, Log, Start, View, Idle, Nothing, length-map, at_map, first_view}
 use Rattle.fx_lasting.proofs.Words.{contains_map, once_is, counted_once, range_with_len, one_if, removed_in, length-map-range_with_len, owed, ne_eqb}
 use Rattle.fx_lasting.proofs.Words.{false, Contains, eqb, sum_of, word_for, node_for, home_for, OpensWith, first_file, bit_here}
-use Rattle.fx_lasting.proofs.Words.{node_of_number, bit_of, IsListedIn}
+use Rattle.fx_lasting.proofs.Words.{node_of_number, bit_of, IsListedIn, Labels, written_in}
 use Rattle.std.proofs.lemmas.Nat.Bits.{bit_at-zero}
 use Rattle.std.proofs.Common.{not}
 use Rattle.std.proofs.Math.Nat.{mod-eq_of_lt}
@@ -108,6 +108,15 @@ module _ (k : Start) (words : List ℕ) (homes : List (Option Closed)) (o : Open
       low None = tt
       low (Some f) = tt
 
+  label_opens : (n : ℕ) → Labels k words n (written_in (first_phase k n))
+  label_opens n = dite (dec_le (suc n) (slots_of k))
+      (λ l. subst (λ (ph : Phase). Labels k words n (written_in ph)) (sym (low_phase l)) (low (omega (arith, l)) (first_file k n) refl))
+      (λ g. subst (λ (ph : Phase). Labels k words n (written_in ph)) (sym (high_phase (omega (arith, g)))) tt)
+    where
+      low : n < slots_of k → (found : Option File) → first_file k n ≡ found → Labels k words n (written_in (phase_for n found))
+      low inside None is = tt
+      low inside (Some f) is = o.labels n f inside is
+
   removed_opens : (number n : ℕ) → None ≡ removed_in number (first_phase k n)
   removed_opens number n = dite (dec_le (suc n) (slots_of k)) (λ l. subst (λ (ph : Phase). None ≡ removed_in number ph) (sym (low_phase l)) (low (first_file k n)))
       (λ g. subst (λ (ph : Phase). None ≡ removed_in number ph) (sym (high_phase (omega (arith, g)))) refl)
@@ -169,6 +178,7 @@ module _ (k : Start) (words : List ℕ) (homes : List (Option Closed)) (o : Open
     each_slot = slot_opens;
     each_node = node_opens;
     each_owner = λ n l. owner_opens n;
+    each_label = λ n l. label_opens n;
     removed = λ number. removed_opens number (node_of_number k number);
     unborn = λ n l. let m = more_nodes in high_phase (omega arith);
     fresh = λ number l. ap not (le-ltb number (slots_of k) l);

@@ -9,6 +9,7 @@ use Rattle.std.specs.Prelude.{option_map, Result, Ok, Err, ok_or, is_err, is_som
 use Rattle.std.proofs.lemmas.Bool.{not-false, not-true}
 use Rattle.fx_table.specs.Calls.{Use, no_use, one_number, one_look, Adds, IsNewFile, Placed, Cleared, Taken, ReleasesFile, LookedAfter, LookedUp}
 use Rattle.fx_table.proofs.Calls.{adds_then, adds_nothing}
+use Rattle.fx_lasting.proofs.Words.{Owing, Yielding, Searching, Placing, Emptying, HoldsOn}
 use Rattle.fx_lasting.proofs.Words.{new_round, LooksByTake, LetsMarkGo, Announced, first_visit, heat_in, cond, inl, inr}
 use Rattle.fx_table.specs.Opening.{Opening}
 use Rattle.fx_table.specs.Pass.{PassView, IsIdle, IsFileRemoval}
@@ -92,6 +93,21 @@ module _ {id : TableId} {k : Start} {p : LastingPass} (seated : IsSeatOf id k p)
     listed = ap (λ (z : Bool × Bool). z.0) same.1 ∙ sym r.listed;
     sure = λ is. r.asked ∙ seated.sure (sym (ap (λ (z : Bool × Bool). z.1) same.1) ∙ is);
   }
+
+-- a pass that holds a file does so by a take or by its hold word
+pub holds_on : (w : Work) {f : File} {hold : Hold} → doing_in w ≡ Holding f hold → HoldsOn w f hold.node
+holds_on (Counted g n) {f} {hold} is = let same : g ≡ f = cc is in let value : hold_at g n ≡ hold = cc is in
+    inl (λ i. Counted (same i) (ap (λ (h : Hold). h.node) value i))
+holds_on (Guarded g n) {f} {hold} is = let same : g ≡ f = cc is in let value : hold_at g n ≡ hold = cc is in
+    inr (λ i. Guarded (same i) (ap (λ (h : Hold). h.node) value i))
+holds_on Idle is = absurd (cc is)
+holds_on (Announced n) is = absurd (cc is)
+holds_on (Owing n) is = absurd (cc is)
+holds_on (Yielding g n) is = absurd (cc is)
+holds_on (Searching n) is = absurd (cc is)
+holds_on (Placing n l) is = absurd (cc is)
+holds_on (Retiring g n t nx m) is = absurd (cc is)
+holds_on (Emptying n) is = absurd (cc is)
 
 -- a pass that looks nothing up, outside a change
 pub at_rest : {id : TableId} {k : Start} {p : LastingPass} → IsPassOf id k p → {m' : Sat} {xs : List Action} {w : Work} {n : ℕ}

@@ -49,6 +49,26 @@ pub does_then : {m m' m'' : Sat} {xs ys : List Action} {w w' : Work} {g : Glance
 does_then {m' = m'} {m'' = m''} {ys = ys} {w' = w'} {n' = n'} a b =
     runs_then a (subst (λ (z : Glance × Change). Runs m' ys w' z.0 z.1 n' m'') (λ i. (a.glance i, a.change i)) b)
 
+-- the pass has other places now
+pub runs_carried : {m m' : Sat} {xs : List Action} {w : Work} {g : Glance} {c : Change} {n : ℕ} (places : List (ℕ × Option Closed))
+    → Runs m xs w g c n m' → Runs m xs w g c n (m'.0, places)
+runs_carried places r = record {
+  one = r.one;
+  number = r.number;
+  seen = r.seen;
+  legal = r.legal;
+  own = r.own;
+  steps = r.steps;
+  begun = r.begun;
+  listed = r.listed;
+  asked = r.asked;
+  work = r.work;
+  inside = r.inside;
+  glance = r.glance;
+  change = r.change;
+  start = r.start;
+}
+
 -- at most as many steps, or more
 pub runs_within : {m m' : Sat} {xs : List Action} {w : Work} {g : Glance} {c : Change} {n n' : ℕ} → n ≤ n' → Runs m xs w g c n m'
     → Runs m xs w g c n' m'

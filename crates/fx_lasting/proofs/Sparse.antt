@@ -33,7 +33,7 @@ module _ (size : ℕ) (range : ℕ × ℕ) where
     fresh = λ number. false;
   }
 
-  none_first : (slot : ℕ) → first_at st slot ≡ None
+  pub none_first : (slot : ℕ) → first_at st slot ≡ None
   none_first slot = ap (λ (x : Option File). file_numbered x slot) (none_at slot)
 
   none_full : (off len : ℕ) → full_in (first_at st) off len ≡ 0
@@ -54,7 +54,7 @@ module _ (size : ℕ) (range : ℕ × ℕ) where
       groups = λ group low l. all_zero (group_place group) ∙ sym (none_full (group_start range group) (group_len range.1 group));
       slot_words = λ slot l. all_zero (slot_place slot) ∙ sym (ap word_for (none_first slot));
       node_words = λ slot l. all_zero (node_place st.size passes slot) ∙ sym (ap node_for (none_first slot));
-      free = λ node g. all_zero (node_place st.size passes node);
+      free = λ node g l. all_zero (node_place st.size passes node);
       lists = λ pass high. all_zero (list_place pass);
       holds = λ pass low high. all_zero (hold_place st.size pass);
     }

@@ -8,9 +8,11 @@ use Rattle.fx_lasting.proofs.Words.{node_for, sym, ◌∙◌, dite, Closed, stat
 use Rattle.fx_lasting.proofs.Words.{[], zero, suc}
 use Rattle.fx_plain.specs.State.{file_numbered, files_in_order, files_of}
 use Rattle.fx_plain.specs.Table.{identity_of}
-use Rattle.fx_lasting.specs.Firsts.{AreFirstWords}
+use Rattle.fx_lasting.specs.Firsts.{AreFirstWords, AreLabelled}
+use Rattle.fx_lasting.proofs.Words.{Labels, label_of, tag_place, number_place, HasWritten}
 use Rattle.fx_table.specs.FullSlots.{first_at}
-use Rattle.fx_table.specs.Shells.{AreFirstHomes, IsShell}
+use Rattle.fx_table.specs.Shells.{AreFirstHomes, IsShell, file_in_place}
+use Rattle.fx_lasting.proofs.Words.{number_of_mark}
 use Rattle.fx_lasting.specs.Layout.{words_for}
 use Rattle.fx_table.proofs.Shells.{in_place, none_outside}
 use Rattle.fx_lasting.proofs.Groups.{few_groups}
@@ -128,6 +130,58 @@ module _ {st : State} {passes nodes gs slot : ℕ} {words : List ℕ} (so : AreW
       holds = λ p low high. still (hold_place st.size p) (λ bad. omega (arith, bad, low, inside)) (λ bad. omega (arith, bad, high)) ∙ so.holds p low high;
     }
 
+-- the label of one file more is written, or there is none
+module _ {size passes nodes slot : ℕ} {homes : List (Option Closed)} {before words : List ℕ} (so : AreLabelled size passes nodes homes slot before words)
+    (inside : slot < nodes) (long : length before ≡ words_for size passes nodes) where
+  pub no_label : ((file : Closed) → file_in_place homes slot ≢ Some file) → AreLabelled size passes nodes homes (slot + 1) before words
+  no_label none = record {
+    count = so.count;
+    others = so.others;
+    labels = λ s file l there. dite (ℕ_discrete s slot)
+        (λ same. absurd (none file (ap (file_in_place homes) (sym same) ∙ there))) (λ other. so.labels s file (omega (arith, l, other)) there);
+  }
+
+  module _ (tag number : ℕ) where
+    abbrev tagged : List ℕ
+    tagged = slice_set words (tag_place size passes nodes slot) tag
+
+    abbrev labelled : List ℕ
+    labelled = slice_set tagged (number_place size passes nodes slot) number
+
+    kept_label : (place : ℕ) → place ≢ tag_place size passes nodes slot → place ≢ number_place size passes nodes slot
+        → slice_index labelled place ≡ slice_index words place
+    kept_label place a b = get_or-set_other tagged (number_place size passes nodes slot) place number 0 b
+        ∙ get_or-set_other words (tag_place size passes nodes slot) place tag 0 a
+
+    long_words : length words ≡ words_for size passes nodes
+    long_words = so.count ∙ long
+
+    long_tagged : length tagged ≡ words_for size passes nodes
+    long_tagged = length-set words (tag_place size passes nodes slot) tag ∙ long_words
+
+    tag_there : slice_index labelled (tag_place size passes nodes slot) ≡ tag
+    tag_there = get_or-set_other tagged (number_place size passes nodes slot) (tag_place size passes nodes slot) number 0 (λ bad. omega (arith, bad))
+        ∙ get_or-set_same words (tag_place size passes nodes slot) tag 0 (omega (arith, long_words, inside))
+
+    number_there : slice_index labelled (number_place size passes nodes slot) ≡ number
+    number_there = get_or-set_same tagged (number_place size passes nodes slot) number 0 (omega (arith, long_tagged, inside))
+
+    pub one_label : (file : Closed) → file_in_place homes slot ≡ Some file → tag ≡ file.tag → number ≡ number_of_mark file.mark
+        → AreLabelled size passes nodes homes (slot + 1) before labelled
+    one_label file there its_tag its_number = record {
+      count = length-set tagged (number_place size passes nodes slot) number ∙ (long_tagged ∙ sym long);
+      others = λ place low. kept_label place (λ bad. omega (arith, bad, low)) (λ bad. omega (arith, bad, low)) ∙ so.others place low;
+      labels = λ s other l is. dite (ℕ_discrete s slot)
+          (λ same. let e : Some file ≡ Some other = sym there ∙ (ap (file_in_place homes) (sym same) ∙ is) in let f : file ≡ other = cc e in
+          subst (λ (i : ℕ). HasWritten (label_of other) (slice_index labelled (tag_place size passes nodes i)) (slice_index labelled (number_place size passes nodes i)))
+          (sym same)
+          (tag_there ∙ (its_tag ∙ ap (λ (c : Closed). c.tag) f), number_there ∙ (its_number ∙ ap (λ (c : Closed). number_of_mark c.mark) f)))
+          (λ ne. let old = so.labels s other (omega (arith, l, ne)) is in (
+            kept_label (tag_place size passes nodes s) (λ bad. ne (omega (arith, bad))) (λ bad. omega (arith, bad)) ∙ old.0,
+            kept_label (number_place size passes nodes s) (λ bad. omega (arith, bad)) (λ bad. ne (omega (arith, bad))) ∙ old.1,
+          ));
+    }
+
 -- a table without files has none in order of slot
 none_in_order : (at : ℕ → Option File) → ((slot : ℕ) → at slot ≡ None) → (n : ℕ) → files_in_order at n ≡ []
 none_in_order at none zero = refl
@@ -141,13 +195,37 @@ home_is : (found : Option File) (slot : ℕ) → identity_of found ≡ home_for 
 home_is None slot = refl
 home_is (Some f) slot = refl
 
+-- the labels are written after all other words
+pub labelled_first : {st : State} {passes nodes : ℕ} {homes : List (Option Closed)} {before words : List ℕ} → st.size ≤ nodes
+    → AreFirstWords st passes nodes before → AreLabelled st.size passes nodes homes st.size before words → AreFirstWords st passes nodes words
+labelled_first {st} {passes} many w a = record {
+  count = a.count ∙ w.count;
+  entries = w.entries;
+  question = a.others question_place (omega arith) ∙ w.question;
+  groups = λ g low l. a.others (group_place g) (omega (arith, low)) ∙ w.groups g low l;
+  slot_words = λ s l. a.others (slot_place s) (omega (arith, l)) ∙ w.slot_words s l;
+  node_words = λ s l. a.others (node_place st.size passes s) (omega (arith, l, many)) ∙ w.node_words s l;
+  free = λ n low high. a.others (node_place st.size passes n) (omega (arith, high)) ∙ w.free n low high;
+  lists = λ p few. a.others (list_place p) (omega (arith, few)) ∙ w.lists p few;
+  holds = λ p low high. a.others (hold_place st.size p) (omega (arith, high)) ∙ w.holds p low high;
+}
+
+pub labels_so : (st : State) (passes nodes : ℕ) {homes : List (Option Closed)} {before words : List ℕ}
+    → ((place : ℕ) → file_in_place homes place ≡ identity_of (st.at place)) → AreLabelled st.size passes nodes homes st.size before words
+    → (slot : ℕ) (f : File) → slot < st.size → first_at st slot ≡ Some f
+    → HasWritten (label_of f.identity) (slice_index words (tag_place st.size passes nodes slot)) (slice_index words (number_place st.size passes nodes slot))
+labels_so st passes nodes files a slot f l there =
+    a.labels slot f.identity l (files slot ∙ (home_is (st.at slot) slot ∙ ap home_for there))
+
 module _ (k : Start) (words : List ℕ) (homes : List (Option Closed)) where
   abbrev st : State
   st = state_of (contents_of k)
 
   pub opens_with : st.size ≤ MOST_SLOTS → st.range.0 + st.range.1 ≤ st.size → k.passes ≤ 1024 → nodes_of k ≤ 16777214
-      → AreFirstWords st k.passes (nodes_of k) words → AreFirstHomes (contents_of k) (nodes_of k) homes → OpensWith k words homes
-  opens_with few inside passes nodes w h = record {
+      → AreFirstWords st k.passes (nodes_of k) words → AreFirstHomes (contents_of k) (nodes_of k) homes
+      → ((slot : ℕ) (f : File) → slot < st.size → first_at st slot ≡ Some f → Labels k words slot (label_of f.identity)) → OpensWith k words homes
+  opens_with few inside passes nodes w h labels = record {
+    labels = λ slot f l there. labels slot f l there;
     slots = few;
     range = inside;
     passes = passes;
@@ -162,7 +240,7 @@ module _ (k : Start) (words : List ℕ) (homes : List (Option Closed)) where
     slot_words = w.slot_words;
     node_words = w.node_words;
     files = λ slot l. in_place homes slot (omega (arith, l, h.count)) (h.files slot ∙ home_is (st.at slot) slot);
-    free_words = λ n low high. w.free n low;
+    free_words = λ n low high. w.free n low high;
     free_places = λ n low high. in_place homes n (omega (arith, high, h.count)) (h.files n ∙ ap identity_of (none_outside (contents_of k) low));
     list_words = w.lists;
     hold_words = w.holds;

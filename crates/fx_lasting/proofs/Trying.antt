@@ -3,6 +3,7 @@ use Rattle.fx_lasting.proofs.Words.{◌≡◌, ℕ, ◌+◌, ◌*◌, ◌<◌, �
 use Rattle.fx_lasting.proofs.Words.{numbered, Allocate, Sat, Work, Glance, Change, Placing, Idle, Outside, Inside, Runs, Goes, Exchanges, slot_of}
 use Rattle.fx_lasting.proofs.Words.{Stepped, LastingTable, IsInRange, List, Action, Start, Searching, group_of, range_at_start}
 use Rattle.fx_lasting.specs.Passes.{node_of_number}
+use Rattle.fx_lasting.proofs.Words.{Written, label_of}
 use Rattle.fx_lasting.specs.Tries.{IsPlacing, HasAllocated, StillPlaces, group_steps}
 use Rattle.fx_lasting.proofs.Groups.{by_size}
 use Rattle.fx_lasting.proofs.Running.{runs_one, runs_then, runs_goes, runs_within, turns_then, does_then}
@@ -17,7 +18,7 @@ in_range t slot low high = let a = ap (λ (z : ℕ × ℕ). z.0) t.same_range in
 
 -- a load from which the pass learns nothing
 pub peeked : {m m' : Sat} {n : ℕ} {file : Closed} → IsPlacing n file m → Goes m [] m.0.work m.0.glance m'
-    → Runs m [] (Placing n) m.0.glance m.0.change 1 m'
+    → Runs m [] (Placing n (label_of file)) m.0.glance m.0.change 1 m'
 peeked {m} {m'} p goes = subst (λ (w : Work). Runs m [] w m.0.glance m.0.change 1 m') p.work (runs_goes goes)
 
 -- a pass that owed nothing owes nothing again
@@ -31,7 +32,7 @@ module _ {m m₁ m₂ : Sat} {n i slots found old new : ℕ} {file : Closed} (p 
   still_there = goes.carried ∙ p.place
 
   -- the slot has another word now
-  pub lost_still : (found ≡ old → ⊥) → StillPlaces n 3 m m₂
+  pub lost_still : (found ≡ old → ⊥) → StillPlaces n file 3 m m₂
   lost_still lost = let goes' = tries.loses lost in (
     runs_within (omega arith) (does_then (peeked p goes) (subst (λ (w : Work). Runs m₁ [] w m₁.0.glance m₁.0.change 1 m₂) (peeked p goes).work
         (runs_goes goes'))),
@@ -57,26 +58,26 @@ module _ {m m₁ m₂ : Sat} {n i slots found old new : ℕ} {file : Closed} (p 
     )
 
 -- some slots in a row
-pub still_then : {m m' m'' : Sat} {n a b : ℕ} → StillPlaces n a m m' → StillPlaces n b m' m'' → StillPlaces n (a + b) m m''
+pub still_then : {m m' m'' : Sat} {n a b : ℕ} {file : Closed} → StillPlaces n file a m m' → StillPlaces n file b m' m'' → StillPlaces n file (a + b) m m''
 still_then one two = (does_then one.0 two.0, two.1 ∙ one.1)
 
-pub allocated_then : {m m' m'' : Sat} {n a b slot : ℕ} {file : Closed} → StillPlaces n a m m' → HasAllocated n file slot b m' m''
+pub allocated_then : {m m' m'' : Sat} {n a b slot : ℕ} {file : Closed} → StillPlaces n file a m m' → HasAllocated n file slot b m' m''
     → HasAllocated n file slot (a + b) m m''
 allocated_then {n = n} one two =
     (two.0, subst (λ (k : Start). node_of_number k two.0 ≡ n) one.0.start two.1, does_then one.0 two.2, two.3)
 
-pub still_within : {m m' : Sat} {n a b : ℕ} → a ≤ b → StillPlaces n a m m' → StillPlaces n b m m'
+pub still_within : {m m' : Sat} {n a b : ℕ} {file : Closed} → a ≤ b → StillPlaces n file a m m' → StillPlaces n file b m m'
 still_within few one = (runs_within few one.0, one.1)
 
 pub allocated_within : {m m' : Sat} {n a b slot : ℕ} {file : Closed} → a ≤ b → HasAllocated n file slot a m m' → HasAllocated n file slot b m m'
 allocated_within few one = (one.0, one.1, runs_within few one.2, one.3)
 
-pub still_placing : {m m' : Sat} {n a : ℕ} {file : Closed} → IsPlacing n file m → StillPlaces n a m m' → IsPlacing n file m'
+pub still_placing : {m m' : Sat} {n a : ℕ} {file : Closed} → IsPlacing n file m → StillPlaces n file a m m' → IsPlacing n file m'
 still_placing p s = record { work = s.0.work; place = s.1 ∙ p.place }
 
 -- a pass that has put a file into the place of a node that it found
-pub until_put : {m m₂ m₃ : Sat} {n most : ℕ} → Runs m [] (Searching n) m.0.glance m.0.change most m₂
-    → Runs m₂ [] (Placing n) m₂.0.glance m₂.0.change 1 m₃ → Runs m [] (Placing n) m.0.glance m.0.change (most + 1) m₃
+pub until_put : {m m₂ m₃ : Sat} {n most : ℕ} {l : Written} → Runs m [] (Searching n) m.0.glance m.0.change most m₂
+    → Runs m₂ [] (Placing n l) m₂.0.glance m₂.0.change 3 m₃ → Runs m [] (Placing n l) m.0.glance m.0.change (most + 3) m₃
 until_put sought born = does_then sought born
 
 -- The steps of a search through some groups

@@ -3,6 +3,7 @@ use Rattle.fx_lasting.proofs.Words.{Start, Work, Runs, rested, pass_in, true, fa
 use Rattle.fx_table.specs.Calls.{no_use, one_number}
 use Rattle.fx_lasting.specs.Tries.{HasAllocated, StillPlaces}
 use Rattle.fx_lasting.specs.Vacant.{SeesFile}
+use Rattle.fx_lasting.proofs.Words.{Placing, label_of}
 use Rattle.fx_lasting.proofs.ByNode.{adds_none, was_further}
 use Rattle.fx_lasting.proofs.Passing.{adds_so, at_rest, still_pass, its_idle, its_flag, may_install}
 use Rattle.fx_lasting.proofs.Running.{still_at_work, does_then}
@@ -60,7 +61,7 @@ try_slot-requires c =
       table = c.put_in.ensures.table ∙ (c.seek-node.ensures.table ∙ (c.sees_file.ensures.table ∙ f.seated.table));
       at = (c.args.pass.now.number, still_at_work f.seated.at placed);
       placing = record {
-        work = placed.work;
+        work = placed.work ∙ ap (λ (z : Closed). Placing c.seek-node.result (label_of z)) (sym c.identity-identity.ensures);
         place = c.put_in.ensures.place ∙ ap (λ (z : Closed). (c.seek-node.result, Some z) ∷ []) (sym c.identity-identity.ensures);
       };
       change = placed.change ∙ f.seated.change;
@@ -94,13 +95,13 @@ pub take_out-requires : goal.take_out-requires
 take_out-requires c =
     let f = c.requires.fits in
     let saw = c.sees_file.ensures.saw in
-    let still : StillPlaces c.seek-node.result 3 c.put_in.new.seat.me c.try_slot.new.seat.me =
+    let still : StillPlaces c.seek-node.result c.identity-identity.result 3 c.put_in.new.seat.me c.try_slot.new.seat.me =
     rw c.if-try_slot.false at c.try_slot.ensures.tries in
     let run = does_then (does_then saw.1 (until_put c.seek-node.ensures.found c.put_in.ensures.born)) still.0 in
     record {
       table = c.try_slot.ensures.table ∙ (c.put_in.ensures.table ∙ (c.seek-node.ensures.table ∙ (c.sees_file.ensures.table ∙ f.seated.table)));
       at = (c.args.pass.now.number, still_at_work f.seated.at run);
-      place = (c.args.file, record { work = inr still.0.work; place = still.1 ∙ c.put_in.ensures.place });
+      place = (c.args.file, record { work = inr (label_of c.identity-identity.result, still.0.work); place = still.1 ∙ c.put_in.ensures.place });
     }
 
 pub returns : goal.returns
@@ -111,7 +112,7 @@ returns c =
     let saw : SeesFile k c.args.slot c.args.pass.now.seat.me false c.sees_file.new.seat.me =
     rw c.if-sees_file.false at c.sees_file.ensures.saw in
     let sought = c.seek-node.ensures in
-    let still : StillPlaces c.seek-node.result 3 c.put_in.new.seat.me c.try_slot.new.seat.me =
+    let still : StillPlaces c.seek-node.result c.identity-identity.result 3 c.put_in.new.seat.me c.try_slot.new.seat.me =
     rw c.if-try_slot.false at c.try_slot.ensures.tries in
     let end = c.take_out.ensures in
     let m₃ = c.try_slot.new.seat.me in
@@ -119,7 +120,7 @@ returns c =
     let since = does_then (until_put sought.found c.put_in.ensures.born) still.0 in
     let rests = subst (λ (z : Work). Runs m₃ [] (rested z) m₃.0.glance m₃.0.change 1 m₄) still.0.work end.rests in
     let run = at_rest fits (does_then (does_then saw.1 since) rests) in
-    let place : HasPlace c.seek-node.result (Some c.args.file) m₃ = record { work = inr still.0.work; place = still.1 ∙ c.put_in.ensures.place } in
+    let place : HasPlace c.seek-node.result (Some c.args.file) m₃ = record { work = inr (label_of c.identity-identity.result, still.0.work); place = still.1 ∙ c.put_in.ensures.place } in
     record {
       fits = still_pass s _ run (refl, refl)
           (end.table ∙ (c.try_slot.ensures.table ∙ (c.put_in.ensures.table ∙ (sought.table ∙ c.sees_file.ensures.table)))) end.empty

@@ -3,6 +3,7 @@ use Rattle.fx_lasting.proofs.Words.{Start, Work, Runs, rested, name_in, count_in
 use Rattle.fx_table.specs.Calls.{Adds, no_use, one_number}
 use Rattle.fx_table.specs.declared.values.Doing.TheVariants.{Retiring as Retires}
 use Rattle.fx_table.specs.declared.values.Retired.{Retired}
+use Rattle.fx_lasting.proofs.Words.{Placing, label_of}
 use Rattle.fx_lasting.proofs.ByNode.{acts_then, stands_then, missed_so, tried_none, tried_so, value_so, removal_so, is_on, adds_none}
 use Rattle.fx_lasting.proofs.Passing.{adds_so, at_rest, still_pass, its_idle, its_flag, may_install, knows_removed, at_ease_looking, first_by}
 use Rattle.fx_lasting.proofs.Running.{still_at_work, does_then}
@@ -59,7 +60,7 @@ try_replace-requires c =
       table = c.put_in.ensures.table ∙ (c.seek-own.ensures.table ∙ (c.see.ensures.table ∙ f.seated.table));
       at = (c.args.pass.now.number, still_at_work f.seated.at placed);
       placing = record {
-        work = placed.work;
+        work = placed.work ∙ ap (λ (z : Closed). Placing c.seek-own.result (label_of z)) (sym c.identity-identity.ensures);
         place = c.put_in.ensures.place ∙ ap (λ (z : Closed). (c.seek-own.result, Some z) ∷ []) (sym c.identity-identity.ensures);
       };
       slot = omega (arith, c.requires.slot, c.args.self.now.same_size);
@@ -115,7 +116,7 @@ take_out-requires c =
     record {
       table = c.try_replace.ensures.table ∙ (c.put_in.ensures.table ∙ (c.seek-own.ensures.table ∙ (c.see.ensures.table ∙ f.seated.table)));
       at = (c.args.pass.now.number, still_at_work f.seated.at run);
-      place = (c.args.file, record { work = inr run.work; place = failed.2 ∙ c.put_in.ensures.place });
+      place = (c.args.file, record { work = inr (label_of c.args.file, run.work); place = failed.2 ∙ c.put_in.ensures.place });
     }
 
 pub returns-in-Err-try_replace : goal.returns-in-Err-try_replace
@@ -137,7 +138,7 @@ returns-in-Err-try_replace c =
     let rests = subst (λ (z : Work). Runs m₃ [] (rested z) m₃.0.glance m₃.0.change 1 m₄) tried.work end.rests in
     let run = at_rest fits (does_then tried rests) in
     let since = does_then (stands_then (until_put sought.found c.put_in.ensures.born) failed.1) rests in
-    let place : HasPlace c.seek-own.result (Some c.args.file) m₃ = record { work = inr tried.work; place = failed.2 ∙ c.put_in.ensures.place } in
+    let place : HasPlace c.seek-own.result (Some c.args.file) m₃ = record { work = inr (label_of c.args.file, tried.work); place = failed.2 ∙ c.put_in.ensures.place } in
     record {
       fits = still_pass s _ run (refl, refl)
           (end.table ∙ (c.try_replace.ensures.table ∙ (c.put_in.ensures.table ∙ (sought.table ∙ c.see.ensures.table)))) end.empty sought.block

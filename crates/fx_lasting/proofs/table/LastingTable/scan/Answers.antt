@@ -6,7 +6,7 @@ use Rattle.fx_lasting.proofs.table.LastingTable.scan.Goals.{Else-try_slot}
 use Rattle.fx_lasting.proofs.table.LastingTable.scan.Goals as goal
 
 -- the slot at which the scan begins was not empty
-first_still : (c : Else-try_slot) → StillPlaces c.args.node 3 c.args.seat.now.me c.try_slot.new.seat.me
+first_still : (c : Else-try_slot) → StillPlaces c.args.node c.args.file 3 c.args.seat.now.me c.try_slot.new.seat.me
 first_still c = rw c.if-try_slot.false at c.try_slot.ensures.tries
 
 pub try_slot-requires-clause-at : goal.try_slot-requires-clause-at

@@ -1,7 +1,8 @@
 use Rattle.fx_lasting.proofs.Words.{◌≡◌, ℕ, ap, ◌∙◌, subst, arith, Some, Start, state_of, AreFirstWords, AreFirstHomes}
+use Rattle.fx_lasting.specs.Firsts.{AreLabelled}
 use Rattle.fx_lasting.specs.Layout.{nodes_for}
 use Rattle.fx_lasting.proofs.Openings.{opening_keeps}
-use Rattle.fx_lasting.proofs.Starting.{opens_with, no_files}
+use Rattle.fx_lasting.proofs.Starting.{opens_with, no_files, labelled_first, labels_so}
 use Rattle.fx_lasting.proofs.table.LastingTable.start.Goals as goal
 
 pub new-requires : goal.new-requires
@@ -18,11 +19,16 @@ new-requires c =
     let nodes = c.nodes_for-nodes.ensures in
     let many : c.nodes_for-nodes.result ≡ nodes_for (state_of c.args.plain).size c.args.passes c.args.installing =
     nodes.nodes ∙ ap (λ (n : ℕ). nodes_for n c.args.passes c.args.installing) few.value in
-    let words = subst (λ (n : ℕ). AreFirstWords (state_of c.args.plain) c.args.passes n c.in-Ok.words.items) many c.in-Ok.ensures in
+    let first = subst (λ (n : ℕ). AreFirstWords (state_of c.args.plain) c.args.passes n c.in-Ok.words.items) many c.in-Ok.ensures in
+    let labelled = subst (λ (z : ℕ × ℕ).
+    AreLabelled z.0 c.args.passes z.1 c.in-Ok-move_out.homes.items z.0 c.in-Ok.words.items c.write_labels.new.words.items)
+    (λ i. (few.value i, many i)) c.write_labels.ensures in
+    let words = labelled_first (omega arith) first labelled in
     let homes = subst (λ (n : ℕ). AreFirstHomes c.args.plain n c.in-Ok-move_out.homes.items) many c.in-Ok-move_out.ensures.ok.homes in
     opening_keeps k _ _ (opens_with k c.as_slice.result.now c.in-Ok-move_out.homes.items (rw c.of.ensures (omega (arith, few.value, few.few)))
     (rw c.of.ensures c.range-range_start.ensures.inside) c.requires.passes.1 (rw c.of.ensures (omega (arith, many, nodes.few)))
-    (rw (c.of.ensures, c.as_slice.ensures.value) words) (rw c.of.ensures homes))
+    (rw (c.of.ensures, c.as_slice.ensures.value) words) (rw c.of.ensures homes)
+    (rw (c.of.ensures, c.as_slice.ensures.value) (labels_so (state_of c.args.plain) c.args.passes _ homes.files labelled)))
 
 pub dismiss-requires-clause-empty : goal.dismiss-requires-clause-empty
 dismiss-requires-clause-empty c = no_files c.in-Ok-move_out.ensures.ok.shell.shell

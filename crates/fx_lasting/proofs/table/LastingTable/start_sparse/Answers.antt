@@ -1,10 +1,10 @@
-use Rattle.fx_lasting.proofs.Words.{◌≡◌, ℕ, List, sym, ap, ◌∙◌, subst, arith, None, Start, state_of, slots_of, nodes_of}
+use Rattle.fx_lasting.proofs.Words.{◌≡◌, ℕ, List, sym, ap, ◌∙◌, subst, arith, None, Some, Start, state_of, slots_of, nodes_of}
 use Rattle.fx_lasting.proofs.Words.{AreFirstWords, AreFirstHomes}
 use Rattle.std.proofs.Math.ListN.{replicate}
 use Rattle.fx_lasting.specs.Layout.{nodes_for, words_for}
 use Rattle.fx_lasting.specs.Passes.{contents_of}
 use Rattle.fx_lasting.proofs.Openings.{opening_keeps}
-use Rattle.fx_lasting.proofs.Sparse.{same_size, first_words, first_homes}
+use Rattle.fx_lasting.proofs.Sparse.{same_size, none_first, first_words, first_homes}
 use Rattle.fx_lasting.proofs.Starting.{opens_with}
 use Rattle.fx_lasting.proofs.table.LastingTable.start_sparse.Goals as goal
 
@@ -28,4 +28,5 @@ vacant-requires c =
     (first_words c.args.size c.args.range c.args.passes n are) in
     let homes = subst (λ (m : ℕ). AreFirstHomes (contents_of k) m (replicate n None)) many (first_homes c.args.size c.args.range n) in
     opening_keeps k _ _ (opens_with k c.as_slice.result.now (replicate n None) (omega (arith, same, c.requires.size)) (omega (arith, same, c.requires.range))
-    c.requires.passes.1 (omega (arith, many, c.nodes_for-nodes.ensures.few)) words homes)
+    c.requires.passes.1 (omega (arith, many, c.nodes_for-nodes.ensures.few)) words homes
+    (λ slot f l there. let bad : None ≡ Some f = sym (none_first c.args.size c.args.range slot) ∙ there in absurd (cc bad)))

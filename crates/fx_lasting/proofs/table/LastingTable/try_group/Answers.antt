@@ -20,7 +20,7 @@ loop-slot-init c = let run = peeked c.requires.placing c.load-word.ensures.2.goe
 
 pub returns-then-try_slot-clause-found : goal.returns-then-try_slot-clause-found
 returns-then-try_slot-clause-found c = let s = c.loop-slot.invariant.still in let goes = c.load-word.ensures.2.goes in
-    let before : StillPlaces c.args.node 1 c.args.seat.now.me c.load-word.new.seat.me = (peeked c.requires.placing goes, goes.carried) in
+    let before : StillPlaces c.args.node c.args.file 1 c.args.seat.now.me c.load-word.new.seat.me = (peeked c.requires.placing goes, goes.carried) in
     allocated_within (omega (arith, s.1, c.loop-slot-test.true, c.group_len-len.ensures, group_short c.args.self.now.range_len c.args.group))
     (allocated_then before (allocated_then s.2 (rw c.if-try_slot.true at c.try_slot.ensures.tries)))
 
@@ -32,6 +32,6 @@ loop-slot-preserved c = let s = c.loop-slot.invariant.still in record {
 
 pub returns-clause-none : goal.returns-clause-none
 returns-clause-none c none = let s = c.loop-slot.invariant.still in let goes = c.load-word.ensures.2.goes in
-    let before : StillPlaces c.args.node 1 c.args.seat.now.me c.load-word.new.seat.me = (peeked c.requires.placing goes, goes.carried) in
+    let before : StillPlaces c.args.node c.args.file 1 c.args.seat.now.me c.load-word.new.seat.me = (peeked c.requires.placing goes, goes.carried) in
     still_within (omega (arith, s.1, c.loop-slot.auto.slot, c.loop-slot.auto.slot-end, c.group_len-len.ensures, group_short c.args.self.now.range_len c.args.group))
     (still_then before s.2)
