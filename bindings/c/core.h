@@ -10,19 +10,23 @@
 
 typedef struct yacht_core yacht_core;
 
+/* the tag and the number of the value that a look-up found, and the tag of one that it dropped */
+typedef struct yacht_label {
+    uint64_t tag, number, freed;
+} yacht_label;
+
 int64_t yacht_core_open(uint32_t slots, uint32_t installing, yacht_core **workers, size_t count);
 void yacht_core_close(yacht_core *worker);
-int64_t yacht_core_nodes(yacht_core *worker);
-int64_t yacht_core_next(yacht_core *worker);
-int64_t yacht_core_look(yacht_core *worker, uint32_t slot, uint64_t *freed);
+int64_t yacht_core_look(yacht_core *worker, uint32_t slot, yacht_label *label);
 int64_t yacht_core_release(yacht_core *worker, uint64_t *closed);
-int64_t yacht_core_put(yacht_core *worker, uint32_t slot, uint64_t tag, uint64_t *closed);
-int64_t yacht_core_put_any(yacht_core *worker, uint64_t tag);
+int64_t yacht_core_put(yacht_core *worker, uint32_t slot, uint64_t tag, uint64_t number,
+                       uint64_t *closed);
+int64_t yacht_core_put_any(yacht_core *worker, uint64_t tag, uint64_t number);
 int64_t yacht_core_take(yacht_core *worker, uint32_t slot, uint64_t *closed);
 int64_t yacht_core_take_if(yacht_core *worker, uint32_t slot, uint32_t node, uint64_t *closed);
 int64_t yacht_core_put_if(yacht_core *worker, uint32_t slot, uint32_t node, uint64_t tag,
-                          uint64_t *closed);
-int64_t yacht_core_put_empty(yacht_core *worker, uint32_t slot, uint64_t tag);
+                          uint64_t number, uint64_t *closed);
+int64_t yacht_core_put_empty(yacht_core *worker, uint32_t slot, uint64_t tag, uint64_t number);
 int64_t yacht_core_full(yacht_core *worker);
 
 #endif

@@ -1,10 +1,7 @@
 /* The C part of libyachtbanyan: the pointers to values, and the numbers of their keys. A value's
  * tag, which the core keeps with the value's file and returns to exactly one call, is its pointer.
- * A hold names a node of the table, and `by_node` has the pointer of the value whose file has that
- * node, and its number. Both are written before the core installs the file: the core chooses the
- * node, which no open file has (fx_lasting::laws, chosen_nodes_are_free), and installs the file on
- * it (fx_server, PutsAt, PutsAny, PutsIf and PutsEmpty). So who holds the file reads what was
- * written for it.
+ * The core keeps the number with the file as well. A look-up returns the tag and the number of the
+ * file that the worker holds then (fx_server, LooksAs).
  *
  * A call by key holds the file at the key's slot by a second worker, and compares its number with
  * the key's meanwhile. While it is held no other file is on its node (held_nodes_name_files). So
@@ -13,7 +10,6 @@
 #include "yachtbanyan.h"
 #include "core.h"
 #include <sched.h>
-#include <stdatomic.h>
 #include <stdlib.h>
 
 /* The core is not compiled for ThreadSanitizer. If a program has the sanitizer's runtime, these
@@ -29,37 +25,31 @@ static void release(void *value) {
     if (__tsan_release) __tsan_release(value);
 }
 
-typedef struct place {
-    _Atomic(void *) value;
-    _Atomic uint64_t number;
-} place;
-
 struct yacht_handle {
     yacht_core *core;
     yacht_core *holds; /* of a handle that installs: its second worker */
     yacht_table *table;
-    place *by_node;
-    void *held;    /* or NULL */
-    uint64_t next; /* the number of the next value that it installs, or 0 if all were used */
-    uint32_t node, slot; /* of what it holds */
-    uint32_t begin;      /* where it begins to look for an empty slot */
-    char apart[128 - 5 * sizeof(void *) - sizeof(uint64_t) - 3 * sizeof(uint32_t)];
+    void *held;      /* or NULL */
+    uint64_t number; /* of what it holds */
+    uint64_t next;   /* the number of the next value that it installs, or 0 if all were used */
+    uint32_t slot;   /* of what it holds */
+    uint32_t begin;  /* where it begins to look for an empty slot */
+    char apart[128 - 4 * sizeof(void *) - 2 * sizeof(uint64_t) - 2 * sizeof(uint32_t)];
 };
 
 struct yacht_table {
-    place *by_node;
     yacht_drop *drop;
     void *with;
     uint32_t slots, handles, readers;
     yacht_handle all[];
 };
 
-/* a worker that looked a slot up, what it holds then, and what the look-up was the last to use */
+/* a worker that looked a slot up: what it holds then, a tag or 0, and what the look-up was the last
+ * to use; the answer is the node of what it holds, or an error */
 typedef struct found {
     yacht_core *core;
-    place *place; /* or NULL */
     int64_t answer;
-    uint64_t freed;
+    yacht_label label;
 } found;
 
 static void *value_of(uint64_t tag) { return (void *)(uintptr_t)tag; }
@@ -71,20 +61,11 @@ static void drop_value(yacht_table *table, void *value) {
     table->drop(value, table->with);
 }
 
-static void *pointer_of(place *place) {
-    return atomic_load_explicit(&place->value, memory_order_relaxed);
-}
-
-static uint64_t number_of(place *place) {
-    return atomic_load_explicit(&place->number, memory_order_relaxed);
-}
-
 /* closes the workers that the core has opened so far, and frees the table */
 static int give_up(yacht_table *table, yacht_core **cores, uint32_t count, int error) {
     for (uint32_t i = 0; cores && i < count; i++)
         if (cores[i]) yacht_core_close(cores[i]);
     free(cores);
-    if (table) free(table->by_node);
     free(table);
     return error;
 }
@@ -100,12 +81,10 @@ int yacht_open(yacht_table **table, uint32_t slots, uint32_t handles, uint32_t r
     if (!it || !cores) return give_up(it, cores, count, YACHT_NO_MEMORY);
     int64_t answer = yacht_core_open(slots, handles, cores, count);
     if (answer != YACHT_DONE) return give_up(it, cores, count, (int)answer);
-    it->by_node = calloc((size_t)yacht_core_nodes(cores[0]), sizeof *it->by_node);
-    if (!it->by_node) return give_up(it, cores, count, YACHT_NO_MEMORY);
     it->drop = drop, it->with = with;
     it->slots = slots, it->handles = handles, it->readers = readers;
     for (uint32_t i = 0; i < handles + readers; i++) {
-        yacht_handle handle = {cores[i], .table = it, .by_node = it->by_node, .next = i + 1};
+        yacht_handle handle = {cores[i], .table = it, .next = i + 1};
         if (i < handles) handle.holds = cores[handles + readers + i];
         handle.begin = 67 * i % slots; /* apart from the other handles */
         it->all[i] = handle;
@@ -131,7 +110,6 @@ void yacht_free(yacht_table *table) {
         yacht_core_close(table->all[i].core);
         if (table->all[i].holds) yacht_core_close(table->all[i].holds);
     }
-    free(table->by_node);
     free(table);
 }
 
@@ -143,12 +121,10 @@ yacht_handle *yacht_reader_of(yacht_table *table, uint32_t number) {
     return number < table->readers ? &table->all[table->handles + number] : NULL;
 }
 
-static found look(yacht_handle *handle, yacht_core *core, uint32_t slot) {
-    found it = {core, NULL, 0, 0};
-    it.answer = yacht_core_look(core, slot, &it.freed);
-    if (it.answer < 0) return it;
-    it.place = &handle->by_node[it.answer];
-    acquire(pointer_of(it.place));
+static found look(yacht_core *core, uint32_t slot) {
+    found it = {.core = core};
+    it.answer = yacht_core_look(core, slot, &it.label);
+    if (it.label.tag) acquire(value_of(it.label.tag));
     return it;
 }
 
@@ -157,43 +133,43 @@ static found look(yacht_handle *handle, yacht_core *core, uint32_t slot) {
 static int end(yacht_handle *handle, found it) {
     uint64_t closed = 0;
     int answer = YACHT_DONE;
-    if (it.place) {
-        release(pointer_of(it.place));
+    if (it.label.tag) {
+        release(value_of(it.label.tag));
         answer = (int)yacht_core_release(it.core, &closed);
     }
-    if (it.freed) drop_value(handle->table, value_of(it.freed));
+    if (it.label.freed) drop_value(handle->table, value_of(it.label.freed));
     if (answer == YACHT_DROPPED) drop_value(handle->table, value_of(closed));
     return answer;
 }
 
 static int is_of(found it, yacht_key key) {
-    return key.number != 0 && number_of(it.place) == key.number;
+    return key.number != 0 && it.label.number == key.number;
 }
 
 /* makes the handle hold what its own worker holds */
 static int keep(yacht_handle *handle, found it, uint32_t slot, void **value) {
-    if (it.place) {
-        *value = handle->held = pointer_of(it.place);
-        handle->node = (uint32_t)it.answer, handle->slot = slot;
+    if (it.label.tag) {
+        *value = handle->held = value_of(it.label.tag);
+        handle->number = it.label.number, handle->slot = slot;
     }
-    if (it.freed) drop_value(handle->table, value_of(it.freed));
-    return it.place ? YACHT_DONE : (int)it.answer;
+    if (it.label.freed) drop_value(handle->table, value_of(it.label.freed));
+    return it.label.tag ? YACHT_DONE : (int)it.answer;
 }
 
 int yacht_get_at(yacht_handle *handle, uint32_t slot, void **value) {
-    return keep(handle, look(handle, handle->core, slot), slot, value);
+    return keep(handle, look(handle->core, slot), slot, value);
 }
 
 int yacht_get(yacht_handle *handle, yacht_key key, void **value) {
-    found it = look(handle, handle->core, key.slot);
-    if (!it.place || is_of(it, key)) return keep(handle, it, key.slot, value);
+    found it = look(handle->core, key.slot);
+    if (!it.label.tag || is_of(it, key)) return keep(handle, it, key.slot, value);
     end(handle, it);
     return YACHT_STALE;
 }
 
 int yacht_release(yacht_handle *handle) {
     if (!handle->held) return YACHT_IDLE;
-    found it = {handle->core, &handle->by_node[handle->node], 0, 0};
+    found it = {.core = handle->core, .label = {.tag = tag_of(handle->held)}};
     handle->held = NULL;
     end(handle, it);
     return YACHT_DONE;
@@ -201,7 +177,7 @@ int yacht_release(yacht_handle *handle) {
 
 int yacht_key_of(yacht_handle *handle, yacht_key *key) {
     if (!handle->held) return YACHT_IDLE;
-    *key = (yacht_key){number_of(&handle->by_node[handle->node]), handle->slot};
+    *key = (yacht_key){handle->number, handle->slot};
     return YACHT_DONE;
 }
 
@@ -213,20 +189,14 @@ static uint64_t next_number(yacht_handle *handle) {
     return number;
 }
 
-/* writes the pointer and the number to the place of the next installed file */
-static void place_next(yacht_handle *handle, int64_t node, void *value, uint64_t number) {
-    atomic_store_explicit(&handle->by_node[node].value, value, memory_order_relaxed);
-    atomic_store_explicit(&handle->by_node[node].number, number, memory_order_relaxed);
-    release(value);
-}
-
-/* does so with the next number; returns YACHT_DONE, or why there is no such place */
+/* takes the number of a value that the handle is about to install; returns YACHT_DONE, or why it
+ * can't install it */
 static int prepare(yacht_handle *handle, void *value, uint64_t *number) {
     if (!value) return YACHT_BAD_ARGUMENT;
     if (handle->held) return YACHT_BUSY;
-    int64_t node = yacht_core_next(handle->core);
-    if (node < 0) return (int)node;
-    place_next(handle, node, value, *number = next_number(handle));
+    if (!handle->holds) return YACHT_READER;
+    *number = next_number(handle);
+    release(value);
     return YACHT_DONE;
 }
 
@@ -235,10 +205,10 @@ static int insert(yacht_handle *handle, void *value, yacht_key *key, int once) {
     uint64_t number;
     int error = key ? prepare(handle, value, &number) : YACHT_BAD_ARGUMENT;
     if (error) return error;
-    int64_t answer = yacht_core_put_any(handle->core, tag_of(value));
+    int64_t answer = yacht_core_put_any(handle->core, tag_of(value), number);
     while (answer == YACHT_AGAIN && !once) {
         sched_yield();
-        answer = yacht_core_put_any(handle->core, tag_of(value));
+        answer = yacht_core_put_any(handle->core, tag_of(value), number);
     }
     if (answer >= 0) *key = (yacht_key){number, (uint32_t)answer};
     return (int)answer;
@@ -267,9 +237,9 @@ static uint32_t find_empty(yacht_handle *handle) {
     uint32_t slots = handle->table->slots;
     for (uint32_t i = 0; i < slots; i++) {
         uint32_t slot = (handle->begin + i) % slots;
-        found it = look(handle, handle->core, slot);
+        found it = look(handle->core, slot);
         end(handle, it);
-        if (!it.place) return slot;
+        if (!it.label.tag) return slot;
     }
     return slots;
 }
@@ -288,8 +258,8 @@ int yacht_insert_with(yacht_handle *handle, yacht_make *make, void *with, yacht_
         its.number = next_number(handle);
         void *value = make(its, with);
         if (!value) return YACHT_BAD_ARGUMENT;
-        place_next(handle, yacht_core_next(handle->core), value, its.number);
-        if (yacht_core_put_empty(handle->core, its.slot, tag_of(value)) == YACHT_DONE) {
+        release(value);
+        if (yacht_core_put_empty(handle->core, its.slot, tag_of(value), its.number) == YACHT_DONE) {
             handle->begin = (its.slot + 1) % handle->table->slots;
             *key = its;
             return (int)its.slot;
@@ -302,7 +272,7 @@ int yacht_replace_at(yacht_handle *handle, uint32_t slot, void *value) {
     uint64_t closed = 0, number;
     int error = slot < handle->table->slots ? prepare(handle, value, &number) : YACHT_NO_SLOT;
     if (error) return error;
-    int64_t answer = yacht_core_put(handle->core, slot, tag_of(value), &closed);
+    int64_t answer = yacht_core_put(handle->core, slot, tag_of(value), number, &closed);
     if (answer == YACHT_DROPPED) drop_value(handle->table, value_of(closed));
     return (int)answer;
 }
@@ -320,10 +290,10 @@ int yacht_remove_at(yacht_handle *handle, uint32_t slot) {
 static int hold(yacht_handle *handle, yacht_key key, found *it) {
     if (!handle->holds) return YACHT_READER;
     if (handle->held) return YACHT_BUSY;
-    *it = look(handle, handle->holds, key.slot);
-    if (it->place && is_of(*it, key)) return YACHT_DONE;
+    *it = look(handle->holds, key.slot);
+    if (it->label.tag && is_of(*it, key)) return YACHT_DONE;
     end(handle, *it);
-    return it->place ? YACHT_STALE : (int)it->answer;
+    return it->label.tag ? YACHT_STALE : (int)it->answer;
 }
 
 /* ends the hold of a call by key with this answer of the core, which closes no value that is held;
@@ -357,7 +327,7 @@ int yacht_replace(yacht_handle *handle, yacht_key *key, void *value) {
     int64_t answer = prepare(handle, value, &number);
     while (answer == YACHT_DONE || answer == YACHT_AGAIN) {
         if (answer == YACHT_AGAIN) sched_yield();
-        answer = yacht_core_put_if(handle->core, slot, node, tag, &closed);
+        answer = yacht_core_put_if(handle->core, slot, node, tag, number, &closed);
     }
     if (answer > 0) key->number = number;
     return end_hold(handle, it, answer);

@@ -1,20 +1,18 @@
 //! The only unsafe code: calls of the core, and the boxes of the values.
 //!
 //! A value is in a box. Its tag, which the core keeps with the value's file, is the box's address.
+//! A look-up returns the tag of the file that the worker holds then, and so the value's address.
 //! The core counts holds and returns the tag to exactly one call, when nobody can hold the value
-//! any more; that call gets the box. A hold names a node of the table, and `Values::by_node` has
-//! the address of the value whose file has that node. So a look-up makes no atomic step besides the
-//! core's.
+//! any more; that call gets the box.
 //!
 //! The arguments in these files name what they rest on. Clauses of the core's worker
-//! (`fx_server::TableWorker`): `looked` (the look-up found a file of the slot, and the worker holds
-//! it), `released`, `placed`, `allocated` and `removed` (which file is returned to be closed, by
-//! its tag, that a file is on the node that was chosen for it, and that a call which names a node
-//! changes the slot only if its file is on that node), `chosen`. Laws of every history
-//! (`fx_plain::laws`): `no_close_while_held`, `closed_at_most_once`. They hold of what all workers
-//! do together, by `has_one_history`. Laws of every state of the table (`fx_lasting::laws`):
-//! `has_one_history`, `nodes_are_of_one_file`, `held_nodes_name_files`, `chosen_nodes_are_free`,
-//! `removed_files_have_users`.
+//! (`fx_server::TableWorker`): `looked` (the look-up found a file of the slot, the worker holds it,
+//! and the tag and the number are the file's), `released`, `placed`, `allocated` and `removed`
+//! (which file is returned to be closed, by its tag, and that a call which names a node changes the
+//! slot only if its file is on that node). Laws of every history (`fx_plain::laws`):
+//! `no_close_while_held`, `closed_at_most_once`. They hold of what all workers do together, by
+//! `has_one_history`. Laws of every state of the table (`fx_lasting::laws`): `has_one_history`,
+//! `held_nodes_name_files`, `removed_files_have_users`.
 //!
 //! One rule of this crate is cited as well. *One user*: a seat (`seats.rs`) is used by one thread
 //! at a time. Its number is claimed by an exchange that acquires, and returned by an operation that

@@ -58,16 +58,16 @@ module _ {m m₁ m₂ : Sat} {n i slots found old new : ℕ} {file : Closed} (p 
     )
 
 -- some slots in a row
-pub still_then : {m m' m'' : Sat} {n a b : ℕ} {file : Closed} → StillPlaces n file a m m' → StillPlaces n file b m' m'' → StillPlaces n file (a + b) m m''
-still_then one two = (does_then one.0 two.0, two.1 ∙ one.1)
+pub still_then : {m m' m'' : Sat} {n a b : ℕ} (file : Closed) → StillPlaces n file a m m' → StillPlaces n file b m' m'' → StillPlaces n file (a + b) m m''
+still_then file one two = (does_then one.0 two.0, two.1 ∙ one.1)
 
 pub allocated_then : {m m' m'' : Sat} {n a b slot : ℕ} {file : Closed} → StillPlaces n file a m m' → HasAllocated n file slot b m' m''
     → HasAllocated n file slot (a + b) m m''
 allocated_then {n = n} one two =
     (two.0, subst (λ (k : Start). node_of_number k two.0 ≡ n) one.0.start two.1, does_then one.0 two.2, two.3)
 
-pub still_within : {m m' : Sat} {n a b : ℕ} {file : Closed} → a ≤ b → StillPlaces n file a m m' → StillPlaces n file b m m'
-still_within few one = (runs_within few one.0, one.1)
+pub still_within : {m m' : Sat} {n a b : ℕ} (file : Closed) → a ≤ b → StillPlaces n file a m m' → StillPlaces n file b m m'
+still_within file few one = (runs_within few one.0, one.1)
 
 pub allocated_within : {m m' : Sat} {n a b slot : ℕ} {file : Closed} → a ≤ b → HasAllocated n file slot a m m' → HasAllocated n file slot b m m'
 allocated_within few one = (one.0, one.1, runs_within few one.2, one.3)

@@ -1,7 +1,9 @@
 -- The meaning of the numbers that C gets: the result of a worker's call, and its tag.
 use Rattle.std.specs.Prelude.{◌≡◌, ℕ, ℤ, pos, Option, Some, None, Result, Ok, Err}
 use Rattle.fx_server.specs.Workers.{IsGood, LooksUp, ReleasesHeld, Puts, PutsAny, RemovesFrom}
-use Rattle.fx_server.specs.Workers.{Chooses, RemovesIf, PutsIf, PutsEmpty, ReportsFull}
+use Rattle.fx_server.specs.Workers.{RemovesIf, PutsIf, PutsEmpty, ReportsFull}
+use Rattle.fx_server.specs.declared.answers.CoreLabel.{CoreLabel}
+use Rattle.fx_server.specs.declared.answers.Found.{Found}
 use Rattle.fx_server.specs.declared.answers.LookAnswer.{LookAnswer}
 use Rattle.fx_server.specs.declared.answers.ServerRefusal.{ServerRefusal}
 use Rattle.fx_server.specs.declared.answers.ServerRefusal.TheVariants as refusal
@@ -24,7 +26,7 @@ refusal_code refusal.Bad = BAD
 refusal_code refusal.NoMemory = NO_MEMORY
 refusal_code refusal.Other = OTHER
 
--- of a call that returns a node or a slot
+-- of a call that returns a slot
 abbrev pub answer_number : Result ℕ ServerRefusal → ℤ
 answer_number (Ok number) = pos number
 answer_number (Err reason) = refusal_code reason
@@ -37,6 +39,19 @@ done_number (Err reason) = refusal_code reason
 abbrev pub tag_or_zero : Option ℕ → ℕ
 tag_or_zero None = 0
 tag_or_zero (Some tag) = tag
+
+-- of a look-up: the node, and the tag and the number of the file, or 0
+abbrev pub found_node : Result Found ServerRefusal → ℤ
+found_node (Ok found) = pos found.node
+found_node (Err reason) = refusal_code reason
+
+abbrev pub found_tag : Result Found ServerRefusal → ℕ
+found_tag (Ok found) = found.tag
+found_tag (Err _) = 0
+
+abbrev pub found_number : Result Found ServerRefusal → ℕ
+found_number (Ok found) = found.number
+found_number (Err _) = 0
 
 abbrev pub release_number : Result (Option ℕ) ServerRefusal → ℤ
 release_number (Ok None) = DONE
@@ -58,86 +73,87 @@ abbrev pub removal_tag : Result Removal ServerRefusal → ℕ
 removal_tag (Ok (Closed tag)) = tag
 removal_tag _ = 0
 
--- the number and the tag are those of a look-up of the worker w, which is good afterwards
-pub record LooksAs (w : TableWorker) (slot : ℕ) (number : ℤ) (freed : ℕ) (w' : TableWorker)
-    : Type 0 where
+-- the label that C gets: that of the file that was found, and the tag of one that was closed
+abbrev pub label_in : LookAnswer → CoreLabel
+label_in look = record {
+  tag = found_tag look.found;
+  number = found_number look.found;
+  freed = tag_or_zero look.freed;
+}
+
+-- the answer and the label are those of a look-up of the worker w, which is good afterwards
+pub record LooksAs (w : TableWorker) (slot : ℕ) (answer : ℤ) (label : CoreLabel)
+    (w' : TableWorker) : Type 0 where
   pub look : LookAnswer
   pub good : IsGood w'
   pub looked : LooksUp w slot look w'
-  pub its_number : number ≡ answer_number look.found
-  pub its_tag : freed ≡ tag_or_zero look.freed
+  pub its_answer : answer ≡ found_node look.found
+  pub its_label : label ≡ label_in look
 
 -- of a release
-pub record ReleasesAs (w : TableWorker) (number : ℤ) (closed : ℕ) (w' : TableWorker)
+pub record ReleasesAs (w : TableWorker) (answer : ℤ) (closed : ℕ) (w' : TableWorker)
     : Type 0 where
   pub result : Result (Option ℕ) ServerRefusal
   pub good : IsGood w'
   pub released : ReleasesHeld w result w'
-  pub its_number : number ≡ release_number result
+  pub its_answer : answer ≡ release_number result
   pub its_tag : closed ≡ released_tag result
 
 -- of an installation at a slot
-pub record PutsAs (w : TableWorker) (slot tag : ℕ) (number : ℤ) (closed : ℕ) (w' : TableWorker)
-    : Type 0 where
+pub record PutsAs (w : TableWorker) (slot tag number : ℕ) (answer : ℤ) (closed : ℕ)
+    (w' : TableWorker) : Type 0 where
   pub result : Result Removal ServerRefusal
   pub good : IsGood w'
-  pub placed : Puts w slot tag result w'
-  pub its_number : number ≡ removal_number result
+  pub placed : Puts w slot tag number result w'
+  pub its_answer : answer ≡ removal_number result
   pub its_tag : closed ≡ removal_tag result
 
 -- of a round of an installation at any slot
-pub record PutsAnyAs (w : TableWorker) (tag : ℕ) (number : ℤ) (w' : TableWorker)
+pub record PutsAnyAs (w : TableWorker) (tag number : ℕ) (answer : ℤ) (w' : TableWorker)
     : Type 0 where
   pub result : Result ℕ ServerRefusal
   pub good : IsGood w'
-  pub allocated : PutsAny w tag result w'
-  pub its_number : number ≡ answer_number result
+  pub allocated : PutsAny w tag number result w'
+  pub its_answer : answer ≡ answer_number result
 
 -- of a removal
-pub record RemovesAs (w : TableWorker) (slot : ℕ) (number : ℤ) (closed : ℕ) (w' : TableWorker)
+pub record RemovesAs (w : TableWorker) (slot : ℕ) (answer : ℤ) (closed : ℕ) (w' : TableWorker)
     : Type 0 where
   pub result : Result Removal ServerRefusal
   pub good : IsGood w'
   pub removed : RemovesFrom w slot result w'
-  pub its_number : number ≡ removal_number result
+  pub its_answer : answer ≡ removal_number result
   pub its_tag : closed ≡ removal_tag result
 
--- of a choice of the next file's node
-pub record ChoosesAs (w : TableWorker) (number : ℤ) (w' : TableWorker) : Type 0 where
-  pub result : Result ℕ ServerRefusal
-  pub good : IsGood w'
-  pub chosen : Chooses w result w'
-  pub its_number : number ≡ answer_number result
-
 -- of a removal if the file is on a node
-pub record RemovesIfAs (w : TableWorker) (slot node : ℕ) (number : ℤ) (closed : ℕ)
+pub record RemovesIfAs (w : TableWorker) (slot node : ℕ) (answer : ℤ) (closed : ℕ)
     (w' : TableWorker) : Type 0 where
   pub result : Result Removal ServerRefusal
   pub good : IsGood w'
   pub removed : RemovesIf w slot node result w'
-  pub its_number : number ≡ removal_number result
+  pub its_answer : answer ≡ removal_number result
   pub its_tag : closed ≡ removal_tag result
 
 -- of a replacement if the file is on a node
-pub record PutsIfAs (w : TableWorker) (slot node tag : ℕ) (number : ℤ) (closed : ℕ)
+pub record PutsIfAs (w : TableWorker) (slot node tag number : ℕ) (answer : ℤ) (closed : ℕ)
     (w' : TableWorker) : Type 0 where
   pub result : Result Removal ServerRefusal
   pub good : IsGood w'
-  pub placed : PutsIf w slot node tag result w'
-  pub its_number : number ≡ removal_number result
+  pub placed : PutsIf w slot node tag number result w'
+  pub its_answer : answer ≡ removal_number result
   pub its_tag : closed ≡ removal_tag result
 
 -- of an installation at an empty slot
-pub record PutsEmptyAs (w : TableWorker) (slot tag : ℕ) (number : ℤ) (w' : TableWorker)
+pub record PutsEmptyAs (w : TableWorker) (slot tag number : ℕ) (answer : ℤ) (w' : TableWorker)
     : Type 0 where
   pub result : Result (Unit {0}) ServerRefusal
   pub good : IsGood w'
-  pub placed : PutsEmpty w slot tag result w'
-  pub its_number : number ≡ done_number result
+  pub placed : PutsEmpty w slot tag number result w'
+  pub its_answer : answer ≡ done_number result
 
 -- of the question whether every slot has a file
-pub record ReportsFullAs (w : TableWorker) (number : ℤ) (w' : TableWorker) : Type 0 where
+pub record ReportsFullAs (w : TableWorker) (code : ℤ) (w' : TableWorker) : Type 0 where
   pub answer : ServerRefusal
   pub good : IsGood w'
   pub told : ReportsFull w answer w'
-  pub its_number : number ≡ refusal_code answer
+  pub its_code : code ≡ refusal_code answer

@@ -11,15 +11,14 @@ use Rattle.fx_table.specs.Calls.{no_use, one_number}
 use Rattle.fx_table.specs.Opening.{Opening, size_of}
 use Rattle.fx_table.specs.Pass.{PassView, IsIdle, IsHoldOf}
 use Rattle.fx_table.specs.declared.values.Empty.{Empty as NoFile}
-use Rattle.fx_table.specs.declared.values.Doing.TheVariants.{Idle as DoesNothing}
+use Rattle.fx_table.specs.declared.values.Doing.TheVariants.{Idle as DoesNothing, Holding}
 use Rattle.fx_table.specs.declared.values.Hold.{Hold}
 use Rattle.fx_table.specs.declared.values.LookFault.{LookFault as TableFault}
 use Rattle.fx_table.specs.declared.values.LookFault.TheVariants as fault
 use Rattle.fx_table.specs.declared.values.Retired.{Retired}
-use Rattle.fx_lasting.specs.Choices.{HasChosen, UsesChoice, KeepsChoice}
 use Rattle.fx_lasting.specs.Keyed.{HasMissed, HasPutIf, HasTakenIf, HasTriedIf}
 use Rattle.fx_lasting.specs.Laws.{IsInRange as IsAllocated}
-use Rattle.fx_lasting.specs.Passes.{nodes_of}
+use Rattle.fx_lasting.specs.Labels.{number_of_mark}
 use Rattle.fx_lasting.specs.declared.layout.TheConstants.{MOST_SLOTS, MOST_PASSES, MOST_INSTALLING}
 use Rattle.fx_lasting.specs.Tables.{view_of, steps_taken, opening_of_table, IsPassOfTable}
 use Rattle.fx_lasting.specs.declared.answers.Miss.{Miss}
@@ -32,6 +31,7 @@ use Rattle.fx_lasting.specs.declared.table.LastingTable.{LastingTable}
 use Rattle.fx_lasting.specs.Vacant.{HasPutEmpty}
 use Rattle.fx_lasting.specs.declared.view.Start.{Start}
 use Rattle.fx_server.specs.Files.{file_with}
+use Rattle.fx_server.specs.declared.answers.Found.{Found}
 use Rattle.fx_server.specs.declared.answers.LookAnswer.{LookAnswer}
 use Rattle.fx_server.specs.declared.answers.ServerRefusal.{ServerRefusal}
 use Rattle.fx_server.specs.declared.answers.ServerRefusal.TheVariants.{Empty, NoSlot, Busy}
@@ -94,16 +94,24 @@ HasNoSlot w slot w' = (size_of (its_opening w) ≤ slot) × (w' ≡ w)
 abbrev pub HasNoBlock : TableWorker → TableWorker → Type 0
 HasNoBlock w w' = ((its_pass w).numbers_left ≡ 0) × (w' ≡ w)
 
--- the hold that a look-up returned is noted, and its node is returned
-abbrev pub Notes : Result Hold TableFault → Result ℕ ServerRefusal → Option Held → Type 0
-Notes (Ok hold) result held =
-    (result ≡ Ok hold.node) × (held ≡ Some (record { node = hold.node; entry = hold.entry }))
-Notes (Err _) result held = (result ≡ Err Empty) × (held ≡ None)
+-- the file that the pass holds by this hold has this tag and this number
+abbrev pub HasLabel : PassView → Hold → Found → Type 0
+HasLabel v hold found = (f : File) → v.doing ≡ Holding f hold
+    → (found.tag ≡ f.identity.tag) × (found.number ≡ number_of_mark f.identity.mark)
 
--- a look-up: the node that is returned is that of the hold that the worker has now
-abbrev pub Finds : TableWorker → ℕ → Result ℕ ServerRefusal → Option ℕ → TableWorker → Type 0
-Finds w slot (Ok node) freed w' = (held : Held) × (held.node ≡ node) × (w'.held ≡ Some held)
-    × LooksAt w slot (Ok (hold_in held)) freed w'
+-- the hold that a look-up returned is noted, and its file is returned
+abbrev pub Notes : PassView → Result Hold TableFault → Result Found ServerRefusal → Option Held
+    → Type 0
+Notes v (Ok hold) result held = (found : Found) × (result ≡ Ok found) × (found.node ≡ hold.node)
+    × (held ≡ Some (record { node = hold.node; entry = hold.entry })) × HasLabel v hold found
+Notes v (Err _) result held = (result ≡ Err Empty) × (held ≡ None)
+
+-- a look-up: the node that is returned is that of the hold that the worker has now, and the tag and
+-- the number are those of the file that it holds
+abbrev pub Finds : TableWorker → ℕ → Result Found ServerRefusal → Option ℕ → TableWorker → Type 0
+Finds w slot (Ok found) freed w' = (held : Held) × (held.node ≡ found.node)
+    × (w'.held ≡ Some held) × LooksAt w slot (Ok (hold_in held)) freed w'
+    × HasLabel (its_pass w') (hold_in held) found
 Finds w slot (Err Empty) freed w' =
     (w'.held ≡ None) × LooksAt w slot (Err fault.Empty) freed w'
 Finds w slot (Err NoSlot) freed w' = (freed ≡ None) × HasNoSlot w slot w'
@@ -112,14 +120,6 @@ Finds w slot (Err _) freed w' = ⊥
 
 abbrev pub LooksUp : TableWorker → ℕ → LookAnswer → TableWorker → Type 0
 LooksUp w slot look w' = Finds w slot look.found look.freed w'
-
--- the node of the next file is chosen; the caller sees no other change of the pass
-abbrev pub Chooses : TableWorker → Result ℕ ServerRefusal → TableWorker → Type 0
-Chooses w (Ok node) w' = (w'.held ≡ None) × (node < nodes_of (its_table w).table.shared.key)
-    × (its_pass w' ≡ its_pass w) × HasChosen w'.pass node
-Chooses w (Err Busy) w' = IsBusy w w'
-Chooses w (Err NoBlock) w' = HasNoBlock w w'
-Chooses w (Err _) w' = ⊥
 
 -- a release: the tag that is returned is that of the file, if it came out
 abbrev pub ReleasesHeld : TableWorker → Result (Option ℕ) ServerRefusal → TableWorker → Type 0
@@ -141,38 +141,36 @@ abbrev pub RetiresAny : Opening → PassView → Option Retired → Removal → 
 RetiresAny o v None removal v' = (removal ≡ Nothing) × (v' ≡ v)
 RetiresAny o v (Some retired) removal v' = RetiresAs o v retired removal v'
 
--- a file with this tag is put at a slot, on the node that was chosen, if one was, and what was
--- there is retired
-pub record PutsAt (w : TableWorker) (slot tag : ℕ) (removal : Removal) (w' : TableWorker)
+-- a file with this tag and number is put at a slot, and what was there is retired
+pub record PutsAt (w : TableWorker) (slot tag number : ℕ) (removal : Removal) (w' : TableWorker)
     : Type 0 where
   pub retired : Option Retired
   pub between : PassView
-  pub placed : Placed (its_opening w) (its_pass w) slot (file_with tag) retired between
-  pub used : UsesChoice (its_table w).table.shared.key w.pass between
+  pub placed : Placed (its_opening w) (its_pass w) slot (file_with tag number) retired between
   pub retires : RetiresAny (its_opening w) between retired removal (its_pass w')
 
-abbrev pub Puts : TableWorker → ℕ → ℕ → Result Removal ServerRefusal → TableWorker → Type 0
-Puts w slot tag (Ok removal) w' = PutsAt w slot tag removal w'
-Puts w slot tag (Err Busy) w' = IsBusy w w'
-Puts w slot tag (Err NoSlot) w' = HasNoSlot w slot w'
-Puts w slot tag (Err NoBlock) w' = HasNoBlock w w'
-Puts w slot tag (Err _) w' = ⊥
+abbrev pub Puts : TableWorker → (slot tag number : ℕ) → Result Removal ServerRefusal
+    → TableWorker → Type 0
+Puts w slot tag number (Ok removal) w' = PutsAt w slot tag number removal w'
+Puts w slot tag number (Err Busy) w' = IsBusy w w'
+Puts w slot tag number (Err NoSlot) w' = HasNoSlot w slot w'
+Puts w slot tag number (Err NoBlock) w' = HasNoBlock w w'
+Puts w slot tag number (Err _) w' = ⊥
 
--- one round of an installation: the file is at the slot, on the node that was chosen, if one was;
--- or every slot had a file at one step, or nothing was done, and the choice stays
-abbrev pub PutsAny : TableWorker → ℕ → Result ℕ ServerRefusal → TableWorker → Type 0
-PutsAny w tag (Ok slot) w' = (slot < size_of (its_opening w))
-    × UsesChoice (its_table w).table.shared.key w.pass (its_pass w') × ((new : File)
-    × IsNewFile (its_opening w) (its_pass w) (file_with tag) new
+-- one round of an installation: the file is at the slot; or every slot had a file at one step, or
+-- nothing was done
+abbrev pub PutsAny : TableWorker → (tag number : ℕ) → Result ℕ ServerRefusal → TableWorker → Type 0
+PutsAny w tag number (Ok slot) w' = (slot < size_of (its_opening w)) × ((new : File)
+    × IsNewFile (its_opening w) (its_pass w) (file_with tag number) new
     × Adds (its_opening w) (its_pass w) ([] ▷ Allocate slot new) DoesNothing one_number
     (its_pass w'))
-PutsAny w tag (Err NoFree) w' = KeepsChoice w.pass w'.pass
-    × Adds (its_opening w) (its_pass w) ([] ▷ Full) DoesNothing no_use (its_pass w')
-PutsAny w tag (Err Again) w' = KeepsChoice w.pass w'.pass
-    × Adds (its_opening w) (its_pass w) [] DoesNothing no_use (its_pass w')
-PutsAny w tag (Err Busy) w' = IsBusy w w'
-PutsAny w tag (Err NoBlock) w' = HasNoBlock w w'
-PutsAny w tag (Err _) w' = ⊥
+PutsAny w tag number (Err NoFree) w' =
+    Adds (its_opening w) (its_pass w) ([] ▷ Full) DoesNothing no_use (its_pass w')
+PutsAny w tag number (Err Again) w' =
+    Adds (its_opening w) (its_pass w) [] DoesNothing no_use (its_pass w')
+PutsAny w tag number (Err Busy) w' = IsBusy w w'
+PutsAny w tag number (Err NoBlock) w' = HasNoBlock w w'
+PutsAny w tag number (Err _) w' = ⊥
 
 -- the file of a slot is taken out and retired
 pub record TakesFrom (w : TableWorker) (slot : ℕ) (removal : Removal) (w' : TableWorker)
@@ -221,60 +219,56 @@ RemovesIf w slot node (Err NoSlot) w' = HasNoSlot w slot w'
 RemovesIf w slot node (Err Busy) w' = IsBusy w w'
 RemovesIf w slot node (Err _) w' = ⊥
 
--- a file with this tag is put at a slot, in place of the file there, since that is on the node; the
--- new file is on the node that was chosen, if one was; and what was there is retired
-pub record PutsAtIf (w : TableWorker) (slot node tag : ℕ) (removal : Removal) (w' : TableWorker)
-    : Type 0 where
+-- a file with this tag and number is put at a slot, in place of the file there, since that is on
+-- the node; and what was there is retired
+pub record PutsAtIf (w : TableWorker) (slot node tag number : ℕ) (removal : Removal)
+    (w' : TableWorker) : Type 0 where
   pub retired : Retired
   pub between : PassView
-  pub placed : HasPutIf (its_start w) (its_pass w) slot node (file_with tag) (Replaced retired)
-      between
-  pub used : UsesChoice (its_start w) w.pass between
+  pub placed : HasPutIf (its_start w) (its_pass w) slot node (file_with tag number)
+      (Replaced retired) between
   pub retires : RetiresAs (its_opening w) between retired removal (its_pass w')
 
--- the slot is left as it is, for this reason, and the node that was chosen stays so
-abbrev pub MissesPut : TableWorker → ℕ → ℕ → Miss → TableWorker → Type 0
-MissesPut w slot node why w' = KeepsChoice w.pass w'.pass × Misses w slot node why w'
-
-abbrev pub PutsIf : TableWorker → ℕ → ℕ → ℕ → Result Removal ServerRefusal → TableWorker → Type 0
-PutsIf w slot node tag (Ok removal) w' = PutsAtIf w slot node tag removal w'
-PutsIf w slot node tag (Err Empty) w' = MissesPut w slot node miss.Empty w'
-PutsIf w slot node tag (Err Other) w' = MissesPut w slot node miss.Other w'
-PutsIf w slot node tag (Err Again) w' = MissesPut w slot node miss.Again w'
-PutsIf w slot node tag (Err NoSlot) w' = HasNoSlot w slot w'
-PutsIf w slot node tag (Err NoBlock) w' = HasNoBlock w w'
-PutsIf w slot node tag (Err Busy) w' = IsBusy w w'
-PutsIf w slot node tag (Err _) w' = ⊥
+abbrev pub PutsIf : TableWorker → (slot node tag number : ℕ) → Result Removal ServerRefusal
+    → TableWorker → Type 0
+PutsIf w slot node tag number (Ok removal) w' = PutsAtIf w slot node tag number removal w'
+PutsIf w slot node tag number (Err Empty) w' = Misses w slot node miss.Empty w'
+PutsIf w slot node tag number (Err Other) w' = Misses w slot node miss.Other w'
+PutsIf w slot node tag number (Err Again) w' = Misses w slot node miss.Again w'
+PutsIf w slot node tag number (Err NoSlot) w' = HasNoSlot w slot w'
+PutsIf w slot node tag number (Err NoBlock) w' = HasNoBlock w w'
+PutsIf w slot node tag number (Err Busy) w' = IsBusy w w'
+PutsIf w slot node tag number (Err _) w' = ⊥
 
 -- the worker is unchanged, since the slot isn't in the allocation range
 abbrev pub HasNoSuchSlot : TableWorker → ℕ → TableWorker → Type 0
 HasNoSuchSlot w slot w' = (IsAllocated (its_start w) slot → ⊥) × (w' ≡ w)
 
 -- the call of the table for an empty slot returned this
-abbrev pub TriesEmpty : TableWorker → ℕ → ℕ → PutEmpty → TableWorker → Type 0
-TriesEmpty w slot tag answer w' =
-    HasPutEmpty (its_start w) (its_pass w) slot (file_with tag) answer (its_pass w')
+abbrev pub TriesEmpty : TableWorker → (slot tag number : ℕ) → PutEmpty → TableWorker → Type 0
+TriesEmpty w slot tag number answer w' =
+    HasPutEmpty (its_start w) (its_pass w) slot (file_with tag number) answer (its_pass w')
 
--- a file with this tag is put at an empty slot, on the node that was chosen, if one was; or the
--- slot had a file, or changed meanwhile, and the choice stays
-abbrev pub PutsEmpty : TableWorker → ℕ → ℕ → Result (Unit {0}) ServerRefusal → TableWorker → Type 0
-PutsEmpty w slot tag (Ok _) w' =
-    UsesChoice (its_start w) w.pass (its_pass w') × TriesEmpty w slot tag empty.Installed w'
-PutsEmpty w slot tag (Err Other) w' =
-    KeepsChoice w.pass w'.pass × TriesEmpty w slot tag (empty.HasFile (file_with tag)) w'
-PutsEmpty w slot tag (Err Again) w' =
-    KeepsChoice w.pass w'.pass × TriesEmpty w slot tag (empty.Lost (file_with tag)) w'
-PutsEmpty w slot tag (Err NoSlot) w' = HasNoSuchSlot w slot w'
-PutsEmpty w slot tag (Err NoBlock) w' = HasNoBlock w w'
-PutsEmpty w slot tag (Err Busy) w' = IsBusy w w'
-PutsEmpty w slot tag (Err _) w' = ⊥
+-- a file with this tag and number is put at an empty slot; or the slot had a file, or changed
+-- meanwhile
+abbrev pub PutsEmpty : TableWorker → (slot tag number : ℕ) → Result (Unit {0}) ServerRefusal
+    → TableWorker → Type 0
+PutsEmpty w slot tag number (Ok _) w' = TriesEmpty w slot tag number empty.Installed w'
+PutsEmpty w slot tag number (Err Other) w' =
+    TriesEmpty w slot tag number (empty.HasFile (file_with tag number)) w'
+PutsEmpty w slot tag number (Err Again) w' =
+    TriesEmpty w slot tag number (empty.Lost (file_with tag number)) w'
+PutsEmpty w slot tag number (Err NoSlot) w' = HasNoSuchSlot w slot w'
+PutsEmpty w slot tag number (Err NoBlock) w' = HasNoBlock w w'
+PutsEmpty w slot tag number (Err Busy) w' = IsBusy w w'
+PutsEmpty w slot tag number (Err _) w' = ⊥
 
--- every slot had a file at one step, or nothing was done; the choice stays
+-- every slot had a file at one step, or nothing was done
 abbrev pub ReportsFull : TableWorker → ServerRefusal → TableWorker → Type 0
-ReportsFull w NoFree w' = KeepsChoice w.pass w'.pass
-    × Adds (its_opening w) (its_pass w) ([] ▷ Full) DoesNothing no_use (its_pass w')
-ReportsFull w Again w' = KeepsChoice w.pass w'.pass
-    × Adds (its_opening w) (its_pass w) [] DoesNothing no_use (its_pass w')
+ReportsFull w NoFree w' =
+    Adds (its_opening w) (its_pass w) ([] ▷ Full) DoesNothing no_use (its_pass w')
+ReportsFull w Again w' =
+    Adds (its_opening w) (its_pass w) [] DoesNothing no_use (its_pass w')
 ReportsFull w Busy w' = IsBusy w w'
 ReportsFull w NoBlock w' = HasNoBlock w w'
 ReportsFull w _ w' = ⊥

@@ -53,14 +53,36 @@ impl ServerRefusal {
     }
 }
 
+/// The file that a look-up found.
+#[derive(Clone, Copy)]
+pub struct Found {
+    /// Its node.
+    pub node: u32,
+    /// Its tag.
+    pub tag: u64,
+    /// The number that it was installed with.
+    pub number: u64,
+}
+
 /// The result of a look-up.
 #[derive(Clone, Copy)]
 pub struct LookAnswer {
-    /// The node of the file at the slot, which the worker holds from now on; or `Empty`, `NoSlot`
-    /// or `Busy`.
-    pub found: Result<u32, ServerRefusal>,
+    /// The file at the slot, which the worker holds from now on; or `Empty`, `NoSlot` or `Busy`.
+    pub found: Result<Found, ServerRefusal>,
     /// The tag of a removed file that this look-up was the last to use.
     pub freed: Option<u64>,
+}
+
+/// The label of the file that a look-up found, and the tag of one that it closed, for C.
+#[repr(C)]
+#[derive(Clone, Copy, Drop)]
+pub struct CoreLabel {
+    /// The tag of the file that was found, or 0.
+    pub tag: u64,
+    /// The number of that file, or 0.
+    pub number: u64,
+    /// The tag of a removed file that this look-up was the last to use, or 0.
+    pub freed: u64,
 }
 
 /// The file that a call removed from its slot.

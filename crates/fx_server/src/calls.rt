@@ -1,43 +1,24 @@
 //! The calls of a worker, with their numbers and tags for C.
-ghost use Rattle.std.specs.Prelude.{◌≡◌, pos};
-ghost use Rattle.fx_lasting.specs.Passes.{nodes_of};
-ghost use Rattle.fx_server.specs.Answers.{ChoosesAs, LooksAs, PutsAnyAs, PutsAs, PutsIfAs, ReleasesAs, RemovesAs};
+ghost use Rattle.fx_server.specs.Answers.{LooksAs, PutsAnyAs, PutsAs, PutsIfAs, ReleasesAs, RemovesAs};
 ghost use Rattle.fx_server.specs.Answers.{PutsEmptyAs, RemovesIfAs, ReportsFullAs};
-ghost use Rattle.fx_server.specs.Workers.{IsGood, its_table};
+ghost use Rattle.fx_server.specs.Workers.{IsGood};
 
+use crate::answers::CoreLabel;
 use crate::numbers::{
-    answer_number, done_number, release_number, released_tag, removal_number, removal_tag,
-    tag_or_zero,
+    answer_number, done_number, found_node, label_in, release_number, released_tag, removal_number,
+    removal_tag,
 };
 use crate::worker::TableWorker;
 
-/// Counts the nodes of the table. The worker stays as it is.
-#[inline(always)]
-pub fn nodes(worker: &mut TableWorker) -> i64
-    ensures same { worker.new ≡ worker.old }
-    ensures nodes { result ≡ pos (nodes_of (its_table worker.old).table.shared.key) }
-{
-    worker.nodes() as i64
-}
-
-/// Chooses the node of the worker's next file.
-#[inline(always)]
-pub fn next(worker: &mut TableWorker) -> i64
-    requires good { IsGood worker.old }
-    ensures chosen { ChoosesAs worker.old result worker.new }
-{
-    answer_number(worker.next_node())
-}
-
 /// Looks a slot up.
 #[inline(always)]
-pub fn look(worker: &mut TableWorker, slot: u32, freed: &mut u64) -> i64
+pub fn look(worker: &mut TableWorker, slot: u32, label: &mut CoreLabel) -> i64
     requires good { IsGood worker.old }
-    ensures looked { LooksAs worker.old slot result freed.new worker.new }
+    ensures looked { LooksAs worker.old slot result label.new worker.new }
 {
     let look = worker.look(slot);
-    *freed = tag_or_zero(look.freed);
-    answer_number(look.found)
+    *label = label_in(look);
+    found_node(look.found)
 }
 
 /// Releases the file that the worker holds.
@@ -51,24 +32,24 @@ pub fn release(worker: &mut TableWorker, closed: &mut u64) -> i64
     release_number(released)
 }
 
-/// Installs a file with this tag at a slot.
+/// Installs a file with this tag and number at a slot.
 #[inline(always)]
-pub fn put(worker: &mut TableWorker, slot: u32, tag: u64, closed: &mut u64) -> i64
+pub fn put(worker: &mut TableWorker, slot: u32, tag: u64, number: u64, closed: &mut u64) -> i64
     requires good { IsGood worker.old }
-    ensures placed { PutsAs worker.old slot tag result closed.new worker.new }
+    ensures placed { PutsAs worker.old slot tag number result closed.new worker.new }
 {
-    let put = worker.put(slot, tag);
+    let put = worker.put(slot, tag, number);
     *closed = removal_tag(put);
     removal_number(put)
 }
 
-/// Makes one round to install a file with this tag at a free slot.
+/// Makes one round to install a file with this tag and number at a free slot.
 #[inline(always)]
-pub fn put_any(worker: &mut TableWorker, tag: u64) -> i64
+pub fn put_any(worker: &mut TableWorker, tag: u64, number: u64) -> i64
     requires good { IsGood worker.old }
-    ensures allocated { PutsAnyAs worker.old tag result worker.new }
+    ensures allocated { PutsAnyAs worker.old tag number result worker.new }
 {
-    answer_number(worker.put_any(tag))
+    answer_number(worker.put_any(tag, number))
 }
 
 /// Empties a slot.
@@ -93,24 +74,31 @@ pub fn take_if(worker: &mut TableWorker, slot: u32, node: u32, closed: &mut u64)
     removal_number(taken)
 }
 
-/// Replaces the file of a slot by one with this tag, if it is on this node.
+/// Replaces the file of a slot by one with this tag and number, if it is on this node.
 #[inline(always)]
-pub fn put_if(worker: &mut TableWorker, slot: u32, node: u32, tag: u64, closed: &mut u64) -> i64
+pub fn put_if(
+    worker: &mut TableWorker,
+    slot: u32,
+    node: u32,
+    tag: u64,
+    number: u64,
+    closed: &mut u64,
+) -> i64
     requires good { IsGood worker.old }
-    ensures placed { PutsIfAs worker.old slot node tag result closed.new worker.new }
+    ensures placed { PutsIfAs worker.old slot node tag number result closed.new worker.new }
 {
-    let put = worker.put_if(slot, node, tag);
+    let put = worker.put_if(slot, node, tag, number);
     *closed = removal_tag(put);
     removal_number(put)
 }
 
-/// Installs a file with this tag at a slot if it is empty.
+/// Installs a file with this tag and number at a slot if it is empty.
 #[inline(always)]
-pub fn put_empty(worker: &mut TableWorker, slot: u32, tag: u64) -> i64
+pub fn put_empty(worker: &mut TableWorker, slot: u32, tag: u64, number: u64) -> i64
     requires good { IsGood worker.old }
-    ensures placed { PutsEmptyAs worker.old slot tag result worker.new }
+    ensures placed { PutsEmptyAs worker.old slot tag number result worker.new }
 {
-    done_number(worker.put_empty(slot, tag))
+    done_number(worker.put_empty(slot, tag, number))
 }
 
 /// Checks whether every slot has a file.

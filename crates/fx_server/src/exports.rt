@@ -1,18 +1,17 @@
 //! The functions that C calls. Each takes the pointer of a worker's box, and calls the worker. `w`
 //! is the worker as the call finds it. The call returns its memory, with the worker as the call
 //! leaves it.
-ghost use Rattle.std.specs.Prelude.{◌≡◌, ◌≢◌, ◌⊎◌, length, pos};
+ghost use Rattle.std.specs.Prelude.{◌≡◌, ◌≢◌, ◌⊎◌, length};
 ghost use types.Logic.{sem};
-ghost use Rattle.fx_lasting.specs.Passes.{nodes_of};
-ghost use Rattle.fx_server.specs.Answers.{ChoosesAs, LooksAs, PutsAnyAs, PutsAs, PutsIfAs, ReleasesAs, RemovesAs};
+ghost use Rattle.fx_server.specs.Answers.{LooksAs, PutsAnyAs, PutsAs, PutsIfAs, ReleasesAs, RemovesAs};
 ghost use Rattle.fx_server.specs.Answers.{PutsEmptyAs, RemovesIfAs, ReportsFullAs};
 ghost use Rattle.fx_server.specs.Handle.{HasWorker, handle_owns};
 ghost use Rattle.fx_server.specs.Places.{OpensAs};
-ghost use Rattle.fx_server.specs.Workers.{IsGood, IsInRange, its_table};
+ghost use Rattle.fx_server.specs.Workers.{IsGood, IsInRange};
 ghost use Rattle.fx_server.specs.declared.codes.TheConstants.{DONE, BAD, NO_MEMORY};
 ghost use Rattle.fx_server.specs.declared.worker.TableWorker.{TableWorker};
 
-use crate::answers::ServerRefusal;
+use crate::answers::{CoreLabel, ServerRefusal};
 use crate::calls;
 use crate::codes::{BAD, DONE, NO_MEMORY};
 use crate::handle::{Handle, Opaque, WorkerPlace};
@@ -55,37 +54,20 @@ pub extern "C" fn yacht_core_close(worker: Handle) {
     worker.end();
 }
 
-/// Returns the number of nodes of the table. Each node is below it.
-#[unsafe(no_mangle)]
-pub unsafe extern "C" fn yacht_core_nodes(worker: *mut Opaque) -> i64
-    ghost w: { TableWorker }
-    requires* lies { sem 𝓛 (handle_owns worker w) }
-    ensures* nodes { sem 𝓛 (handle_owns worker w)
-        ∗ ⌜ result ≡ pos (nodes_of (its_table w).table.shared.key) ⌝ }
-{
-    calls::nodes(&mut *(worker as *mut TableWorker))
-}
-
-/// Returns the node that the worker's next file gets, or why there is none.
-#[unsafe(no_mangle)]
-pub unsafe extern "C" fn yacht_core_next(worker: *mut Opaque) -> i64
-    ghost w: { TableWorker }
-    requires* good { sem 𝓛 (handle_owns worker w) ∗ ⌜ IsGood w ⌝ }
-    ensures* chosen { HasWorker 𝓛 worker (λ after. ChoosesAs w result after) }
-{
-    calls::next(&mut *(worker as *mut TableWorker))
-}
-
 /// Looks a slot up. It returns the node of the file there, which the worker holds then, or `EMPTY`,
-/// `NO_SLOT` or `BUSY`. `freed` is the tag of a removed file that this look-up was the last to use,
-/// or 0.
+/// `NO_SLOT` or `BUSY`. `label` has that file's tag and number, and the tag of a removed file that
+/// this look-up was the last to use; each is 0 if there is no such file.
 #[unsafe(no_mangle)]
-pub unsafe extern "C" fn yacht_core_look(worker: *mut Opaque, slot: u32, freed: &mut u64) -> i64
+pub unsafe extern "C" fn yacht_core_look(
+    worker: *mut Opaque,
+    slot: u32,
+    label: &mut CoreLabel,
+) -> i64
     ghost w: { TableWorker }
     requires* good { sem 𝓛 (handle_owns worker w) ∗ ⌜ IsGood w ⌝ }
-    ensures* looked { HasWorker 𝓛 worker (λ after. LooksAs w slot result freed.new after) }
+    ensures* looked { HasWorker 𝓛 worker (λ after. LooksAs w slot result label.new after) }
 {
-    calls::look(&mut *(worker as *mut TableWorker), slot, freed)
+    calls::look(&mut *(worker as *mut TableWorker), slot, label)
 }
 
 /// Releases the file that the worker holds. It returns `DONE`, `CLOSED` or `IDLE`. `closed` is the
@@ -99,31 +81,39 @@ pub unsafe extern "C" fn yacht_core_release(worker: *mut Opaque, closed: &mut u6
     calls::release(&mut *(worker as *mut TableWorker), closed)
 }
 
-/// Installs a file with this tag at a slot. It returns `DONE`, `CLOSED`, `IN_USE`, `BUSY`,
-/// `NO_SLOT` or `NO_BLOCK`. `closed` is the tag of what was there if that is closed, or 0.
+/// Installs a file with this tag and number at a slot. It returns `DONE`, `CLOSED`, `IN_USE`,
+/// `BUSY`, `NO_SLOT` or `NO_BLOCK`. `closed` is the tag of what was there if that is closed, or 0.
 #[unsafe(no_mangle)]
 pub unsafe extern "C" fn yacht_core_put(
     worker: *mut Opaque,
     slot: u32,
     tag: u64,
+    number: u64,
     closed: &mut u64,
 ) -> i64
     ghost w: { TableWorker }
     requires* good { sem 𝓛 (handle_owns worker w) ∗ ⌜ IsGood w ⌝ }
-    ensures* placed { HasWorker 𝓛 worker (λ after. PutsAs w slot tag result closed.new after) }
+    ensures* placed { HasWorker 𝓛 worker (λ after.
+        PutsAs w slot tag number result closed.new after) }
 {
-    calls::put(&mut *(worker as *mut TableWorker), slot, tag, closed)
+    calls::put(
+        &mut *(worker as *mut TableWorker),
+        slot,
+        tag,
+        number,
+        closed,
+    )
 }
 
-/// Makes one round to install a file with this tag at a free slot. It returns the slot, or `FULL`,
-/// `AGAIN`, `BUSY` or `NO_BLOCK`.
+/// Makes one round to install a file with this tag and number at a free slot. It returns the slot,
+/// or `FULL`, `AGAIN`, `BUSY` or `NO_BLOCK`.
 #[unsafe(no_mangle)]
-pub unsafe extern "C" fn yacht_core_put_any(worker: *mut Opaque, tag: u64) -> i64
+pub unsafe extern "C" fn yacht_core_put_any(worker: *mut Opaque, tag: u64, number: u64) -> i64
     ghost w: { TableWorker }
     requires* good { sem 𝓛 (handle_owns worker w) ∗ ⌜ IsGood w ⌝ }
-    ensures* allocated { HasWorker 𝓛 worker (λ after. PutsAnyAs w tag result after) }
+    ensures* allocated { HasWorker 𝓛 worker (λ after. PutsAnyAs w tag number result after) }
 {
-    calls::put_any(&mut *(worker as *mut TableWorker), tag)
+    calls::put_any(&mut *(worker as *mut TableWorker), tag, number)
 }
 
 /// Empties a slot. It returns `CLOSED`, `IN_USE`, `BUSY`, `NO_SLOT` or `EMPTY`. `closed` is the tag
@@ -154,34 +144,48 @@ pub unsafe extern "C" fn yacht_core_take_if(
     calls::take_if(&mut *(worker as *mut TableWorker), slot, node, closed)
 }
 
-/// Replaces the file of a slot by one with this tag, if it is on this node. It returns `CLOSED`,
-/// `IN_USE`, `BUSY`, `NO_SLOT`, `NO_BLOCK`, `EMPTY`, `OTHER` or `AGAIN`. `closed` is the tag of
-/// what was there if that is closed, or 0.
+/// Replaces the file of a slot by one with this tag and number, if it is on this node. It returns
+/// `CLOSED`, `IN_USE`, `BUSY`, `NO_SLOT`, `NO_BLOCK`, `EMPTY`, `OTHER` or `AGAIN`. `closed` is the
+/// tag of what was there if that is closed, or 0.
 #[unsafe(no_mangle)]
 pub unsafe extern "C" fn yacht_core_put_if(
     worker: *mut Opaque,
     slot: u32,
     node: u32,
     tag: u64,
+    number: u64,
     closed: &mut u64,
 ) -> i64
     ghost w: { TableWorker }
     requires* good { sem 𝓛 (handle_owns worker w) ∗ ⌜ IsGood w ⌝ }
     ensures* placed { HasWorker 𝓛 worker (λ after.
-        PutsIfAs w slot node tag result closed.new after) }
+        PutsIfAs w slot node tag number result closed.new after) }
 {
-    calls::put_if(&mut *(worker as *mut TableWorker), slot, node, tag, closed)
+    calls::put_if(
+        &mut *(worker as *mut TableWorker),
+        slot,
+        node,
+        tag,
+        number,
+        closed,
+    )
 }
 
-/// Installs a file with this tag at a slot if it is empty. It returns `DONE`, `BUSY`, `NO_SLOT`,
-/// `NO_BLOCK`, `OTHER` if the slot had a file, or `AGAIN` if it was empty and changed meanwhile.
+/// Installs a file with this tag and number at a slot if it is empty. It returns `DONE`, `BUSY`,
+/// `NO_SLOT`, `NO_BLOCK`, `OTHER` if the slot had a file, or `AGAIN` if it was empty and changed
+/// meanwhile.
 #[unsafe(no_mangle)]
-pub unsafe extern "C" fn yacht_core_put_empty(worker: *mut Opaque, slot: u32, tag: u64) -> i64
+pub unsafe extern "C" fn yacht_core_put_empty(
+    worker: *mut Opaque,
+    slot: u32,
+    tag: u64,
+    number: u64,
+) -> i64
     ghost w: { TableWorker }
     requires* good { sem 𝓛 (handle_owns worker w) ∗ ⌜ IsGood w ⌝ }
-    ensures* placed { HasWorker 𝓛 worker (λ after. PutsEmptyAs w slot tag result after) }
+    ensures* placed { HasWorker 𝓛 worker (λ after. PutsEmptyAs w slot tag number result after) }
 {
-    calls::put_empty(&mut *(worker as *mut TableWorker), slot, tag)
+    calls::put_empty(&mut *(worker as *mut TableWorker), slot, tag, number)
 }
 
 /// Checks whether every slot has a file. It returns `FULL`, or `AGAIN` if it found no step at which

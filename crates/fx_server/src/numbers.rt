@@ -1,11 +1,11 @@
 //! The numbers of results.
 ghost use Rattle.std.specs.Prelude.{◌≡◌};
-ghost use Rattle.fx_server.specs.Answers.{answer_number, done_number, release_number, released_tag, removal_number, removal_tag, tag_or_zero};
+ghost use Rattle.fx_server.specs.Answers.{answer_number, done_number, found_node, label_in, release_number, released_tag, removal_number, removal_tag, tag_or_zero};
 
-use crate::answers::{Removal, ServerRefusal};
+use crate::answers::{CoreLabel, Found, LookAnswer, Removal, ServerRefusal};
 use crate::codes::{CLOSED, DONE, IN_USE};
 
-/// Returns the number of a call that returns a node or a slot, or the refusal's.
+/// Returns the number of a call that returns a slot, or the refusal's.
 #[inline(always)]
 pub fn answer_number(answer: Result<u32, ServerRefusal>) -> i64
     ensures { result ≡ answer_number answer }
@@ -13,6 +13,37 @@ pub fn answer_number(answer: Result<u32, ServerRefusal>) -> i64
     match answer {
         Ok(number) => number as i64,
         Err(refusal) => refusal.code(),
+    }
+}
+
+/// Returns the node that a look-up found, or the refusal's number.
+#[inline(always)]
+pub fn found_node(found: Result<Found, ServerRefusal>) -> i64
+    ensures { result ≡ found_node found }
+{
+    match found {
+        Ok(file) => file.node as i64,
+        Err(refusal) => refusal.code(),
+    }
+}
+
+/// Returns the label of a look-up.
+#[inline(always)]
+pub fn label_in(look: LookAnswer) -> CoreLabel
+    ensures { result ≡ label_in look }
+{
+    let freed = tag_or_zero(look.freed);
+    match look.found {
+        Ok(file) => CoreLabel {
+            tag: file.tag,
+            number: file.number,
+            freed,
+        },
+        Err(_) => CoreLabel {
+            tag: 0,
+            number: 0,
+            freed,
+        },
     }
 }
 

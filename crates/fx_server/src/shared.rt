@@ -1,5 +1,6 @@
 //! The part of a table that its workers share.
 ghost use Rattle.std.specs.Prelude.{◌≡◌, ◌<◌, length, IfOk};
+ghost use Rattle.fx_lasting.specs.Labels.{number_of_mark};
 ghost use Rattle.fx_server.specs.Files.{file_with};
 
 use fx_base::{AddFault, Catalogue, Mark, OpenFile};
@@ -22,12 +23,15 @@ impl Drop for Shared {
 }
 
 impl Shared {
-    /// Opens a file with this tag.
+    /// Opens a file with this tag, and with this number in its mark.
     #[inline(always)]
-    pub(crate) fn file(&self, tag: u64) -> OpenFile
-        ensures { result ≡ file_with tag }
+    pub(crate) fn file(&self, tag: u64, number: u64) -> OpenFile
+        ensures file { result ≡ file_with tag number }
+        ensures number { number_of_mark result.mark ≡ number }
     {
-        self.catalogue.open(0, Mark::Registered { k: 1, i: 0 }, tag)
+        let k = (number / (1 << 32)) as u32;
+        let i = (number % (1 << 32)) as u32;
+        self.catalogue.open(0, Mark::Registered { k, i }, tag)
     }
 }
 

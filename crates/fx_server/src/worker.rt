@@ -1,15 +1,14 @@
 //! A pass together with its table.
-ghost use Rattle.std.specs.Prelude.{◌≡◌, None, Err, option_map};
-ghost use Rattle.fx_table.specs.Pass.{IsRetiredOf};
+ghost use Rattle.std.specs.Prelude.{◌≡◌, None, Err, IfOk, option_map};
+ghost use Rattle.fx_table.specs.Pass.{IsHoldOf, IsRetiredOf};
 ghost use Rattle.fx_lasting.specs.Tables.{view_of, opening_of_table, IsPassOfTable};
 ghost use Rattle.fx_table.specs.Showing.{Learns};
-ghost use Rattle.fx_lasting.specs.Passes.{nodes_of};
 ghost use Rattle.fx_lasting.specs.Showing.{IsSeenOf, shown_of};
-ghost use Rattle.fx_server.specs.Workers.{Chooses, IsGood, LooksUp, Notes, ReleasesHeld, Puts, PutsAny};
+ghost use Rattle.fx_server.specs.Workers.{IsGood, LooksUp, Notes, ReleasesHeld, Puts, PutsAny};
 ghost use Rattle.fx_server.specs.Workers.{PutsIf, RemovesFrom, RemovesIf, RetiresAs, its_opening, its_pass};
 ghost use Rattle.fx_server.specs.Workers.{its_table, refusal_for, PutsEmpty, ReportsFull};
 
-use crate::answers::{LookAnswer, Removal, ServerRefusal};
+use crate::answers::{Found, LookAnswer, Removal, ServerRefusal};
 use crate::shared::Shared;
 use fx_base::OpenFile;
 use fx_lasting::{
@@ -66,7 +65,7 @@ impl TableWorker {
         }
         let LookUp { found, freed } = table.look_up(&mut self.pass, slot);
         let freed = tag_of(freed);
-        let found = note(&mut self.held, found);
+        let found = note(table, &mut self.pass, &mut self.held, found);
         LookAnswer { found, freed }
     }
 
@@ -117,47 +116,16 @@ impl TableWorker {
         self.shared.table.learn(&mut self.pass, seen);
     }
 
-    /// Returns the number of nodes of the table. Each node is below it.
-    #[inline(always)]
-    pub fn nodes(&self) -> u32
-        ensures { result ≡ nodes_of (its_table self.now).table.shared.key }
-    {
-        self.shared.table.nodes()
-    }
-
-    /// Chooses the node of the worker's next file. The next `put`, or the next `put_any` that
-    /// installs one, uses it, if no `look` or `take` comes between. No open file is on it until
-    /// then (`fx_lasting::laws::chosen_nodes_are_free`).
-    ///
-    /// # Errors
-    /// `Busy`, `NoBlock`, in this order.
-    #[inline(always)]
-    pub fn next_node(&mut self) -> Result<u32, ServerRefusal>
-        requires good { IsGood self.old }
-        ensures good { IsGood self.new }
-        ensures table { self.new.shared ≡ self.old.shared }
-        ensures chosen { Chooses self.old result self.new }
-    {
-        if self.held.is_some() {
-            return Err(ServerRefusal::Busy);
-        }
-        let table = &self.shared.table;
-        if !table.installs(&self.pass) {
-            return Err(ServerRefusal::NoBlock);
-        }
-        Ok(table.next_node(&mut self.pass))
-    }
-
-    /// Installs a file with this tag at a slot. Returns what was there.
+    /// Installs a file with this tag and number at a slot. Returns what was there.
     ///
     /// # Errors
     /// `Busy`, `NoSlot`, `NoBlock`, in this order.
     #[inline(always)]
-    pub fn put(&mut self, slot: u32, tag: u64) -> Result<Removal, ServerRefusal>
+    pub fn put(&mut self, slot: u32, tag: u64, number: u64) -> Result<Removal, ServerRefusal>
         requires good { IsGood self.old }
         ensures good { IsGood self.new }
         ensures table { self.new.shared ≡ self.old.shared }
-        ensures placed { Puts self.old slot tag result self.new }
+        ensures placed { Puts self.old slot tag number result self.new }
     {
         if self.held.is_some() {
             return Err(ServerRefusal::Busy);
@@ -170,24 +138,24 @@ impl TableWorker {
         if !table.installs(&self.pass) {
             return Err(ServerRefusal::NoBlock);
         }
-        let file = shared.file(tag);
+        let file = shared.file(tag, number);
         match table.put(&mut self.pass, slot, file) {
             None => Ok(Removal::Nothing),
             Some(retired) => Ok(retire(table, &mut self.pass, retired)),
         }
     }
 
-    /// Makes one round to install a file with this tag at a free slot. Returns the slot.
+    /// Makes one round to install a file with this tag and number at a free slot. Returns the slot.
     ///
     /// # Errors
     /// `Busy`, `NoBlock`, in this order; `Full` if at one step every slot had a file; `Again` if
     /// the round installed nothing, and found no such step.
     #[inline(always)]
-    pub fn put_any(&mut self, tag: u64) -> Result<u32, ServerRefusal>
+    pub fn put_any(&mut self, tag: u64, number: u64) -> Result<u32, ServerRefusal>
         requires good { IsGood self.old }
         ensures good { IsGood self.new }
         ensures table { self.new.shared ≡ self.old.shared }
-        ensures allocated { PutsAny self.old tag result self.new }
+        ensures allocated { PutsAny self.old tag number result self.new }
     {
         if self.held.is_some() {
             return Err(ServerRefusal::Busy);
@@ -197,7 +165,7 @@ impl TableWorker {
         if !table.installs(&self.pass) {
             return Err(ServerRefusal::NoBlock);
         }
-        let file = shared.file(tag);
+        let file = shared.file(tag, number);
         match table.try_put_any(&mut self.pass, file) {
             TriedPut::At(slot) => Ok(slot),
             TriedPut::Full(file) => {
@@ -262,17 +230,23 @@ impl TableWorker {
         }
     }
 
-    /// Replaces the file of a slot by one with this tag, if it is on this node. Returns what was
-    /// there, which is not `Nothing`.
+    /// Replaces the file of a slot by one with this tag and number, if it is on this node. Returns
+    /// what was there, which is not `Nothing`.
     ///
     /// # Errors
     /// `Busy`, `NoSlot`, `NoBlock`, in this order; `Empty`, `Other`, `Again` as of `take_if`.
     #[inline(always)]
-    pub fn put_if(&mut self, slot: u32, node: u32, tag: u64) -> Result<Removal, ServerRefusal>
+    pub fn put_if(
+        &mut self,
+        slot: u32,
+        node: u32,
+        tag: u64,
+        number: u64,
+    ) -> Result<Removal, ServerRefusal>
         requires good { IsGood self.old }
         ensures good { IsGood self.new }
         ensures table { self.new.shared ≡ self.old.shared }
-        ensures placed { PutsIf self.old slot node tag result self.new }
+        ensures placed { PutsIf self.old slot node tag number result self.new }
     {
         if self.held.is_some() {
             return Err(ServerRefusal::Busy);
@@ -285,7 +259,7 @@ impl TableWorker {
         if !table.installs(&self.pass) {
             return Err(ServerRefusal::NoBlock);
         }
-        let file = shared.file(tag);
+        let file = shared.file(tag, number);
         match table.put_if(&mut self.pass, slot, node, file) {
             PutIf::Replaced(retired) => Ok(retire(table, &mut self.pass, retired)),
             PutIf::Missed(miss, file) => {
@@ -295,17 +269,17 @@ impl TableWorker {
         }
     }
 
-    /// Installs a file with this tag at a slot if it is empty.
+    /// Installs a file with this tag and number at a slot if it is empty.
     ///
     /// # Errors
     /// `Busy`, `NoSlot` if the slot isn't in the allocation range, `NoBlock`, in this order;
     /// `Other` if the slot had a file, `Again` if it was empty and its word changed meanwhile.
     #[inline(always)]
-    pub fn put_empty(&mut self, slot: u32, tag: u64) -> Result<(), ServerRefusal>
+    pub fn put_empty(&mut self, slot: u32, tag: u64, number: u64) -> Result<(), ServerRefusal>
         requires good { IsGood self.old }
         ensures good { IsGood self.new }
         ensures table { self.new.shared ≡ self.old.shared }
-        ensures placed { PutsEmpty self.old slot tag result self.new }
+        ensures placed { PutsEmpty self.old slot tag number result self.new }
     {
         if self.held.is_some() {
             return Err(ServerRefusal::Busy);
@@ -318,7 +292,7 @@ impl TableWorker {
         if !table.installs(&self.pass) {
             return Err(ServerRefusal::NoBlock);
         }
-        let file = shared.file(tag);
+        let file = shared.file(tag, number);
         match table.put_empty(&mut self.pass, slot, file) {
             PutEmpty::Installed => Ok(()),
             PutEmpty::HasFile(file) => {
@@ -368,16 +342,28 @@ fn refusal_for(miss: Miss) -> ServerRefusal
     }
 }
 
-// Notes the hold that a look-up returned, if it found a file, and returns its node.
+// Notes the hold that a look-up returned, if it found a file, and returns the file's node, tag and
+// number.
 #[inline(always)]
-fn note(held: &mut Option<Held>, found: Result<Hold, Fault>) -> Result<u32, ServerRefusal>
-    ensures { Notes found result held.new }
+fn note(
+    table: &LastingTable,
+    pass: &mut LastingPass,
+    held: &mut Option<Held>,
+    found: Result<Hold, Fault>,
+) -> Result<Found, ServerRefusal>
+    requires fits { IsPassOfTable table.now pass.old }
+    requires holds { IfOk found (λ hold. IsHoldOf (view_of pass.old) hold) }
+    ensures fits { IsPassOfTable table.now pass.new }
+    ensures same { view_of pass.new ≡ view_of pass.old }
+    ensures notes { Notes (view_of pass.old) found result held.new }
 {
     match found {
         Ok(hold) => {
+            let tag = table.tag_of(pass, &hold);
+            let number = table.number_of(pass, &hold);
             let Hold { node, entry } = hold;
             *held = Some(Held { node, entry });
-            Ok(node)
+            Ok(Found { node, tag, number })
         }
         Err(_) => {
             *held = None;

@@ -1,6 +1,6 @@
 //! The C interface of the verified core (`crates/fx_server`), or the stand-in for it. A worker of
 //! the core is one pass of its table. A value is known to the core by its tag, which it returns to
-//! whoever has to drop the value.
+//! whoever holds the value or has to drop it, and by a number that this crate draws.
 #![allow(dead_code)]
 
 /// A worker of the core.
@@ -8,6 +8,16 @@
 pub(crate) struct Core {
     _private: [u8; 0],
     _marker: std::marker::PhantomData<(*mut u8, std::marker::PhantomPinned)>,
+}
+
+/// The tag and the number of the value that a look-up found, and the tag of a removed value that it
+/// was the last to use. Each is 0 if there is no such value.
+#[repr(C)]
+#[derive(Clone, Copy, Default)]
+pub(crate) struct Label {
+    pub(crate) tag: u64,
+    pub(crate) number: u64,
+    pub(crate) freed: u64,
 }
 
 /// The call is done. If it installs a value, the slot was empty.
@@ -56,12 +66,16 @@ unsafe extern "C" {
         count: usize,
     ) -> i64;
     pub(crate) fn yacht_core_close(worker: *mut Core);
-    pub(crate) fn yacht_core_nodes(worker: *mut Core) -> i64;
-    pub(crate) fn yacht_core_next(worker: *mut Core) -> i64;
-    pub(crate) fn yacht_core_look(worker: *mut Core, slot: u32, freed: *mut u64) -> i64;
+    pub(crate) fn yacht_core_look(worker: *mut Core, slot: u32, label: *mut Label) -> i64;
     pub(crate) fn yacht_core_release(worker: *mut Core, closed: *mut u64) -> i64;
-    pub(crate) fn yacht_core_put(worker: *mut Core, slot: u32, tag: u64, closed: *mut u64) -> i64;
-    pub(crate) fn yacht_core_put_any(worker: *mut Core, tag: u64) -> i64;
+    pub(crate) fn yacht_core_put(
+        worker: *mut Core,
+        slot: u32,
+        tag: u64,
+        number: u64,
+        closed: *mut u64,
+    ) -> i64;
+    pub(crate) fn yacht_core_put_any(worker: *mut Core, tag: u64, number: u64) -> i64;
     pub(crate) fn yacht_core_take(worker: *mut Core, slot: u32, closed: *mut u64) -> i64;
     pub(crate) fn yacht_core_take_if(
         worker: *mut Core,
@@ -74,8 +88,9 @@ unsafe extern "C" {
         slot: u32,
         node: u32,
         tag: u64,
+        number: u64,
         closed: *mut u64,
     ) -> i64;
-    pub(crate) fn yacht_core_put_empty(worker: *mut Core, slot: u32, tag: u64) -> i64;
+    pub(crate) fn yacht_core_put_empty(worker: *mut Core, slot: u32, tag: u64, number: u64) -> i64;
     pub(crate) fn yacht_core_full(worker: *mut Core) -> i64;
 }

@@ -1,12 +1,12 @@
 //! Guards of values.
 use super::reader::Reader;
 use super::seats::Place;
-use super::storage::Stored;
 use super::table::Table;
 use super::values::{drop_last, Held};
 use crate::key::Key;
 use std::fmt;
 use std::mem::ManuallyDrop;
+use std::num::NonZeroU64;
 use std::ops::Deref;
 
 /// A value that a [`Handle`](crate::Handle) or a [`Reader`] looked up. It stays alive until the
@@ -33,8 +33,9 @@ use std::ops::Deref;
 /// ```
 #[must_use = "the value is released when the guard is dropped"]
 pub struct Guard<'r, T> {
-    value: *const Stored<T>,
+    value: *const T,
     node: u32,
+    number: Option<NonZeroU64>,
     pub(super) reader: &'r Reader<T>,
     place: Place,
     slot: u32,
@@ -48,24 +49,18 @@ impl<'r, T> Guard<'r, T> {
     #[inline]
     pub(super) fn new(
         reader: &'r Reader<T>,
-        held: Held<Stored<T>>,
+        held: Held<T>,
         place: Place,
         slot: u32,
     ) -> Guard<'r, T> {
         Guard {
             value: held.value,
             node: held.node,
+            number: held.number,
             reader,
             place,
             slot,
         }
-    }
-
-    #[inline]
-    fn stored(&self) -> &Stored<T> {
-        // SAFETY: the core closes no file that is held (`no_close_while_held`, `has_one_history`),
-        // so the box is there until `end`.
-        unsafe { &*self.value }
     }
 
     /// Returns the slot at which the value was found.
@@ -91,13 +86,13 @@ impl<'r, T> Guard<'r, T> {
     /// ```
     #[inline]
     pub fn key(&self) -> Key {
-        Key::new(self.slot, self.stored().0)
+        Key::new(self.slot, self.number)
     }
 
     /// Checks whether the value has this key.
     #[inline]
     pub(super) fn is_of(&self, key: Key) -> bool {
-        key.is_of(self.stored().0)
+        key.is_of(self.number)
     }
 
     /// Drops the guard, by a call that isn't inlined: it is seldom made.
@@ -111,7 +106,7 @@ impl<'r, T> Guard<'r, T> {
 
     /// Ends the hold, and gives its seat back. Returns the value if this closed it.
     #[inline]
-    pub(super) fn end(self) -> Option<Box<Stored<T>>> {
+    pub(super) fn end(self) -> Option<Box<T>> {
         let guard = ManuallyDrop::new(self);
         // SAFETY: the guard isn't dropped.
         unsafe { guard.release() }
@@ -121,7 +116,7 @@ impl<'r, T> Guard<'r, T> {
     //
     // SAFETY of a call: the guard is used no more.
     #[inline]
-    unsafe fn release(&self) -> Option<Box<Stored<T>>> {
+    unsafe fn release(&self) -> Option<Box<T>> {
         // SAFETY: as the caller ensures.
         unsafe { release(self.reader, self.value, self.place) }
     }
@@ -131,11 +126,7 @@ impl<'r, T> Guard<'r, T> {
 //
 // SAFETY of a call: the guard is used no more.
 #[inline]
-unsafe fn release<T>(
-    reader: &Reader<T>,
-    value: *const Stored<T>,
-    place: Place,
-) -> Option<Box<Stored<T>>> {
+unsafe fn release<T>(reader: &Reader<T>, value: *const T, place: Place) -> Option<Box<T>> {
     // SAFETY: the seat is the reader's (one user), on whose thread the guard is. It holds the
     // guard's value, and every reference to the value borrowed the guard.
     let freed = unsafe { reader.table().values().release(place.core, value) };
@@ -149,7 +140,7 @@ unsafe fn release<T>(
 // SAFETY of a call: as of `release`.
 #[cold]
 #[inline(never)]
-unsafe fn release_and_drop<T>(reader: &Reader<T>, value: *const Stored<T>, place: Place) {
+unsafe fn release_and_drop<T>(reader: &Reader<T>, value: *const T, place: Place) {
     // SAFETY: as the caller ensures.
     let freed = unsafe { release(reader, value, place) };
     drop_last(freed);
@@ -160,7 +151,9 @@ impl<T> Deref for Guard<'_, T> {
 
     #[inline]
     fn deref(&self) -> &T {
-        &self.stored().1
+        // SAFETY: the core closes no file that is held (`no_close_while_held`, `has_one_history`),
+        // so the box is there until `end`.
+        unsafe { &*self.value }
     }
 }
 
@@ -205,8 +198,9 @@ impl<T: fmt::Display> fmt::Display for Guard<'_, T> {
 /// ```
 #[must_use = "the value is released when the guard is dropped"]
 pub struct OwnedGuard<T> {
-    value: *const Stored<T>,
+    value: *const T,
     node: u32,
+    number: Option<NonZeroU64>,
     place: Place,
     slot: u32,
     // it is dropped after `drop` has run
@@ -222,26 +216,15 @@ unsafe impl<T: Sync> Sync for OwnedGuard<T> {}
 impl<T> OwnedGuard<T> {
     /// Makes a guard of a value that this seat of the table holds.
     #[inline]
-    pub(super) fn new(
-        table: Table<T>,
-        held: Held<Stored<T>>,
-        place: Place,
-        slot: u32,
-    ) -> OwnedGuard<T> {
+    pub(super) fn new(table: Table<T>, held: Held<T>, place: Place, slot: u32) -> OwnedGuard<T> {
         OwnedGuard {
             value: held.value,
             node: held.node,
+            number: held.number,
             place,
             slot,
             table,
         }
-    }
-
-    #[inline]
-    fn stored(&self) -> &Stored<T> {
-        // SAFETY: the core closes no file that is held (`no_close_while_held`, `has_one_history`),
-        // so the box is there until `drop`. The guard's table keeps the core.
-        unsafe { &*self.value }
     }
 
     /// Returns the slot at which the value was found.
@@ -272,16 +255,16 @@ impl<T> OwnedGuard<T> {
     /// ```
     #[inline]
     pub fn key(&self) -> Key {
-        Key::new(self.slot, self.stored().0)
+        Key::new(self.slot, self.number)
     }
 
     /// Checks whether the value has this key.
     pub(super) fn is_of(&self, key: Key) -> bool {
-        key.is_of(self.stored().0)
+        key.is_of(self.number)
     }
 
     /// Ends the hold, and gives its seat back. Returns the value if this closed it.
-    pub(super) fn end(self) -> Option<Box<Stored<T>>> {
+    pub(super) fn end(self) -> Option<Box<T>> {
         let guard = ManuallyDrop::new(self);
         // SAFETY: the guard isn't dropped, and its table is read once.
         let (freed, table) = unsafe { (guard.release(), std::ptr::read(&raw const guard.table)) };
@@ -293,7 +276,7 @@ impl<T> OwnedGuard<T> {
     //
     // SAFETY of a call: the guard is used no more, but for its table.
     #[inline]
-    unsafe fn release(&self) -> Option<Box<Stored<T>>> {
+    unsafe fn release(&self) -> Option<Box<T>> {
         let values = self.table.values();
         // SAFETY: the seat is this guard's (one user). It holds this guard's value, and every
         // reference to the value borrowed the guard.
@@ -308,7 +291,9 @@ impl<T> Deref for OwnedGuard<T> {
 
     #[inline]
     fn deref(&self) -> &T {
-        &self.stored().1
+        // SAFETY: the core closes no file that is held (`no_close_while_held`, `has_one_history`),
+        // so the box is there until `drop`. The guard's table keeps the core.
+        unsafe { &*self.value }
     }
 }
 

@@ -3,9 +3,9 @@ use super::core::Core;
 use super::guard::Guard;
 use super::reader::Reader;
 use super::seats::{Installer, Place};
-use super::storage::{self, Spare, Stored};
+use super::storage::{self, Spare};
 use super::table::Table;
-use super::values::{Round, Values};
+use super::values::{New, Round, Values};
 use crate::errors::{GetError, NoSeat, NoSlot, Reason, Refused};
 use crate::iter::Iter;
 use crate::key::Key;
@@ -79,7 +79,7 @@ impl<T> Handle<T> {
     }
 
     #[inline]
-    pub(super) fn parts(&self) -> (&Values<Stored<T>>, *mut Core) {
+    pub(super) fn parts(&self) -> (&Values<T>, *mut Core) {
         (self.reader.table().values(), self.installer.core)
     }
 
@@ -92,13 +92,16 @@ impl<T> Handle<T> {
 
     /// Stores a value that the handle installs.
     #[inline]
-    pub(super) fn store(&self, value: T) -> Box<Stored<T>> {
-        storage::put(&self.spare, (self.next_number(), value))
+    pub(super) fn store(&self, value: T) -> New<T> {
+        New {
+            value: storage::put(&self.spare, value),
+            number: self.next_number(),
+        }
     }
 
     /// Gives a value back that isn't installed.
-    pub(super) fn refuse(&self, stored: Box<Stored<T>>, reason: Reason) -> Refused<T> {
-        let value = storage::take(&self.spare, stored);
+    pub(super) fn refuse(&self, value: Box<T>, reason: Reason) -> Refused<T> {
+        let value = storage::take(&self.spare, value);
         Refused { value, reason }
     }
 
@@ -145,12 +148,12 @@ impl<T> Handle<T> {
     /// # Ok::<(), Box<dyn std::error::Error>>(())
     /// ```
     pub fn insert(&self, value: T) -> Result<Key, Refused<T>> {
-        let ((values, core), stored) = (self.parts(), self.store(value));
-        let number = stored.0;
+        let ((values, core), new) = (self.parts(), self.store(value));
+        let number = new.number;
         // SAFETY: the seat is this handle's (one user), and holds nothing between two calls.
-        match unsafe { values.insert(core, stored) } {
+        match unsafe { values.insert(core, new) } {
             Ok(slot) => Ok(Key::new(slot, number)),
-            Err(stored) => Err(self.refuse(stored, values.is_full())),
+            Err(value) => Err(self.refuse(value, values.is_full())),
         }
     }
 
@@ -175,13 +178,13 @@ impl<T> Handle<T> {
     /// # Ok::<(), Box<dyn std::error::Error>>(())
     /// ```
     pub fn try_insert(&self, value: T) -> Result<Key, Refused<T>> {
-        let ((values, core), stored) = (self.parts(), self.store(value));
-        let number = stored.0;
+        let ((values, core), new) = (self.parts(), self.store(value));
+        let number = new.number;
         // SAFETY: the seat is this handle's (one user), and holds nothing between two calls.
-        match unsafe { values.try_insert(core, stored) } {
+        match unsafe { values.try_insert(core, new) } {
             Ok(slot) => Ok(Key::new(slot, number)),
-            Err((stored, Round::Again)) => Err(self.refuse(stored, Reason::Again)),
-            Err((stored, Round::Full)) => Err(self.refuse(stored, values.is_full())),
+            Err((value, Round::Again)) => Err(self.refuse(value, Reason::Again)),
+            Err((value, Round::Full)) => Err(self.refuse(value, values.is_full())),
         }
     }
 
@@ -205,11 +208,11 @@ impl<T> Handle<T> {
     /// ```
     #[inline]
     pub fn replace_at(&self, slot: u32, value: T) -> Result<Old<T>, Refused<T>> {
-        let ((values, core), stored) = (self.parts(), self.store(value));
+        let ((values, core), new) = (self.parts(), self.store(value));
         // SAFETY: the seat is this handle's (one user), and holds nothing between two calls.
-        match unsafe { values.replace_at(core, slot, stored) } {
+        match unsafe { values.replace_at(core, slot, new) } {
             Ok(old) => Ok(old.map(|it| storage::take(&self.spare, it))),
-            Err(stored) => Err(self.refuse(stored, Reason::NoSlot(values.no_slot(slot)))),
+            Err(value) => Err(self.refuse(value, Reason::NoSlot(values.no_slot(slot)))),
         }
     }
 

@@ -3,13 +3,12 @@
 //! core replaces or removes the slot's file only if that is on this node (`placed`, `removed`). So
 //! it changes the slot only if that still has this value.
 //!
-//! A number is in the box of its value. It is written before the value is installed, so whoever
-//! holds the value reads it as the value itself.
+//! The core keeps the number with the value's file, and a look-up returns it (`looked`).
 use super::core::Core;
 use super::guard::{Guard, OwnedGuard};
 use super::handle::Handle;
 use super::reader::Reader;
-use super::storage::{self, Stored};
+use super::storage;
 use super::values::drop_last;
 use crate::errors::{GetError, Refused, RemoveError};
 use crate::key::Key;
@@ -17,7 +16,7 @@ use crate::old::Old;
 
 /// Returns the fate of a value that was replaced or removed while a seat held it, by what the end
 /// of that hold closed.
-pub(super) fn of_hold<T>(last: Option<Box<Stored<T>>>) -> Old<Box<Stored<T>>> {
+pub(super) fn of_hold<T>(last: Option<Box<T>>) -> Old<Box<T>> {
     last.map_or(Old::InUse, Old::Unused)
 }
 
@@ -25,8 +24,8 @@ pub(super) fn of_hold<T>(last: Option<Box<Stored<T>>>) -> Old<Box<Stored<T>>> {
 // was not removed, what the end of the hold closed is dropped.
 fn of_removal<T>(
     removed: Result<(), impl Into<RemoveError>>,
-    last: Option<Box<Stored<T>>>,
-) -> Result<Old<Box<Stored<T>>>, RemoveError> {
+    last: Option<Box<T>>,
+) -> Result<Old<Box<T>>, RemoveError> {
     match removed {
         Ok(()) => Ok(of_hold(last)),
         Err(error) => {
@@ -96,7 +95,7 @@ impl<T> Guard<'_, T> {
             Some(installer) => unsafe { self.take_out(installer.core) }?,
             None => self.take_out_by_call()?,
         };
-        Ok(old.map(|it| it.1))
+        Ok(old.map(|it| *it))
     }
 
     /// Removes the value from its slot, and ends the guard. Returns the value in its box.
@@ -104,7 +103,7 @@ impl<T> Guard<'_, T> {
     /// # Safety
     /// The core's worker is of a seat that the caller has (one user). It holds nothing.
     #[inline]
-    unsafe fn take_out(self, core: *mut Core) -> Result<Old<Box<Stored<T>>>, RemoveError> {
+    unsafe fn take_out(self, core: *mut Core) -> Result<Old<Box<T>>, RemoveError> {
         let values = self.reader.table().values();
         // SAFETY: as the caller ensures, and this guard's seat holds the file.
         let removed = unsafe { values.remove_held(core, self.slot(), self.node()) };
@@ -113,7 +112,7 @@ impl<T> Guard<'_, T> {
 
     // Removes the value by a seat for this call. The seat is given back before a value is dropped.
     #[inline(never)]
-    fn take_out_by_call(self) -> Result<Old<Box<Stored<T>>>, RemoveError> {
+    fn take_out_by_call(self) -> Result<Old<Box<T>>, RemoveError> {
         let values = self.reader.table().values();
         let call = values.seats.claim_call()?;
         // SAFETY: the seat is this call's (one user), and this guard's seat holds the file.
@@ -142,7 +141,7 @@ impl<T> OwnedGuard<T> {
     /// ```
     pub fn remove(self) -> Result<Old<T>, RemoveError> {
         let removed = self.remove_held();
-        Ok(of_removal(removed, self.end())?.map(|it| it.1))
+        Ok(of_removal(removed, self.end())?.map(|it| *it))
     }
 
     fn remove_held(&self) -> Result<(), RemoveError> {
@@ -204,16 +203,19 @@ impl<T> Handle<T> {
             Ok(guard) => guard,
             Err(error) => return Err(Refused::new(value, error.into())),
         };
-        let ((values, core), stored) = (self.parts(), self.store(value));
-        let new = Key::new(key.slot(), stored.0);
+        let ((values, core), new) = (self.parts(), self.store(value));
+        let fresh = Key::new(key.slot(), new.number);
         // SAFETY: the seat is this handle's (one user), and holds nothing between two calls. The
         // guard's seat holds the file.
-        let replaced = unsafe { values.replace_held(core, key.slot(), guard.node(), stored) };
+        let replaced = unsafe { values.replace_held(core, key.slot(), guard.node(), new) };
         let last = guard.end();
         match replaced {
-            Ok(()) => Ok((new, of_hold(last).map(|it| storage::take(&self.spare, it)))),
-            Err((stored, error)) => {
-                let refused = self.refuse(stored, error.into());
+            Ok(()) => Ok((
+                fresh,
+                of_hold(last).map(|it| storage::take(&self.spare, it)),
+            )),
+            Err((value, error)) => {
+                let refused = self.refuse(value, error.into());
                 drop_last(last);
                 Err(refused)
             }

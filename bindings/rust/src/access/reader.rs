@@ -1,7 +1,6 @@
 //! Readers.
 use super::guard::Guard;
 use super::seats::{Installer, Place};
-use super::storage::Stored;
 use super::table::Table;
 use super::values::{drop_last, Looked};
 use crate::errors::{GetError, NoSeat};
@@ -92,12 +91,16 @@ impl<T> Reader<T> {
         let values = self.table.values();
         // SAFETY: the seat is this reader's (one user), and no guard uses it.
         let looked = unsafe { values.look(self.own.core, slot) };
-        if looked.answer < 0 || looked.freed.is_some() {
-            return self.finish(self.own, slot, looked);
+        match looked {
+            Looked {
+                found: Ok(held),
+                freed: None,
+            } => {
+                self.is_busy.set(true);
+                Ok(Guard::new(self, held, self.own, slot))
+            }
+            other => self.finish(self.own, slot, other),
         }
-        self.is_busy.set(true);
-        let held = values.held(looked.answer);
-        Ok(Guard::new(self, held, self.own, slot))
     }
 
     // Looks a slot up by a seat of the table. This and `finish` aren't inlined, so that a look-up
@@ -113,19 +116,16 @@ impl<T> Reader<T> {
 
     // Turns the result of a look-up into a guard, which has the look-up's seat, or into an error.
     #[inline(never)]
-    fn finish(
-        &self,
-        place: Place,
-        slot: u32,
-        looked: Looked<Stored<T>>,
-    ) -> Result<Guard<'_, T>, GetError> {
-        let values = self.table.values();
-        let guard = if looked.answer < 0 {
-            self.end(place.number);
-            Err(values.get_error(looked.answer, slot))
-        } else {
-            self.note(place.number);
-            Ok(Guard::new(self, values.held(looked.answer), place, slot))
+    fn finish(&self, place: Place, slot: u32, looked: Looked<T>) -> Result<Guard<'_, T>, GetError> {
+        let guard = match looked.found {
+            Err(answer) => {
+                self.end(place.number);
+                Err(self.table.values().get_error(answer, slot))
+            }
+            Ok(held) => {
+                self.note(place.number);
+                Ok(Guard::new(self, held, place, slot))
+            }
         };
         drop_last(looked.freed);
         guard
@@ -216,7 +216,7 @@ impl<T> Reader<T> {
     }
 
     /// Ends the hold of a seat whose guard was forgotten. Returns the value if this closed it.
-    fn end_forgotten(&self, number: u32) -> Option<Box<Stored<T>>> {
+    fn end_forgotten(&self, number: u32) -> Option<Box<T>> {
         let values = self.table.values();
         let core = values.seats.looking[number as usize].core();
         // SAFETY: a guard borrows the reader, so none is alive: this seat's guard was forgotten,
@@ -229,7 +229,7 @@ impl<T> Reader<T> {
 
 impl<T> Drop for Reader<T> {
     fn drop(&mut self) {
-        let mut freed: Vec<Box<Stored<T>>> = Vec::new();
+        let mut freed: Vec<Box<T>> = Vec::new();
         while let Some(number) = self.others.get() {
             freed.extend(self.end_forgotten(number));
         }

@@ -1,6 +1,6 @@
 //! Seats: the workers of the core, and which of them are free.
 use super::core::{self, Core};
-use super::storage::Stored;
+use super::values::New;
 use crate::errors::{NoSeat, OpenError};
 use crate::options::Options;
 use std::cell::Cell;
@@ -319,9 +319,12 @@ impl Call<'_> {
     }
 
     /// Stores a value that the call installs.
-    pub(super) fn store<T>(&self, value: T) -> Box<Stored<T>> {
+    pub(super) fn store<T>(&self, value: T) -> New<T> {
         let seat = &self.seats.installing[self.number as usize];
-        Box::new((seat.numbers.take(), value))
+        New {
+            value: Box::new(value),
+            number: seat.numbers.take(),
+        }
     }
 }
 

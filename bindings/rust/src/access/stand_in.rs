@@ -6,7 +6,8 @@
 //! is 0 where the node is free, `BORN` less what was released while its file is in a slot, and 1
 //! and what is still held after that.
 use super::core::{
-    Core, AGAIN, BAD, BUSY, CLOSED, DONE, EMPTY, FULL, IDLE, IN_USE, NO_BLOCK, NO_SLOT, OTHER,
+    Core, Label, AGAIN, BAD, BUSY, CLOSED, DONE, EMPTY, FULL, IDLE, IN_USE, NO_BLOCK, NO_SLOT,
+    OTHER,
 };
 use super::core::{MOST_INSTALLING, MOST_SLOTS, MOST_WORKERS};
 use std::cell::UnsafeCell;
@@ -22,15 +23,16 @@ const EMPTIED: usize = 8;
 struct Table {
     slots: Vec<AtomicU64>,
     nodes: Vec<AtomicU64>,
-    // by node: written by who has the free node, read by who closes its file
-    tags: Vec<UnsafeCell<u64>>,
+    // the tag and the number by node: written by who has the free node, read by who holds its file or
+    // closes it
+    labels: Vec<UnsafeCell<(u64, u64)>>,
     // how many installations and removals there were
     changes: AtomicU64,
     block: usize,
 }
 
-// SAFETY: a tag is written before its node is installed and read after the last hold ended, which
-// the words order.
+// SAFETY: a label is written before its node is installed, read while the node is held and after the
+// last hold ended, and written again only after its node is free, which the words order.
 unsafe impl Sync for Table {}
 // SAFETY: as above.
 unsafe impl Send for Table {}
@@ -49,7 +51,7 @@ struct Worker {
 impl Table {
     fn close(&self, node: usize) -> u64 {
         // SAFETY: nobody holds the node, and it is free only after the store.
-        let tag = unsafe { *self.tags[node].get() };
+        let (tag, _) = unsafe { *self.labels[node].get() };
         self.nodes[node].store(0, SeqCst);
         tag
     }
@@ -127,28 +129,28 @@ impl Worker {
         self.next
     }
 
-    // Makes a node for the tag. Returns the word that installs it.
-    fn begin(&mut self, tag: u64) -> Option<u64> {
+    // Makes a node for the tag and the number. Returns the word that installs it.
+    fn begin(&mut self, tag: u64, number: u64) -> Option<u64> {
         let node = self.next()?;
         // SAFETY: the node is free, and this worker's.
-        unsafe { *self.table.tags[node].get() = tag };
+        unsafe { *self.table.labels[node].get() = (tag, number) };
         self.table.nodes[node].store(BORN, SeqCst);
         Some((node as u64 + 1) << 32)
     }
 
-    // Makes a node for the tag, to be installed at a slot. Returns the word that installs it, or
-    // the number of the reason why there is none.
-    fn begin_at(&mut self, slot: u32, tag: u64) -> Result<u64, i64> {
+    // Makes a node for the tag and the number, to be installed at a slot. Returns the word that
+    // installs it, or the number of the reason why there is none.
+    fn begin_at(&mut self, slot: u32, tag: u64, number: u64) -> Result<u64, i64> {
         if self.held.is_some() {
             return Err(BUSY);
         }
         if slot as usize >= self.table.slots.len() {
             return Err(NO_SLOT);
         }
-        self.begin(tag).ok_or(NO_BLOCK)
+        self.begin(tag, number).ok_or(NO_BLOCK)
     }
 
-    // Makes the node of a word that was not installed free again. It stays chosen.
+    // Makes the node of a word that was not installed free again. The worker's next file gets it.
     fn take_back(&self, word: u64) {
         self.table.nodes[(word >> 32) as usize - 1].store(0, SeqCst);
     }
@@ -236,7 +238,7 @@ pub(crate) unsafe fn yacht_core_open(
     let table = Arc::new(Table {
         slots: words(slots as usize),
         nodes: words(nodes),
-        tags: (0..nodes).map(|_| UnsafeCell::new(0)).collect(),
+        labels: (0..nodes).map(|_| UnsafeCell::new((0, 0))).collect(),
         changes: AtomicU64::new(0),
         block,
     });
@@ -262,23 +264,19 @@ pub(crate) unsafe fn yacht_core_close(handle: *mut Core) {
     drop(unsafe { Box::from_raw(handle.cast::<Worker>()) });
 }
 
-pub(crate) unsafe fn yacht_core_nodes(handle: *mut Core) -> i64 {
-    unsafe { worker(handle) }.table.nodes.len() as i64
-}
-
-pub(crate) unsafe fn yacht_core_next(handle: *mut Core) -> i64 {
-    unsafe { worker(handle) }
-        .next()
-        .map_or(NO_BLOCK, |node| node as i64)
-}
-
-pub(crate) unsafe fn yacht_core_look(handle: *mut Core, slot: u32, freed: *mut u64) -> i64 {
+pub(crate) unsafe fn yacht_core_look(handle: *mut Core, slot: u32, label: *mut Label) -> i64 {
     let it = unsafe { worker(handle) };
-    unsafe { *freed = 0 };
+    let label = unsafe { &mut *label };
+    *label = Label::default();
     if it.held.is_some() {
         return BUSY;
     }
-    it.look(slot as usize)
+    let answer = it.look(slot as usize);
+    if answer >= 0 {
+        // SAFETY: the worker holds the node, whose label was written before it was installed.
+        (label.tag, label.number) = unsafe { *it.table.labels[answer as usize].get() };
+    }
+    answer
 }
 
 pub(crate) unsafe fn yacht_core_release(handle: *mut Core, closed: *mut u64) -> i64 {
@@ -293,10 +291,11 @@ pub(crate) unsafe fn yacht_core_put(
     handle: *mut Core,
     slot: u32,
     tag: u64,
+    number: u64,
     closed: *mut u64,
 ) -> i64 {
     let it = unsafe { worker(handle) };
-    let word = match it.begin_at(slot, tag) {
+    let word = match it.begin_at(slot, tag, number) {
         Ok(word) => word,
         Err(number) => return number,
     };
@@ -308,12 +307,12 @@ pub(crate) unsafe fn yacht_core_put(
     }
 }
 
-pub(crate) unsafe fn yacht_core_put_any(handle: *mut Core, tag: u64) -> i64 {
+pub(crate) unsafe fn yacht_core_put_any(handle: *mut Core, tag: u64, number: u64) -> i64 {
     let it = unsafe { worker(handle) };
     if it.held.is_some() {
         return BUSY;
     }
-    let Some(word) = it.begin(tag) else {
+    let Some(word) = it.begin(tag, number) else {
         return NO_BLOCK;
     };
     let slot = it.round(word);
@@ -369,10 +368,11 @@ pub(crate) unsafe fn yacht_core_put_if(
     slot: u32,
     node: u32,
     tag: u64,
+    number: u64,
     closed: *mut u64,
 ) -> i64 {
     let it = unsafe { worker(handle) };
-    let word = match it.begin_at(slot, tag) {
+    let word = match it.begin_at(slot, tag, number) {
         Ok(word) => word,
         Err(number) => return number,
     };
@@ -388,19 +388,24 @@ pub(crate) unsafe fn yacht_core_put_if(
     }
 }
 
-pub(crate) unsafe fn yacht_core_put_empty(handle: *mut Core, slot: u32, tag: u64) -> i64 {
+pub(crate) unsafe fn yacht_core_put_empty(
+    handle: *mut Core,
+    slot: u32,
+    tag: u64,
+    number: u64,
+) -> i64 {
     let it = unsafe { worker(handle) };
-    let word = match it.begin_at(slot, tag) {
+    let word = match it.begin_at(slot, tag, number) {
         Ok(word) => word,
-        Err(number) => return number,
+        Err(answer) => return answer,
     };
-    let number = it.table.fill(slot as usize, word);
-    if number == DONE {
+    let answer = it.table.fill(slot as usize, word);
+    if answer == DONE {
         it.next = None;
     } else {
         it.take_back(word);
     }
-    number
+    answer
 }
 
 pub(crate) unsafe fn yacht_core_full(handle: *mut Core) -> i64 {

@@ -2,7 +2,6 @@
 use super::guard::OwnedGuard;
 use super::handle::Handle;
 use super::reader::Reader;
-use super::storage::Stored;
 use super::values::{drop_last, Looked, Values};
 use crate::errors::{GetError, NoSeat, OpenError, Reason, Refused, RemoveError};
 use crate::key::Key;
@@ -21,13 +20,11 @@ use std::sync::Arc;
 /// for the call.
 #[must_use = "a table is dropped with its last user"]
 pub struct Table<T> {
-    values: Arc<Values<Stored<T>>>,
+    values: Arc<Values<T>>,
 }
 
 // SAFETY: threads get references to values (`T: Sync`), and any of them may get a value to drop it
-// (`T: Send`). Places of `by_node` are written by the thread that installs the node's file before
-// it does, and read by those that hold that file (`looked`, `nodes_are_of_one_file`). A seat has
-// one user.
+// (`T: Send`). A seat has one user.
 unsafe impl<T: Send + Sync> Send for Table<T> {}
 // SAFETY: as above.
 unsafe impl<T: Send + Sync> Sync for Table<T> {}
@@ -59,7 +56,7 @@ impl<T> Table<T> {
     }
 
     #[inline]
-    pub(super) fn values(&self) -> &Values<Stored<T>> {
+    pub(super) fn values(&self) -> &Values<T> {
         &self.values
     }
 
@@ -144,13 +141,13 @@ impl<T> Table<T> {
         let seats = &self.values.seats;
         let place = seats.claim_guard().map_err(GetError::NoSeat)?;
         // SAFETY: the seat is this call's (one user).
-        let Looked { answer, freed } = unsafe { self.values.look(place.core, slot) };
-        let guard = if answer < 0 {
-            seats.give_back(place.number);
-            Err(self.values.get_error(answer, slot))
-        } else {
-            let held = self.values.held(answer);
-            Ok(OwnedGuard::new(self.clone(), held, place, slot))
+        let Looked { found, freed } = unsafe { self.values.look(place.core, slot) };
+        let guard = match found {
+            Err(answer) => {
+                seats.give_back(place.number);
+                Err(self.values.get_error(answer, slot))
+            }
+            Ok(held) => Ok(OwnedGuard::new(self.clone(), held, place, slot)),
         };
         drop_last(freed);
         guard
@@ -175,12 +172,12 @@ impl<T> Table<T> {
             Ok(call) => call,
             Err(error) => return Err(Refused::new(value, Reason::NoSeat(error))),
         };
-        let stored = call.store(value);
-        let number = stored.0;
+        let new = call.store(value);
+        let number = new.number;
         // SAFETY: the seat is this call's (one user).
-        match unsafe { self.values.insert(call.core(), stored) } {
+        match unsafe { self.values.insert(call.core(), new) } {
             Ok(slot) => Ok(Key::new(slot, number)),
-            Err(stored) => Err(Refused::new(stored.1, self.values.is_full())),
+            Err(value) => Err(Refused::new(*value, self.values.is_full())),
         }
     }
 
@@ -207,10 +204,10 @@ impl<T> Table<T> {
         };
         // SAFETY: the seat is this call's (one user).
         match unsafe { self.values.replace_at(call.core(), slot, call.store(value)) } {
-            Ok(old) => Ok(old.map(|it| it.1)),
-            Err(stored) => {
+            Ok(old) => Ok(old.map(|it| *it)),
+            Err(value) => {
                 let reason = Reason::NoSlot(self.values.no_slot(slot));
-                Err(Refused::new(stored.1, reason))
+                Err(Refused::new(*value, reason))
             }
         }
     }
@@ -235,7 +232,7 @@ impl<T> Table<T> {
         // SAFETY: the seat is this call's (one user).
         let old = unsafe { self.values.remove_at(call.core(), slot) };
         drop(call);
-        Ok(old?.map(|it| it.1))
+        Ok(old?.map(|it| *it))
     }
 
     /// Checks whether a slot has a value, by a seat for this call. A slot that the table hasn't has

@@ -2,7 +2,6 @@
 use super::guard::OwnedGuard;
 use super::keys::of_hold;
 use super::seats::Call;
-use super::storage::Stored;
 use super::table::Table;
 use super::values::{drop_last, Held, Looked, Values};
 use crate::errors::{GetError, Refused, RemoveError};
@@ -59,16 +58,16 @@ impl<T> Table<T> {
             Ok(hold) => hold,
             Err(error) => return Err(Refused::new(value, error.into())),
         };
-        let stored = hold.call.store(value);
-        let new = Key::new(key.slot(), stored.0);
+        let new = hold.call.store(value);
+        let fresh = Key::new(key.slot(), new.number);
         let (core, node) = (hold.call.core(), hold.held.node);
         // SAFETY: the seats are this call's (one user), and its other seat holds the file.
-        let replaced = unsafe { self.values().replace_held(core, key.slot(), node, stored) };
+        let replaced = unsafe { self.values().replace_held(core, key.slot(), node, new) };
         let last = hold.end();
         match replaced {
-            Ok(()) => Ok((new, of_hold(last).map(|it| it.1))),
-            Err((stored, error)) => {
-                let refused = Refused::new(stored.1, error.into());
+            Ok(()) => Ok((fresh, of_hold(last).map(|it| *it))),
+            Err((value, error)) => {
+                let refused = Refused::new(*value, error.into());
                 drop_last(last);
                 Err(refused)
             }
@@ -101,7 +100,7 @@ impl<T> Table<T> {
         let removed = unsafe { self.values().remove_held(core, key.slot(), node) };
         let last = hold.end();
         match removed {
-            Ok(()) => Ok(of_hold(last).map(|it| it.1)),
+            Ok(()) => Ok(of_hold(last).map(|it| *it)),
             Err(error) => {
                 drop_last(last);
                 Err(error.into())
@@ -114,16 +113,19 @@ impl<T> Table<T> {
         let (values, slot) = (self.values(), key.slot());
         let call = values.seats.claim_call().map_err(GetError::NoSeat)?;
         // SAFETY: the seat is this call's (one user).
-        let Looked { answer, freed } = unsafe { values.look(call.looker(), slot) };
-        if answer < 0 {
-            drop(call);
-            drop_last(freed);
-            return Err(values.get_error(answer, slot));
-        }
+        let Looked { found, freed } = unsafe { values.look(call.looker(), slot) };
+        let held = match found {
+            Ok(held) => held,
+            Err(answer) => {
+                drop(call);
+                drop_last(freed);
+                return Err(values.get_error(answer, slot));
+            }
+        };
         let hold = Hold {
             values,
             call,
-            held: values.held(answer),
+            held,
             freed,
         };
         if hold.is_of(key) {
@@ -136,22 +138,21 @@ impl<T> Table<T> {
 
 /// A value that the looking seat of a call of the table holds.
 struct Hold<'t, T> {
-    values: &'t Values<Stored<T>>,
+    values: &'t Values<T>,
     call: Call<'t>,
-    held: Held<Stored<T>>,
+    held: Held<T>,
     /// A value that the look-up was the last to use.
-    freed: Option<Box<Stored<T>>>,
+    freed: Option<Box<T>>,
 }
 
 impl<T> Hold<'_, T> {
     /// Checks whether the value has this key.
     fn is_of(&self, key: Key) -> bool {
-        // SAFETY: the core closes no file that is held (`no_close_while_held`, `has_one_history`).
-        key.is_of(unsafe { (*self.held.value).0 })
+        key.is_of(self.held.number)
     }
 
     /// Ends the hold, and gives the seats back. Returns the value if this closed it.
-    fn end(self) -> Option<Box<Stored<T>>> {
+    fn end(self) -> Option<Box<T>> {
         let Hold {
             values,
             call,

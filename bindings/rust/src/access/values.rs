@@ -1,32 +1,37 @@
 //! The values of a table, and the calls of the core on them.
-use super::core::{self, Core};
+use super::core::{self, Core, Label};
 use super::seats::Seats;
 use crate::errors::{Full, GetError, NoSlot, OpenError, Reason};
 use crate::old::Old;
 use crate::options::Options;
 use std::marker::PhantomData;
-use std::sync::atomic::{AtomicPtr, Ordering};
+use std::num::NonZeroU64;
 
 /// The part of a table that its users share.
 pub(super) struct Values<T> {
-    by_node: Box<[AtomicPtr<T>]>,
     pub(super) seats: Seats,
     slots: u32,
     _owns: PhantomData<T>,
 }
 
-/// A value that a seat holds: its address, and the node of its file.
+/// A value that a seat holds: its address, the node of its file, and its number.
 pub(super) struct Held<T> {
     pub(super) value: *const T,
     pub(super) node: u32,
+    pub(super) number: Option<NonZeroU64>,
 }
 
-/// The result of a look-up: the node of the file that the seat holds now, or the core's number of
-/// the reason why there is no value, which is negative; and a value that this look-up was the last
-/// to use.
+/// The result of a look-up: the value that the seat holds now, or the core's number of the reason
+/// why there is none; and a value that this look-up was the last to use.
 pub(super) struct Looked<T> {
-    pub(super) answer: i64,
+    pub(super) found: Result<Held<T>, i64>,
     pub(super) freed: Option<Box<T>>,
+}
+
+/// A value that a call is about to install, with its number.
+pub(super) struct New<T> {
+    pub(super) value: Box<T>,
+    pub(super) number: Option<NonZeroU64>,
 }
 
 /// The reason why a round of an installation at any slot installed nothing.
@@ -56,22 +61,25 @@ pub(super) fn drop_last<T>(freed: Option<Box<T>>) {
 /// never installed.
 unsafe fn value_of<T>(tag: u64) -> Box<T> {
     order::acquire(tag);
-    // SAFETY: the tag is the address of a box (`Values::prepare`), and no other call gets it
+    // SAFETY: the tag is the address of a box (`label_of`), and no other call gets it
     // (`closed_at_most_once`, `has_one_history`).
     unsafe { Box::from_raw(tag as usize as *mut T) }
+}
+
+// Returns the tag and the number of a value that is about to be installed. The tag is the address
+// of its box.
+#[inline]
+fn label_of<T>(new: New<T>) -> (u64, u64) {
+    let tag = Box::into_raw(new.value) as usize as u64;
+    order::release(tag);
+    (tag, new.number.map_or(0, NonZeroU64::get))
 }
 
 impl<T> Values<T> {
     /// Opens a table of empty slots.
     pub(super) fn open(options: &Options) -> Result<Values<T>, OpenError> {
-        let seats = Seats::open(options)?;
-        // SAFETY: the core's worker is of a seat that nobody uses.
-        let nodes = unsafe { core::yacht_core_nodes(seats.installing[0].core()) };
         Ok(Values {
-            by_node: (0..nodes)
-                .map(|_| AtomicPtr::new(std::ptr::null_mut()))
-                .collect(),
-            seats,
+            seats: Seats::open(options)?,
             slots: options.slots,
             _owns: PhantomData,
         })
@@ -105,26 +113,23 @@ impl<T> Values<T> {
     /// The core's worker is of a seat that the caller has (one user). It holds nothing.
     #[inline]
     pub(super) unsafe fn look(&self, core: *mut Core, slot: u32) -> Looked<T> {
-        let mut freed = 0;
+        let mut label = Label::default();
         // SAFETY: no other call uses the core's worker meanwhile.
-        let answer = unsafe { core::yacht_core_look(core, slot, &mut freed) };
+        let answer = unsafe { core::yacht_core_look(core, slot, &mut label) };
         // SAFETY: this look-up was overtaken, and the core closed this file in it (`looked`).
-        let freed = (freed != 0).then(|| unsafe { value_of(freed) });
-        Looked { answer, freed }
-    }
-
-    /// Returns what a seat holds whose look-up had this answer, which is a node.
-    #[inline]
-    pub(super) fn held(&self, answer: i64) -> Held<T> {
-        // The address was written before the file was installed on this node (`placed`,
-        // `allocated`), and stays while the file is held: nobody chooses the node until then
-        // (`chosen_nodes_are_free`, `nodes_are_of_one_file`).
-        let value = self.by_node[answer as usize].load(Ordering::Relaxed);
-        order::acquire(value as usize as u64);
-        Held {
-            value: value.cast_const(),
-            node: answer as u32,
-        }
+        let freed = (label.freed != 0).then(|| unsafe { value_of(label.freed) });
+        let found = if answer < 0 {
+            Err(answer)
+        } else {
+            order::acquire(label.tag);
+            // The tag and the number are those of the file that the worker holds (`looked`).
+            Ok(Held {
+                value: label.tag as usize as *const T,
+                node: answer as u32,
+                number: NonZeroU64::new(label.number),
+            })
+        };
+        Looked { found, freed }
     }
 
     /// Returns the error of a look-up that has this number of the core.
@@ -159,27 +164,12 @@ impl<T> Values<T> {
     /// As of `look`.
     pub(super) unsafe fn sees(&self, core: *mut Core, slot: u32) -> (bool, [Option<Box<T>>; 2]) {
         // SAFETY: as the caller ensures.
-        let Looked { answer, freed } = unsafe { self.look(core, slot) };
-        if answer < 0 {
+        let Looked { found, freed } = unsafe { self.look(core, slot) };
+        let Ok(Held { value, .. }) = found else {
             return (false, [None, freed]);
-        }
-        let value = self.held(answer).value;
+        };
         // SAFETY: the seat holds this value, to which there is no reference.
         (true, [unsafe { self.release(core, value) }, freed])
-    }
-
-    // Writes the address of a value where the next installation puts its file. Returns the tag.
-    #[inline]
-    unsafe fn prepare(&self, core: *mut Core, value: Box<T>) -> u64 {
-        let address = Box::into_raw(value);
-        // SAFETY: no other call uses the core's worker meanwhile, which installs.
-        let node = unsafe { core::yacht_core_next(core) };
-        // The seat has chosen this node (`chosen`), so no open file is on it, and no other seat
-        // chooses it (`chosen_nodes_are_free`): until this seat's installation nobody reads the
-        // place. A round that installs nothing keeps the choice (`allocated`).
-        self.by_node[node as usize].store(address, Ordering::Relaxed);
-        order::release(address as usize as u64);
-        address as usize as u64
     }
 
     /// Installs a value at a slot. Returns what was there, or `Err` with the value if there is no
@@ -193,16 +183,15 @@ impl<T> Values<T> {
         &self,
         core: *mut Core,
         slot: u32,
-        value: Box<T>,
+        new: New<T>,
     ) -> Result<Old<Box<T>>, Box<T>> {
         if slot >= self.slots {
-            return Err(value);
+            return Err(new.value);
         }
-        // SAFETY: as the caller ensures.
-        let tag = unsafe { self.prepare(core, value) };
+        let (tag, number) = label_of(new);
         let mut closed = 0;
         // SAFETY: no other call uses the core's worker meanwhile.
-        match unsafe { core::yacht_core_put(core, slot, tag, &mut closed) } {
+        match unsafe { core::yacht_core_put(core, slot, tag, number, &mut closed) } {
             // SAFETY: the core closed this file in this call (`placed`).
             core::CLOSED => Ok(Old::Unused(unsafe { value_of(closed) })),
             core::IN_USE => Ok(Old::InUse),
@@ -220,12 +209,11 @@ impl<T> Values<T> {
     pub(super) unsafe fn try_insert(
         &self,
         core: *mut Core,
-        value: Box<T>,
+        new: New<T>,
     ) -> Result<u32, (Box<T>, Round)> {
-        // SAFETY: as the caller ensures.
-        let tag = unsafe { self.prepare(core, value) };
+        let (tag, number) = label_of(new);
         // SAFETY: no other call uses the core's worker meanwhile.
-        let answer = unsafe { core::yacht_core_put_any(core, tag) };
+        let answer = unsafe { core::yacht_core_put_any(core, tag, number) };
         if answer >= 0 {
             return Ok(answer as u32);
         }
@@ -244,12 +232,11 @@ impl<T> Values<T> {
     /// # Safety
     /// As of `replace_at`.
     #[inline]
-    pub(super) unsafe fn insert(&self, core: *mut Core, value: Box<T>) -> Result<u32, Box<T>> {
-        // SAFETY: as the caller ensures.
-        let tag = unsafe { self.prepare(core, value) };
+    pub(super) unsafe fn insert(&self, core: *mut Core, new: New<T>) -> Result<u32, Box<T>> {
+        let (tag, number) = label_of(new);
         loop {
             // SAFETY: no other call uses the core's worker meanwhile.
-            let answer = unsafe { core::yacht_core_put_any(core, tag) };
+            let answer = unsafe { core::yacht_core_put_any(core, tag, number) };
             if answer >= 0 {
                 return Ok(answer as u32);
             }
@@ -271,12 +258,11 @@ impl<T> Values<T> {
         &self,
         core: *mut Core,
         slot: u32,
-        value: Box<T>,
+        new: New<T>,
     ) -> Result<(), Box<T>> {
-        // SAFETY: as the caller ensures.
-        let tag = unsafe { self.prepare(core, value) };
+        let (tag, number) = label_of(new);
         // SAFETY: no other call uses the core's worker meanwhile.
-        match unsafe { core::yacht_core_put_empty(core, slot, tag) } {
+        match unsafe { core::yacht_core_put_empty(core, slot, tag, number) } {
             core::DONE => Ok(()),
             // SAFETY: the core installed nothing, so the value is still this call's (`placed`).
             _ => Err(unsafe { value_of(tag) }),
@@ -352,16 +338,16 @@ impl<T> Values<T> {
         core: *mut Core,
         slot: u32,
         node: u32,
-        value: Box<T>,
+        new: New<T>,
     ) -> Result<(), (Box<T>, GetError)> {
-        // SAFETY: as the caller ensures.
-        let tag = unsafe { self.prepare(core, value) };
+        let (tag, number) = label_of(new);
         #[cfg(test)]
         super::tests::meanwhile();
         loop {
             let mut closed = 0;
             // SAFETY: no other call uses the core's worker meanwhile.
-            let answer = unsafe { core::yacht_core_put_if(core, slot, node, tag, &mut closed) };
+            let answer =
+                unsafe { core::yacht_core_put_if(core, slot, node, tag, number, &mut closed) };
             if answer != core::AGAIN {
                 // SAFETY: if the core refused the file, it was never installed (`placed`).
                 return of_held(answer, slot).map_err(|error| (unsafe { value_of(tag) }, error));

@@ -1,6 +1,7 @@
 //! Installations of a value that is made from its key.
 use super::handle::Handle;
 use super::storage;
+use super::values::New;
 use crate::errors::Full;
 use crate::key::Key;
 
@@ -54,15 +55,15 @@ impl<T> Handle<T> {
             };
             let number = self.next_number();
             let key = Key::new(slot, number);
-            let stored = storage::put(&self.spare, (number, make(key)));
+            let value = storage::put(&self.spare, make(key));
             let (values, core) = self.parts();
             // SAFETY: as above. The slot was looked up, so it is one of the table.
-            match unsafe { values.insert_at(core, slot, stored) } {
+            match unsafe { values.insert_at(core, slot, New { value, number }) } {
                 Ok(()) => {
                     self.begin.set((slot + 1) % values.slots());
                     return Ok(key);
                 }
-                Err(stored) => drop(storage::take(&self.spare, stored)),
+                Err(value) => drop(storage::take(&self.spare, value)),
             }
         }
     }

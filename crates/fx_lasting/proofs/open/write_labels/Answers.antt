@@ -1,4 +1,4 @@
-use Rattle.fx_lasting.proofs.Words.{◌≡◌, ◌∙◌, ◌<◌, ap, sym, arith, Some, None, Closed, Option}
+use Rattle.fx_lasting.proofs.Words.{◌≡◌, ◌∙◌, ◌<◌, ap, sym, arith, None}
 use Rattle.fx_table.specs.Shells.{file_in_place}
 use Rattle.std.proofs.lemmas.List.{get_or_default}
 use Rattle.fx_lasting.proofs.Words.{number_of_mark}

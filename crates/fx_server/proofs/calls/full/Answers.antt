@@ -7,6 +7,6 @@ returns c = record {
     answer = c.full.result;
     good = c.full.ensures.good;
     told = c.full.ensures.told;
-    its_number = search rules;
+    its_code = search rules;
   };
 }

@@ -1,4 +1,3 @@
-use Rattle.std.proofs.Common.{rules}
 use Rattle.fx_server.proofs.calls.look.Goals as goal
 
 pub returns : goal.returns
@@ -7,7 +6,7 @@ returns c = record {
     look = c.look-look.result;
     good = c.look-look.ensures.good;
     looked = c.look-look.ensures.looked;
-    its_number = search rules;
-    its_tag = c.tag_or_zero.ensures;
+    its_answer = c.found_node.ensures;
+    its_label = c.label_in.ensures;
   };
 }

@@ -7,7 +7,7 @@ returns c = record {
     result = c.put-put.result;
     good = c.put-put.ensures.good;
     placed = c.put-put.ensures.placed;
-    its_number = search rules;
+    its_answer = search rules;
     its_tag = c.removal_tag.ensures;
   };
 }

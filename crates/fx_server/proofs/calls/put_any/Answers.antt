@@ -7,6 +7,6 @@ returns c = record {
     result = c.put_any.result;
     good = c.put_any.ensures.good;
     allocated = c.put_any.ensures.allocated;
-    its_number = search rules;
+    its_answer = search rules;
   };
 }

@@ -7,6 +7,6 @@ returns c = record {
     result = c.put_empty.result;
     good = c.put_empty.ensures.good;
     placed = c.put_empty.ensures.placed;
-    its_number = search rules;
+    its_answer = search rules;
   };
 }

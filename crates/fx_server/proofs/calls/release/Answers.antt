@@ -7,7 +7,7 @@ returns c = record {
     result = c.release-released.result;
     good = c.release-released.ensures.good;
     released = c.release-released.ensures.released;
-    its_number = search rules;
+    its_answer = search rules;
     its_tag = c.released_tag.ensures;
   };
 }

@@ -7,7 +7,7 @@ returns c = record {
     result = c.take_if-taken.result;
     good = c.take_if-taken.ensures.good;
     removed = c.take_if-taken.ensures.removed;
-    its_number = search rules;
+    its_answer = search rules;
     its_tag = c.removal_tag.ensures;
   };
 }

@@ -1,6 +1,6 @@
 use Rattle.fx_lasting.proofs.Births.{births_keep}
 use Rattle.fx_lasting.proofs.Calling.{node_inside, node_word}
-use Rattle.fx_lasting.proofs.Words.{◌≡◌, ℕ, ap, ◌∙◌, subst, arith, [], Work, Placing, Label, Runs, number_of_mark}
+use Rattle.fx_lasting.proofs.Words.{◌≡◌, ℕ, ap, ◌∙◌, subst, [], Placing, Label, Runs, number_of_mark}
 use Rattle.fx_lasting.proofs.Running.{its_inside, still_at_work, runs_one, runs_carried, does_then}
 use Rattle.fx_lasting.proofs.table.LastingTable.put_in.Goals as goal
 

@@ -42,10 +42,10 @@ pub loop-preserved : goal.loop-preserved
 loop-preserved c = let s = c.loop.invariant.still in let len = c.args.self.now.range_len in record {
   table = c.try_group.ensures.table ∙ c.loop.invariant.table;
   group = omega arith;
-  still = (s.0 + group_steps len, group_more len c.loop.counter s.0 s.1, still_then s.2 (c.try_group.ensures.none c.in-None.is));
+  still = (s.0 + group_steps len, group_more len c.loop.counter s.0 s.1, still_then c.args.file s.2 (c.try_group.ensures.none c.in-None.is));
 }
 
 pub returns-clause-none : goal.returns-clause-none
 returns-clause-none c none = let s = c.loop.invariant.still in let len = c.args.self.now.range_len in
-    still_within (omega (arith, groups_most len c.loop.counter s.0 (groups_in len) (omega (arith, c.loop.auto.counter-end, c.groups_in-groups.ensures)) s.1))
-    (still_then (first_still (goal.at.returns-clause-none c).Else-try_slot) s.2)
+    still_within c.args.file (omega (arith, groups_most len c.loop.counter s.0 (groups_in len) (omega (arith, c.loop.auto.counter-end, c.groups_in-groups.ensures)) s.1))
+    (still_then c.args.file (first_still (goal.at.returns-clause-none c).Else-try_slot) s.2)

@@ -1,4 +1,4 @@
-use Rattle.fx_lasting.proofs.Words.{◌∙◌, ◌≡◌, ap}
+use Rattle.fx_lasting.proofs.Words.{◌∙◌}
 use Rattle.fx_lasting.proofs.Calling.{tag_inside, tag_word, number_inside, number_word}
 use Rattle.fx_lasting.proofs.Labelling.{tags_keep, numbers_keep}
 use Rattle.fx_lasting.proofs.Running.{its_inside, still_at_work, runs_goes, does_then}

@@ -1,4 +1,4 @@
-use Rattle.fx_lasting.proofs.Words.{◌≡◌, ◌∙◌, ◌<◌, ⊎_elim, nodes_of, refl}
+use Rattle.fx_lasting.proofs.Words.{⊎_elim}
 use Rattle.fx_lasting.proofs.Calling.{tag_inside, tag_word}
 use Rattle.fx_lasting.proofs.Labelling.{reads_tag_keep}
 use Rattle.fx_lasting.proofs.Passing.{holds_on}

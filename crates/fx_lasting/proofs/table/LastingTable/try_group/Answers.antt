@@ -27,11 +27,11 @@ returns-then-try_slot-clause-found c = let s = c.loop-slot.invariant.still in le
 pub loop-slot-preserved : goal.loop-slot-preserved
 loop-slot-preserved c = let s = c.loop-slot.invariant.still in record {
   table = c.try_slot.ensures.table ∙ c.loop-slot.invariant.table;
-  still = (s.0 + 3, omega (arith, s.1, c.loop-slot.auto.slot), still_then s.2 (rw c.if-try_slot.false at c.try_slot.ensures.tries));
+  still = (s.0 + 3, omega (arith, s.1, c.loop-slot.auto.slot), still_then c.args.file s.2 (rw c.if-try_slot.false at c.try_slot.ensures.tries));
 }
 
 pub returns-clause-none : goal.returns-clause-none
 returns-clause-none c none = let s = c.loop-slot.invariant.still in let goes = c.load-word.ensures.2.goes in
     let before : StillPlaces c.args.node c.args.file 1 c.args.seat.now.me c.load-word.new.seat.me = (peeked c.requires.placing goes, goes.carried) in
-    still_within (omega (arith, s.1, c.loop-slot.auto.slot, c.loop-slot.auto.slot-end, c.group_len-len.ensures, group_short c.args.self.now.range_len c.args.group))
-    (still_then before s.2)
+    still_within c.args.file (omega (arith, s.1, c.loop-slot.auto.slot, c.loop-slot.auto.slot-end, c.group_len-len.ensures, group_short c.args.self.now.range_len c.args.group))
+    (still_then c.args.file before s.2)
