@@ -10,11 +10,11 @@
 #include <yachtbanyan.h>
 #include "core.h"
 
-int64_t __real_yacht_core_look(yacht_core *, uint32_t, uint64_t *);
-int64_t __real_yacht_core_put(yacht_core *, uint32_t, uint64_t, uint64_t *);
-int64_t __real_yacht_core_put_any(yacht_core *, uint64_t);
+int64_t __real_yacht_core_look(yacht_core *, uint32_t, yacht_label *);
+int64_t __real_yacht_core_put(yacht_core *, uint32_t, uint64_t, uint64_t, uint64_t *);
+int64_t __real_yacht_core_put_any(yacht_core *, uint64_t, uint64_t);
 int64_t __real_yacht_core_take_if(yacht_core *, uint32_t, uint32_t, uint64_t *);
-int64_t __real_yacht_core_put_if(yacht_core *, uint32_t, uint32_t, uint64_t, uint64_t *);
+int64_t __real_yacht_core_put_if(yacht_core *, uint32_t, uint32_t, uint64_t, uint64_t, uint64_t *);
 
 static int values[8], dropped[8], rounds_to_refuse, calls_to_refuse;
 static yacht_handle *a, *b, *c;
@@ -36,22 +36,22 @@ static void look_from_b(uint32_t slot) {
     WANT(yacht_release(b) == YACHT_DONE);
 }
 
-int64_t __wrap_yacht_core_look(yacht_core *worker, uint32_t slot, uint64_t *freed) {
-    int64_t answer = __real_yacht_core_look(worker, slot, freed);
-    if (overtaken) *freed = (uint64_t)(uintptr_t)overtaken;
+int64_t __wrap_yacht_core_look(yacht_core *worker, uint32_t slot, yacht_label *label) {
+    int64_t answer = __real_yacht_core_look(worker, slot, label);
+    if (overtaken) label->freed = (uint64_t)(uintptr_t)overtaken;
     overtaken = NULL;
     return answer;
 }
 
-int64_t __wrap_yacht_core_put(yacht_core *worker, uint32_t slot, uint64_t tag, uint64_t *closed) {
-    int64_t answer = __real_yacht_core_put(worker, slot, tag, closed);
+int64_t __wrap_yacht_core_put(yacht_core *worker, uint32_t slot, uint64_t tag, uint64_t number, uint64_t *closed) {
+    int64_t answer = __real_yacht_core_put(worker, slot, tag, number, closed);
     look_from_b(slot);
     return answer;
 }
 
-int64_t __wrap_yacht_core_put_any(yacht_core *worker, uint64_t tag) {
+int64_t __wrap_yacht_core_put_any(yacht_core *worker, uint64_t tag, uint64_t number) {
     if (rounds_to_refuse && rounds_to_refuse--) return YACHT_AGAIN;
-    int64_t answer = __real_yacht_core_put_any(worker, tag);
+    int64_t answer = __real_yacht_core_put_any(worker, tag, number);
     if (answer >= 0) look_from_b((uint32_t)answer);
     return answer;
 }
@@ -69,10 +69,11 @@ int64_t __wrap_yacht_core_take_if(yacht_core *worker, uint32_t slot, uint32_t no
     return __real_yacht_core_take_if(worker, slot, node, closed);
 }
 
-int64_t __wrap_yacht_core_put_if(yacht_core *worker, uint32_t slot, uint32_t node, uint64_t tag, uint64_t *closed) {
+int64_t __wrap_yacht_core_put_if(yacht_core *worker, uint32_t slot, uint32_t node, uint64_t tag, uint64_t number,
+                                 uint64_t *closed) {
     changes_the_slot(slot);
     if (calls_to_refuse && calls_to_refuse--) return YACHT_AGAIN;
-    int64_t answer = __real_yacht_core_put_if(worker, slot, node, tag, closed);
+    int64_t answer = __real_yacht_core_put_if(worker, slot, node, tag, number, closed);
     if (answer >= 0) look_from_b(slot);
     return answer;
 }

@@ -3,7 +3,7 @@ use Rattle.std.specs.Prelude.{◌≡◌, ℕ, ℤ, pos, Option, Some, None, Resu
 use Rattle.fx_server.specs.Workers.{IsGood, LooksUp, ReleasesHeld, Puts, PutsAny, RemovesFrom}
 use Rattle.fx_server.specs.Workers.{RemovesIf, PutsIf, PutsEmpty, ReportsFull}
 use Rattle.fx_server.specs.declared.answers.CoreLabel.{CoreLabel}
-use Rattle.fx_server.specs.declared.answers.Found.{Found}
+use Rattle.fx_server.specs.declared.answers.FoundFile.{FoundFile}
 use Rattle.fx_server.specs.declared.answers.LookAnswer.{LookAnswer}
 use Rattle.fx_server.specs.declared.answers.ServerRefusal.{ServerRefusal}
 use Rattle.fx_server.specs.declared.answers.ServerRefusal.TheVariants as refusal
@@ -41,15 +41,15 @@ tag_or_zero None = 0
 tag_or_zero (Some tag) = tag
 
 -- of a look-up: the node, and the tag and the number of the file, or 0
-abbrev pub found_node : Result Found ServerRefusal → ℤ
+abbrev pub found_node : Result FoundFile ServerRefusal → ℤ
 found_node (Ok found) = pos found.node
 found_node (Err reason) = refusal_code reason
 
-abbrev pub found_tag : Result Found ServerRefusal → ℕ
+abbrev pub found_tag : Result FoundFile ServerRefusal → ℕ
 found_tag (Ok found) = found.tag
 found_tag (Err _) = 0
 
-abbrev pub found_number : Result Found ServerRefusal → ℕ
+abbrev pub found_number : Result FoundFile ServerRefusal → ℕ
 found_number (Ok found) = found.number
 found_number (Err _) = 0
 

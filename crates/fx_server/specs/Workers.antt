@@ -31,7 +31,7 @@ use Rattle.fx_lasting.specs.declared.table.LastingTable.{LastingTable}
 use Rattle.fx_lasting.specs.Vacant.{HasPutEmpty}
 use Rattle.fx_lasting.specs.declared.view.Start.{Start}
 use Rattle.fx_server.specs.Files.{file_with}
-use Rattle.fx_server.specs.declared.answers.Found.{Found}
+use Rattle.fx_server.specs.declared.answers.FoundFile.{FoundFile}
 use Rattle.fx_server.specs.declared.answers.LookAnswer.{LookAnswer}
 use Rattle.fx_server.specs.declared.answers.ServerRefusal.{ServerRefusal}
 use Rattle.fx_server.specs.declared.answers.ServerRefusal.TheVariants.{Empty, NoSlot, Busy}
@@ -95,20 +95,21 @@ abbrev pub HasNoBlock : TableWorker → TableWorker → Type 0
 HasNoBlock w w' = ((its_pass w).numbers_left ≡ 0) × (w' ≡ w)
 
 -- the file that the pass holds by this hold has this tag and this number
-abbrev pub HasLabel : PassView → Hold → Found → Type 0
+abbrev pub HasLabel : PassView → Hold → FoundFile → Type 0
 HasLabel v hold found = (f : File) → v.doing ≡ Holding f hold
     → (found.tag ≡ f.identity.tag) × (found.number ≡ number_of_mark f.identity.mark)
 
 -- the hold that a look-up returned is noted, and its file is returned
-abbrev pub Notes : PassView → Result Hold TableFault → Result Found ServerRefusal → Option Held
+abbrev pub Notes : PassView → Result Hold TableFault → Result FoundFile ServerRefusal → Option Held
     → Type 0
-Notes v (Ok hold) result held = (found : Found) × (result ≡ Ok found) × (found.node ≡ hold.node)
+Notes v (Ok hold) result held = (found : FoundFile) × (result ≡ Ok found) × (found.node ≡ hold.node)
     × (held ≡ Some (record { node = hold.node; entry = hold.entry })) × HasLabel v hold found
 Notes v (Err _) result held = (result ≡ Err Empty) × (held ≡ None)
 
 -- a look-up: the node that is returned is that of the hold that the worker has now, and the tag and
 -- the number are those of the file that it holds
-abbrev pub Finds : TableWorker → ℕ → Result Found ServerRefusal → Option ℕ → TableWorker → Type 0
+abbrev pub Finds : TableWorker → ℕ → Result FoundFile ServerRefusal → Option ℕ → TableWorker
+    → Type 0
 Finds w slot (Ok found) freed w' = (held : Held) × (held.node ≡ found.node)
     × (w'.held ≡ Some held) × LooksAt w slot (Ok (hold_in held)) freed w'
     × HasLabel (its_pass w') (hold_in held) found

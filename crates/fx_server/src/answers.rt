@@ -55,7 +55,7 @@ impl ServerRefusal {
 
 /// The file that a look-up found.
 #[derive(Clone, Copy)]
-pub struct Found {
+pub struct FoundFile {
     /// Its node.
     pub node: u32,
     /// Its tag.
@@ -68,7 +68,7 @@ pub struct Found {
 #[derive(Clone, Copy)]
 pub struct LookAnswer {
     /// The file at the slot, which the worker holds from now on; or `Empty`, `NoSlot` or `Busy`.
-    pub found: Result<Found, ServerRefusal>,
+    pub found: Result<FoundFile, ServerRefusal>,
     /// The tag of a removed file that this look-up was the last to use.
     pub freed: Option<u64>,
 }

@@ -2,7 +2,7 @@
 ghost use Rattle.std.specs.Prelude.{◌≡◌};
 ghost use Rattle.fx_server.specs.Answers.{answer_number, done_number, found_node, label_in, release_number, released_tag, removal_number, removal_tag, tag_or_zero};
 
-use crate::answers::{CoreLabel, Found, LookAnswer, Removal, ServerRefusal};
+use crate::answers::{CoreLabel, FoundFile, LookAnswer, Removal, ServerRefusal};
 use crate::codes::{CLOSED, DONE, IN_USE};
 
 /// Returns the number of a call that returns a slot, or the refusal's.
@@ -18,7 +18,7 @@ pub fn answer_number(answer: Result<u32, ServerRefusal>) -> i64
 
 /// Returns the node that a look-up found, or the refusal's number.
 #[inline(always)]
-pub fn found_node(found: Result<Found, ServerRefusal>) -> i64
+pub fn found_node(found: Result<FoundFile, ServerRefusal>) -> i64
     ensures { result ≡ found_node found }
 {
     match found {

@@ -8,7 +8,7 @@ ghost use Rattle.fx_server.specs.Workers.{IsGood, LooksUp, Notes, ReleasesHeld, 
 ghost use Rattle.fx_server.specs.Workers.{PutsIf, RemovesFrom, RemovesIf, RetiresAs, its_opening, its_pass};
 ghost use Rattle.fx_server.specs.Workers.{its_table, refusal_for, PutsEmpty, ReportsFull};
 
-use crate::answers::{Found, LookAnswer, Removal, ServerRefusal};
+use crate::answers::{FoundFile, LookAnswer, Removal, ServerRefusal};
 use crate::shared::Shared;
 use fx_base::OpenFile;
 use fx_lasting::{
@@ -350,7 +350,7 @@ fn note(
     pass: &mut LastingPass,
     held: &mut Option<Held>,
     found: Result<Hold, Fault>,
-) -> Result<Found, ServerRefusal>
+) -> Result<FoundFile, ServerRefusal>
     requires fits { IsPassOfTable table.now pass.old }
     requires holds { IfOk found (λ hold. IsHoldOf (view_of pass.old) hold) }
     ensures fits { IsPassOfTable table.now pass.new }
@@ -363,7 +363,7 @@ fn note(
             let number = table.number_of(pass, &hold);
             let Hold { node, entry } = hold;
             *held = Some(Held { node, entry });
-            Ok(Found { node, tag, number })
+            Ok(FoundFile { node, tag, number })
         }
         Err(_) => {
             *held = None;

@@ -23,16 +23,16 @@ const EMPTIED: usize = 8;
 struct Table {
     slots: Vec<AtomicU64>,
     nodes: Vec<AtomicU64>,
-    // the tag and the number by node: written by who has the free node, read by who holds its file or
-    // closes it
+    // the tag and the number by node: written by who has the free node, read by who holds its file
+    // or closes it
     labels: Vec<UnsafeCell<(u64, u64)>>,
     // how many installations and removals there were
     changes: AtomicU64,
     block: usize,
 }
 
-// SAFETY: a label is written before its node is installed, read while the node is held and after the
-// last hold ended, and written again only after its node is free, which the words order.
+// SAFETY: a label is written before its node is installed, read while the node is held and after
+// the last hold ended, and written again only after its node is free, which the words order.
 unsafe impl Sync for Table {}
 // SAFETY: as above.
 unsafe impl Send for Table {}
