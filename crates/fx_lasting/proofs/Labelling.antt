@@ -1,9 +1,9 @@
 -- A pass stores the label of the file that it places, and loads that of the file that it holds.
-use Rattle.fx_lasting.proofs.Words.{◌≡◌, ◌≢◌, ℕ, ◌+◌, ◌<◌, ◌≤◌, List, [], set, sym, refl, ap, ◌∙◌, subst, arith, Option, Some, None, inr, ⊎_elim}
+use Rattle.fx_lasting.proofs.Words.{◌≡◌, ◌≢◌, ℕ, ◌<◌, ◌≤◌, List, [], set, sym, refl, ap, ◌∙◌, subst, arith, Option, Some, None, inr, ⊎_elim}
 use Rattle.fx_lasting.proofs.Words.{none, keeps, step, length-set, get_or-set_other, get_or-set_same, Closed, File, Agrees, WorkAgrees, HoldsAt, Labels}
 use Rattle.fx_lasting.proofs.Words.{slots_of, nodes_of, slot_place, group_place, list_place, question_place, word_of, hold_word_of, tag_word_of}
 use Rattle.fx_lasting.proofs.Words.{number_word_of, held_in, if_file, taken_of, taking, HoldsOn, Phase, placed, owner, file_in, removed_in, written_in}
-use Rattle.fx_lasting.proofs.Words.{changed_here, sum_set, Work, Placing, Written, Unlabelled, Tag, Label, label_of, number_of_mark, Goes, Start, Log, first_log}
+use Rattle.fx_lasting.proofs.Words.{changed_here, sum_set, Work, Placing, Written, Unlabelled, Tag, Label, label_of, number_of_mark, Goes, Log, first_log}
 use Rattle.fx_lasting.proofs.Words.{Tags, Numbers, ReadsTag, ReadsNumber, TagsKeep, NumbersKeep, ReadsTagKeep, ReadsNumberKeep}
 use Rattle.fx_lasting.proofs.Histories.{grows_none, each_changed}
 use Rattle.fx_lasting.proofs.Frames.{busy, does_now, written_of}
