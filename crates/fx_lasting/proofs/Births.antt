@@ -1,34 +1,26 @@
--- A pass finds a free node of its block, takes its place, and lays a node to rest.
+-- A pass finds a free node of its stock, takes its place, and lays a node to rest.
 use Rattle.fx_lasting.proofs.Words.{◌≡◌, ◌≢◌, ℕ, ◌+◌, ◌-◌, ◌*◌, ◌<◌, ◌≤◌, List, [], ◌∷◌, set, sym, refl, ap, ◌∙◌, subst, arith, Option, Some, None}
-use Rattle.fx_lasting.proofs.Words.{none, some, keeps, takes, gives, rest, set_here, set_else, Closed, WorkAgrees, MayBeUnmarked, IsInBlock, slots_of}
+use Rattle.fx_lasting.proofs.Words.{none, some, keeps, takes, gives, rest, set_here, set_else, Closed, WorkAgrees, MayBeUnmarked, slots_of}
 use Rattle.fx_lasting.proofs.Words.{nodes_of, word_of, hold_word_of, held_in, if_file, taken_of, taking, owed, Phase, free, placed, seated, leaving}
 use Rattle.fx_lasting.proofs.Words.{retired, emptied, owner, file_in, removed_in, changed_here, Log, Work, Idle, Searching, Placing, Emptying, Seeks}
 use Rattle.fx_lasting.proofs.Words.{Births, Rests, SeeksKeep, BirthsKeep, RestsKeep, birth_word, step, inl, inr, ⊎_elim, dite, ℕ_discrete, sum_by}
-use Rattle.fx_lasting.proofs.Words.{sum_set, length-set, block_for, block_start, Start, mul-le-mul_right, Agrees, zero, suc, first_log}
+use Rattle.fx_lasting.proofs.Words.{sum_set, length-set, Start, Agrees, first_log}
 use Rattle.fx_lasting.proofs.Histories.{grows_none, each_changed}
 use Rattle.fx_lasting.proofs.Frames.{busy, does_now}
-use Rattle.fx_lasting.proofs.Keeping.{Turn, turn_of, After, Homes, word_at, slot_word, Made, by_turn, its_log, its_work, in_range, tells, tells_less, w, end}
+use Rattle.fx_lasting.proofs.Keeping.{Turn, turn_of, After, Homes, word_at, slot_word, Made, by_turn, its_log, its_work, its_stock, in_its_stock, in_range, tells, tells_less, w, end}
 use Rattle.fx_lasting.proofs.NodeSteps.{after, node_kept, own_keeps, guards_else}
 use Rattle.fx_lasting.proofs.Places.{node_words, node_here, node_else, node_slot, node_hold, node_alike, node_list, node_label}
 use Rattle.fx_lasting.proofs.Calm.{read_before, read_before_kept, Reads}
 use Rattle.fx_lasting.proofs.Choosing.{no_file, no_take, not_busy, holds_none}
 use Rattle.fx_lasting.proofs.Words.{HasNoFile, HoldAgrees, IsAllowed, GuardAgrees, rested, IsInside, changed_at}
-use Rattle.fx_lasting.proofs.FreeNodes.{some_free}
+use Rattle.fx_lasting.proofs.FreeNodes.{some_free, entry_is, named_by}
+use Rattle.fx_lasting.proofs.Words.{IsInStock, Bool, cond, le-ltb, get_or}
 use Rattle.fx_lasting.proofs.Unheld.{NodeNow, in_phase}
 use Rattle.fx_lasting.proofs.Words.{HasItsPlace, Written, Unlabelled}
-use Rattle.std.proofs.Common.{suc-mul}
 
--- the nodes of a pass's block are the table's
-pub block_inside : (k : Start) {p n : ℕ} → 0 < p → p ≤ k.installing → IsInBlock k p n → n < nodes_of k
-block_inside k {p} {n} low high block = let m : p * block_for (slots_of k) k.passes ≤ k.installing * block_for (slots_of k) k.passes =
-    mul-le-mul_right (block_for (slots_of k) k.passes) high in
-    let e : block_start (slots_of k) k.passes p + block_for (slots_of k) k.passes ≡ slots_of k + p * block_for (slots_of k) k.passes = ends p low in
-    let a = block.1 in omega arith
-  where
-    ends : (p : ℕ) → 0 < p → block_start (slots_of k) k.passes p + block_for (slots_of k) k.passes ≡ slots_of k + p * block_for (slots_of k) k.passes
-    ends zero low = absurd (omega arith)
-    ends (suc p) low = let e : suc p - 1 ≡ p = omega arith in let f = ap (λ (q : ℕ). q * block_for (slots_of k) k.passes) e in
-        let g = suc-mul p (block_for (slots_of k) k.passes) in omega (arith, f, g)
+-- a pass that looks for a node works with none
+names_nothing : {d : Work} → HasNoFile d → named_by d ≡ 0
+names_nothing to = ⊎_elim (λ e. ap named_by e) (λ z. ap named_by z.1) to
 
 module _ (turn : Turn) where
   open turn use {st, v, r, id, x, here, one}
@@ -50,16 +42,14 @@ module _ (turn : Turn) where
 
   -- a pass that looks for a node
   module _ (searches : HasNoFile v.work) (installs : x.number ≤ v.start.installing) where
-    -- some node of its block is free
-    one_free : (e : ℕ) × (e < nodes_of v.start) × (r.phase e ≡ free) × IsInBlock v.start x.number e
-    one_free = let p = (in_range turn).0 in let h = (in_range turn).1 in
-        let first = block_start (slots_of v.start) v.start.passes x.number in let many = block_for (slots_of v.start) v.start.passes in
-        let last = block_inside v.start {p = x.number} {n = first + (many - 1)} p installs (omega arith, omega arith) in
-        let z = some_free r first many (omega arith) (omega arith) in
-        (z.0, (let a = z.2 in omega arith), z.3, (z.1, z.2))
+    -- some node of its stock is free
+    one_free : (e : ℕ) × (e < nodes_of v.start) × (r.phase e ≡ free) × IsInStock x.stock e
+    one_free = let long = (its_stock turn).its.count ∙ ap (λ (b : Bool). cond b 0 v.start.passes) (le-ltb v.start.installing x.number installs) in
+        let z = some_free r id v x here one (names_nothing searches) (omega arith) in
+        let at = entry_is x.stock z.0 z.1 in (get_or x.stock z.0 0, (its_stock turn).its.inside z.0 (get_or x.stock z.0 0) at, z.2, (z.0, at))
 
-    searching : (e : ℕ) → e < nodes_of v.start → r.phase e ≡ free → IsInBlock v.start x.number e → Reads turn (Searching e) v.glance r.history
-    searching e l is block = let o = its_log turn in record {
+    searching : (e : ℕ) → e < nodes_of v.start → r.phase e ≡ free → IsInStock x.stock e → Reads turn (Searching e) v.glance r.history
+    searching e l is stocked = let o = its_log turn in record {
       grows = grows_none x.number r.history;
       legal = r.legal;
       at = refl;
@@ -68,7 +58,7 @@ module _ (turn : Turn) where
       taken = λ n. sym (no_take searches n);
       owners = inr (not_busy searches);
       held = o.held ∙ no_file searches;
-      allowed = block;
+      allowed = stocked;
       its = record {
         hold = holds_none searches o.hold;
         guarded = tt;
@@ -80,20 +70,20 @@ module _ (turn : Turn) where
     }
 
     -- the node that the pass settles on, after a load of this one
-    module _ (n : ℕ) (block : IsInBlock v.start x.number n) where
+    module _ (n : ℕ) (stocked : IsInStock x.stock n) where
       abbrev found : ℕ
       found = word_at st.words (word_of v.start n)
 
       abbrev Choice : ℕ → Type 0
-      Choice e = (e < nodes_of v.start) × (r.phase e ≡ free) × IsInBlock v.start x.number e × (found ≡ 0 → e ≡ n) × (found ≢ 0 → e ≢ n)
+      Choice e = (e < nodes_of v.start) × (r.phase e ≡ free) × IsInStock x.stock e × (found ≡ 0 → e ≡ n) × (found ≢ 0 → e ≢ n)
           × ((k : ℕ) → v.work ≡ Searching k → found ≢ 0 → e ≡ k)
 
       inside : n < nodes_of v.start
-      inside = block_inside v.start (in_range turn).0 installs block
+      inside = (in_its_stock turn stocked).0
 
       choice : (e : ℕ) × Choice e
       choice = dite (ℕ_discrete found 0)
-          (λ is. (n, (inside, zero_free inside is, block, λ _. refl, λ not_so. absurd (not_so is), λ k w not_so. absurd (not_so is))))
+          (λ is. (n, (inside, zero_free inside is, stocked, λ _. refl, λ not_so. absurd (not_so is), λ k w not_so. absurd (not_so is))))
           (λ not_so. let apart : (e : ℕ) → e < nodes_of v.start → r.phase e ≡ free → e ≢ n =
           λ e l is same. not_so (ap (λ (i : ℕ). word_at st.words (word_of v.start i)) (sym same) ∙ free_zero l is) in ⊎_elim
           (λ idle. let z = one_free in (
@@ -108,7 +98,7 @@ module _ (turn : Turn) where
             ),
           ))
           (λ s. let o = subst (WorkAgrees v.start r.phase id) s.1 (its_work turn) in
-          let b : IsInBlock v.start x.number s.0 = rw s.1 at (its_log turn).allowed in (
+          let b : IsInStock x.stock s.0 = rw s.1 at (its_log turn).allowed in (
             s.0,
             (
               o.0,
@@ -134,7 +124,7 @@ module _ (turn : Turn) where
             stepped = tells_less turn (read_before turn (Searching e.0) v.glance r.history x.front) refl carried carried refl e.1.0;
             carried = refl;
           };
-          block = subst (λ (p : ℕ). IsInBlock v.start p e.0) (sym (ap (λ (l : List Log). (first_log l).number) one)) e.1.2;
+          stock = subst (λ (l : List ℕ). IsInStock l e.0) (sym (ap (λ (l : List Log). (first_log l).stock) one)) e.1.2;
           here = λ is. ap (word_of v.start) (sym (e.1.3 is));
           other = λ not_so same. e.1.4 not_so (omega arith);
           stays = λ k w not_so. e.1.5 k w not_so;
@@ -177,7 +167,7 @@ module _ (turn : Turn) where
           taken_else = λ m other. sym (ap (taking m) works);
           free_else = λ m other bad. let a = ap busy works in omega arith;
           may = inr (inl (ap owner its.1));
-          its_block = λ _. rw works at o.allowed;
+          its_stock = λ _. rw works at o.allowed;
           at_slot = λ s f is. cc (sym its.1 ∙ is);
           open_file = λ j u f other there holds is. let bad : None ≡ Some f = sym (ap file_in its.1) ∙ is in cc bad;
           guards = λ p e other range. guards_else turn n its.0 (placed id Unlabelled) r.history words₁ homes₁ r.debt (Placing n Unlabelled) v.glance same p e
@@ -236,7 +226,7 @@ module _ (turn : Turn) where
     words₀ = node_words turn n its_node.0 0
 
     -- what the pass does afterwards: nothing, or it may place this node again
-    module _ (d : Work) (to : HasNoFile d) (allowed : IsAllowed v.start x.number x.listed d) (again : (m : ℕ) → d ≡ Searching m → m ≡ n) where
+    module _ (d : Work) (to : HasNoFile d) (allowed : IsAllowed x.stock x.listed d) (again : (m : ℕ) → d ≡ Searching m → m ≡ n) where
       abbrev rest_after : After turn
       rest_after = after turn n its_node.0 free r.history words₀ homes₀ r.debt d v.glance
 
@@ -268,7 +258,7 @@ module _ (turn : Turn) where
             taken_else = λ m other. no_take to m ∙ sym (c.2 m);
             free_else = λ m other bad. let a = c.1 in other (omega arith);
             may = inr (inr q.1);
-            its_block = λ bad. absurd (q.7 bad);
+            its_stock = λ bad. absurd (q.7 bad);
             at_slot = λ s f is. let bad : None ≡ Some f = sym q.2 ∙ ap file_in is in absurd (cc bad);
             open_file = λ j u f other there holds is. let bad : None ≡ Some f = sym q.2 ∙ is in cc bad;
             guards = λ p e other range. guards_else turn n q.0 free r.history words₀ homes₀ r.debt d v.glance same p e
@@ -288,7 +278,7 @@ module _ (turn : Turn) where
             holds = λ m. let a = ap (if_file m) c.0 in let b = ap (if_file m) (no_file to) in omega arith;
           }
 
-    after_rest : HasNoFile (rested v.work) × IsAllowed v.start x.number x.listed (rested v.work) × ((m : ℕ) → rested v.work ≡ Searching m → m ≡ n)
+    after_rest : HasNoFile (rested v.work) × IsAllowed x.stock x.listed (rested v.work) × ((m : ℕ) → rested v.work ≡ Searching m → m ≡ n)
     after_rest = ⊎_elim (λ (e : v.work ≡ Emptying n). rw e (inl refl, tt, λ m bad. cc bad))
         (λ (e : (l : Written) × (v.work ≡ Placing n l)). let block = rw e.1 at (its_log turn).allowed in
         rw e.1 (inr (n, refl), block, λ m is. let same : n ≡ m = cc is in sym same))
@@ -309,8 +299,8 @@ module _ (turn : Turn) where
     )
 
 pub seeks_keep : SeeksKeep Seeks
-seeks_keep k slots id i n m x has searches installs block place = by_turn slots (λ (k : Start). (x.number ≤ k.installing) × IsInBlock k x.number n)
-    (λ k. word_of k n) (λ word. word) (λ i. Seeks (step slots i 0 0 none) m) has (installs, block) place
+seeks_keep k slots id i n m x has searches installs stocked place = by_turn slots (λ (k : Start). (x.number ≤ k.installing) × IsInStock x.stock n)
+    (λ k. word_of k n) (λ word. word) (λ i. Seeks (step slots i 0 0 none) m) has (installs, stocked) place
     (λ st r here so fits. seek (turn_of m x has.1 id st r here) searches so.0 n so.1 slots m.1)
 
 pub births_keep : BirthsKeep Births

@@ -1,6 +1,8 @@
 -- The calls that name a node: what their steps leave, one after another.
+use Rattle.fx_lasting.proofs.Words.{◌-◌, ◌<◌, List, get_elem?, some, rest, as_swapped, IsInStock, NamesANode, name_in, name_of_file, nodes_of}
+use Rattle.fx_lasting.proofs.Running.{swapped_then}
 use Rattle.fx_lasting.proofs.Words.{◌≡◌, ◌≢◌, ℕ, ◌+◌, ◌-◌, ◌≤◌, List, [], sym, refl, ap, ◌∙◌, subst, arith, Option, Some, None, Bool, true, false}
-use Rattle.fx_lasting.proofs.Words.{File, Event, IsSeenBy, Closed, Action, ◌▷◌, ◌▷▷◌, Take, Put, numbered, name_in, entry_in, count_in, Names}
+use Rattle.fx_lasting.proofs.Words.{File, Event, IsSeenBy, Closed, Action, ◌▷◌, ◌▷▷◌, Take, Put, numbered, full_name_in, entry_in, count_in, Names}
 use Rattle.fx_lasting.proofs.Words.{Start, Sat, At, Work, Glance, Change, Outside, Runs, Stepped, Sees, retiring_work, retired_at, slot_of}
 use Rattle.fx_lasting.proofs.Words.{pass_in, state_after_all, node_of_number, account, uncounted, range_at_start, is_in, group_of, TableId, LastingPass}
 use Rattle.fx_lasting.proofs.Words.{IsPassOf, opening_of, view_of, pass_of}
@@ -26,7 +28,7 @@ not_named a b e zero = omega (arith, e, zero)
 
 -- What the name in a slot's word says of the file at the slot
 module _ (k : Start) (node word : ℕ) where
-  fits_on : (there : Option File) → Names (node_of_number k) word there → name_in word ≡ node + 1 → FitsMiss k node Again there
+  fits_on : (there : Option File) → Names (node_of_number k) word there → full_name_in word ≡ node + 1 → FitsMiss k node Again there
   fits_on None names is = absurd (not_named _ _ is names)
   fits_on (Some f) names is = (f, refl, same_node _ _ (sym names.0 ∙ is))
 
@@ -61,7 +63,7 @@ module _ {k : Start} {slot : ℕ} (node : ℕ) {st : At} {m m' : Sat} {found : �
   names_there = subst (λ (z : Start × ℕ). Names (node_of_number z.0) found ((state_after_all z.0 (pass_in m').front).at z.1))
       (λ i. (start i, here i)) saw.names
 
-  pub was_on : name_in found ≡ node + 1 → WasIn k slot node Again m m'
+  pub was_on : full_name_in found ≡ node + 1 → WasIn k slot node Again m m'
   was_on is = record {
     history = (pass_in m').front;
     later = saw.goes.stepped.seen;
@@ -78,7 +80,7 @@ module _ {k : Start} {slot : ℕ} (node : ℕ) {st : At} {m m' : Sat} {found : �
   }
 
   pub saw_if : (r : Result ℕ Miss) → SaysIf found node r → SawIf k slot node m r m'
-  saw_if (Ok word) says = (ap name_in says.0 ∙ says.1, was_on says.1, runs_goes saw.goes)
+  saw_if (Ok word) says = (ap full_name_in says.0 ∙ says.1, was_on says.1, runs_goes saw.goes)
   saw_if (Err miss) says = (was_not miss says, runs_goes saw.goes, not_again found node miss says)
 
 -- a pass goes on with the same work
@@ -92,6 +94,11 @@ pub acts_then : {m m' m'' : Sat} {xs ys : List Action} {w w' : Work} {g : Glance
     → Runs m' ys w' m'.0.glance c' n' m'' → Runs m (xs ▷▷ ys) w' g c' (n + n') m''
 acts_then {m' = m'} {m'' = m''} {ys = ys} {w' = w'} {c' = c'} {n' = n'} a b =
     runs_then a (subst (λ (z : Glance). Runs m' ys w' z c' n' m'') a.glance b)
+
+pub swapped_acts : {m m' m'' : Sat} {xs ys : List Action} {w w' : Work} {g : Glance} {c c' : Change} {n n' : ℕ} (entry node : ℕ) → Runs m xs w g c n m'
+    → Runs (as_swapped entry node m') ys w' m'.0.glance c' n' m'' → Runs (as_swapped entry node m) (xs ▷▷ ys) w' g c' (n + n') m''
+swapped_acts {m' = m'} {m'' = m''} {ys = ys} {w' = w'} {c' = c'} {n' = n'} entry node a b =
+    swapped_then entry node a (subst (λ (z : Glance). Runs (as_swapped entry node m') ys w' z c' n' m'') a.glance b)
 
 -- a slot that had a file leaves the groups' words as they were
 off_none : (b : Bool) (g : ℕ) → uncounted b false g ≡ Outside
@@ -120,10 +127,20 @@ tried_so k slot node before after m m' Again failed low high = omega (arith, fai
 tried_so k slot node before after m m' Empty failed low high = tt
 tried_so k slot node before after m m' Other failed low high = tt
 
+-- what a pass did that put its file there, from this entry of its stock
+abbrev Replaced : (m₁ m₂ : Sat) (at found own : ℕ) → Closed → ℕ → Type 0
+Replaced m₁ m₂ at found own file e = (old : Option File) × (number : ℕ) × Names (node_of_number m₁.0.start) found old
+    × (node_of_number m₁.0.start number ≡ own) × NamesANode m₁.0.start found
+    × Stepped (as_swapped e (name_in found - 1) m₁) ([] ▷ Put at (numbered number file) old) (retiring_work m₁.0.start found old) m₁.0.glance
+    (account (range_at_start m₁.0.start) at old) m₂ × (m₂.1 ≡ rest m₁.1)
+
+its_own : (found node : ℕ) → full_name_in found ≡ node + 1 → name_in found - 1 ≡ node
+its_own found node is = let a = name_of_file found node is in omega arith
+
 -- The last of some tries
 module _ {k : Start} {slot at : ℕ} (node found : ℕ) {m m₁ m₂ : Sat} {n : ℕ} (start : m₁.0.start ≡ k) (here : at ≡ slot)
     (still : Does m [] m.0.work n m₁) (few : n + 1 ≤ 4) where
-  module _ (is : name_in found ≡ node + 1) where
+  module _ (is : full_name_in found ≡ node + 1) where
     pub won_take : (file : Option File) → Names (node_of_number m₁.0.start) found file
         → Stepped m₁ ([] ▷ Take at file) (retiring_work m₁.0.start found file) m₁.0.glance (account (range_at_start m₁.0.start) at file) m₂
         → TriedTake k slot node m (Ok found) m₂
@@ -136,21 +153,30 @@ module _ {k : Start} {slot at : ℕ} (node found : ℕ) {m m₁ m₂ : Sat} {n :
           m₁.0.glance Outside 1 m₂) (λ i. (start i, here i)) (at_once (range_at_start m₁.0.start) at f s))),
     )
 
-    pub won_replace : {own number : ℕ} {file : Closed} (old : Option File) → node_of_number m₁.0.start number ≡ own
-        → Names (node_of_number m₁.0.start) found old
-        → Stepped m₁ ([] ▷ Put at (numbered number file) old) (retiring_work m₁.0.start found old) m₁.0.glance
-        (account (range_at_start m₁.0.start) at old) m₂ → m₂.1 ≡ [] → TriedReplace k slot node own file m (Ok found) m₂
-    won_replace None on names s empty = absurd (not_named _ _ is names)
-    won_replace {own} {number} {file} (Some f) on names s empty = (
+    replaced_so : (own : ℕ) (file : Closed) (e : ℕ) → Replaced m₁ m₂ at found own file e → (number : ℕ) × (f : File) × (node_of_number k number ≡ own)
+        × Names (node_of_number k) found (Some f)
+        × Runs (as_swapped e node m) ([] ▷ Put slot (numbered number file) (Some f)) (retiring_work k found (Some f)) m.0.glance Outside 4 m₂
+    replaced_so own file e (None, number, names, on, a_node, s, home) = absurd (not_named _ _ is names)
+    replaced_so own file e (Some f, number, names, on, a_node, s, home) = (
       number,
       f,
       subst (λ (z : Start). node_of_number z number ≡ own) start on,
-      is,
       subst (λ (z : Start). Names (node_of_number z) found (Some f)) start names,
-      runs_within few (acts_then still (subst (λ (z : Start × ℕ). Runs m₁ ([] ▷ Put z.1 (numbered number file) (Some f))
-          (retiring_work z.0 found (Some f)) m₁.0.glance Outside 1 m₂) (λ i. (start i, here i)) (at_once (range_at_start m₁.0.start) at f s))),
-      empty,
+      runs_within few (swapped_then e node still (subst (λ (z : Start × ℕ × Glance × ℕ). Runs (as_swapped e z.3 m₁) ([] ▷ Put z.1 (numbered number file) (Some f))
+          (retiring_work z.0 found (Some f)) z.2 Outside 1 m₂) (λ i. (start i, here i, still.glance i, its_own found node is i)) (at_once (range_at_start m₁.0.start) at f s))),
     )
+
+    pub won_replace : (own : ℕ) (file : Closed) → IsInStock (pass_in m).stock own → ((e : ℕ) → get_elem? (pass_in m₁).stock e ≡ some own → Replaced m₁ m₂ at found own file e)
+        → rest m₁.1 ≡ [] → TriedReplace k slot node own file m (Ok found) m₂
+    won_replace own file stocked wins empty = let z = wins stocked.0 (there stocked.0 stocked.1) in (
+      is,
+      z.6 ∙ empty,
+      subst (λ (y : ℕ). y < nodes_of k) (its_own found node is) (subst (λ (y : Start). name_in found - 1 < nodes_of y) start z.4.1),
+      λ e its. replaced_so own file e (wins e (there e its)),
+    )
+      where
+        there : (e : ℕ) → get_elem? (pass_in m).stock e ≡ some own → get_elem? (pass_in m₁).stock e ≡ some own
+        there e its = ap (λ (l : List ℕ). get_elem? l e) still.stock ∙ its
 
 module _ {st : At} {m m₁ m₂ : Sat} {found n : ℕ} (still : Does m [] m.0.work n m₁) (few : n + 1 ≤ 4) (saw : Sees st m₁ found m₂) where
   pub lost_run : Does m [] m.0.work 4 m₂
@@ -173,15 +199,15 @@ missed_so k slot node m m₁ m₂ m₃ m₄ Other first failed before all after 
 
 -- The value of a removed file
 module _ {node : ℕ} (found : ℕ) (x : Retired) (at : x.node ≡ node) (entry : x.entry ≡ entry_in found) (takes : x.takes ≡ count_in found)
-    (is : name_in found ≡ node + 1) (f : File) where
-  pub value_so : entry_in found ≡ f.identity.entry → retired_at f (name_in found - 1) (count_in found) ≡ x
-  value_so same = let n : name_in found - 1 ≡ x.node = omega arith in
+    (is : full_name_in found ≡ node + 1) (f : File) where
+  pub value_so : entry_in found ≡ f.identity.entry → retired_at f (full_name_in found - 1) (count_in found) ≡ x
+  value_so same = let n : full_name_in found - 1 ≡ x.node = omega arith in
       λ i. record { node = n i; entry = (sym same ∙ sym entry) i; takes = sym takes i }
 
   pub removal_so : (k : Start) → entry_in found ≡ f.identity.entry → IsFileRemoval (opening_of k) f x
   removal_so k same = record { entry = entry ∙ same; same = λ e. absurd (cc e) }
 
-  pub is_on : (k : Start) → name_in found ≡ node_of_number k f.number + 1 → IsOn k node f
+  pub is_on : (k : Start) → full_name_in found ≡ node_of_number k f.number + 1 → IsOn k node f
   is_on k names = same_node _ _ (sym names ∙ is)
 
 -- an idle pass that has done nothing but look

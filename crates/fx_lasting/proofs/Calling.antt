@@ -1,11 +1,11 @@
 -- The places of a call's steps.
 use Rattle.fx_lasting.proofs.Words.{◌≡◌, ◌<◌, ◌≤◌, ℕ, ◌*◌, arith, ⊎_elim, Start, LastingTable, list_place, slot_place, hold_place}
-use Rattle.fx_lasting.proofs.Words.{node_place, word_of, hold_word_of, nodes_of, slots_of, block_for, block_start, HasPlace, IsAtWork, Sat, Emptying, Placing}
-use Rattle.fx_lasting.proofs.Words.{Option, Closed, IsInBlock, mul-le-mul_right, ap, groups_in, group_place, range_at_start, IsGroup}
+use Rattle.fx_lasting.proofs.Words.{node_place, word_of, hold_word_of, nodes_of, slots_of, HasPlace, IsAtWork, Sat, Emptying, Placing}
+use Rattle.fx_lasting.proofs.Words.{LastingPass, IsPassOfTable, Option, Closed, List, Bool, cond, le-ltb, length, pass_in, get_elem?, some, ◌∙◌, sym, mul-le-mul_right, ap, groups_in, group_place, range_at_start, IsGroup}
 use Rattle.fx_lasting.proofs.Words.{tag_place, number_place, tag_word_of, number_word_of, Written}
 use Rattle.fx_lasting.proofs.Groups.{few_groups}
-use Rattle.fx_lasting.proofs.Births.{block_inside}
-use Rattle.fx_lasting.proofs.Running.{its_inside}
+use Rattle.fx_lasting.specs.declared.layout.TheConstants.{MOST_NODES}
+use Rattle.fx_lasting.proofs.Running.{its_inside, stock_is}
 
 -- a slot of the table, as its rule names it
 pub slot_low : (t : LastingTable) {slot : ℕ} → slot < t.size → slot < slots_of t.table.shared.key
@@ -69,19 +69,23 @@ place_inside {n = n} {m = m} at has = ⊎_elim (λ (e : m.0.work ≡ Emptying n)
     (λ (e : (l : Written) × (m.0.work ≡ Placing n l)). its_inside at e.1) has.work
 
 -- a table has few nodes
-pub few_nodes : (t : LastingTable) → nodes_of t.table.shared.key ≤ 659456
+pub few_nodes : (t : LastingTable) → nodes_of t.table.shared.key ≤ MOST_NODES
 few_nodes t = let k = t.table.shared.key in let b = t.bounds in let few = t.few_slots in
-    let m : k.installing * block_for (slots_of k) k.passes ≤ 64 * block_for (slots_of k) k.passes =
-    mul-le-mul_right (block_for (slots_of k) k.passes) (omega (arith, t.key.1, b.3)) in
+    let m : k.installing * k.passes ≤ 64 * k.passes = mul-le-mul_right k.passes (omega (arith, t.key.1, b.3)) in
     omega (arith, m, few, t.same_size, t.key.0, b.1)
 
--- a node of a block is one of the table
-pub in_block : (t : LastingTable) {p n : ℕ} → 0 < p → p ≤ t.installing → IsInBlock t.table.shared.key p n → n < nodes_of t.table.shared.key
-in_block t {p} {n} low high block = block_inside t.table.shared.key low (omega (arith, high, t.key.1)) block
+-- the stock of a pass that installs has as many nodes as the table has passes
+pub long_stock : {k : Start} {p : ℕ} {m : Sat} → IsAtWork k p m → p ≤ k.installing → length (pass_in m).stock ≡ k.passes
+long_stock {k} {p} {m} at installs = ap (length {A = ℕ}) (stock_is at) ∙ (at.stock.count ∙ ap (λ (b : Bool). cond b 0 k.passes) (le-ltb k.installing p installs))
 
--- the block of a pass, as the rule names it
-pub first_of : (t : LastingTable) (p : ℕ) → block_start t.size t.passes p ≡ block_start (slots_of t.table.shared.key) t.table.shared.key.passes p
-first_of t p = λ i. block_start (t.same_size i) (t.key.0 i) p
+pub as_long : (t : LastingTable) {p : ℕ} {m : Sat} {stock : List ℕ} → IsAtWork t.table.shared.key p m → p ≤ t.installing → stock ≡ (pass_in m).stock
+    → length stock ≡ t.passes
+as_long t {p} at installs is = ap (length {A = ℕ}) is ∙ (long_stock at (omega (arith, installs, t.key.1)) ∙ sym t.key.0)
 
-pub length_of : (t : LastingTable) → block_for t.size t.passes ≡ block_for (slots_of t.table.shared.key) t.table.shared.key.passes
-length_of t = λ i. block_for (t.same_size i) (t.key.0 i)
+-- the entry where a pass that installs begins its search
+pub begins_at : (t : LastingTable) {p : LastingPass} → IsPassOfTable t p → p.number ≤ t.installing → p.next_entry < t.passes
+begins_at t {p} fits installs = omega (arith, fits.seated.next (omega (arith, installs, t.key.1)), t.key.0)
+
+-- a node of the stock is one of the table
+pub stock_inside : (k : Start) (p entry node : ℕ) (m : Sat) → IsAtWork k p m → get_elem? (pass_in m).stock entry ≡ some node → node < nodes_of k
+stock_inside k p entry node m at is = at.stock.inside entry node (ap (λ (l : List ℕ). get_elem? l entry) (sym (stock_is at)) ∙ is)

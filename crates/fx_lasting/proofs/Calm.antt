@@ -3,12 +3,12 @@
 use Rattle.fx_lasting.proofs.Words.{◌≡◌, ◌≢◌, ℕ, ◌+◌, ◌<◌, List, set, length, refl, ap, ◌∙◌, subst, arith, Option, Bool, held_by, File, Event}
 use Rattle.fx_lasting.proofs.Words.{range_at_start, NodeAgrees, IsAllowed, Agrees, RangeCounts, Survey, slots_of, nodes_of, IsHistory, state_after_all}
 use Rattle.fx_lasting.proofs.Words.{held_in, held_of, taken_of, taking, Work, Glance, Change, ⊎_elim, ◌⊎◌, inr, word_of, hold_word_of}
-use Rattle.fx_lasting.proofs.Words.{count_in, name_in, HoldAgrees, GuardAgrees, WorkAgrees, sum_set, sum_by, get_elem?, length-set, set-get_or}
+use Rattle.fx_lasting.proofs.Words.{count_in, name_in, full_name_in, HoldAgrees, GuardAgrees, WorkAgrees, sum_set, sum_by, get_elem?, length-set, set-get_or}
 use Rattle.fx_lasting.proofs.Words.{owed, seated, [], IsSeenBy, part_of_pass, ◌≤◌, inl, true, list_place, IsListedIn}
 use Rattle.fx_lasting.proofs.Histories.{Grows}
 use Rattle.fx_lasting.proofs.Frames.{busy, owner_stays, owner_same, slot_same, node_same, Leaves, keeps_other, guards_same, covers_same}
 use Rattle.fx_lasting.proofs.Frames.{sees_same}
-use Rattle.fx_lasting.proofs.Keeping.{Turn, After, Keeps, word_at, slot_word, step_kept, w, end, its_log, in_range, asks_alike, few_slots}
+use Rattle.fx_lasting.proofs.Keeping.{Turn, After, Keeps, word_at, slot_word, step_kept, w, end, its_log, in_range, its_stock, names_on, asks_alike, few_slots}
 use Rattle.fx_lasting.proofs.Keeping.{LabelSame, labels_same}
 use Rattle.fx_lasting.proofs.Words.{written_in}
 use Rattle.fx_lasting.proofs.Groups.{counts_same}
@@ -35,6 +35,8 @@ module _ (turn : Turn) (h' front : List Event) (words' : List ℕ) (d : Work) (g
     asked = q;
     listed = l;
     still_listed = still;
+    where_is = r.where_is;
+    stock = x.stock;
   }
 
   pub record Calm : Type 0 where
@@ -54,7 +56,7 @@ module _ (turn : Turn) (h' front : List Event) (words' : List ℕ) (d : Work) (g
     pub taken : (n : ℕ) → taking n d ≡ taking n v.work
     pub owners : (d ≡ v.work) ⊎ (busy v.work ≡ 0)
     pub held : held_by h' x.number ≡ held_in d
-    pub allowed : IsAllowed v.start x.number l d
+    pub allowed : IsAllowed x.stock l d
     pub lists : (p : ℕ) → p ≤ 1024 → ListGoesOn x.number l p (word_at st.words (list_place p)) (word_at words' (list_place p))
     pub its_bit : l ≡ true → (x.listed ≡ true) ⊎ IsListedIn (word_at words' (list_place x.number)) x.number
     pub its : Keeps turn calm_after id x.number d g
@@ -79,7 +81,10 @@ module _ (turn : Turn) (h' front : List Event) (words' : List ℕ) (d : Work) (g
         removed = λ number. ap (λ (f : ℕ → Option File). f number) s.removed ∙ r.removed number;
         unborn = r.unborn;
         fresh = λ number l. ap (λ (f : ℕ → Bool). f number) s.fresh ∙ r.fresh number l;
-        others = λ j u z other there at n range o work. keeps_other turn calm_after leaves j u z other there n range o work;
+        named = names_on turn _ (λ i l. ap name_in (s.slot_words i l));
+        stock = its_stock turn;
+        stocks = λ n p e other at. at;
+        others = λ j u z other there at n range o work. keeps_other turn calm_after leaves j u z other there at n range o work;
         held = s.held;
         allowed = s.allowed;
         lists = s.lists;
@@ -99,9 +104,9 @@ module _ (turn : Turn) (h' front : List Event) (words' : List ℕ) (d : Work) (g
       leaves = record {
         guards = λ p e other range. guards_same turn calm_after p e (s.hold_words p other range.0) refl (covers_same turn words' s.slot_words p);
         owned = λ n some not_mine. refl;
-        spare = λ n p is low block other. is;
+        spare = λ n p e is at other. is;
         open_file = λ j u f n other there holds at. at;
-        slots = λ i p l other. inr (refl, ap name_in (s.slot_words i l), λ hot. rw (s.slot_words i l) hot);
+        slots = λ i p l other. inr (refl, ap full_name_in (s.slot_words i l), λ hot. rw (s.slot_words i l) hot);
       }
 
 -- A step on the pass's own hold word
@@ -123,7 +128,7 @@ module _ (turn : Turn) (new : ℕ) (d : Work) where
     pub taken : (n : ℕ) → taking n d ≡ taking n v.work
     pub owners : busy v.work ≡ 0
     pub held : held_by h' x.number ≡ held_in d
-    pub allowed : IsAllowed v.start x.number x.listed d
+    pub allowed : IsAllowed x.stock x.listed d
     pub hold : HoldAgrees new (r.debt x.number) d
     pub guarded : GuardAgrees (slot_word own_words) r.phase x.number (r.debt x.number) d
     pub work : WorkAgrees v.start r.phase id d
@@ -182,7 +187,7 @@ module _ (turn : Turn) (d : Work) (g : Glance) where
     pub taken : (n : ℕ) → taking n d ≡ taking n v.work
     pub owners : (d ≡ v.work) ⊎ (busy v.work ≡ 0)
     pub held : held_by h' x.number ≡ held_in d
-    pub allowed : IsAllowed v.start x.number x.listed d
+    pub allowed : IsAllowed x.stock x.listed d
     pub its : Keeps turn (read_after h') id x.number d g
     pub holds : (n : ℕ) → (state_after_all v.start h').holds n + held_of n v
         ≡ (state_after_all v.start r.history).holds n + held_of n (w turn (read_after h'))

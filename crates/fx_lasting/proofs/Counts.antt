@@ -76,9 +76,9 @@ owed_found debt n node some = let z = tally_found (λ q. eqb (debt q) (node + 1)
     (z.0, z.1, z.2, eqb-true (debt z.0) (node + 1) z.3)
 
 -- a cold slot leaves room in its word
-pub few_cold : (passes : ℕ) → cold_takes passes ≤ 1048576
+pub few_cold : (passes : ℕ) → cold_takes passes ≤ 524288
 few_cold passes = go (eqb passes 1)
   where
-    go : (b : Bool) → cond b 1048576 16 ≤ 1048576
+    go : (b : Bool) → cond b 524288 16 ≤ 524288
     go true = omega arith
     go false = omega arith

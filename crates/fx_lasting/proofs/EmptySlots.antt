@@ -1,6 +1,6 @@
 -- The calls of a caller that looks for an empty slot by itself: what their steps leave.
 use Rattle.fx_lasting.proofs.Words.{◌≡◌, ℕ, [], ◌▷◌, refl, subst, arith, Option, Some, None, Bool, true, false, File, Full}
-use Rattle.fx_lasting.proofs.Words.{Start, Sat, At, Sees, Names, slot_of, pass_in, state_after_all, node_of_number, node_in}
+use Rattle.fx_lasting.proofs.Words.{Start, Sat, At, Sees, Names, slot_of, pass_in, state_after_all, node_of_number, file_node_in}
 use Rattle.fx_lasting.proofs.Words.{LastingTable, LastingPass, opening_of, view_of}
 use Rattle.std.specs.Prelude.{is_some}
 use Rattle.fx_table.proofs.Calls.{adds_then}
@@ -12,7 +12,7 @@ use Rattle.fx_lasting.proofs.Questions.{asked_full, asked_nothing}
 use Rattle.fx_lasting.proofs.Running.{no_name, its_name, runs_goes}
 
 -- a slot's word names a node if the slot has a file
-sight : (k : Start) (word : ℕ) (there : Option File) → Names (node_of_number k) word there → (node : Option ℕ) → node ≡ node_in word
+sight : (k : Start) (word : ℕ) (there : Option File) → Names (node_of_number k) word there → (node : Option ℕ) → node ≡ file_node_in word
     → FitsSight (is_some node) there
 sight k word None names None is = refl
 sight k word (Some f) names None is = absurd (omega (arith, names.0, no_name word is))
@@ -26,7 +26,7 @@ module _ {k : Start} {slot : ℕ} {st : At} {m m' : Sat} {found : ℕ} (start : 
   names_there = subst (λ (z : Start × ℕ). Names (node_of_number z.0) found ((state_after_all z.0 (pass_in m').front).at z.1))
       (λ i. (start i, here i)) saw.names
 
-  pub sees_so : (node : Option ℕ) → node ≡ node_in found → SeesFile k slot m (is_some node) m'
+  pub sees_so : (node : Option ℕ) → node ≡ file_node_in found → SeesFile k slot m (is_some node) m'
   sees_so node is = (
     record {
       history = (pass_in m').front;

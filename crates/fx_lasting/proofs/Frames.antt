@@ -1,10 +1,10 @@
 -- A step of one seat leaves other seats, slots and nodes as they were.
-use Rattle.fx_lasting.proofs.Words.{◌≡◌, ◌≢◌, ℕ, ◌+◌, ◌-◌, ◌*◌, ◌<◌, ◌≤◌, List, set, sym, refl, ap, ◌∙◌, subst, arith, Option, Some, None, File, inl}
+use Rattle.fx_lasting.proofs.Words.{◌≡◌, ◌≢◌, ℕ, ◌+◌, ◌<◌, ◌≤◌, List, set, sym, refl, ap, ◌∙◌, subst, arith, Option, Some, None, File, inl}
 use Rattle.fx_lasting.proofs.Words.{inr, some, some-injective, get_elem?, set_here, set_else, stands_at, ⊎_elim, ◌⊎◌, dite}
-use Rattle.fx_lasting.proofs.Words.{ℕ_discrete, mul-le-mul_right, dec_le, SlotAgrees, NodeAgrees, OwnerAgrees, WorkAgrees, LogAgrees}
-use Rattle.fx_lasting.proofs.Words.{HoldAgrees, GuardAgrees, Does, GlanceAgrees, Heats, MayBeUnmarked, IsInBlock, IsHot, HoldsAt, Home}
-use Rattle.fx_lasting.proofs.Words.{IsFileOfNode, IsVacant, name_in, count_in, word_of, hold_word_of, slots_of, nodes_of, state_after_all, held_in, Nodes}
-use Rattle.fx_lasting.proofs.Words.{block_for, block_start, Start, tally, Phase, free, placed, seated, leaving, retired, emptied, owner, Glance, Log}
+use Rattle.fx_lasting.proofs.Words.{ℕ_discrete, dec_le, SlotAgrees, NodeAgrees, OwnerAgrees, WorkAgrees, LogAgrees}
+use Rattle.fx_lasting.proofs.Words.{HoldAgrees, GuardAgrees, Does, GlanceAgrees, Heats, MayBeUnmarked, in_stock, Contains, IsHot, HoldsAt, Home}
+use Rattle.fx_lasting.proofs.Words.{IsFileOfNode, IsVacant, full_name_in, count_in, word_of, hold_word_of, slots_of, nodes_of, state_after_all, held_in, Nodes}
+use Rattle.fx_lasting.proofs.Words.{Start, tally, Phase, free, placed, seated, leaving, retired, emptied, owner, Glance, Log}
 use Rattle.fx_lasting.proofs.Words.{View, Work, Idle, Announced, Counted, Guarded, Owing, Yielding, Searching, Placing, Retiring, Emptying, Nothing}
 use Rattle.fx_lasting.proofs.Words.{Hot, Cold, Heating, taken_of, owed, sum_by, suc}
 use Rattle.fx_lasting.proofs.Words.{Deed, untouched, over, heated, has_acted, has_heated}
@@ -32,18 +32,6 @@ written_of (retired f) is = ap (λ (o : Option File). label_in o) is
 written_of free is = absurd (cc is)
 written_of (placed j l) is = absurd (cc is)
 written_of (emptied j) is = absurd (cc is)
-
--- two blocks have no node together
-pub one_block : (k : Start) {p q n : ℕ} → 0 < p → 0 < q → IsInBlock k p n → IsInBlock k q n → p ≡ q
-one_block k {p} {q} {n} low low' a b = dite (ℕ_discrete p q) (λ same. same) (λ other. absurd (dite (dec_le p q)
-    (λ l. let m = before p q (omega (arith, l, other)) low in omega (arith, a.1, b.0, m))
-    (λ g. let m = before q p (omega (arith, g)) low' in omega (arith, a.0, b.1, m))))
-  where
-    -- a later block begins after an earlier one
-    before : (p q : ℕ) → p < q → 0 < p → block_start (slots_of k) k.passes p + block_for (slots_of k) k.passes
-        ≤ block_start (slots_of k) k.passes q
-    before p q l low = let m : suc (p - 1) * block_for (slots_of k) k.passes ≤ (q - 1) * block_for (slots_of k) k.passes =
-        mul-le-mul_right (block_for (slots_of k) k.passes) (omega (arith, l, low)) in omega (arith, m)
 
 -- the pass of a node is known in other views too, if what is done with it is
 pub owner_map : (views others : List View) (n : ℕ)
@@ -148,7 +136,7 @@ slot_same {k} {node_of} {phase} {phase'} {deed} {deed'} {slot} {word} {word'} {t
 
 -- a slot's word as other passes see it: it has another file, or goes on with the same one
 abbrev pub SlotGoesOn : ℕ → ℕ → Deed → Deed → Type 0
-SlotGoesOn old new deed deed' = (deed' ≡ untouched) ⊎ ((deed' ≡ deed) × (name_in new ≡ name_in old) × (IsHot old → IsHot new))
+SlotGoesOn old new deed deed' = (deed' ≡ untouched) ⊎ ((deed' ≡ deed) × (full_name_in new ≡ full_name_in old) × (IsHot old → IsHot new))
 
 -- how far a look-up is, and what it has still to heat, where slots go on so
 module _ (k : Start) (word word' : ℕ → ℕ) (deed deed' : ℕ → Deed)
@@ -178,13 +166,14 @@ module _ (turn : Turn) (a : After turn) where
         → HoldAgrees (word_at st.words (hold_word_of v.start q)) (r.debt q) d → GuardAgrees (slot_word st.words) r.phase q (r.debt q) d
         → HoldAgrees (word_at a.words (hold_word_of v.start q)) (a.debt q) d × GuardAgrees (slot_word a.words) a.phase q (a.debt q) d
     pub owned : (n : ℕ) → owner (r.phase n) ≢ 0 → owner (r.phase n) ≢ id + 1 → a.phase n ≡ r.phase n
-    pub spare : (n q : ℕ) → r.phase n ≡ free → 0 < q → IsInBlock v.start q n → q ≢ x.number → a.phase n ≡ free
+    pub spare : (n q entry : ℕ) → r.phase n ≡ free → r.where_is n ≡ in_stock q entry → q ≢ x.number → a.phase n ≡ free
     pub open_file : (j : ℕ) (u : View) (f : File) (n : ℕ) → j ≢ id → get_elem? st.views j ≡ some u → held_in u.work ≡ Some f
         → HoldsAt v.start r.phase f n → HoldsAt v.start a.phase f n
     pub slots : (s q : ℕ) → s < slots_of v.start → q ≢ x.number
         → SlotGoesOn (slot_word st.words s) (slot_word a.words s) (r.deed s q) (a.deed s q)
 
-  module _ (leaves : Leaves) (j : ℕ) (u : View) (z : Log) (other : j ≢ id) (there : get_elem? st.views j ≡ some u) (n : z.number ≢ x.number)
+  module _ (leaves : Leaves) (j : ℕ) (u : View) (z : Log) (other : j ≢ id) (there : get_elem? st.views j ≡ some u) (has : Contains u.logs z)
+      (n : z.number ≢ x.number)
       (range : (0 < z.number) × (z.number ≤ v.start.passes))
       (o : LogAgrees v.start r.history st.words r.phase r.debt r.deed u.work u.glance z) where
     same_for : {m : ℕ} {ph : Phase} → r.phase m ≡ ph → owner ph ≡ j + 1 → a.phase m ≡ ph
@@ -195,7 +184,8 @@ module _ (turn : Turn) (a : After turn) where
     work_stays (Counted f m) is at = leaves.open_file j u f m other there (ap held_in is) at
     work_stays (Guarded f m) is at = leaves.open_file j u f m other there (ap held_in is) at
     work_stays (Yielding f m) is at = leaves.open_file j u f m other there (ap held_in is) at
-    work_stays (Searching m) is at = (at.0, leaves.spare m z.number at.1 range.0 (rw is at o.allowed) n)
+    work_stays (Searching m) is at = let b = rw is at o.allowed in
+        (at.0, leaves.spare m z.number b.0 at.1 ((r.stocks j u z there has).here b.0 m b.1) n)
     work_stays (Placing m w) is at = (at.0, same_for at.1 refl)
     work_stays (Retiring f m t next marks) is at = (at.0, same_for at.1 refl)
     work_stays (Emptying m) is at = (at.0, same_for at.1 refl)
@@ -238,7 +228,7 @@ pub sees_same : (k : Start) {word word' : ℕ → ℕ} (deed : ℕ → Deed) →
     → GlanceAgrees k word deed g → GlanceAgrees k word' deed g
 sees_same k deed same Nothing at = tt
 sees_same k {word} {word'} deed same (Hot s m) at =
-    (at.0, at.1, ⊎_elim (λ h. inl (ap name_in (same s at.0) ∙ h.0, rw (same s at.0) h.1)) (λ out. inr out) at.2)
+    (at.0, at.1, ⊎_elim (λ h. inl (ap full_name_in (same s at.0) ∙ h.0, rw (same s at.0) h.1)) (λ out. inr out) at.2)
 sees_same k deed same (Cold s) at = at
 sees_same k deed same (Heating s) at = at
 

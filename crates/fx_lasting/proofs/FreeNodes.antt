@@ -1,10 +1,11 @@
--- A block has more nodes than slots and passes can use, so one of them is free.
+-- A stock has more nodes than the other passes can use, so one of them is free whenever its pass
+-- does nothing: no slot names a node of a stock.
 use Rattle.fx_lasting.proofs.Words.{◌≡◌, ℕ, zero, suc, ◌+◌, ◌<◌, ◌≤◌, List, [], ◌∷◌, length, sym, refl, ap, ◌∙◌, subst, arith, some, get_elem?}
 use Rattle.fx_lasting.proofs.Words.{⊎_elim, ◌⊎◌, inl, inr, dite, ℕ_discrete, eqb, one_if, sum_by, sum_by-cons, sum_at, sum_le_at, bit_here, bit_else}
 use Rattle.fx_lasting.proofs.Words.{NodeAgrees, OwnerAgrees, HoldAgrees, Names, slots_of, nodes_of, word_of, hold_word_of, state_after_all, taken_of}
-use Rattle.fx_lasting.proofs.Words.{taking, owed, count_in, name_in, lengths, Phase, free, placed, seated, leaving, retired, emptied, Log, View, Work}
+use Rattle.fx_lasting.proofs.Words.{taking, owed, count_in, full_name_in, lengths, Phase, free, placed, seated, leaving, retired, emptied, Log, View, Work}
 use Rattle.fx_lasting.proofs.Words.{Idle, Announced, Counted, Guarded, Owing, Yielding, Searching, Placing, Retiring, Emptying, Does, Agrees, Shared}
-use Rattle.fx_lasting.proofs.Words.{Start}
+use Rattle.fx_lasting.proofs.Words.{Start, ◌≢◌, get_or, set, at_set, sum_set, Contains, contains_head, at_slot, in_stock, StockAgrees, name_of_file}
 use Rattle.fx_lasting.proofs.Counts.{owed_found}
 use Rattle.fx_lasting.proofs.Keeping.{word_at, slot_word, find_pass}
 
@@ -29,24 +30,20 @@ below_none : (n : ℕ) → below (λ m. 0) n ≡ 0
 below_none zero = refl
 below_none (suc n) = let a = below_none n in omega arith
 
-below_at : (f : ℕ → ℕ) (n m : ℕ) → m < n → f m ≤ below f n
-below_at f zero m l = absurd (omega arith)
-below_at f (suc n) m l = dite (ℕ_discrete m n) (λ same. let a = ap f same in omega arith)
-    (λ other. let a = below_at f n m (omega (arith, l, other)) in omega arith)
+below_zero : (f : ℕ → ℕ) (n : ℕ) → ((m : ℕ) → m < n → f m ≡ 0) → below f n ≡ 0
+below_zero f zero none = refl
+below_zero f (suc n) none = let a = below_zero f n (λ m l. none m (omega arith)) in let b = none n (omega arith) in omega arith
 
--- of the numbers from `first` on, at most one is this
-below_one : (place first n : ℕ) → (below (λ j. one_if (eqb place (first + j))) n ≤ 1)
-    × (first + n ≤ place → below (λ j. one_if (eqb place (first + j))) n ≡ 0)
-below_one place first zero = (omega arith, λ l. refl)
-below_one place first (suc n) = let a = below_one place first n in dite (ℕ_discrete place (first + n))
-    (λ is. let b = bit_here (first + n) place is in let c = a.1 (omega arith) in (omega arith, λ l. absurd (omega arith)))
-    (λ other. let b = bit_else (first + n) place other in let c = a.0 in (omega arith, λ l. let d = a.1 (omega arith) in omega arith))
+-- of numbers that are all different, at most one is this
+below_one : (f : ℕ → ℕ) (place n : ℕ) → ((i j : ℕ) → i < n → j < n → f i ≡ f j → i ≡ j) → below (λ j. one_if (eqb place (f j))) n ≤ 1
+below_one f place zero apart = omega arith
+below_one f place (suc n) apart = dite (ℕ_discrete place (f n))
+    (λ is. let a = below_zero (λ j. one_if (eqb place (f j))) n
+    (λ m l. bit_else (f m) place (λ same. let e = apart m n (omega arith) (omega arith) (sym same ∙ is) in omega (arith, e, l))) in
+    let b = bit_here (f n) place is in omega arith)
+    (λ other. let a = below_one f place n (λ i j l m same. apart i j (omega arith) (omega arith) same) in let b = bit_else (f n) place other in omega arith)
 
--- sums over two kinds of numbers, and over a list, one way and the other
-below_swap : (f : ℕ → ℕ → ℕ) (n m : ℕ) → below (λ j. below (λ s. f j s) m) n ≡ below (λ s. below (λ j. f j s) n) m
-below_swap f n zero = below_none n
-below_swap f n (suc m) = let a = below_swap f n m in let b = below_plus (λ j. below (λ s. f j s) m) (λ j. f j m) n in omega arith
-
+-- sums over numbers and over a list, one way and the other
 sum_none : {X : Type 0} (xs : List X) → sum_by (λ x. 0) xs ≡ 0
 sum_none [] = refl
 sum_none (x ∷ xs) = let a = sum_none xs in let b = sum_by-cons (λ x. 0) x xs in omega arith
@@ -89,10 +86,13 @@ is_free (leaving s t nx m f) = inr (λ e. cc e)
 is_free (retired f) = inr (λ e. cc e)
 is_free (emptied s) = inr (λ e. cc e)
 
-module _ {k : Start} {st : Shared} (r : Agrees k st) where
-  abbrev slot_use : ℕ → ℕ
-  slot_use n = below (λ s. one_if (eqb (name_in (slot_word st.words s)) (n + 1))) (slots_of k)
+-- an entry of a list of numbers
+pub entry_is : (l : List ℕ) (i : ℕ) → i < length l → get_elem? l i ≡ some (get_or l i 0)
+entry_is [] i l = absurd (omega arith)
+entry_is (x ∷ xs) zero l = refl
+entry_is (x ∷ xs) (suc i) l = entry_is xs i (omega arith)
 
+module _ {k : Start} {st : Shared} (r : Agrees k st) where
   abbrev view_use : ℕ → ℕ
   view_use n = sum_by (uses n) st.views
 
@@ -119,58 +119,78 @@ module _ {k : Start} {st : Shared} (r : Agrees k st) where
   owes_use n word (Retiring f m t nx z) o = absurd (let a = o.1 in omega arith)
   owes_use n word (Emptying m) o = absurd (let a = o.1 in omega arith)
 
-  -- a node that isn't free is named by a slot, or a pass works with it
-  used : (n : ℕ) → n < nodes_of k → (ph : Phase) → r.phase n ≡ ph → (ph ≡ free → ⊥)
+  -- a pass works with a node that isn't free, unless a slot names it
+  used : (n : ℕ) → n < nodes_of k → ((s : ℕ) → r.where_is n ≢ at_slot s) → (ph : Phase) → r.phase n ≡ ph → (ph ≡ free → ⊥)
       → NodeAgrees (state_after_all k r.history).at (slots_of k) (λ s. count_in (slot_word st.words s)) r.node_of r.next_number n
       (word_at st.words (word_of k n)) (sum_by (taken_of n) st.views) (owed r.debt k.passes n) (get_elem? st.homes n) ph
-      → OwnerAgrees st.views n ph → 1 ≤ slot_use n + view_use n
-  used n l free is not_free o own = absurd (not_free refl)
-  used n l (placed j z) is not_free o own = let a = does_use n j own refl in omega arith
-  used n l (seated s f) is not_free o own = let b = (r.each_slot s o.inside).names in
+      → OwnerAgrees st.views n ph → 1 ≤ view_use n
+  used n l away free is not_free o own = absurd (not_free refl)
+  used n l away (placed j z) is not_free o own = let a = does_use n j own refl in omega arith
+  used n l away (seated s f) is not_free o own = let b = (r.each_slot s o.inside).names in
       let names = subst (Names r.node_of (slot_word st.words s)) o.there b in let e = o.file.its_node in let at = names.0 in
-      let c = below_at (λ i. one_if (eqb (name_in (slot_word st.words i)) (n + 1))) (slots_of k) s o.inside in
-      let d = bit_here (n + 1) (name_in (slot_word st.words s)) (omega arith) in omega arith
-  used n l (leaving j t nx m f) is not_free o own = let a = does_use n j own refl in omega arith
-  used n l (retired f) is not_free o own = dite (ℕ_discrete (sum_by (taken_of n) st.views) 0)
+      let c = name_of_file (slot_word st.words s) n (omega arith) in let z = r.named s o.inside in let y = z.named in
+      let same : z.node ≡ n = omega arith in absurd (away s (subst (λ (m : ℕ). r.where_is m ≡ at_slot s) same z.here))
+  used n l away (leaving j t nx m f) is not_free o own = let a = does_use n j own refl in omega arith
+  used n l away (retired f) is not_free o own = dite (ℕ_discrete (sum_by (taken_of n) st.views) 0)
       (λ none. let z = owed_found r.debt k.passes n (let a = o.somebody in omega arith) in let y = find_pass r z.1 z.2 in
       let h = ((r.each_view y.0 y.1 y.3).logs y.2 y.4).hold in
       let h' = subst (λ (p : ℕ). HoldAgrees (word_at st.words (hold_word_of k p)) (r.debt p) y.1.work) y.5 h in
       let a = used_by n y.0 y.1 y.3 (owes_use n _ y.1.work (rw z.3 at h')) in omega arith)
       (λ some_taken. let a = sum_le_at (taken_of n) (uses n) st.views (λ i u e. takes_use n u.work) in omega arith)
-  used n l (emptied j) is not_free o own = let a = does_use n j own refl in omega arith
+  used n l away (emptied j) is not_free o own = let a = does_use n j own refl in omega arith
 
-  -- a seat without a pass works with nothing
-  one_each : (first n : ℕ) (j : ℕ) (u : View) → get_elem? st.views j ≡ some u → below (λ i. uses (first + i) u) n ≤ lengths u
-  one_each first n j u there = go u.logs refl
-    where
-      as_one : below (λ i. uses (first + i) u) n ≤ 1
-      as_one = let a = (below_one (named_by u.work) (first + 1) n).0 in
-          let b = below_le (λ i. uses (first + i) u) (λ i. one_if (eqb (named_by u.work) (first + 1 + i))) n
-          (λ m l. let e : first + m + 1 ≡ first + 1 + m = omega arith in let f = ap (λ (q : ℕ). one_if (eqb (named_by u.work) q)) e in omega arith) in omega arith
+  -- The nodes of a stock, while its pass looks for one
+  module _ (id : ℕ) (v : View) (x : Log) (here : get_elem? st.views id ≡ some v) (one : v.logs ≡ x ∷ []) (still : named_by v.work ≡ 0) where
+    abbrev own : ℕ → ℕ
+    own j = get_or x.stock j 0
 
-      go : (l : List Log) → u.logs ≡ l → below (λ i. uses (first + i) u) n ≤ length u.logs
-      go [] none = let e = ((r.each_view j u there).empty none).0 in
-          let a = below_le (λ i. uses (first + i) u) (λ i. 0) n (λ m l. let b = ap named_by e in
-          let c = bit_else (first + m + 1) (named_by u.work) (λ bad. omega arith) in omega arith) in let d = below_none n in omega arith
-      go (z ∷ l) is = let a = as_one in let b = ap (length {A = Log}) is in omega arith
+    stock : StockAgrees k r.where_is x.number x.stock
+    stock = r.stocks id v x here (subst (λ (l : List Log). Contains l x) (sym one) (contains_head x []))
 
-  -- of more nodes in a row than there are slots and passes one is free
-  pub some_free : (first n : ℕ) → first + n ≤ nodes_of k → slots_of k + k.passes < n → (m : ℕ) × (first ≤ m) × (m < first + n) × (r.phase m ≡ free)
-  some_free first n inside many = ⊎_elim (λ z. (first + z.0, omega arith, (let a = z.1 in omega arith), z.2))
-      (λ none. absurd (
-      let a = below_le (λ j. 1) (λ j. slot_use (first + j) + view_use (first + j)) n
-      (λ m l. used (first + m) (omega arith) (r.phase (first + m)) refl (none m l) (r.each_node (first + m) (omega arith)) (r.each_owner (first + m) (omega arith))) in
-      let b = below_plus (λ j. slot_use (first + j)) (λ j. view_use (first + j)) n in let c = below_ones n in
-      let d = slots_few in let e = below_sum (λ j. uses (first + j)) st.views n in
-      let f = sum_le_at (λ u. below (λ i. uses (first + i) u) n) lengths st.views (one_each first n) in let g = r.whole in omega arith))
-      (found_below (λ j. r.phase (first + j) ≡ free) (λ j. is_free (r.phase (first + j))) n)
-    where
-      slots_few : below (λ j. slot_use (first + j)) n ≤ slots_of k
-      slots_few = let a = below_swap (λ j s. one_if (eqb (name_in (slot_word st.words s)) (first + j + 1))) n (slots_of k) in
-          let b = below_le (λ s. below (λ j. one_if (eqb (name_in (slot_word st.words s)) (first + j + 1))) n) (λ s. 1) (slots_of k)
-          (λ s l. let c = (below_one (name_in (slot_word st.words s)) (first + 1) n).0 in
-          let d = below_le (λ j. one_if (eqb (name_in (slot_word st.words s)) (first + j + 1)))
-          (λ j. one_if (eqb (name_in (slot_word st.words s)) (first + 1 + j))) n
-          (λ m h. let e : first + m + 1 ≡ first + 1 + m = omega arith in
-          let f = ap (λ (q : ℕ). one_if (eqb (name_in (slot_word st.words s)) q)) e in omega arith) in omega arith) in
-          let c = below_ones (slots_of k) in omega arith
+    own_here : (j : ℕ) → j < length x.stock → (own j < nodes_of k) × (r.where_is (own j) ≡ in_stock x.number j)
+    own_here j l = (stock.its.inside j (own j) (entry_is x.stock j l), stock.here j (own j) (entry_is x.stock j l))
+
+    own_apart : (i j : ℕ) → i < length x.stock → j < length x.stock → own i ≡ own j → i ≡ j
+    own_apart i j l m same = let both : in_stock x.number i ≡ in_stock x.number j = sym (own_here i l).1 ∙ (ap r.where_is same ∙ (own_here j m).1) in cc both
+
+    abbrev own_use : View → ℕ
+    own_use u = below (λ j. uses (own j) u) (length x.stock)
+
+    -- a view works with at most one of them, and this one with none
+    at_most_one : (u : View) → own_use u ≤ 1
+    at_most_one u = below_one (λ j. own j + 1) (named_by u.work) (length x.stock)
+        (λ i j l m same. own_apart i j l m (omega (arith, same)))
+
+    none_if : (u : View) → named_by u.work ≡ 0 → own_use u ≡ 0
+    none_if u nothing = below_zero (λ j. uses (own j) u) (length x.stock) (λ m l. bit_else (own m + 1) (named_by u.work) (λ bad. omega (arith, bad, nothing)))
+
+    -- a seat without a pass works with nothing
+    one_each : (j : ℕ) (u : View) → get_elem? st.views j ≡ some u → own_use u ≤ lengths u
+    one_each j u there = go u.logs refl
+      where
+        go : (l : List Log) → u.logs ≡ l → own_use u ≤ length u.logs
+        go [] none = let e = none_if u (ap named_by ((r.each_view j u there).empty none).0) in omega arith
+        go (z ∷ l) is = let a = at_most_one u in let b = ap (length {A = Log}) is in omega arith
+
+    -- all passes but this one
+    abbrev left : View
+    left = record v { logs = [] }
+
+    one_else : (j : ℕ) (u : View) → get_elem? (set st.views id left) j ≡ some u → own_use u ≤ lengths u
+    one_else j u there = ⊎_elim (λ (t : (j ≡ id) × (left ≡ u)). subst (λ (y : View). own_use y ≤ lengths y) t.1
+        (let a = none_if left still in omega arith)) (λ (t : (j ≢ id) × (get_elem? st.views j ≡ some u)). one_each j u t.1) (at_set st.views id j left u there)
+
+    few_used : sum_by own_use st.views + 1 ≤ k.passes
+    few_used = let a = sum_set own_use st.views id v left here in let b = none_if v still in let c = none_if left still in
+        let d = sum_set lengths st.views id v left here in let e = ap (length {A = Log}) one in let f = sum_le_at own_use lengths (set st.views id left) one_else in
+        let g = r.whole in omega arith
+
+    -- of as many nodes as there are passes one is free
+    pub some_free : k.passes ≤ length x.stock → (entry : ℕ) × (entry < length x.stock) × (r.phase (own entry) ≡ free)
+    some_free many = ⊎_elim (λ z. z)
+        (λ none. absurd (
+        let a = below_le (λ j. 1) (λ j. view_use (own j)) (length x.stock)
+        (λ m l. let at = own_here m l in used (own m) at.0
+        (λ s bad. let e : in_stock x.number m ≡ at_slot s = sym at.1 ∙ bad in cc e) (r.phase (own m)) refl (none m l) (r.each_node (own m) at.0) (r.each_owner (own m) at.0)) in
+        let c = below_ones (length x.stock) in let e = below_sum (λ j. uses (own j)) st.views (length x.stock) in let f = few_used in omega arith))
+        (found_below (λ j. r.phase (own j) ≡ free) (λ j. is_free (r.phase (own j))) (length x.stock))

@@ -2,9 +2,9 @@
 -- each.
 use Rattle.fx_lasting.proofs.Words.{pass_in, ◌≡◌, ◌≢◌, ℕ, ◌+◌, ◌≤◌, List, [], ◌∷◌, sym, refl, ap, ◌∙◌, subst, arith, Option, All, TableId, take, drop}
 use Rattle.fx_lasting.proofs.Words.{map, length, reverse, Closed, Sat, new_log, pass_of, view_of, IsPassOf, IsSeatOf, IsBetweenCalls, LastingPass}
-use Rattle.fx_lasting.proofs.Words.{Log, Start, View, IsNewPass, dealt, numbers_of_pass, block_start, slots_of, some, get_elem?, Contains, sum_by}
+use Rattle.fx_lasting.proofs.Words.{Log, Start, View, IsNewPass, dealt, numbers_of_pass, first_stock, some, get_elem?, Contains, sum_by}
 use Rattle.fx_lasting.proofs.Words.{Contents, state_of, IsSettled, contains_head, contains_map, Agrees, LogAgrees, logs_in, Shared, opening_of}
-use Rattle.fx_lasting.proofs.Words.{state_after_all, first_log, Event, HasNoFile, inl, IsAtWork, IsInBlock, IsHistory, lengths, one_if, eqb, true, false}
+use Rattle.fx_lasting.proofs.Words.{state_after_all, first_log, Event, HasNoFile, inl, IsAtWork, IsHistory, lengths, one_if, eqb, true, false}
 use Rattle.atomic_table.specs.declared.shared.Seat.{Seat}
 use Rattle.fx_lasting.specs.Cuts.{without_first, first_alone}
 use Rattle.fx_lasting.specs.Tables.{first_passes, as_first}
@@ -18,6 +18,7 @@ use Rattle.fx_table.proofs.Seats.{logs_are as each_log, sum_gathered, each_seat,
 use Rattle.fx_table.proofs.SumLemmas.{contains_tail, contains_none, contains_mapped, contains_reverse, contains_reversed, found_by, sum_zero, sum_map}
 use Rattle.fx_table.proofs.Histories.{IsWhole, closes_table}
 use Rattle.fx_lasting.proofs.Ending.{settled_end}
+use Rattle.fx_lasting.proofs.Openings.{first_stock_is}
 
 -- a pass as other tables' passes are shown when they are new
 abbrev pub shown : LastingPass → PassView
@@ -39,20 +40,20 @@ shown_so id k ps ready n is = shown_all ps (fits (IsPassOf id k) shown ps ready)
 
 -- The passes that are dealt out
 pub rest_is_dealt : {k : Start} {p : ℕ} → p ≤ k.passes → without_first (dealt k p) ≡ dealt k (p + 1)
-rest_is_dealt {k} {p} l = ap (λ (z : List Log). record (dealt k p) { logs = drop 1 z }) (first_left new_log p k.passes l)
+rest_is_dealt {k} {p} l = ap (λ (z : List Log). record (dealt k p) { logs = drop 1 z }) (first_left (new_log k) p k.passes l)
 
 -- the last pass alone
 pub last_is_dealt : {k : Start} {p : ℕ} → p ≡ k.passes → dealt k p ≡ first_alone (dealt k p)
-last_is_dealt {k} {p} e = ap (λ (z : List Log). record (dealt k p) { logs = z }) (last_left new_log p k.passes e)
+last_is_dealt {k} {p} e = ap (λ (z : List Log). record (dealt k p) { logs = z }) (last_left (new_log k) p k.passes e)
 
 -- the pass of a seat that has the first of them
-module _ {id : TableId} (k : Start) {p : ℕ} (low : 1 ≤ p) (high : p ≤ k.passes) {n : ℕ} (first : n ≡ block_start (slots_of k) k.passes p)
-    {seat : Seat (Option Closed) View} {x : LastingPass} (new : IsNewPass seat p n x) (table : seat.table_id ≡ id)
+module _ {id : TableId} (k : Start) {p : ℕ} (low : 1 ≤ p) (high : p ≤ k.passes) {stock : List ℕ} (first : stock ≡ first_stock k p)
+    {seat : Seat (Option Closed) View} {x : LastingPass} (new : IsNewPass seat p stock x) (table : seat.table_id ≡ id)
     (is : seat.me ≡ (first_alone (dealt k p), [])) where
-  alone : first_alone (dealt k p) ≡ record (dealt k p) { logs = new_log p ∷ [] }
-  alone = ap (λ (z : List Log). record (dealt k p) { logs = take 1 z }) (first_left new_log p k.passes high)
+  alone : first_alone (dealt k p) ≡ record (dealt k p) { logs = new_log k p ∷ [] }
+  alone = ap (λ (z : List Log). record (dealt k p) { logs = take 1 z }) (first_left (new_log k) p k.passes high)
 
-  me : x.seat.me ≡ (record (dealt k p) { logs = new_log p ∷ [] }, [])
+  me : x.seat.me ≡ (record (dealt k p) { logs = new_log k p ∷ [] }, [])
   me = ap (λ (z : Seat (Option Closed) View). z.me) new.its_seat ∙ (is ∙ ap (λ (v : View). (v, [])) alone)
 
   legal : IsHistory k []
@@ -60,13 +61,14 @@ module _ {id : TableId} (k : Start) {p : ℕ} (low : 1 ≤ p) (high : p ≤ k.pa
 
   at : IsAtWork k p x.seat.me
   at = rw me record {
-    log = new_log p;
+    log = new_log k p;
     pass = (refl, refl);
     its_number = refl;
     low = omega (arith, low);
     high = high;
     legal = legal;
     inside = tt;
+    stock = first_stock_is k (omega (arith, low)) high;
   }
 
   seated : IsSeatOf id k x
@@ -75,8 +77,8 @@ module _ {id : TableId} (k : Start) {p : ℕ} (low : 1 ≤ p) (high : p ≤ k.pa
     places = ap (λ (m : Sat). m.1) me;
     at = subst (λ (q : ℕ). IsAtWork k q x.seat.me) (sym new.its_number) at;
     change = ap (λ (m : Sat). m.0.change) me;
-    block = subst (λ (z : ℕ × ℕ). IsInBlock k z.0 z.1) (λ i. (sym new.its_number i, (sym first ∙ sym new.its_node) i))
-        (omega arith, omega (arith, low, high));
+    stock = new.its_stock ∙ (first ∙ sym (ap (λ (m : Sat). (pass_in m).stock) me));
+    next = λ _. omega (arith, new.next, low, high);
     listed = new.unlisted ∙ sym (ap (λ (m : Sat). (pass_in m).listed) me);
     sure = λ is. let bad : true ≡ false = sym is ∙ new.unsure in absurd (cc bad);
   }

@@ -158,7 +158,7 @@ module _ (turn : Turn) where
         }
 
     pub stepped_so : (carried : List (ℕ × Option Closed)) → q ≡ x.asked → h' ≡ r.history → Stepped (v, carried) [] v.work v.glance c (w', carried)
-    stepped_so carried same quiet = tells turn turn_after (λ i. (x.listed, same i)) carried carried [] (subst (Grows x.number r.history) (sym quiet) (grows_none x.number r.history))
+    stepped_so carried same quiet = tells turn turn_after (λ i. (x.listed, same i, x.stock)) carried carried [] (subst (Grows x.number r.history) (sym quiet) (grows_none x.number r.history))
         (subst (IsHistory v.start) (sym quiet) r.legal) (ap (part_of_pass x.number) quiet) its_inside
 
     pub goes_asked : (carried : List (ℕ × Option Closed)) → c ≡ v.change → h' ≡ r.history → Goes (as_asked q (v, carried)) [] v.work v.glance (w', carried)
@@ -174,7 +174,7 @@ module _ (turn : Turn) where
         → (z : Log) → Contains w'.logs z → z.number ≤ 64 → HasQuestionOf (word_at words' question_place) z.number
         → HasVisitedFull at_now range (set st.views id w') z.asked
     own_question f z has = subst (λ (z : Log). z.number ≤ 64 → HasQuestionOf (word_at words' question_place) z.number → HasVisitedFull at_now range (set st.views id w') z.asked)
-        (sym (contains_only (logged x x.listed q h') z has)) f
+        (sym (contains_only (logged x x.listed q x.stock h') z has)) f
 
     -- a step that reads, after which the pass has asked otherwise, perhaps
     pub read_counts : y ≡ word_at st.words place → c ≡ v.change

@@ -7,14 +7,17 @@ use Rattle.fx_lasting.proofs.Words.{uncounted, account, View, Log, Change, Outsi
 use Rattle.fx_lasting.proofs.Words.{group_size, groups_in, group_of, group_start, group_len, group_place, question_place, ◌⊎◌, ⊎_elim, inl, inr, at_set}
 use Rattle.fx_lasting.proofs.Words.{ℕ_discrete, eq-eqb, ne_eqb, get_or, Contains}
 use Rattle.std.specs.Prelude.{is_some, not}
+use Rattle.fx_lasting.specs.declared.layout.TheConstants.{MOST_SLOTS}
 
--- what holds of both sizes of a group
-pub by_size : (P : ℕ → Type 0) → P 4 → P 64 → (len : ℕ) → P (group_size len)
-by_size P small large len = go (nat_lt 256 len)
+-- what holds of each size of a group
+pub by_size : (P : ℕ → Type 0) → P 4 → P 64 → P 1024 → P 16384 → (len : ℕ) → P (group_size len)
+by_size P small middle large largest len = go (nat_lt 65536 len) (nat_lt 4096 len) (nat_lt 256 len)
   where
-    go : (b : Bool) → P (cond b 64 4)
-    go true = large
-    go false = small
+    go : (a b c : Bool) → P (cond a 16384 (cond b 1024 (cond c 64 4)))
+    go true b c = largest
+    go false true c = large
+    go false false true = middle
+    go false false false = small
 
 -- the lesser of two numbers
 abbrev lesser : ℕ → ℕ → ℕ
@@ -36,7 +39,11 @@ in_group range s g = by_size (Inner range.0 range.1 s g)
     (λ low high is. ⊎_elim (λ c. (omega (arith, low, high, is), omega (arith, low, high, is, c.0, c.1)))
     (λ c. (omega (arith, low, high, is), omega (arith, low, high, is, c.0, c.1))) (lesser_so (range.1 - g * 4) 4))
     (λ low high is. ⊎_elim (λ c. (omega (arith, low, high, is), omega (arith, low, high, is, c.0, c.1)))
-    (λ c. (omega (arith, low, high, is), omega (arith, low, high, is, c.0, c.1))) (lesser_so (range.1 - g * 64) 64)) range.1
+    (λ c. (omega (arith, low, high, is), omega (arith, low, high, is, c.0, c.1))) (lesser_so (range.1 - g * 64) 64))
+    (λ low high is. ⊎_elim (λ c. (omega (arith, low, high, is), omega (arith, low, high, is, c.0, c.1)))
+    (λ c. (omega (arith, low, high, is), omega (arith, low, high, is, c.0, c.1))) (lesser_so (range.1 - g * 1024) 1024))
+    (λ low high is. ⊎_elim (λ c. (omega (arith, low, high, is), omega (arith, low, high, is, c.0, c.1)))
+    (λ c. (omega (arith, low, high, is), omega (arith, low, high, is, c.0, c.1))) (lesser_so (range.1 - g * 16384) 16384)) range.1
 
 -- and a slot of a group is one of the range
 abbrev Outer : (off len s g : ℕ) → ℕ → Type 0
@@ -49,46 +56,69 @@ of_group range s g = by_size (Outer range.0 range.1 s g)
     (λ low high. ⊎_elim (λ c. (omega (arith, low), omega (arith, low, high, c.0, c.1), omega (arith, low, high, c.0, c.1)))
     (λ c. (omega (arith, low), omega (arith, low, high, c.0, c.1), omega (arith, low, high, c.0, c.1))) (lesser_so (range.1 - g * 4) 4))
     (λ low high. ⊎_elim (λ c. (omega (arith, low), omega (arith, low, high, c.0, c.1), omega (arith, low, high, c.0, c.1)))
-    (λ c. (omega (arith, low), omega (arith, low, high, c.0, c.1), omega (arith, low, high, c.0, c.1))) (lesser_so (range.1 - g * 64) 64)) range.1
+    (λ c. (omega (arith, low), omega (arith, low, high, c.0, c.1), omega (arith, low, high, c.0, c.1))) (lesser_so (range.1 - g * 64) 64))
+    (λ low high. ⊎_elim (λ c. (omega (arith, low), omega (arith, low, high, c.0, c.1), omega (arith, low, high, c.0, c.1)))
+    (λ c. (omega (arith, low), omega (arith, low, high, c.0, c.1), omega (arith, low, high, c.0, c.1))) (lesser_so (range.1 - g * 1024) 1024))
+    (λ low high. ⊎_elim (λ c. (omega (arith, low), omega (arith, low, high, c.0, c.1), omega (arith, low, high, c.0, c.1)))
+    (λ c. (omega (arith, low), omega (arith, low, high, c.0, c.1), omega (arith, low, high, c.0, c.1))) (lesser_so (range.1 - g * 16384) 16384)) range.1
 
 -- the group of a slot of the range is one of its groups
 pub is_group : (range : ℕ × ℕ) (s : ℕ) → range.0 ≤ s → s < range.0 + range.1 → group_of range s < groups_in range.1
 is_group range s = by_size (λ size. range.0 ≤ s → s < range.0 + range.1 → (s - range.0) / size < (range.1 + (size - 1)) / size)
-    (λ low high. omega arith) (λ low high. omega arith) range.1
+    (λ low high. omega arith) (λ low high. omega arith) (λ low high. omega arith) (λ low high. omega arith) range.1
 
--- the group of a slot, by the length of the range
-pub large_group : (range : ℕ × ℕ) (s start len : ℕ) → ◌≡◌ {A = ℕ × ℕ} (start, len) range → 256 < len → (s - start) / 64 ≡ group_of range s
-large_group range s start len same l = subst (λ (z : ℕ × ℕ). (s - start) / 64 ≡ group_of z s) same
-    (let e : group_size len ≡ 64 = ap (λ (b : Bool). cond b 64 4) (lt-ltb 256 len l) in ap (λ (size : ℕ). (s - start) / size) (sym e))
+-- the size of a group, by the length of the range
+pub size_largest : (len : ℕ) → 65536 < len → group_size len ≡ 16384
+size_largest len l = ap (λ (b : Bool). cond b 16384 (cond (nat_lt 4096 len) 1024 (cond (nat_lt 256 len) 64 4))) (lt-ltb 65536 len l)
 
-pub small_group : (range : ℕ × ℕ) (s start len : ℕ) → ◌≡◌ {A = ℕ × ℕ} (start, len) range → len ≤ 256 → (s - start) / 4 ≡ group_of range s
-small_group range s start len same l = subst (λ (z : ℕ × ℕ). (s - start) / 4 ≡ group_of z s) same
-    (let e : group_size len ≡ 4 = ap (λ (b : Bool). cond b 64 4) (le-ltb 256 len l) in ap (λ (size : ℕ). (s - start) / size) (sym e))
+pub size_large : (len : ℕ) → len ≤ 65536 → 4096 < len → group_size len ≡ 1024
+size_large len few l = λ i. cond (le-ltb 65536 len few i) 16384 (cond (lt-ltb 4096 len l i) 1024 (cond (nat_lt 256 len) 64 4))
+
+pub size_middle : (len : ℕ) → len ≤ 4096 → 256 < len → group_size len ≡ 64
+size_middle len few l = let more : len ≤ 65536 = omega (arith, few) in
+    λ i. cond (le-ltb 65536 len more i) 16384 (cond (le-ltb 4096 len few i) 1024 (cond (lt-ltb 256 len l i) 64 4))
+
+pub size_small : (len : ℕ) → len ≤ 256 → group_size len ≡ 4
+size_small len few = let more : len ≤ 65536 = omega (arith, few) in let some : len ≤ 4096 = omega (arith, few) in
+    λ i. cond (le-ltb 65536 len more i) 16384 (cond (le-ltb 4096 len some i) 1024 (cond (le-ltb 256 len few i) 64 4))
+
+-- the group of a slot, by that size
+pub group_by : (range : ℕ × ℕ) (s start len size : ℕ) → ◌≡◌ {A = ℕ × ℕ} (start, len) range → group_size len ≡ size → (s - start) / size ≡ group_of range s
+group_by range s start len size same is = subst (λ (z : ℕ × ℕ). (s - start) / size ≡ group_of z s) same (ap (λ (n : ℕ). (s - start) / n) (sym is))
 
 -- a range has few groups
-pub few_groups : (len : ℕ) → len ≤ 4096 → groups_in len ≤ 64
-few_groups len few = dite (dec_le (suc 256) len)
-    (λ l. let e : group_size len ≡ 64 = ap (λ (b : Bool). cond b 64 4) (lt-ltb 256 len (omega (arith, l))) in
-    subst (λ (size : ℕ). (len + (size - 1)) / size ≤ 64) (sym e) (omega arith))
-    (λ g. let e : group_size len ≡ 4 = ap (λ (b : Bool). cond b 64 4) (le-ltb 256 len (omega (arith, g))) in
-    subst (λ (size : ℕ). (len + (size - 1)) / size ≤ 64) (sym e) (omega arith))
+pub few_groups : (len : ℕ) → len ≤ MOST_SLOTS → groups_in len ≤ 64
+few_groups len few = dite (dec_le (suc 65536) len)
+    (λ l. by (size_largest len (omega (arith, l))) (omega (arith, few)))
+    (λ a. dite (dec_le (suc 4096) len)
+    (λ l. by (size_large len (omega (arith, a)) (omega (arith, l))) (omega (arith, a)))
+    (λ b. dite (dec_le (suc 256) len)
+    (λ l. by (size_middle len (omega (arith, b)) (omega (arith, l))) (omega (arith, b)))
+    (λ g. by (size_small len (omega (arith, g))) (omega (arith, g)))))
+  where
+    by : {size : ℕ} → group_size len ≡ size → (len + (size - 1)) / size ≤ 64 → groups_in len ≤ 64
+    by e l = subst (λ (n : ℕ). (len + (n - 1)) / n ≤ 64) (sym e) l
 
 -- a group is inside the range
 pub group_inside : (range : ℕ × ℕ) (g : ℕ) → g < groups_in range.1 → group_start range g + group_len range.1 g ≤ range.0 + range.1
 group_inside range g = by_size (λ size. g < (range.1 + (size - 1)) / size
     → range.0 + g * size + lesser (range.1 - g * size) size ≤ range.0 + range.1)
     (λ l. ⊎_elim (λ c. omega (arith, l, c.0, c.1)) (λ c. omega (arith, l, c.0, c.1)) (lesser_so (range.1 - g * 4) 4))
-    (λ l. ⊎_elim (λ c. omega (arith, l, c.0, c.1)) (λ c. omega (arith, l, c.0, c.1)) (lesser_so (range.1 - g * 64) 64)) range.1
+    (λ l. ⊎_elim (λ c. omega (arith, l, c.0, c.1)) (λ c. omega (arith, l, c.0, c.1)) (lesser_so (range.1 - g * 64) 64))
+    (λ l. ⊎_elim (λ c. omega (arith, l, c.0, c.1)) (λ c. omega (arith, l, c.0, c.1)) (lesser_so (range.1 - g * 1024) 1024))
+    (λ l. ⊎_elim (λ c. omega (arith, l, c.0, c.1)) (λ c. omega (arith, l, c.0, c.1)) (lesser_so (range.1 - g * 16384) 16384)) range.1
 
 -- and has at most as many slots as each
 pub group_short : (len g : ℕ) → group_len len g ≤ group_size len
 group_short len g = ⊎_elim (λ c. omega (arith, c.0, c.1)) (λ c. omega (arith, c.0, c.1)) (lesser_so (len - g * group_size len) (group_size len))
 
 -- a group has few slots
-pub few_slots : (len g : ℕ) → group_len len g ≤ 64
-few_slots len g = by_size (λ size. lesser (len - g * size) size ≤ 64)
+pub few_slots : (len g : ℕ) → group_len len g ≤ 16384
+few_slots len g = by_size (λ size. lesser (len - g * size) size ≤ 16384)
     (⊎_elim (λ c. omega (arith, c.0, c.1)) (λ c. omega (arith, c.0, c.1)) (lesser_so (len - g * 4) 4))
-    (⊎_elim (λ c. omega (arith, c.0, c.1)) (λ c. omega (arith, c.0, c.1)) (lesser_so (len - g * 64) 64)) len
+    (⊎_elim (λ c. omega (arith, c.0, c.1)) (λ c. omega (arith, c.0, c.1)) (lesser_so (len - g * 64) 64))
+    (⊎_elim (λ c. omega (arith, c.0, c.1)) (λ c. omega (arith, c.0, c.1)) (lesser_so (len - g * 1024) 1024))
+    (⊎_elim (λ c. omega (arith, c.0, c.1)) (λ c. omega (arith, c.0, c.1)) (lesser_so (len - g * 16384) 16384)) len
 
 -- what the count of full slots has of a slot with this file
 abbrev counted : Bool → Option File → ℕ
@@ -258,14 +288,14 @@ module _ {at : ℕ → Option File} {range : ℕ × ℕ} {views : List View} (id
         rw (same, is) record { counts = ap (λ (n : ℕ). (get_or words (group_place g) 0 + n) % 2 ^ 64) (omega (arith, a, change)) ∙ u }
 
     -- nothing that counts or asks changes
-    pub counts_same : {at' : ℕ → Option File} {words' : List ℕ} → range.1 ≤ 4096 → at' ≡ at → CountAlike words' words → w.change ≡ v.change → AskAlike w v
+    pub counts_same : {at' : ℕ → Option File} {words' : List ℕ} → range.1 ≤ MOST_SLOTS → at' ≡ at → CountAlike words' words → w.change ≡ v.change → AskAlike w v
         → RangeCounts at' range (set views id w) words'
     counts_same few same alike change asks = counts_kept alike.0
         (λ g l. group_same same (ap (owing g) change) l (alike.1 g (omega (arith, l, few_groups range.1 few))))
         (λ n. full_same same change) asks
 
     -- a slot changes
-    pub counts_swap : {words' : List ℕ} (s : ℕ) (old new : Option File) → range.1 ≤ 4096 → at s ≡ old → CountAlike words' words → AskAlike w v
+    pub counts_swap : {words' : List ℕ} (s : ℕ) (old new : Option File) → range.1 ≤ MOST_SLOTS → at s ≡ old → CountAlike words' words → AskAlike w v
         → w.change ≡ account range s old
         → ((g : ℕ) → share (is_in (group_start range g, group_len range.1 g) s) (not (is_some old)) + counted (is_in (group_start range g, group_len range.1 g) s) old
         ≡ owing g v.change + counted (is_in (group_start range g, group_len range.1 g) s) new)

@@ -20,7 +20,7 @@ module _ (turn : Turn) (carried : List (ℕ × Option Closed)) where
   -- a step that adds nothing to the history
   module _ (new : ℕ) (d : Work) (calm : busy v.work ≡ 0) (untaken : (n : ℕ) → taking n d ≡ taking n v.work) (holds : held_in d ≡ held_in v.work) where
     quiet : HoldAgrees new (r.debt x.number) d → GuardAgrees (slot_word (own_words turn new d)) r.phase x.number (r.debt x.number) d
-        → WorkAgrees v.start r.phase id d → IsAllowed v.start x.number x.listed d → Own turn new d r.history
+        → WorkAgrees v.start r.phase id d → IsAllowed x.stock x.listed d → Own turn new d r.history
     quiet hold guard work allowed = record {
       grows = grows_none x.number r.history;
       legal = r.legal;

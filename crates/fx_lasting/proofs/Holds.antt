@@ -1,6 +1,6 @@
 -- A node is that of one file while the file is held.
 use Rattle.fx_lasting.proofs.Words.{◌≡◌, ◌≢◌, ℕ, ◌+◌, Option, Some, None, ap, sym, ◌∙◌, subst, arith, File, node_of_number, sum_by, get_elem?, Agrees, Names, IsSeated}
-use Rattle.fx_lasting.proofs.Words.{NodeAgrees, WorkAgrees, HoldsAt, slots_of, word_of, state_after_all, taken_of, owed, count_in, name_in}
+use Rattle.fx_lasting.proofs.Words.{NodeAgrees, WorkAgrees, HoldsAt, slots_of, word_of, state_after_all, taken_of, owed, count_in, full_name_in}
 use Rattle.fx_lasting.proofs.Words.{Phase, Shared, Start, Work, Counted, Guarded, Retiring, seated, leaving, retired, file_in}
 use Rattle.fx_table.specs.declared.values.Doing.TheVariants.{Holding, Retiring as Retires}
 use Rattle.fx_table.specs.declared.values.Hold.{Hold}
@@ -30,7 +30,7 @@ module _ (k : Start) (s : Shared) (r : Agrees k s) where
       let e : file_in (r.phase x.node) ≡ file_in (r.phase y.node) = ap (λ n. file_in (r.phase n)) same in cc (here, also, e)
 
   of_slot : (f g : File) (hold : Hold) (slot : ℕ) (file : Option File) → IsHeldBy s f hold → Names r.node_of (slot_word_in s slot) file
-      → IsSeated k r.node_of r.phase slot file → name_in (slot_word_in s slot) ≡ hold.node + 1 → file ≡ Some g → f ≡ g
+      → IsSeated k r.node_of r.phase slot file → full_name_in (slot_word_in s slot) ≡ hold.node + 1 → file ≡ Some g → f ≡ g
   of_slot f g hold slot None held names seat is e = absurd (cc e)
   of_slot f g hold slot (Some h) held names seat is e = let a = names.0 in let node : r.node_of h.number ≡ hold.node = omega arith in
       let here = (holds_at held).1 in let there : r.phase hold.node ≡ seated slot h = rw node at seat.1 in

@@ -1,7 +1,7 @@
 -- The files at the settled end of a table whose passes are all idle: they are in the places of
 -- their nodes.
 use Rattle.fx_lasting.proofs.Words.{◌≡◌, ◌≤◌, ℕ, ◌-◌, sym, refl, ap, ◌∙◌, arith, Option, Some, None, List, subst, Closed, State, slice_index}
-use Rattle.fx_lasting.proofs.Words.{some, get_elem?, node_in, slot_place, stands_at, some-injective, File, Names, name_in, Agrees, slots_of}
+use Rattle.fx_lasting.proofs.Words.{some, get_elem?, file_node_in, slot_place, stands_at, some-injective, File, Names, full_name_in, Agrees, slots_of}
 use Rattle.fx_lasting.proofs.Words.{state_after_all, LastingTable, Start, View, HasNoFile, eq-eqb, ne_eqb}
 use Rattle.std.specs.Prelude.{option_map}
 use Rattle.atomic_table.specs.Table.{Final, Seen}
@@ -15,7 +15,7 @@ use Rattle.fx_lasting.proofs.Histories.{same_shape}
 
 -- the node that a slot's word names, which is its file's place
 abbrev pub node_at : List ℕ → ℕ → Option ℕ
-node_at words slot = node_in (slice_index words (slot_place slot))
+node_at words slot = file_node_in (slice_index words (slot_place slot))
 
 -- the contents of the places at the settled end, and their way back: the end of a table whose
 -- passes are all idle
@@ -36,10 +36,10 @@ module _ (t : LastingTable) {id : ℕ} {v : View} {words : List ℕ} (xs : List 
   all_idle : (i : ℕ) (u : View) → get_elem? final.0.views i ≡ some u → HasNoFile u.work
   all_idle = idle final.0 r final.1.1
 
-  node_is : (word : ℕ) (file : Option File) → Names r.node_of word file → node_in word ≡ option_map r.node_of (number_of file)
-  node_is word None e = rw (eq-eqb (name_in word) 0 e) refl
-  node_is word (Some f) e = let n = e.0 in rw (ne_eqb (name_in word) 0 (λ bad. omega (arith, n, bad)))
-      (let same : name_in word - 1 ≡ r.node_of f.number = omega (arith, n) in ap (λ (z : ℕ). Some z) same)
+  node_is : (word : ℕ) (file : Option File) → Names r.node_of word file → file_node_in word ≡ option_map r.node_of (number_of file)
+  node_is word None e = rw (eq-eqb (full_name_in word) 0 e) refl
+  node_is word (Some f) e = let n = e.0 in rw (ne_eqb (full_name_in word) 0 (λ bad. omega (arith, n, bad)))
+      (let same : full_name_in word - 1 ≡ r.node_of f.number = omega (arith, n) in ap (λ (z : ℕ). Some z) same)
 
   stored : AreStored size (node_at words) end r.node_of xs
   stored = record {

@@ -7,12 +7,13 @@ use Rattle.fx_lasting.proofs.Words.{LogAgrees, ViewAgrees, lengths, Agrees, Rang
 use Rattle.fx_lasting.proofs.Words.{count_in, slot_place, word_of, hold_word_of, Shared, slots_of, nodes_of, range_at_start, state_after_all}
 use Rattle.fx_lasting.proofs.Words.{IsHistory, held_in, held_of, taken_of, logs_of, owed, Sat, Stepped, IsInside, pass_event, HasPass, Phase}
 use Rattle.fx_lasting.proofs.Words.{free, removed_in, Change, Glance, Log, Start, View, Work, found_sum, found_by, at_index}
-use Rattle.fx_lasting.proofs.Words.{◌⊎◌, list_place, IsListedIn, Deed, untouched, Survey, as_asked}
+use Rattle.fx_lasting.proofs.Words.{IsInStock, name_in, Whereabouts, in_stock, NamesItsNode, StockAgrees, as_stocked, ◌⊎◌, list_place, IsListedIn, Deed, untouched, Survey, as_asked}
 use Rattle.fx_lasting.proofs.Words.{Labels, Written, tag_word_of, number_word_of, written_in}
 use Rattle.fx_lasting.proofs.Groups.{AskAlike}
 use Rattle.fx_lasting.proofs.Histories.{Grows, legal_before}
 use Rattle.fx_seen.proofs.Views.{of_replaced}
 use Rattle.fx_lasting.proofs.Lists.{ListGoesOn, stays_listed, was_listed}
+use Rattle.fx_lasting.specs.declared.layout.TheConstants.{MOST_SLOTS}
 use mathlib.Core.Option as maybe
 
 -- the history that the seat shows begins this one
@@ -40,9 +41,10 @@ slot_word words s = word_at words (slot_place s)
 abbrev pub now : View → Log → Work → Glance → Change → View
 now v y d g c = record v { logs = y ∷ []; work = d; glance = g; change = c }
 
--- a pass that has seen the history, is listed or not, and has asked so, after one more step
-abbrev pub logged : Log → Bool → Survey → List Event → Log
-logged x l a h = record x { front = h; steps = x.steps + 1; listed = l; asked = a }
+-- a pass that has seen the history, is listed or not, has asked so, and has this stock, after one
+-- more step
+abbrev pub logged : Log → Bool → Survey → List ℕ → List Event → Log
+logged x l a stock h = record x { front = h; steps = x.steps + 1; listed = l; asked = a; stock = stock }
 
 -- a seat with one pass, which makes the next step
 pub record Turn : Type 0 where
@@ -106,7 +108,7 @@ its_range {k} {st} r j {u} there {y} at = let a = r.passes y.number in let t = s
     (omega (arith, once_is k.passes y.number), omega (arith, once_is k.passes y.number))
 
 -- a range has few slots
-pub few_in_range : {k : Start} {st : Shared} → Agrees k st → (range_at_start k).1 ≤ 4096
+pub few_in_range : {k : Start} {st : Shared} → Agrees k st → (range_at_start k).1 ≤ MOST_SLOTS
 few_in_range r = let a = r.shape.range in let b = r.shape.slots in omega arith
 
 -- each pass of the table is in a view
@@ -148,10 +150,12 @@ module _ (turn : Turn) where
     pub asked : Survey
     pub listed : Bool
     pub still_listed : x.listed ≡ true → listed ≡ true
+    pub where_is : ℕ → Whereabouts
+    pub stock : List ℕ
 
   module _ (a : After) where
     abbrev pub w : View
-    w = now v (logged x a.listed a.asked a.front) a.work a.glance a.change
+    w = now v (logged x a.listed a.asked a.stock a.front) a.work a.glance a.change
 
     abbrev pub views' : List View
     views' = set st.views id w
@@ -185,12 +189,15 @@ module _ (turn : Turn) where
       pub removed : (number : ℕ) → (state_after_all v.start a.h).removed number ≡ removed_in number (a.phase (r.node_of number))
       pub unborn : (n : ℕ) → nodes_of v.start ≤ n → a.phase n ≡ free
       pub fresh : (number : ℕ) → a.next_number ≤ number → (state_after_all v.start a.h).fresh number ≡ true
+      pub named : (s : ℕ) → s < slots_of v.start → NamesItsNode v.start a.where_is s (slot_word a.words s)
+      pub stock : StockAgrees v.start a.where_is x.number a.stock
+      pub stocks : (n q entry : ℕ) → q ≢ x.number → r.where_is n ≡ in_stock q entry → a.where_is n ≡ in_stock q entry
       pub others : (j : ℕ) (u : View) (z : Log) → j ≢ id → get_elem? st.views j ≡ some u → Contains u.logs z → z.number ≢ x.number
           → (0 < z.number) × (z.number ≤ v.start.passes)
           → LogAgrees v.start r.history st.words r.phase r.debt r.deed u.work u.glance z → WorkAgrees v.start r.phase j u.work
           → Keeps j z.number u.work u.glance
       pub held : held_by a.h x.number ≡ held_in a.work
-      pub allowed : IsAllowed v.start x.number a.listed a.work
+      pub allowed : IsAllowed a.stock a.listed a.work
       pub its : Keeps id x.number a.work a.glance
       pub holds : (n : ℕ) → (state_after_all v.start a.h).holds n + held_of n v ≡ (state_after_all v.start r.history).holds n + held_of n w
       pub lists : (p : ℕ) → p ≤ 1024 → ListGoesOn x.number a.listed p (word_at st.words (list_place p)) (word_at a.words (list_place p))
@@ -230,7 +237,7 @@ module _ (turn : Turn) where
               (s.others j u z other there at (not_there r here one other there z at) (its_range r j there at)
               ((r.each_view j u there).logs z at) (r.each_view j u there).work).work
 
-      its_own : LogAgrees v.start a.h a.words a.phase a.debt a.deed a.work a.glance (logged x a.listed a.asked a.front)
+      its_own : LogAgrees v.start a.h a.words a.phase a.debt a.deed a.work a.glance (logged x a.listed a.asked a.stock a.front)
       its_own = let few : x.number ≤ 1024 = omega (arith, in_range.1, r.shape.passes) in record {
         seen = s.seen;
         own = s.own;
@@ -268,7 +275,7 @@ module _ (turn : Turn) where
         each_view = λ j u e. ⊎_elim (λ (t : (j ≡ id) × (w ≡ u)).
             subst (λ (z : ℕ × View). ViewAgrees v.start a.h a.words a.phase a.debt a.deed z.0 z.1) (λ i. (sym t.0 i, t.1 i)) record {
               logs = λ z h. subst (LogAgrees v.start a.h a.words a.phase a.debt a.deed a.work a.glance)
-                  (sym (contains_only (logged x a.listed a.asked a.front) z h)) its_own;
+                  (sym (contains_only (logged x a.listed a.asked a.stock a.front) z h)) its_own;
               work = s.its.work;
               empty = λ none. absurd (omega (arith, ap (length {A = Log}) none));
               start = inr refl;
@@ -277,6 +284,16 @@ module _ (turn : Turn) where
               work = other_work j u t.0 t.1;
               empty = (r.each_view j u t.1).empty;
               start = (r.each_view j u t.1).start;
+            }) (at_set st.views id j w u e);
+        where_is = a.where_is;
+        named = s.named;
+        stocks = λ j u z e has. ⊎_elim
+            (λ (t : (j ≡ id) × (w ≡ u)). let has' : Contains (logged x a.listed a.asked a.stock a.front ∷ []) z =
+            subst (λ (y : View). Contains y.logs z) (sym t.1) has in
+            subst (λ (y : Log). StockAgrees v.start a.where_is y.number y.stock) (sym (contains_only (logged x a.listed a.asked a.stock a.front) z has')) s.stock)
+            (λ (t : (j ≢ id) × (get_elem? st.views j ≡ some u)). let o = r.stocks j u z t.1 has in record {
+              its = o.its;
+              here = λ entry n is. s.stocks n z.number entry (not_there r here one t.0 t.1 z has) (o.here entry n is);
             }) (at_set st.views id j w u e);
         known = of_replaced (IsKnown a.h) st.views (λ j u e. s.grows.seen u.known (r.known j u e)) id w (s.grows.seen v.known (r.known id v here));
         holds = λ n. let t = sum_set (held_of n) st.views id v w here in let a = r.holds n in let b = s.holds n in omega arith;
@@ -291,19 +308,33 @@ module _ (turn : Turn) where
         counts = s.counts;
       }
 
+  -- the nodes of the pass's stock
+  pub its_stock : StockAgrees v.start r.where_is x.number x.stock
+  its_stock = r.stocks id v x here has_x
+
+  -- a node of the stock is there
+  pub in_its_stock : {n : ℕ} → (s : IsInStock x.stock n) → (n < nodes_of v.start) × (r.where_is n ≡ in_stock x.number s.0)
+  in_its_stock {n} s = (its_stock.its.inside s.0 n s.1, its_stock.here s.0 n s.1)
+
+  -- the nodes that slots name, where no slot names another one
+  pub names_on : (words' : List ℕ) → ((s : ℕ) → s < slots_of v.start → name_in (slot_word words' s) ≡ name_in (slot_word st.words s))
+      → (s : ℕ) → s < slots_of v.start → NamesItsNode v.start r.where_is s (slot_word words' s)
+  names_on words' same s l = let o = r.named s l in record { node = o.node; named = same s l ∙ o.named; inside = o.inside; here = o.here }
+
   -- the effect of the step on its pass
-  pub tells : (a : After) → ◌≡◌ {A = Bool × Survey} (a.listed, a.asked) (x.listed, x.asked) → (carried homes : List (ℕ × Option Closed)) (actions : List Action) → Grows x.number r.history a.front
+  pub tells : (a : After) → ◌≡◌ {A = Bool × Survey × List ℕ} (a.listed, a.asked, a.stock) (x.listed, x.asked, x.stock) → (carried homes : List (ℕ × Option Closed)) (actions : List Action) → Grows x.number r.history a.front
       → IsHistory v.start a.front → part_of_pass x.number a.front ≡ map (pass_event x) actions ++ part_of_pass x.number r.history
       → IsInside v.start a.work → Stepped (v, carried) actions a.work a.glance a.change (w a, homes)
   tells a same carried homes actions grows legal own inside = let o = its_log in rw one record {
-    one = (logged x a.listed a.asked a.front, refl);
+    one = (logged x a.listed a.asked a.stock a.front, refl);
     number = refl;
     seen = grows.seen x.front o.seen;
     legal = legal;
     own = own ∙ ap (λ (l : List Event). map (pass_event x) actions ++ l) o.own;
     steps = refl;
-    listed = ap (λ (z : Bool × Survey). z.0) same;
-    asked = ap (λ (z : Bool × Survey). z.1) same;
+    listed = ap (λ (z : Bool × Survey × List ℕ). z.0) same;
+    asked = ap (λ (z : Bool × Survey × List ℕ). z.1) same;
+    stock = ap (λ (z : Bool × Survey × List ℕ). z.2) same;
     work = refl;
     inside = inside;
     glance = refl;
@@ -312,18 +343,41 @@ module _ (turn : Turn) where
   }
 
   -- the effect of a step after which the pass has asked otherwise
-  pub tells_asked : (a : After) → a.listed ≡ x.listed → (carried : List (ℕ × Option Closed)) → Grows x.number r.history a.front
+  pub tells_asked : (a : After) → ◌≡◌ {A = Bool × List ℕ} (a.listed, a.stock) (x.listed, x.stock) → (carried : List (ℕ × Option Closed)) → Grows x.number r.history a.front
       → IsHistory v.start a.front → part_of_pass x.number a.front ≡ part_of_pass x.number r.history → IsInside v.start a.work
       → Stepped (as_asked a.asked (v, carried)) [] a.work a.glance a.change (w a, carried)
   tells_asked a same carried grows legal own inside = let o = its_log in rw one record {
-    one = (logged x a.listed a.asked a.front, refl);
+    one = (logged x a.listed a.asked a.stock a.front, refl);
     number = refl;
     seen = grows.seen x.front o.seen;
     legal = legal;
     own = own ∙ o.own;
     steps = refl;
-    listed = same;
+    listed = ap (λ (z : Bool × List ℕ). z.0) same;
     asked = refl;
+    stock = ap (λ (z : Bool × List ℕ). z.1) same;
+    work = refl;
+    inside = inside;
+    glance = refl;
+    change = refl;
+    start = refl;
+  }
+
+  -- the effect of a step after which the pass has another stock
+  pub tells_stocked : (a : After) → ◌≡◌ {A = Bool × Survey} (a.listed, a.asked) (x.listed, x.asked) → (carried homes : List (ℕ × Option Closed)) (actions : List Action)
+      → Grows x.number r.history a.front → IsHistory v.start a.front
+      → part_of_pass x.number a.front ≡ map (pass_event x) actions ++ part_of_pass x.number r.history → IsInside v.start a.work
+      → Stepped (as_stocked a.stock (v, carried)) actions a.work a.glance a.change (w a, homes)
+  tells_stocked a same carried homes actions grows legal own inside = let o = its_log in rw one record {
+    one = (logged x a.listed a.asked a.stock a.front, refl);
+    number = refl;
+    seen = grows.seen x.front o.seen;
+    legal = legal;
+    own = own ∙ ap (λ (l : List Event). map (pass_event x) actions ++ l) o.own;
+    steps = refl;
+    listed = ap (λ (z : Bool × Survey). z.0) same;
+    asked = ap (λ (z : Bool × Survey). z.1) same;
+    stock = refl;
     work = refl;
     inside = inside;
     glance = refl;
@@ -334,23 +388,24 @@ module _ (turn : Turn) where
   -- the pass has asked what it had asked
   pub asks_alike : (a : After) → a.asked ≡ x.asked → AskAlike (w a) v
   asks_alike a same y has = subst (λ (y : Log). (z : Log) × Contains v.logs z × (z.number ≡ y.number) × (z.asked ≡ y.asked))
-      (sym (contains_only (logged x a.listed a.asked a.front) y has)) (x, has_x, refl, sym same)
+      (sym (contains_only (logged x a.listed a.asked a.stock a.front) y has)) (x, has_x, refl, sym same)
 
-  pub few_slots : (range_at_start v.start).1 ≤ 4096
+  pub few_slots : (range_at_start v.start).1 ≤ MOST_SLOTS
   few_slots = few_in_range r
 
   -- the effect of a step after which the pass has seen what it had seen
-  pub tells_less : (a : After) → ◌≡◌ {A = Bool × Survey} (a.listed, a.asked) (x.listed, x.asked) → (carried homes : List (ℕ × Option Closed)) → a.front ≡ x.front → IsInside v.start a.work
+  pub tells_less : (a : After) → ◌≡◌ {A = Bool × Survey × List ℕ} (a.listed, a.asked, a.stock) (x.listed, x.asked, x.stock) → (carried homes : List (ℕ × Option Closed)) → a.front ≡ x.front → IsInside v.start a.work
       → Stepped (v, carried) [] a.work a.glance a.change (w a, homes)
   tells_less a same_pass carried homes same inside = let o = its_log in rw one record {
-    one = (logged x a.listed a.asked a.front, refl);
+    one = (logged x a.listed a.asked a.stock a.front, refl);
     number = refl;
     seen = ([], same);
     legal = rw same (legal_before v.start x.front o.seen.0 (subst (IsHistory v.start) o.seen.1 r.legal));
     own = ap (part_of_pass x.number) same;
     steps = refl;
-    listed = ap (λ (z : Bool × Survey). z.0) same_pass;
-    asked = ap (λ (z : Bool × Survey). z.1) same_pass;
+    listed = ap (λ (z : Bool × Survey × List ℕ). z.0) same_pass;
+    asked = ap (λ (z : Bool × Survey × List ℕ). z.1) same_pass;
+    stock = ap (λ (z : Bool × Survey × List ℕ). z.2) same_pass;
     work = refl;
     inside = inside;
     glance = refl;

@@ -70,7 +70,7 @@ module _ (turn : Turn) where
           taken_else = λ m other. sym (ap (taking m) works);
           free_else = λ m other bad. let a = ap busy works in other (omega arith);
           may = inr (inr (ap owner its.1));
-          its_block = λ is. cc (sym its.1 ∙ is);
+          its_stock = λ is. cc (sym its.1 ∙ is);
           at_slot = λ s f is. cc (sym its.1 ∙ is);
           open_file = λ j u f other there holds is. let bad : None ≡ Some f = sym (ap file_in its.1) ∙ is in cc bad;
           guards = λ p e other range. guards_else turn n its.0 (placed id l') r.history words' st.homes r.debt (Placing n l') v.glance same_slots p e

@@ -107,7 +107,7 @@ module _ {turn : Turn} {n : ℕ} {f : File} {h₁ : List Event} {debt' : ℕ →
       taken_else = λ m other. sym (g.taken_else m other);
       free_else = g.apart;
       may = may;
-      its_block = λ is. absurd (not_free free is refl);
+      its_stock = λ is. absurd (not_free free is refl);
       at_slot = seats;
       open_file = λ j u h other there holds is. filed ∙ (sym g.its.1 ∙ is);
       guards = λ p e other range. guards_else turn n g.its.0 ph h₁ words₁ st.homes debt' Idle v.glance same_slots p e
@@ -189,7 +189,7 @@ module _ {turn : Turn} {n : ℕ} {f : File} {h₁ : List Event} {debt' : ℕ →
       taken_else = λ m other. sym (g.taken_else m other);
       free_else = g.apart;
       may = inr o.may;
-      its_block = λ is. absurd (not_free free is refl);
+      its_stock = λ is. absurd (not_free free is refl);
       at_slot = λ s h is. absurd (o.not_seated s h is);
       open_file = λ j u h other there holds is. absurd (let e : h ≡ f = cc (sym is ∙ g.its.1) in
           let a = held_not turn g.its debt' g.debts o.none_taken o.none_owed o.marked j u other there in

@@ -1,3 +1,4 @@
+pub mod SlotWords
 pub mod Words
 pub mod Counts
 pub mod Groups
@@ -5,6 +6,7 @@ pub mod Histories
 pub mod Lists
 pub mod Keeping
 pub mod Frames
+pub mod StockMoves
 pub mod Choosing
 pub mod Places
 pub mod NodeSteps
@@ -27,6 +29,7 @@ pub mod SlotLaws
 pub mod Seeing
 pub mod Seats
 pub mod Openings
+pub mod FirstStocks
 pub mod Ending
 pub mod Listed
 pub mod HomeComing

@@ -13,17 +13,17 @@ use Rattle.fx_lasting.proofs.Groups.{counts_same}
 use Rattle.fx_lasting.specs.Agrees.{Agrees}
 
 -- a pass that is listed may do what it did
-allowed_more : (k : Start) (p : ℕ) (l : Bool) (d : Work) → IsAllowed k p l d → IsAllowed k p true d
-allowed_more k p l (Searching n) ok = ok
-allowed_more k p l (Placing n w) ok = ok
-allowed_more k p l (Announced n) ok = refl
-allowed_more k p l (Guarded f n) ok = refl
-allowed_more k p l Idle ok = tt
-allowed_more k p l (Counted f n) ok = tt
-allowed_more k p l (Owing n) ok = tt
-allowed_more k p l (Yielding f n) ok = tt
-allowed_more k p l (Retiring f n t nx m) ok = tt
-allowed_more k p l (Emptying n) ok = tt
+allowed_more : (stock : List ℕ) (l : Bool) (d : Work) → IsAllowed stock l d → IsAllowed stock true d
+allowed_more stock l (Searching n) ok = ok
+allowed_more stock l (Placing n w) ok = ok
+allowed_more stock l (Announced n) ok = refl
+allowed_more stock l (Guarded f n) ok = refl
+allowed_more stock l Idle ok = tt
+allowed_more stock l (Counted f n) ok = tt
+allowed_more stock l (Owing n) ok = tt
+allowed_more stock l (Yielding f n) ok = tt
+allowed_more stock l (Retiring f n t nx m) ok = tt
+allowed_more stock l (Emptying n) ok = tt
 
 module _ (turn : Turn) (not_yet : turn.x.listed ≡ false) (fits : word_at turn.st.words (list_place turn.x.number) < 18446744073709551616) where
   open turn use {st, v, r, id, x, here, one}
@@ -73,7 +73,7 @@ module _ (turn : Turn) (not_yet : turn.x.listed ≡ false) (fits : word_at turn.
         taken = λ n. refl;
         owners = inl refl;
         held = o.held;
-        allowed = allowed_more v.start x.number x.listed v.work o.allowed;
+        allowed = allowed_more x.stock x.listed v.work o.allowed;
         lists = λ p few. goes_on p;
         its_bit = λ l. inr (rw (list_here turn x.number few new ∙ is_set) (now_listed x.number (word_at st.words (list_place x.number))));
         its = record {
@@ -96,7 +96,7 @@ module _ (turn : Turn) (not_yet : turn.x.listed ≡ false) (fits : word_at turn.
     record {
       goes = record {
         stepped = let o = its_log turn in let grows = grows_none x.number r.history in rw one record {
-          one = (logged x true x.asked r.history, refl);
+          one = (logged x true x.asked x.stock r.history, refl);
           number = refl;
           seen = grows.seen x.front o.seen;
           legal = r.legal;
@@ -104,6 +104,7 @@ module _ (turn : Turn) (not_yet : turn.x.listed ≡ false) (fits : word_at turn.
           steps = refl;
           listed = refl;
           asked = refl;
+          stock = refl;
           work = refl;
           inside = its_inside turn;
           glance = refl;

@@ -5,7 +5,7 @@ use Rattle.fx_lasting.proofs.Words.{Closed, File, Event, Look, ◌▷◌, WorkAg
 use Rattle.fx_lasting.proofs.Words.{state_after_all, slots_of, nodes_of, held_in, if_file, taking, pass_event, seated, file_in, Work, Glance, Idle}
 use Rattle.fx_lasting.proofs.Words.{Announced, Guarded, Hot, Cold, Heating, Nothing, Glances, Confirms, GlancesKeep, ConfirmsKeep, Goes, Shows, IsHot}
 use Rattle.fx_lasting.proofs.Words.{heat_in, Deed, untouched, over, heated, has_heated}
-use Rattle.fx_lasting.proofs.Words.{name_in, slot_place, step, inl, inr, ⊎_elim, ◌⊎◌, dite, ℕ_discrete, one_more_at, Bool, true, false}
+use Rattle.fx_lasting.proofs.Words.{full_name_in, slot_place, step, inl, inr, ⊎_elim, ◌⊎◌, dite, ℕ_discrete, one_more_at, Bool, true, false}
 use Rattle.fx_lasting.proofs.Words.{hold_word_of, IsHistory, Start, IsInside, HasNoFile}
 use Rattle.fx_lasting.proofs.Histories.{grows_none, grows_one, legal_more, part_mine, held_mine, same_shape}
 use Rattle.fx_lasting.proofs.Frames.{busy}
@@ -28,7 +28,7 @@ module _ (turn : Turn) (s : ℕ) (inside : s < slots_of turn.v.start) where
   size_so = let z = (same_shape v.start r.history).0 in omega arith
 
   -- the file that the word names is at the slot, on its node
-  pub named : {n : ℕ} → name_in word ≡ n + 1
+  pub named : {n : ℕ} → full_name_in word ≡ n + 1
       → (f : File) × (there ≡ Some f) × Shows word f × (n < nodes_of v.start) × (r.phase n ≡ seated s f)
   named {n} is = let o = r.each_slot s inside in go there refl o.names o.seat
     where
@@ -38,7 +38,7 @@ module _ (turn : Turn) (s : ℕ) (inside : s < slots_of turn.v.start) where
       go (Some f) at names seat = let a = names.0 in let same : r.node_of f.number ≡ n = omega arith in
           (f, at, names.1, rw same at seat.0, rw same at seat.1)
 
-  pub unnamed : name_in word ≡ 0 → there ≡ None
+  pub unnamed : full_name_in word ≡ 0 → there ≡ None
   unnamed is = let o = r.each_slot s inside in go there refl o.names
     where
       go : (found : Option File) → there ≡ found → Names r.node_of word found → there ≡ None
@@ -46,8 +46,8 @@ module _ (turn : Turn) (s : ℕ) (inside : s < slots_of turn.v.start) where
       go (Some f) at names = let a = names.0 in absurd (omega arith)
 
   -- a name is 0 or that of a node
-  pub name_cases : (name_in word ≡ 0) ⊎ ((n : ℕ) × (name_in word ≡ n + 1))
-  name_cases = dite (ℕ_discrete (name_in word) 0) (λ e. inl e) (λ some. inr (name_in word - 1, omega (arith, some)))
+  pub name_cases : (full_name_in word ≡ 0) ⊎ ((n : ℕ) × (full_name_in word ≡ n + 1))
+  name_cases = dite (ℕ_discrete (full_name_in word) 0) (λ e. inl e) (λ some. inr (full_name_in word - 1, omega (arith, some)))
 
   -- a slot that isn't hot: the pass has done nothing there
   not_over : (IsHot word → ⊥) → ((t : ℕ) → v.glance ≢ Heating t) → r.deed s x.number ≡ untouched
@@ -149,7 +149,7 @@ module _ (turn : Turn) (s : ℕ) (inside : s < slots_of turn.v.start) where
   pub glance : (slots : ℕ) (carried : List (ℕ × Option Closed)) → HasNoFile v.work → v.glance ≡ Nothing
       → Made turn carried (slot_place s) (λ word. word) (Glances (step slots (slot_place s) 0 0 none) (v, carried))
   glance slots carried works nothing = let calm : (t : ℕ) → v.glance ≢ Heating t = λ t e. cc (sym nothing ∙ e) in ⊎_elim
-      (λ (none_named : name_in word ≡ 0). let e = found_empty works nothing (unnamed none_named) in (
+      (λ (none_named : full_name_in word ≡ 0). let e = found_empty works nothing (unnamed none_named) in (
         w turn (read_after turn Idle Nothing h₀),
         keeps,
         tt,
@@ -163,7 +163,7 @@ module _ (turn : Turn) (s : ℕ) (inside : s < slots_of turn.v.start) where
           hot = λ n is _. absurd (omega arith);
         },
       ))
-      (λ (z : (n : ℕ) × (name_in word ≡ n + 1)). let o = named z.1 in ⊎_elim
+      (λ (z : (n : ℕ) × (full_name_in word ≡ n + 1)). let o = named z.1 in ⊎_elim
       (λ (cold : (IsHot word × (x.listed ≡ true) → ⊥) × (r.deed s x.number ≡ untouched)).
       let sees : GlanceAgrees v.start (slot_word st.words) (λ i. r.deed i x.number) (Cold s) = (inside, cold.1) in (
         w turn (quiet_after Idle (inr (works, refl)) (Cold s) calm sees tt),
@@ -237,13 +237,13 @@ module _ (turn : Turn) (s : ℕ) (inside : s < slots_of turn.v.start) where
             let b = ap (λ (e : Work). if_file m (held_in e)) works in omega arith;
       }
 
-    moved_on : ((name_in word ≡ n + 1) × IsHot word → ⊥) → r.deed s x.number ≡ untouched
+    moved_on : ((full_name_in word ≡ n + 1) × IsHot word → ⊥) → r.deed s x.number ≡ untouched
     moved_on not_so = let o = rw saw at (its_log turn).sees in ⊎_elim (λ z. absurd (not_so z)) (λ out. out) o.2
 
     pub confirm : (slots : ℕ) (carried : List (ℕ × Option Closed))
         → Made turn carried (slot_place s) (λ word. word) (Confirms (step slots (slot_place s) 0 0 none) (v, carried))
     confirm slots carried = ⊎_elim
-        (λ (so : (name_in word ≡ n + 1) × IsHot word). let o = named so.0 in let e = found_file o.0 o.1 o.3 o.4 so.1 in (
+        (λ (so : (full_name_in word ≡ n + 1) × IsHot word). let o = named so.0 in let e = found_file o.0 o.1 o.3 o.4 so.1 in (
           w turn (read_after turn (Guarded o.0 n) Nothing (h₁ o.0 o.1 o.3 o.4 so.1)),
           keeps,
           tt,
@@ -275,8 +275,8 @@ module _ (turn : Turn) (s : ℕ) (inside : s < slots_of turn.v.start) where
         ))
         still_so
       where
-        still_so : ((name_in word ≡ n + 1) × IsHot word) ⊎ ((name_in word ≡ n + 1) × IsHot word → ⊥)
-        still_so = dite (ℕ_discrete (name_in word) (n + 1)) (λ a. ⊎_elim (λ c. inr (λ z. c z.1)) (λ h. inl (a, h)) hot_cases)
+        still_so : ((full_name_in word ≡ n + 1) × IsHot word) ⊎ ((full_name_in word ≡ n + 1) × IsHot word → ⊥)
+        still_so = dite (ℕ_discrete (full_name_in word) (n + 1)) (λ a. ⊎_elim (λ c. inr (λ z. c z.1)) (λ h. inl (a, h)) hot_cases)
             (λ a. inr (λ z. a z.0))
 
 pub glances_keep : GlancesKeep Glances

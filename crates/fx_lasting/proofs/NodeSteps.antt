@@ -4,12 +4,12 @@ use Rattle.fx_lasting.proofs.Words.{◌≡◌, ◌≢◌, ℕ, ◌+◌, ◌<◌,
 use Rattle.fx_lasting.proofs.Words.{get_elem?, held_by, changed_at, File, Event, NodeAgrees, OwnerAgrees, WorkAgrees, IsAllowed, Agrees}
 use Rattle.fx_lasting.proofs.Words.{slots_of, nodes_of, IsHistory, state_after_all, held_in, held_of, taken_of, taking, owed, Phase, free}
 use Rattle.fx_lasting.proofs.Words.{seated, owner, file_in, removed_in, View, Work, ⊎_elim, ◌⊎◌, inr, word_of, hold_word_of, count_in}
-use Rattle.fx_lasting.proofs.Words.{name_in, IsInBlock, sum_by, sum_set, HoldAgrees, GuardAgrees, MayBeUnmarked, Glance}
+use Rattle.fx_lasting.proofs.Words.{name_in, full_name_in, IsInStock, in_stock, sum_by, sum_set, HoldAgrees, GuardAgrees, MayBeUnmarked, Glance}
 use Rattle.fx_lasting.proofs.Words.{inl, list_place}
 use Rattle.fx_lasting.proofs.Histories.{Grows, each_changed}
-use Rattle.fx_lasting.proofs.Frames.{busy, owner_stays, slot_same, node_same, Leaves, keeps_other, one_block}
+use Rattle.fx_lasting.proofs.Frames.{busy, owner_stays, slot_same, node_same, Leaves, keeps_other}
 use Rattle.fx_lasting.proofs.Frames.{sees_same, covers_same, guards_same}
-use Rattle.fx_lasting.proofs.Keeping.{Turn, After, Keeps, Homes, word_at, slot_word, step_kept, w, end, in_range, its_log, asks_alike, few_slots}
+use Rattle.fx_lasting.proofs.Keeping.{Turn, After, Keeps, Homes, word_at, slot_word, step_kept, w, end, its_log, its_stock, in_its_stock, names_on, asks_alike, few_slots}
 use Rattle.fx_lasting.proofs.Keeping.{LabelSame, labels_same}
 use Rattle.fx_lasting.proofs.Words.{Labels, written_in}
 use Rattle.fx_lasting.proofs.Groups.{CountAlike, counts_same}
@@ -34,6 +34,8 @@ module _ (turn : Turn) (q : ℕ) (its : q < nodes_of turn.v.start) (ph : Phase) 
     asked = x.asked;
     listed = x.listed;
     still_listed = λ l. l;
+    where_is = r.where_is;
+    stock = x.stock;
   }
 
   abbrev before : ℕ → Option File
@@ -61,7 +63,7 @@ module _ (turn : Turn) (q : ℕ) (its : q < nodes_of turn.v.start) (ph : Phase) 
     pub free_else : (n : ℕ) → n ≢ q → busy v.work ≢ n + 1
     -- the node: nobody but the pass relies on its phase, and a file at a slot stays there
     pub may : (ph ≡ r.phase q) ⊎ ((owner (r.phase q) ≡ 0) ⊎ (owner (r.phase q) ≡ id + 1))
-    pub its_block : r.phase q ≡ free → IsInBlock v.start x.number q
+    pub its_stock : r.phase q ≡ free → IsInStock x.stock q
     pub at_slot : (s : ℕ) (f : File) → r.phase q ≡ seated s f → ph ≡ seated s f
     pub open_file : (j : ℕ) (u : View) (f : File) → j ≢ id → get_elem? st.views j ≡ some u → held_in u.work ≡ Some f
         → file_in (r.phase q) ≡ Some f → file_in ph ≡ Some f
@@ -75,7 +77,7 @@ module _ (turn : Turn) (q : ℕ) (its : q < nodes_of turn.v.start) (ph : Phase) 
     pub label : Labels v.start words' q (written_in ph)
     -- the pass
     pub held : held_by h' x.number ≡ held_in d
-    pub allowed : IsAllowed v.start x.number x.listed d
+    pub allowed : IsAllowed x.stock x.listed d
     pub its_own : Keeps turn after id x.number d g
     pub holds : (n : ℕ) → (state_after_all v.start h').holds n + held_of n v ≡ (state_after_all v.start r.history).holds n + held_of n (w turn after)
 
@@ -113,16 +115,17 @@ module _ (turn : Turn) (q : ℕ) (its : q < nodes_of turn.v.start) (ph : Phase) 
           (λ same. ⊎_elim (λ still. still ∙ ap r.phase (sym same)) (λ z. let e = ap (λ (m : ℕ). owner (r.phase m)) same in
           absurd (⊎_elim (λ none. some (e ∙ none)) (λ mine. not_mine (e ∙ mine)) z)) s.may)
           (λ other. refl);
-      spare = λ n p is low block other. each_changed (λ m z. z ≡ free) r.phase
-          (λ same. absurd (other (one_block v.start low (in_range turn).0 block
-          (subst (IsInBlock v.start x.number) (sym same) (s.its_block (ap r.phase (sym same) ∙ is))))))
+      spare = λ n p e is at other. each_changed (λ m z. z ≡ free) r.phase
+          (λ same. let mine = in_its_stock turn (s.its_stock (ap r.phase (sym same) ∙ is)) in
+          let both : in_stock p e ≡ in_stock x.number (s.its_stock (ap r.phase (sym same) ∙ is)).0 = sym at ∙ (ap r.where_is same ∙ mine.1) in
+          absurd (other (cc both)))
           (λ _. is);
       open_file = λ j u f n other there holds at. (
         at.0,
         each_changed (λ m z. file_in z ≡ Some f) r.phase
             (λ same. s.open_file j u f other there holds (ap (λ (m : ℕ). file_in (r.phase m)) (sym same) ∙ at.1)) (λ _. at.1),
       );
-      slots = λ i p l other. inr (refl, ap name_in (s.slot_words i l), λ hot. rw (s.slot_words i l) hot);
+      slots = λ i p l other. inr (refl, ap full_name_in (s.slot_words i l), λ hot. rw (s.slot_words i l) hot);
     }
 
     pub node_kept : Agrees v.start (end turn after)
@@ -153,7 +156,10 @@ module _ (turn : Turn) (q : ℕ) (its : q < nodes_of turn.v.start) (ph : Phase) 
       removed = s.removed;
       unborn = λ n l. each_changed (λ m z. z ≡ free) r.phase (λ same. absurd (omega (arith, same, l, its))) (λ _. r.unborn n l);
       fresh = λ number l. ap (λ (f : ℕ → Bool). f number) s.fresh ∙ r.fresh number l;
-      others = λ j u z other there at n range o work. keeps_other turn after leaves j u z other there n range o work;
+      named = names_on turn _ (λ i l. ap name_in (s.slot_words i l));
+      stock = its_stock turn;
+      stocks = λ n p e other at. at;
+      others = λ j u z other there at n range o work. keeps_other turn after leaves j u z other there at n range o work;
       held = s.held;
       allowed = s.allowed;
       lists = λ p few. inl (s.lists p few);

@@ -2,7 +2,7 @@
 use Rattle.fx_lasting.specs.Passes.{contents_of}
 use Rattle.fx_lasting.proofs.Words.{◌≡◌, ℕ, zero, suc, ◌+◌, ◌<◌, ◌≤◌, Bool, nat_lt, cond, List, [], ◌∷◌, map, sym, refl, ap, ◌∙◌, subst, arith}
 use Rattle.fx_lasting.proofs.Words.{lt-ltb, le-ltb, inr, Option, Some, None, slice_index, dite, some, some-injective, some-ne-none, dec_le, get_elem?}
-use Rattle.fx_lasting.proofs.Words.{Closed, state_of, State, File, birth_word, name_made, entry_made, takes_made, SlotAgrees, NodeAgrees, OwnerAgrees}
+use Rattle.fx_lasting.proofs.Words.{Closed, state_of, State, File, birth_word, full_name_made, file_entry_made, file_takes_made, SlotAgrees, NodeAgrees, OwnerAgrees}
 use Rattle.fx_lasting.proofs.Words.{LogAgrees, ViewAgrees, Agrees, new_logs, word_of, slot_place, count_in, slots_of, range_at_start, nodes_of}
 use Rattle.fx_lasting.proofs.Words.{state_after_all, new_log, Phase, free, seated, Log, Start, View, Idle, Nothing, length-map, at_map, first_view}
 use Rattle.fx_lasting.proofs.Words.{contains_map, once_is, counted_once, range_with_len, one_if, removed_in, length-map-range_with_len, owed, ne_eqb}
@@ -19,6 +19,11 @@ use Rattle.fx_table.proofs.FullSlots.{full_few}
 use Rattle.fx_plain.proofs.Prepared.{numbered_anew}
 use Rattle.fx_seen.proofs.Views.{of_one}
 use Rattle.fx_lasting.proofs.Keeping.{IsKnown}
+use Rattle.fx_lasting.proofs.Words.{◌-◌, ◌*◌, ◌/◌, ◌%◌, Whereabouts, at_slot, in_stock, NamesItsNode, IsStockOf, StockAgrees, name_in, name_made}
+use Rattle.fx_lasting.proofs.Words.{empty_name_made, empty_file_made, empty_takes_made, file_heat_made, stock_start, stock_for, first_stock, mul-le-mul_right}
+use Rattle.std.proofs.lemmas.List.FromFn.{length-range_with_len}
+use Rattle.std.proofs.lemmas.Nat.{div-mul-add, mod-mul-add}
+use Rattle.std.proofs.Common.{suc-mul}
 
 -- the phase of a slot's first node
 abbrev phase_for : ℕ → Option File → Phase
@@ -28,8 +33,50 @@ phase_for n (Some f) = seated n f
 abbrev first_phase : Start → ℕ → Phase
 first_phase k n = cond (nat_lt n (slots_of k)) (phase_for n (first_file k n)) free
 
+-- where each node is at first
+abbrev first_where : Start → ℕ → Whereabouts
+first_where k n = cond (nat_lt n (slots_of k)) (at_slot n) (in_stock ((n - slots_of k) / k.passes + 1) ((n - slots_of k) % k.passes))
+
+slot_where : (k : Start) {n : ℕ} → n < slots_of k → first_where k n ≡ at_slot n
+slot_where k {n} l = ap (λ (b : Bool). cond b (at_slot n) (in_stock ((n - slots_of k) / k.passes + 1) ((n - slots_of k) % k.passes)))
+    (lt-ltb n (slots_of k) l)
+
 none_owed : (passes n : ℕ) → owed (λ p. 0) passes n ≡ 0
 none_owed passes n = tally_same (λ p. eqb 0 (n + 1)) (λ p. false) passes (λ p low high. ne_eqb 0 (n + 1) (λ e. omega arith)) ∙ tally_none passes
+
+-- the numbers of a list of numbers in a row
+in_row : (a n e m : ℕ) → get_elem? (range_with_len a n) e ≡ some m → (e < n) × (m ≡ a + e)
+in_row a zero e m is = absurd (some-ne-none m (sym is))
+in_row a (suc n) zero m is = let e = some-injective a m is in (omega arith, omega arith)
+in_row a (suc n) (suc e) m is = let z = in_row (a + 1) n e m is in (let l = z.0 in omega arith, let l = z.1 in omega arith)
+
+-- The first stock of a pass
+module _ (k : Start) {p : ℕ} (low : 0 < p) (high : p ≤ k.passes) where
+  entry_at : (e n : ℕ) → get_elem? (first_stock k p) e ≡ some n → (n < nodes_of k) × (first_where k n ≡ in_stock p e)
+  entry_at e n is = dite (dec_le p k.installing) (λ installs. let long : stock_for k.passes k.installing p ≡ k.passes = ap (λ (b : Bool). cond b 0 k.passes) (le-ltb k.installing p installs) in
+      let z = in_row (stock_start (slots_of k) k.passes p) k.passes e n (subst (λ (m : ℕ). get_elem? (range_with_len (stock_start (slots_of k) k.passes p) m) e ≡ some n) long is) in
+      let row = suc-mul (p - 1) k.passes in
+      let same : suc (p - 1) ≡ p = omega (arith, low) in let same' = ap (λ (q : ℕ). q * k.passes) same in
+      let m : p * k.passes ≤ k.installing * k.passes = mul-le-mul_right k.passes installs in
+      let few = z.0 in let at = z.1 in
+      let off : n - slots_of k ≡ (p - 1) * k.passes + e = omega arith in
+      let big : slots_of k ≤ n = omega arith in (
+        omega arith,
+        ap (λ (b : Bool). cond b (at_slot n) (in_stock ((n - slots_of k) / k.passes + 1) ((n - slots_of k) % k.passes))) (le-ltb n (slots_of k) big)
+            ∙ (λ i. in_stock ((ap (λ (d : ℕ). d / k.passes) off ∙ div-mul-add (p - 1) k.passes e few) i + 1) ((ap (λ (d : ℕ). d % k.passes) off ∙ mod-mul-add (p - 1) k.passes e few) i))
+            ∙ ap (λ (q : ℕ). in_stock q e) (let y : p - 1 + 1 ≡ p = omega (arith, low) in y),
+      ))
+      (λ not. let none : stock_for k.passes k.installing p ≡ 0 = ap (λ (b : Bool). cond b 0 k.passes) (lt-ltb k.installing p (omega (arith, not))) in
+      absurd (some-ne-none n (sym (subst (λ (m : ℕ). get_elem? (range_with_len (stock_start (slots_of k) k.passes p) m) e ≡ some n) none is))))
+
+  pub first_stock_is : IsStockOf k p (first_stock k p)
+  first_stock_is = record {
+    count = length-range_with_len (stock_start (slots_of k) k.passes p) (stock_for k.passes k.installing p);
+    inside = λ e n is. (entry_at e n is).0;
+  }
+
+  first_stock_agrees : StockAgrees k (first_where k) p (first_stock k p)
+  first_stock_agrees = record { its = first_stock_is; here = λ e n is. (entry_at e n is).1 }
 
 module _ (k : Start) (words : List ℕ) (homes : List (Option Closed)) (o : OpensWith k words homes) where
   abbrev s : State
@@ -56,14 +103,15 @@ module _ (k : Start) (words : List ℕ) (homes : List (Option Closed)) (o : Open
       → SlotAgrees k (node_of_number k) (first_phase k) (λ p. untouched) slot (first_file k slot) (slice_index words (slot_place slot))
   slot_opens slot l = rw (o.slot_words slot l) (go (first_file k slot) refl)
     where
-      go : (found : Option File) → first_file k slot ≡ found → SlotAgrees k (node_of_number k) (first_phase k) (λ p. untouched) slot found (word_for found)
-      go None is = record { names = refl; seat = tt; takes = omega arith; heat = sym (tally_none k.passes) }
+      go : (found : Option File) → first_file k slot ≡ found → SlotAgrees k (node_of_number k) (first_phase k) (λ p. untouched) slot found (word_for slot found)
+      go None is = let z = empty_takes_made slot in
+          record { names = empty_file_made slot; seat = tt; takes = omega arith; heat = z.1 ∙ sym (tally_none k.passes) }
       go (Some f) is = let small = o.entries slot f is in let e = its_number slot f is in let m = more_nodes in
-          let z = takes_made f.number f.identity.entry in let on = its_node slot l f is in record {
-            names = (name_made f.number f.identity.entry small ∙ ap (λ (n : ℕ). n + 1) (e ∙ sym on), entry_made f.number f.identity.entry small);
+          let z = file_takes_made f.number f.identity.entry in let on = its_node slot l f is in record {
+            names = (full_name_made f.number f.identity.entry small ∙ ap (λ (n : ℕ). n + 1) (e ∙ sym on), file_entry_made f.number f.identity.entry small);
             seat = (rw on (omega arith), ap (first_phase k) on ∙ (low_phase l ∙ ap (phase_for slot) is));
             takes = omega arith;
-            heat = omega (arith, tally_none k.passes);
+            heat = file_heat_made f.number f.identity.entry ∙ sym (tally_none k.passes);
           }
 
   abbrev Node : ℕ → Phase → Type 0
@@ -87,7 +135,7 @@ module _ (k : Start) (words : List ℕ) (homes : List (Option Closed)) (o : Open
         unowed = none_owed k.passes n;
       }
       slot_node low (Some f) is = let w : slice_index words (word_of k n) ≡ birth_word = o.node_words n low ∙ ap node_for is in
-          let z = takes_made f.number f.identity.entry in let e = o.slot_words n low ∙ ap word_for is in let c = ap count_in e in
+          let z = file_takes_made f.number f.identity.entry in let e = o.slot_words n low ∙ ap (word_for n) is in let c = ap count_in e in
           let q = its_number n f is in record {
             file = record {
               at_home = at_map some homes n (Some f.identity) (o.files n low ∙ ap (λ (f : Option File). some (home_for f)) is);
@@ -130,7 +178,7 @@ module _ (k : Start) (words : List ℕ) (homes : List (Option Closed)) (o : Open
   no_bits p high is = let z = subst (λ (i : ℕ). IsListedIn i p) (o.list_words p high) is in let a = bit_at-zero (bit_of p) in omega (arith, z, a)
 
   -- the view of the seat that opens the table
-  log_opens : (p : ℕ) → 0 < p → p ≤ k.passes → LogAgrees k [] words (first_phase k) (λ q. 0) (λ i q. untouched) Idle Nothing (new_log p)
+  log_opens : (p : ℕ) → 0 < p → p ≤ k.passes → LogAgrees k [] words (first_phase k) (λ q. 0) (λ i q. untouched) Idle Nothing (new_log k p)
   log_opens p low high = record {
     seen = ([], refl);
     own = refl;
@@ -146,10 +194,10 @@ module _ (k : Start) (words : List ℕ) (homes : List (Option Closed)) (o : Open
   }
 
   -- the numbers of new passes
-  in_order : (x : Log) → Contains (new_logs 1 k.passes) x → (p : ℕ) × (0 < p) × (p ≤ k.passes) × (x ≡ new_log p)
-  in_order x h = let z = contains_map new_log (range_with_len 1 k.passes) x h in
-      let a = counted_once (λ (y : Log). y.number) new_log (λ n. refl) z.0 k.passes in
-      let b = sum_of (λ (y : Log). one_if (eqb y.number z.0)) (new_logs 1 k.passes) x h in
+  in_order : (x : Log) → Contains (new_logs k 1 k.passes) x → (p : ℕ) × (0 < p) × (p ≤ k.passes) × (x ≡ new_log k p)
+  in_order x h = let z = contains_map (new_log k) (range_with_len 1 k.passes) x h in
+      let a = counted_once (λ (y : Log). y.number) (new_log k) (λ n. refl) z.0 k.passes in
+      let b = sum_of (λ (y : Log). one_if (eqb y.number z.0)) (new_logs k 1 k.passes) x h in
       let c : one_if (eqb x.number z.0) ≡ 1 = bit_here z.0 x.number (ap (λ (y : Log). y.number) z.2) in
       (z.0, omega (arith, a, b, c, once_is k.passes z.0), omega (arith, a, b, c, once_is k.passes z.0), z.2)
 
@@ -163,6 +211,23 @@ module _ (k : Start) (words : List ℕ) (homes : List (Option Closed)) (o : Open
     start = inr refl;
   }
   view_opens (suc j) v e = absurd (some-ne-none v (sym e))
+
+  named_opens : (slot : ℕ) → slot < slots_of k → NamesItsNode k (first_where k) slot (slice_index words (slot_place slot))
+  named_opens slot l = let m = more_nodes in record {
+    node = slot;
+    named = ap name_in (o.slot_words slot l) ∙ its_name (first_file k slot) refl;
+    inside = omega arith;
+    here = slot_where k l;
+  }
+    where
+      its_name : (found : Option File) → first_file k slot ≡ found → name_in (word_for slot found) ≡ slot + 1
+      its_name None is = empty_name_made slot
+      its_name (Some f) is = name_made f.number f.identity.entry (o.entries slot f is) ∙ ap (λ (n : ℕ). n + 1) (its_number slot f is)
+
+  stocks_open : (j : ℕ) (v : View) (x : Log) → get_elem? (first_view k ∷ []) j ≡ some v → Contains v.logs x → StockAgrees k (first_where k) x.number x.stock
+  stocks_open zero v x e has = let z = in_order x (subst (λ (y : View). Contains y.logs x) (sym (some-injective (first_view k) v e)) has) in
+      subst (λ (y : Log). StockAgrees k (first_where k) y.number y.stock) (sym z.3) (first_stock_agrees k z.1 z.2)
+  stocks_open (suc j) v x e has = absurd (some-ne-none v (sym e))
 
   pub opening_keeps : Agrees k (opening words homes (first_view k))
   opening_keeps = record {
@@ -183,10 +248,13 @@ module _ (k : Start) (words : List ℕ) (homes : List (Option Closed)) (o : Open
     unborn = λ n l. let m = more_nodes in high_phase (omega arith);
     fresh = λ number l. ap not (le-ltb number (slots_of k) l);
     each_view = view_opens;
+    where_is = first_where k;
+    named = named_opens;
+    stocks = stocks_open;
     known = of_one (IsKnown []) (first_view k) ([], refl);
     holds = λ n. refl;
-    passes = λ p. let a = counted_once (λ (y : Log). y.number) new_log (λ n. refl) p k.passes in omega arith;
-    whole = let a = length-map-range_with_len new_log 1 k.passes in omega arith;
+    passes = λ p. let a = counted_once (λ (y : Log). y.number) (new_log k) (λ n. refl) p k.passes in omega arith;
+    whole = let a = length-map-range_with_len (new_log k) 1 k.passes in omega arith;
     authors = λ p none. refl;
     listed = λ p low high is. absurd (no_bits p high is);
     counts = record {

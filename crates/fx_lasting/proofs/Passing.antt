@@ -1,10 +1,10 @@
 -- A pass between two calls, and what a call adds to it.
 use Rattle.fx_lasting.proofs.Words.{as_listed}
 use Rattle.fx_lasting.proofs.Words.{◌≡◌, ℕ, ◌+◌, ◌-◌, ◌≤◌, ◌<◌, ◌^◌, ◌⊎◌, List, [], sym, refl, ap, ◌∙◌, subst, arith, Bool, true, false, Option, Some, None}
-use Rattle.fx_lasting.proofs.Words.{Start, Sat, Work, Glance, Change, Nothing, Outside, Runs, Stepped, IsAtWork, IsInBlock}
+use Rattle.fx_lasting.proofs.Words.{Start, Sat, Work, Glance, Change, Nothing, Outside, Runs, Stepped, IsAtWork, as_swapped, nodes_of, set}
 use Rattle.fx_lasting.proofs.Words.{part_of_pass, TableId, Idle, Counted, Guarded, Retiring, LastingPass, LastingTable, IsSeatOf, IsPassOf, IsPassOfTable, IsBetweenCalls}
 use Rattle.fx_lasting.proofs.Words.{opening_of, view_of, pass_of, pass_in, numbers_of_pass, doing_in, hold_at, retired_at, retiring_work, IsHistory}
-use Rattle.fx_lasting.proofs.Words.{Action, ◌▷◌, Put, Clear, Take, Release, Close, Look, File, Closed, numbered, name_in, count_in, LetsFileGo}
+use Rattle.fx_lasting.proofs.Words.{Action, ◌▷◌, Put, Clear, Take, Release, Close, Look, File, Closed, numbered, full_name_in, count_in, LetsFileGo}
 use Rattle.std.specs.Prelude.{option_map, Result, Ok, Err, ok_or, is_err, is_some, not, ◌==◌, ◌≢◌}
 use Rattle.std.proofs.lemmas.Bool.{not-false, not-true}
 use Rattle.fx_table.specs.Calls.{Use, no_use, one_number, one_look, Adds, IsNewFile, Placed, Cleared, Taken, ReleasesFile, LookedAfter, LookedUp}
@@ -20,7 +20,7 @@ use Rattle.fx_table.specs.declared.values.Hold.{Hold}
 use Rattle.fx_table.specs.declared.values.LookFault.{LookFault}
 use Rattle.fx_table.specs.declared.values.LookFault.TheVariants.{Spent, Empty as EmptySlot}
 use Rattle.fx_table.specs.declared.values.Retired.{Retired}
-use Rattle.fx_lasting.proofs.Running.{runs_one, runs_then, turns_then, does_then, still_at_work, number_is, at_listed}
+use Rattle.fx_lasting.proofs.Running.{runs_one, runs_then, turns_then, does_then, still_at_work, number_is, at_listed, at_swapped}
 use Rattle.fx_lasting.proofs.Words.{dite, dec_le, lt-ltb, IsIdleSeatOf, HasNoFile, Searching, is_in, account, uncounted, group_of}
 
 -- the changes that a seat's steps make to its view
@@ -51,26 +51,59 @@ module _ {id : TableId} {k : Start} {p : LastingPass} (seated : IsSeatOf id k p)
   -- a pass whose seat has made some steps, and whose fields fit its work
   pub still_seat : (q : LastingPass) {xs : List Action} {w : Work} {g : Glance} {n : ℕ} → Runs p.seat.me xs w g Outside n q.seat.me
       → (q.number ≡ p.number) × ◌≡◌ {A = Bool × Bool} (q.listed, q.sure) (p.listed, p.sure) → q.seat.table_id ≡ p.seat.table_id → q.seat.me.1 ≡ []
-      → IsInBlock k q.number q.next_node → IsSeatOf id k q
-  still_seat q r same table places block = record {
+      → (q.stock.items ≡ p.stock.items) × (q.number ≤ k.installing → q.next_entry < k.passes) → IsSeatOf id k q
+  still_seat q r same table places stocked = record {
     table = table ∙ seated.table;
     places = places;
     at = subst (λ (n : ℕ). IsAtWork k n q.seat.me) (sym same.0) (still_at_work seated.at r);
     change = r.change;
-    block = block;
+    stock = stocked.0 ∙ (seated.stock ∙ sym r.stock);
+    next = stocked.1;
     listed = ap (λ (z : Bool × Bool). z.0) same.1 ∙ (seated.listed ∙ sym r.listed);
     sure = λ is. r.asked ∙ seated.sure (sym (ap (λ (z : Bool × Bool). z.1) same.1) ∙ is);
   }
 
   pub still_pass : (q : LastingPass) {xs : List Action} {w : Work} {n : ℕ} → Runs p.seat.me xs w Nothing Outside n q.seat.me
       → (q.number ≡ p.number) × ◌≡◌ {A = Bool × Bool} (q.listed, q.sure) (p.listed, p.sure) → q.seat.table_id ≡ p.seat.table_id → q.seat.me.1 ≡ []
-      → IsInBlock k q.number q.next_node → IsBetweenCalls k.passes q.idle q.guarded q.next_visit w → IsPassOf id k q
-  still_pass q r same table places block knows = record {
-    seated = still_seat q r same table places block;
+      → (q.stock.items ≡ p.stock.items) × (q.number ≤ k.installing → q.next_entry < k.passes) → IsBetweenCalls k.passes q.idle q.guarded q.next_visit w → IsPassOf id k q
+  still_pass q r same table places stocked knows = record {
+    seated = still_seat q r same table places stocked;
     calm = r.glance;
     knows = subst (IsBetweenCalls k.passes q.idle q.guarded q.next_visit) (sym r.work) knows;
     front = (adds_so r no_use).front;
   }
+
+-- a pass that has put another node at an entry of its stock
+module _ {id : TableId} {k : Start} {p : LastingPass} (seated : IsSeatOf id k p) (entry node : ℕ) (inside : node < nodes_of k) where
+  pub adds_swapped : {m' : Sat} {xs : List Action} {w : Work} {g : Glance} {c : Change} {n : ℕ} → Runs (as_swapped entry node p.seat.me) xs w g c n m' → (used : Use)
+      → Adds (opening_of k) (view_of p) xs (doing_in w) used (pass_of m'.0)
+  adds_swapped = adds_run (as_swapped entry node p.seat.me) seated.at.pass.0
+
+  pub swapped_pass : (q : LastingPass) {xs : List Action} {w : Work} {n : ℕ} → Runs (as_swapped entry node p.seat.me) xs w Nothing Outside n q.seat.me
+      → (q.number ≡ p.number) × ◌≡◌ {A = Bool × Bool} (q.listed, q.sure) (p.listed, p.sure) → q.seat.table_id ≡ p.seat.table_id → q.seat.me.1 ≡ []
+      → (q.stock.items ≡ set p.stock.items entry node) × (q.number ≤ k.installing → q.next_entry < k.passes)
+      → IsBetweenCalls k.passes q.idle q.guarded q.next_visit w → IsPassOf id k q
+  swapped_pass q r same table places stocked knows = record {
+    seated = record {
+      table = table ∙ seated.table;
+      places = places;
+      at = subst (λ (n : ℕ). IsAtWork k n q.seat.me) (sym same.0) (still_at_work (at_swapped seated.at entry node inside) r);
+      change = r.change;
+      stock = stocked.0 ∙ (ap (λ (l : List ℕ). set l entry node) seated.stock ∙ sym r.stock);
+      next = stocked.1;
+      listed = ap (λ (z : Bool × Bool). z.0) same.1 ∙ (seated.listed ∙ sym r.listed);
+      sure = λ is. r.asked ∙ seated.sure (sym (ap (λ (z : Bool × Bool). z.1) same.1) ∙ is);
+    };
+    calm = r.glance;
+    knows = subst (IsBetweenCalls k.passes q.idle q.guarded q.next_visit) (sym r.work) knows;
+    front = (adds_swapped r no_use).front;
+  }
+
+-- it looks nothing up, outside a change
+pub swapped_rest : {id : TableId} {k : Start} {p : LastingPass} → IsPassOf id k p → (entry node : ℕ) → {m' : Sat} {xs : List Action} {w : Work} {n : ℕ}
+    → Runs (as_swapped entry node p.seat.me) xs w p.seat.me.0.glance p.seat.me.0.change n m' → Runs (as_swapped entry node p.seat.me) xs w Nothing Outside n m'
+swapped_rest {p = p} fits entry node {m'} {xs} {w} {n} r =
+    subst (λ (z : Glance × Change). Runs (as_swapped entry node p.seat.me) xs w z.0 z.1 n m') (λ i. (fits.calm i, fits.seated.change i)) r
 
 -- a pass that was listed
 module _ {id : TableId} {k : Start} {p : LastingPass} (seated : IsSeatOf id k p) where
@@ -82,14 +115,15 @@ module _ {id : TableId} {k : Start} {p : LastingPass} (seated : IsSeatOf id k p)
 
   -- its seat goes on
   pub listed_seat : (q : LastingPass) {w : Work} {g : Glance} {n : ℕ} → Runs (as_listed p.seat.me) [] w g Outside n q.seat.me
-      → (q.number ≡ p.number) × ◌≡◌ {A = Bool × Bool} (q.listed, q.sure) (true, p.sure) → q.seat.table_id ≡ p.seat.table_id → q.seat.me.1 ≡ [] → IsInBlock k q.number q.next_node
-      → IsSeatOf id k q
-  listed_seat q r same table places block = record {
+      → (q.number ≡ p.number) × ◌≡◌ {A = Bool × Bool} (q.listed, q.sure) (true, p.sure) → q.seat.table_id ≡ p.seat.table_id → q.seat.me.1 ≡ []
+      → (q.stock.items ≡ p.stock.items) × (q.number ≤ k.installing → q.next_entry < k.passes) → IsSeatOf id k q
+  listed_seat q r same table places stocked = record {
     table = table ∙ seated.table;
     places = places;
     at = subst (λ (n : ℕ). IsAtWork k n q.seat.me) (sym same.0) (still_at_work (at_listed seated.at) r);
     change = r.change;
-    block = block;
+    stock = stocked.0 ∙ (seated.stock ∙ sym r.stock);
+    next = stocked.1;
     listed = ap (λ (z : Bool × Bool). z.0) same.1 ∙ sym r.listed;
     sure = λ is. r.asked ∙ seated.sure (sym (ap (λ (z : Bool × Bool). z.1) same.1) ∙ is);
   }
@@ -117,7 +151,7 @@ at_rest {p = p} fits {m'} {xs} {w} {n} r =
 
 -- a pass that has a file to retire, and has visited nobody yet
 abbrev pub IsToRetire : ℕ → ℕ → File → Retired → Work → Type 0
-IsToRetire passes visit f retired w = (w ≡ Retiring f retired.node retired.takes (new_round visit) 0) × (retired.takes < 2 ^ 21)
+IsToRetire passes visit f retired w = (w ≡ Retiring f retired.node retired.takes (new_round visit) 0) × (retired.takes < 2 ^ 20)
     × ((visit ≡ 1) ⊎ (visit ≡ passes + 1))
 
 -- The work of a pass between two calls, by its activity
@@ -165,7 +199,7 @@ module _ (passes visit : ℕ) (idle guarded : Bool) where
   work_retiring f retired (Guarded g n) knows is = absurd (cc is)
   work_retiring f retired (Retiring g n t nx m) knows is = let same : g ≡ f = cc is in let value : retired_at g n t ≡ retired = cc is in (
     λ i. Retiring (same i) (ap (λ (r : Retired). r.node) value i) (ap (λ (r : Retired). r.takes) value i) (knows.1 i) (knows.2 i),
-    subst (λ (z : ℕ). z < 2 ^ 21) (ap (λ (r : Retired). r.takes) value) knows.3,
+    subst (λ (z : ℕ). z < 2 ^ 20) (ap (λ (r : Retired). r.takes) value) knows.3,
     knows.4,
   )
   work_retiring f retired _ knows is = absurd knows
@@ -205,9 +239,9 @@ module _ (k : Start) (v : PassView) (slot found : ℕ) (w : PassView) where
   o = opening_of k
 
   abbrev value_of : Option File → Option Retired
-  value_of file = option_map (λ (f : File). retired_at f (name_in found - 1) (count_in found)) file
+  value_of file = option_map (λ (f : File). retired_at f (full_name_in found - 1) (count_in found)) file
 
-  is_removal : (f : File) → IsFileRemoval o f (retired_at f (name_in found - 1) (count_in found))
+  is_removal : (f : File) → IsFileRemoval o f (retired_at f (full_name_in found - 1) (count_in found))
   is_removal f = record { entry = refl; same = λ e. absurd (cc e) }
 
   pub cleared_so : (file : Option File) (removed : Option Retired) → removed ≡ value_of file
@@ -321,7 +355,7 @@ marks_run m m' n (Some file) lets = ([] ▷ Close lets.0, lets.2)
 
 -- a removal, and a pass that knows of it
 pub knows_removed : (k : Start) (found : ℕ) (file : Option File) (removed : Option Retired) (idle guarded : Bool) (visit : ℕ)
-    → removed ≡ option_map (λ (f : File). retired_at f (name_in found - 1) (count_in found)) file → is_some removed ≡ not idle
+    → removed ≡ option_map (λ (f : File). retired_at f (full_name_in found - 1) (count_in found)) file → is_some removed ≡ not idle
     → visit ≡ first_visit k.passes found → IsBetweenCalls k.passes idle guarded visit (retiring_work k found file)
 knows_removed k found None removed idle guarded visit is says first = not-false idle (sym says ∙ ap is_some is)
 knows_removed k found (Some f) removed idle guarded visit is says first = (
@@ -338,7 +372,7 @@ knows_removed k found (Some f) removed idle guarded visit is says first = (
 
 -- its account with the groups' words
 pub account_so : (range : ℕ × ℕ) (slot found : ℕ) (file : Option File) (removed : Option Retired) (inside was_empty : Bool)
-    → removed ≡ option_map (λ (f : File). retired_at f (name_in found - 1) (count_in found)) file → is_some removed ≡ not was_empty
+    → removed ≡ option_map (λ (f : File). retired_at f (full_name_in found - 1) (count_in found)) file → is_some removed ≡ not was_empty
     → inside ≡ is_in range slot → account range slot file ≡ uncounted inside was_empty (group_of range slot)
 account_so range slot found None removed inside was_empty is says at =
     let e = not-false was_empty (sym says ∙ ap is_some is) in λ i. uncounted (sym at i) (sym e i) (group_of range slot)
@@ -351,6 +385,12 @@ pub at_ease_looking : {id : TableId} {k : Start} {p : LastingPass} → IsPassOf 
     → Runs p.seat.me xs (retiring_work k found file) Nothing Outside n m'
 at_ease_looking {p = p} fits {m'} {xs} found file {n = n} r same =
     subst (λ (z : Start × Glance). Runs p.seat.me xs (retiring_work z.0 found file) z.1 Outside n m') (λ i. (same i, fits.calm i)) r
+
+pub swapped_looking : {id : TableId} {k : Start} {p : LastingPass} → IsPassOf id k p → (entry node : ℕ) → {m' : Sat} {xs : List Action} {j : Start} (found : ℕ)
+    (file : Option File) {n : ℕ} → Runs (as_swapped entry node p.seat.me) xs (retiring_work j found file) p.seat.me.0.glance Outside n m' → j ≡ k
+    → Runs (as_swapped entry node p.seat.me) xs (retiring_work k found file) Nothing Outside n m'
+swapped_looking {p = p} fits entry node {m'} {xs} found file {n = n} r same =
+    subst (λ (z : Start × Glance). Runs (as_swapped entry node p.seat.me) xs (retiring_work z.0 found file) z.1 Outside n m') (λ i. (same i, fits.calm i)) r
 
 -- the first visit of a retirement, as the table counts its passes
 pub first_by : (t : LastingTable) (found : ℕ) → first_visit t.passes found ≡ first_visit t.table.shared.key.passes found

@@ -29,6 +29,7 @@ learns_none at is = let r = runs_none at 0 in record {
   begun = r.begun;
   listed = r.listed;
   asked = is;
+  stock = r.stock;
   work = r.work;
   inside = r.inside;
   glance = r.glance;
@@ -75,7 +76,8 @@ module _ (t : LastingTable) {p : LastingPass} (fits : IsPassOfTable t p) (seat :
         places = places ∙ fits.seated.places;
         at = still_at_work (at_asked a fits.seated.at) run;
         change = run.change ∙ fits.seated.change;
-        block = fits.seated.block;
+        stock = fits.seated.stock ∙ sym run.stock;
+        next = fits.seated.next;
         listed = fits.seated.listed ∙ sym run.listed;
         sure = λ is. run.asked ∙ its is;
       };

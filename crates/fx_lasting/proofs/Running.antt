@@ -1,9 +1,10 @@
 -- Some steps in a row, and the seat after them.
-use Rattle.fx_lasting.proofs.Words.{as_listed, as_asked, Survey, true}
+use Rattle.fx_lasting.proofs.Words.{as_listed, as_asked, as_stocked, as_swapped, IsStockOf, Survey, true, set, set_here, set_else, length-set}
+use Rattle.fx_lasting.proofs.Words.{stands_at, get_elem?, some, some-injective}
 use Rattle.fx_lasting.proofs.Words.{◌≡◌, ◌≤◌, ℕ, ◌+◌, List, [], ◌++◌, map, sym, refl, ap, ◌∙◌, subst, arith, ◌▷▷◌, Action, Event, Sat, Stepped, Goes, Runs, Change}
 use Rattle.fx_lasting.proofs.Words.{IsAtWork, Log, first_log, ◌∷◌, ◌-◌, ◌<◌, ⊎_elim, inl, dite, ℕ_discrete, eq-eqb, ne_eqb, Option, Some, None, Closed, File}
 use Rattle.fx_lasting.proofs.Words.{◌▷◌, Release, Close, Look, Idle, Owing, Yielding, Counted, Cold, TakesOut, LettingGo, Takes, glance_after}
-use Rattle.fx_lasting.proofs.Words.{LetsMarkGo, LetsFileGo, HasPlace, IsReleasing, HasToLetGo, nodes_of, name_in, node_in, At}
+use Rattle.fx_lasting.proofs.Words.{LetsMarkGo, LetsFileGo, HasPlace, IsReleasing, HasToLetGo, nodes_of, full_name_in, file_node_in, At}
 use Rattle.fx_lasting.proofs.Words.{Glance, Work, Start, IsHistory, pass_in, pass_event, part_of_pass, IsInside, rested}
 use Rattle.std.proofs.Common.{append_assoc}
 use mathlib.Core.List.{map-append}
@@ -32,6 +33,7 @@ runs_then {m} {m'} {m''} {xs} {ys} {w' = w'} {n = n} {n' = n'} a b = record {
   begun = let p = a.begun in let q = b.begun in omega arith;
   listed = b.listed ∙ a.listed;
   asked = b.asked ∙ a.asked;
+  stock = b.stock ∙ a.stock;
   work = b.work;
   inside = subst (λ (k : Start). IsInside k w') a.start b.inside;
   glance = b.glance;
@@ -62,6 +64,7 @@ runs_carried places r = record {
   begun = r.begun;
   listed = r.listed;
   asked = r.asked;
+  stock = r.stock;
   work = r.work;
   inside = r.inside;
   glance = r.glance;
@@ -88,6 +91,7 @@ module _ {k : Start} {p : ℕ} {m : Sat} (at : IsAtWork k p m) where
     begun = omega arith;
     listed = refl;
     asked = refl;
+    stock = refl;
     work = refl;
     inside = subst (λ (z : Start). IsInside z m.0.work) (sym at.pass.0) at.inside;
     glance = refl;
@@ -97,6 +101,9 @@ module _ {k : Start} {p : ℕ} {m : Sat} (at : IsAtWork k p m) where
 
   pub number_is : (pass_in m).number ≡ p
   number_is = ap (λ (l : List Log). (first_log l).number) at.pass.1 ∙ at.its_number
+
+  pub stock_is : (pass_in m).stock ≡ at.log.stock
+  stock_is = ap (λ (l : List Log). (first_log l).stock) at.pass.1
 
   -- the seat goes on
   pub still_at_work : {m' : Sat} {xs : List Action} {w : Work} {g : Glance} {c : Change} {n : ℕ} → Runs m xs w g c n m' → IsAtWork k p m'
@@ -108,6 +115,7 @@ module _ {k : Start} {p : ℕ} {m : Sat} (at : IsAtWork k p m) where
     high = at.high;
     legal = subst (λ (z : Start × Log). IsHistory z.0 z.1.front) (λ i. (at.pass.0 i, ap first_log r.one.1 i)) r.legal;
     inside = subst (λ (z : Start × Work). IsInside z.0 z.1) (λ i. (at.pass.0 i, sym r.work i)) r.inside;
+    stock = subst (IsStockOf k p) (sym stock_is ∙ (sym r.stock ∙ ap (λ (l : List Log). (first_log l).stock) r.one.1)) at.stock;
   }
 
   -- what it works with is the table's
@@ -116,7 +124,7 @@ module _ {k : Start} {p : ℕ} {m : Sat} (at : IsAtWork k p m) where
 
 -- the seat of a pass that was listed
 pub at_listed : {k : Start} {p : ℕ} {m : Sat} → IsAtWork k p m → IsAtWork k p (as_listed m)
-at_listed {k} {m = m} at = record {
+at_listed {k} {p} {m} at = record {
   log = record (pass_in m) { listed = true };
   pass = (at.pass.0, refl);
   its_number = number_is at;
@@ -124,11 +132,12 @@ at_listed {k} {m = m} at = record {
   high = at.high;
   legal = subst (λ (l : Log). IsHistory k l.front) (sym (ap first_log at.pass.1)) at.legal;
   inside = at.inside;
+  stock = subst (λ (l : Log). IsStockOf k p l.stock) (sym (ap first_log at.pass.1)) at.stock;
 }
 
 -- the seat of a pass that has asked
 pub at_asked : {k : Start} {p : ℕ} {m : Sat} (a : Survey) → IsAtWork k p m → IsAtWork k p (as_asked a m)
-at_asked {k} {m = m} a at = record {
+at_asked {k} {p} {m} a at = record {
   log = record (pass_in m) { asked = a };
   pass = (at.pass.0, refl);
   its_number = number_is at;
@@ -136,6 +145,7 @@ at_asked {k} {m = m} a at = record {
   high = at.high;
   legal = subst (λ (l : Log). IsHistory k l.front) (sym (ap first_log at.pass.1)) at.legal;
   inside = at.inside;
+  stock = subst (λ (l : Log). IsStockOf k p l.stock) (sym (ap first_log at.pass.1)) at.stock;
 }
 
 -- whatever a pass has asked, it makes the same steps
@@ -151,12 +161,69 @@ runs_asked {m' = m'} a r = record {
   begun = r.begun;
   listed = r.listed;
   asked = refl;
+  stock = r.stock;
   work = r.work;
   inside = r.inside;
   glance = r.glance;
   change = r.change;
   start = r.start;
 }
+
+-- whatever a pass has in stock, it makes the same steps
+pub runs_stocked : {m m' : Sat} {xs : List Action} {w : Work} {g : Glance} {c : Change} {n : ℕ} (s : List ℕ) → Runs m xs w g c n m'
+    → Runs (as_stocked s m) xs w g c n (as_stocked s m')
+runs_stocked {m' = m'} s r = record {
+  one = (record (pass_in m') { stock = s }, refl);
+  number = r.number;
+  seen = r.seen;
+  legal = r.legal;
+  own = r.own;
+  steps = r.steps;
+  begun = r.begun;
+  listed = r.listed;
+  asked = r.asked;
+  stock = refl;
+  work = r.work;
+  inside = r.inside;
+  glance = r.glance;
+  change = r.change;
+  start = r.start;
+}
+
+-- the seat of a pass that has swapped a node of its stock for another one
+pub at_swapped : {k : Start} {p : ℕ} {m : Sat} → IsAtWork k p m → (entry node : ℕ) → node < nodes_of k → IsAtWork k p (as_swapped entry node m)
+at_swapped {k} {p} {m} at entry node inside = record {
+  log = record (pass_in m) { stock = set (pass_in m).stock entry node };
+  pass = (at.pass.0, refl);
+  its_number = number_is at;
+  low = at.low;
+  high = at.high;
+  legal = subst (λ (l : Log). IsHistory k l.front) (sym (ap first_log at.pass.1)) at.legal;
+  inside = at.inside;
+  stock = stock_of;
+}
+  where
+    its : IsStockOf k p (pass_in m).stock
+    its = subst (IsStockOf k p) (sym (stock_is at)) at.stock
+
+    stock_of : IsStockOf k p (set (pass_in m).stock entry node)
+    stock_of = record {
+      count = length-set (pass_in m).stock entry node ∙ its.count;
+      inside = λ e n is. dite (ℕ_discrete e entry)
+          (λ same. let l = (stands_at (set (pass_in m).stock entry node) e n is).0 in
+          let here : get_elem? (set (pass_in m).stock entry node) entry ≡ some node = set_here (pass_in m).stock entry node
+          (let a = length-set (pass_in m).stock entry node in omega (arith, l, same, a)) in
+          let z : node ≡ n = some-injective node n (sym here ∙ (ap (get_elem? (set (pass_in m).stock entry node)) (sym same) ∙ is)) in
+          subst (λ (i : ℕ). i < nodes_of k) z inside)
+          (λ away. its.inside e n (sym (set_else (pass_in m).stock entry e node away) ∙ is));
+    }
+
+-- a pass that has swapped a node of its stock goes on where some steps left it
+pub swapped_then : {m m' m'' : Sat} {xs ys : List Action} {w w' : Work} {g g' : Glance} {c c' : Change} {n n' : ℕ} (entry node : ℕ) → Runs m xs w g c n m'
+    → Runs (as_swapped entry node m') ys w' g' c' n' m'' → Runs (as_swapped entry node m) (xs ▷▷ ys) w' g' c' (n + n') m''
+swapped_then {m = m} {m' = m'} {m'' = m''} {ys = ys} {w' = w'} {g' = g'} {c' = c'} {n' = n'} entry node a b =
+    runs_then (runs_stocked (set (pass_in m).stock entry node) a)
+    (subst (λ (l : List ℕ). Runs (as_stocked (set l entry node) m') ys w' g' c' n' m'') a.stock b)
 
 -- a pass in the same change looks on
 pub looks_then : {m m' m'' : Sat} {xs ys : List Action} {w w' : Work} {g g' : Glance} {c : Change} {n n' : ℕ} → Runs m xs w g c n m'
@@ -221,19 +288,19 @@ let_go_inside {n = n} {m = m} at has = ⊎_elim (λ (e : m.0.work ≡ Owing n). 
 -- a pass takes what a slot names: a file, or nothing
 pub took : {st : At} {m m' : Sat} {slot found : ℕ} → m.0.glance ≡ Cold slot → Takes st m found m'
     → (xs : List Action) × (w : Work) × Goes m xs w (glance_after m.0.start.passes slot found) m'
-took {slot = slot} {found = found} cold did = dite (ℕ_discrete (name_in found) 0) (λ e. ([] ▷ Look slot None, Idle, did.empty slot cold e))
-    (λ some. let h = did.holds slot (name_in found - 1) cold (omega (arith, some)) in ([] ▷ Look slot (Some h.0), Counted h.0 (name_in found - 1), h.2))
+took {slot = slot} {found = found} cold did = dite (ℕ_discrete (full_name_in found) 0) (λ e. ([] ▷ Look slot None, Idle, did.empty slot cold e))
+    (λ some. let h = did.holds slot (full_name_in found - 1) cold (omega (arith, some)) in ([] ▷ Look slot (Some h.0), Counted h.0 (full_name_in found - 1), h.2))
 
 -- the name in a word
-pub no_name : (word : ℕ) → None ≡ node_in word → name_in word ≡ 0
-no_name word is = dite (ℕ_discrete (name_in word) 0) (λ e. e)
-    (λ some. let bad : None ≡ Some (name_in word - 1) = rw (ne_eqb (name_in word) 0 some) at is in absurd (cc bad))
+pub no_name : (word : ℕ) → None ≡ file_node_in word → full_name_in word ≡ 0
+no_name word is = dite (ℕ_discrete (full_name_in word) 0) (λ e. e)
+    (λ some. let bad : None ≡ Some (full_name_in word - 1) = rw (ne_eqb (full_name_in word) 0 some) at is in absurd (cc bad))
 
-pub its_name : (word n : ℕ) → Some n ≡ node_in word → name_in word ≡ n + 1
-its_name word n is = dite (ℕ_discrete (name_in word) 0)
-    (λ e. let bad : Some n ≡ None = rw (eq-eqb (name_in word) 0 e) at is in absurd (cc bad))
-    (λ some. let same : Some n ≡ Some (name_in word - 1) = rw (ne_eqb (name_in word) 0 some) at is in
-    let e : n ≡ name_in word - 1 = cc same in omega (arith, some, e))
+pub its_name : (word n : ℕ) → Some n ≡ file_node_in word → full_name_in word ≡ n + 1
+its_name word n is = dite (ℕ_discrete (full_name_in word) 0)
+    (λ e. let bad : Some n ≡ None = rw (eq-eqb (full_name_in word) 0 e) at is in absurd (cc bad))
+    (λ some. let same : Some n ≡ Some (full_name_in word - 1) = rw (ne_eqb (full_name_in word) 0 some) at is in
+    let e : n ≡ full_name_in word - 1 = cc same in omega (arith, some, e))
 
 -- a pass that has done nothing more than its work
 pub placed_none : {k : Start} {p : ℕ} {m : Sat} → IsAtWork k p m → {w : Work} → m.0.work ≡ w → Runs m [] w m.0.glance m.0.change 0 m

@@ -3,7 +3,7 @@ use Rattle.fx_lasting.proofs.Words.{◌≡◌, ℕ, List, length, sym, refl, ap,
 use Rattle.fx_lasting.proofs.Words.{count_in, WorkAgrees, LogAgrees, NodeAgrees, Agrees, owing, Shared, Outside, Inside, Log, Start, AreFull, range_at_start}
 use Rattle.fx_lasting.proofs.Words.{View, Work, Idle, Nothing, Glance, Change, SplitsKeep, JoinsKeep, together, spent, one_if, held_in, if_file}
 use Rattle.fx_lasting.proofs.Words.{taking, owed, get_elem?, state_after_all, slots_of, word_of, some, set, set_here, set_else, at_set, stands_at, sum_set}
-use Rattle.fx_lasting.proofs.Words.{HasNoFile, ViewAgrees, taken_of, held_of, logs_of, lengths, zero, suc, [], ◌∷◌, ◌≢◌}
+use Rattle.fx_lasting.proofs.Words.{Contains, HasNoFile, ViewAgrees, taken_of, held_of, logs_of, lengths, zero, suc, [], ◌∷◌, ◌≢◌}
 use Rattle.std.proofs.lemmas.List.{set-set}
 use Rattle.fx_seen.proofs.Views.{OfEach, of_replaced, of_appended}
 use Rattle.fx_table.proofs.Calls.{seen_from_start}
@@ -65,6 +65,9 @@ module _ (k : Start) (s : Shared) (r : Agrees k s) (views : List View) (a : AreR
       empty = λ _. new.idle;
       start = new.begun;
     }) (λ old. r.each_view j u old) (a.each j u e);
+    where_is = r.where_is;
+    named = r.named;
+    stocks = λ j u x e has. ⊎_elim (λ new. let w = new.its x has in r.stocks w.0 w.1 x w.2 w.4) (λ old. r.stocks j u x old has) (a.each j u e);
     known = known;
     holds = λ n. r.holds n ∙ sym (by_work (λ d. if_file n (held_in d)) refl);
     passes = λ p. by_log (λ y. one_if (eqb y.number p)) ∙ r.passes p;
@@ -141,6 +144,10 @@ module _ (k : Start) (s : Shared) (r : Agrees k s) (id : ℕ) (v : View) (here :
           empty = λ none. let e = (r.each_view id v here).empty none in (refl, e.1, e.2);
           start = (r.each_view id v here).start;
         }) (λ t. r.each_view j u t.1) (at_set s.views id j forgot u e);
+    where_is = r.where_is;
+    named = r.named;
+    stocks = λ j u x e has. ⊎_elim (λ (t : (j ≡ id) × (forgot ≡ u)). r.stocks id v x here (subst (λ (z : View). Contains z.logs x) (sym t.1) has))
+        (λ t. r.stocks j u x t.1 has) (at_set s.views id j forgot u e);
     known = of_replaced (IsKnown r.history) s.views r.known id forgot (r.known id v here);
     holds = λ n. let t = sum_set (held_of n) s.views id v forgot here in let e = ap (if_file n) (no_file free_of) in let h = r.holds n in omega arith;
     passes = λ p. let t = sum_set (logs_of p) s.views id v forgot here in let h = r.passes p in omega arith;

@@ -1,9 +1,10 @@
 -- A load of a slot's word from which the pass learns what is there, and the exchanges of a word
 -- that it saw, keep the rule.
 use Rattle.fx_lasting.proofs.Words.{◌≡◌, ◌≢◌, ℕ, ◌+◌, ◌^◌, ◌<◌, ◌≤◌, List, [], ◌∷◌, sym, refl, ap, ◌∙◌, Option, Some, None, none}
-use Rattle.fx_lasting.proofs.Words.{keeps, gives, rest, eqb, Closed, File, Take, Names, slots_of, slot_place, slot_word_of, state_after_all}
+use Rattle.fx_lasting.proofs.Words.{keeps, gives, rest, eqb, Closed, File, Take, Names, slots_of, slot_place, file_word_of, state_after_all}
 use Rattle.fx_lasting.proofs.Words.{node_of_number, HasNoFile, IsOffCount, Placing, Outside, Sees, TakesIf, Replaces, SeesKeep, TakesIfKeep, ReplacesKeep}
-use Rattle.fx_lasting.proofs.Words.{step, exchanged, label_of}
+use Rattle.fx_lasting.proofs.Words.{step, exchanged, subst, without_file, some, label_of}
+use Rattle.fx_lasting.proofs.StockMoves.{names_a_node}
 use prog.Atomic.{either}
 use Rattle.fx_lasting.proofs.Keeping.{Turn, turn_of, Made, by_turn, word_at, slot_word, w}
 use Rattle.fx_lasting.proofs.Calm.{read_after, read_kept}
@@ -39,10 +40,10 @@ module _ (turn : Turn) (s : ℕ) (inside : s < slots_of turn.v.start) (carried :
     sees_slot slots 0 0,
   )
 
-  -- The word that the pass saw is exchanged for 0
+  -- The word that the pass saw is exchanged for its name alone
   module _ (free_of : HasNoFile turn.v.work) (off : IsOffCount turn.v.start s turn.v.change) (slots old_word : ℕ) where
     abbrev Takes : ℕ → Type 0
-    Takes y = Made turn carried (slot_place s) (λ _. y) (TakesIf (step slots (slot_place s) old_word 0 none) (v, carried))
+    Takes y = Made turn carried (slot_place s) (λ _. y) (TakesIf (step slots (slot_place s) old_word (without_file old_word) none) (v, carried))
 
     takes_not : slot_word st.words s ≢ old_word → Takes (slot_word st.words s)
     takes_not other = (
@@ -50,11 +51,11 @@ module _ (turn : Turn) (s : ℕ) (inside : s < slots_of turn.v.start) (carried :
       keeps,
       tt,
       read_kept turn v.work v.glance (slot_place s) (still turn),
-      record { wins = λ is. absurd (other is); loses = λ _. sees_slot slots old_word 0 },
+      record { wins = λ is. absurd (other is); loses = λ _. sees_slot slots old_word (without_file old_word) },
     )
 
-    takes : slot_word st.words s ≡ old_word → Takes 0
-    takes is = (
+    takes : slot_word st.words s ≡ old_word → Takes (without_file old_word)
+    takes is = subst (λ (z : ℕ). Takes (without_file z)) is (
       w turn (removal Take taken turn s inside free_of off),
       keeps,
       tt,
@@ -70,7 +71,7 @@ module _ (turn : Turn) (s : ℕ) (inside : s < slots_of turn.v.start) (carried :
       (carries : carried ≡ (n, Some file) ∷ []) (number : ℕ) (late : turn.r.next_number ≤ number) (on_n : turn.r.node_of number ≡ n)
       (slots old_word : ℕ) where
     abbrev Puts : ℕ → Type 0
-    Puts y = Made turn carried (slot_place s) (λ _. y) (Replaces (step slots (slot_place s) old_word (slot_word_of n file.entry) none) (v, carried))
+    Puts y = Made turn carried (slot_place s) (λ _. y) (Replaces (step slots (slot_place s) old_word (file_word_of n file.entry) none) (v, carried))
 
     puts_not : slot_word st.words s ≢ old_word → Puts (slot_word st.words s)
     puts_not other = (
@@ -78,10 +79,10 @@ module _ (turn : Turn) (s : ℕ) (inside : s < slots_of turn.v.start) (carried :
       keeps,
       tt,
       read_kept turn v.work v.glance (slot_place s) (still turn),
-      record { wins = λ m f w' c' is. absurd (other is); loses = λ _. sees_slot slots old_word (slot_word_of n file.entry) },
+      record { wins = λ m e f w' c' at is. absurd (other is); loses = λ _. sees_slot slots old_word (file_word_of n file.entry) },
     )
 
-    puts : slot_word st.words s ≡ old_word → Puts (slot_word_of n file.entry)
+    puts : slot_word st.words s ≡ old_word → Puts (file_word_of n file.entry)
     puts is = let does = putting turn s inside n file works small out slots carried carries number late on_n in (
       w turn (installed turn s inside there refl n file works small out number late on_n
           (put_action turn s inside n file works small out slots carried carries number late on_n)),
@@ -90,15 +91,17 @@ module _ (turn : Turn) (s : ℕ) (inside : s < slots_of turn.v.start) (carried :
       rw carries (installation_agrees turn s inside there refl n file works small out number late on_n
           (put_action turn s inside n file works small out slots carried carries number late on_n) does),
       record {
-        wins = λ m other works' carries' _. let same_f : file ≡ other = cc (ap file_carried (sym carries ∙ carries')) in rw (← same_f, slot_back s) (
-          there,
-          number,
-          named,
-          sym (r.numbering number) ∙ (on_n ∙ (let same : n ≡ m = cc (sym works ∙ works') in same)),
-          installation_tells turn s inside there refl n file works small out number late on_n
-              (put_action turn s inside n file works small out slots carried carries number late on_n) does carried (rest carried),
-          refl,
-        );
+        wins = λ m e other works' carries' at _. let same_f : file ≡ other = cc (ap file_carried (sym carries ∙ carries')) in
+            let same : n ≡ m = cc (sym works ∙ works') in rw (← same_f, slot_back s) (
+              there,
+              number,
+              named,
+              sym (r.numbering number) ∙ (on_n ∙ same),
+              names_a_node turn inside,
+              installation_tells turn s inside there refl n file works small out number late on_n
+                  (put_action turn s inside n file works small out slots carried carries number late on_n) does carried (rest carried) e (at ∙ ap some (sym same)),
+              refl,
+            );
         loses = λ other. absurd (other is);
       },
     )
@@ -108,18 +111,18 @@ sees_keep k slots id i s m x has inside place = by_turn slots (λ k. s < slots_o
     (λ i. Sees (step slots i 0 0 none) m) has inside place (λ st r here is fits. see (turn_of m x has.1 id st r here) s is m.1 slots)
 
 pub takes_if_keep : TakesIfKeep TakesIf
-takes_if_keep k slots id i s old m x has works inside off place = by_turn slots (λ k. (s < slots_of k) × IsOffCount k s m.0.change)
-    (λ _. slot_place s) (λ word. either (eqb word old) 0 word) (λ i. TakesIf (step slots i old 0 none) m) has (inside, off) place
+takes_if_keep k slots id i s old new m x has works inside off place made = rw made (by_turn slots (λ k. (s < slots_of k) × IsOffCount k s m.0.change)
+    (λ _. slot_place s) (λ word. either (eqb word old) (without_file old) word) (λ i. TakesIf (step slots i old (without_file old) none) m) has (inside, off) place
     (λ st r here is fits. let turn = turn_of m x has.1 id st r here in
-    exchanged (word_at st.words (slot_place s)) old 0 (Takes turn s is.0 m.1 works is.1 slots old)
-    (takes turn s is.0 m.1 works is.1 slots old) (takes_not turn s is.0 m.1 works is.1 slots old))
+    exchanged (word_at st.words (slot_place s)) old (without_file old) (Takes turn s is.0 m.1 works is.1 slots old)
+    (takes turn s is.0 m.1 works is.1 slots old) (takes_not turn s is.0 m.1 works is.1 slots old)))
 
 pub replaces_keep : ReplacesKeep Replaces
 replaces_keep k slots id i s n old new file m x has works carries small inside out place made = rw made (by_turn slots
-    (λ k. s < slots_of k) (λ _. slot_place s) (λ word. either (eqb word old) (slot_word_of n file.entry) word)
-    (λ i. Replaces (step slots i old (slot_word_of n file.entry) none) m) has inside place
+    (λ k. s < slots_of k) (λ _. slot_place s) (λ word. either (eqb word old) (file_word_of n file.entry) word)
+    (λ i. Replaces (step slots i old (file_word_of n file.entry) none) m) has inside place
     (λ st r here is fits. let turn = turn_of m x has.1 id st r here in let new = new_number turn works in
-    exchanged (word_at st.words (slot_place s)) old (slot_word_of n file.entry)
+    exchanged (word_at st.words (slot_place s)) old (file_word_of n file.entry)
     (Puts turn s is m.1 n file works small out carries new.0 new.1 new.2 slots old)
     (puts turn s is m.1 n file works small out carries new.0 new.1 new.2 slots old)
     (puts_not turn s is m.1 n file works small out carries new.0 new.1 new.2 slots old)))

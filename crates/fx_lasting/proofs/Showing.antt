@@ -4,7 +4,7 @@ use Rattle.fx_lasting.proofs.Words.{◌≡◌, ℕ, ◌+◌, ◌≤◌, List, []
 use Rattle.fx_lasting.proofs.Words.{⊎_elim, at_set, sum_set, sum_by-append, one_if, contains_only, Contains, IsSeenBy, part_of_pass, Event}
 use Rattle.fx_lasting.proofs.Words.{NodeAgrees, LogAgrees, ViewAgrees, Agrees, AreFull, Outside, Inside, range_at_start, Shared, Log, Start, View, IsInside, Runs, IsHistory}
 use Rattle.fx_lasting.proofs.Words.{owed, state_after_all, slots_of, word_of, taken_of, held_of, logs_of, lengths, owing_of, first_log, count_in, view_of}
-use Rattle.fx_lasting.proofs.Words.{TableId, LastingPass, IsPassOf, opening_of, doing_in}
+use Rattle.fx_lasting.proofs.Words.{StockAgrees, TableId, LastingPass, IsPassOf, opening_of, doing_in}
 use Rattle.fx_table.proofs.SumLemmas.{contains_none, contains_alone}
 use Rattle.fx_table.proofs.Calls.{learned_so}
 use Rattle.fx_seen.proofs.Views.{of_appended, of_replaced}
@@ -58,6 +58,10 @@ module _ (k : Start) (s : Shared) (r : Agrees k s) (h : List Event) (seen : IsSe
           empty = λ _. (refl, refl, refl);
           start = inl refl;
         }) (at_snoc s.views u x j e);
+    where_is = r.where_is;
+    named = r.named;
+    stocks = λ j x y e has. ⊎_elim (λ old. r.stocks j x y old has)
+        (λ (new : u ≡ x). absurd (contains_none y (subst (λ (z : View). Contains z.logs y) (sym new) has))) (at_snoc s.views u x j e);
     known = of_appended (IsKnown r.history) s.views r.known u seen;
     holds = λ n. let t = sum_by-append (held_of n) s.views (u ∷ []) in let h = r.holds n in omega arith;
     passes = λ p. let t = sum_by-append (logs_of p) s.views (u ∷ []) in let h = r.passes p in omega arith;
@@ -140,6 +144,11 @@ module _ (k : Start) (id : ℕ) (v w : View) (x : Log) (one : v.logs ≡ x ∷ [
           empty = λ none. absurd (omega (arith, ap (length {A = Log}) none));
           start = inr begun;
         }) (λ t. r.each_view j u t.1) (at_set s.views id j learned u e);
+    where_is = r.where_is;
+    named = r.named;
+    stocks = λ j u y e has. ⊎_elim (λ (t : (j ≡ id) × (learned ≡ u)). subst (λ (z : Log). StockAgrees k r.where_is z.number z.stock)
+        (sym (contains_only log y (subst (λ (z : View). Contains z.logs y) (sym t.1) has))) (r.stocks id v x at (contains_alone one)))
+        (λ t. r.stocks j u y t.1 has) (at_set s.views id j learned u e);
     known = of_replaced (IsKnown r.history) s.views r.known id learned (r.known id v at);
     holds = λ n. let t = sum_set (held_of n) s.views id v learned at in let h = r.holds n in omega arith;
     passes = λ p. total_same (λ z. one_if (eqb z.number p)) s.views id learned at one refl refl ∙ r.passes p;
@@ -163,6 +172,7 @@ module _ (k : Start) (id : ℕ) (v w : View) (x : Log) (one : v.logs ≡ x ∷ [
       begun = subst (λ (z : Log). z.steps ≤ x.steps) (sym first) (omega arith);
       listed = ap (λ (z : Log). z.listed) (sym first);
       asked = ap (λ (z : Log). z.asked) (sym first);
+      stock = ap (λ (z : Log). z.stock) (sym first);
       work = refl;
       inside = within;
       glance = refl;
@@ -195,6 +205,7 @@ module _ {id : TableId} {k : Start} {p : LastingPass} (fits : IsPassOf id k p) (
     begun = o.begun;
     listed = o.listed;
     asked = o.asked;
+    stock = o.stock;
     work = o.work;
     inside = o.inside;
     glance = o.glance;
@@ -207,6 +218,6 @@ module _ {id : TableId} {k : Start} {p : LastingPass} (fits : IsPassOf id k p) (
 
   pub learned_pass : IsPassOf id k q × Learns (opening_of k) w.known (view_of p) (view_of q)
   learned_pass = (
-    still_pass fits.seated q (at_rest fits runs) (refl, refl) table (slots ∙ fits.seated.places) fits.seated.block fits.knows,
+    still_pass fits.seated q (at_rest fits runs) (refl, refl) table (slots ∙ fits.seated.places) (refl, fits.seated.next) fits.knows,
     learned_so (opening_of k) w.known (view_of p) (view_of q) adds learns.shown,
   )

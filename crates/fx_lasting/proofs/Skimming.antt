@@ -9,17 +9,17 @@ use Rattle.fx_lasting.proofs.Keeping.{Turn, turn_of, word_at, slot_word, Made, b
 use Rattle.fx_lasting.proofs.Visiting.{its, node, retiring_same, seen_after, Visited, visited, goes}
 
 -- a pass whose hold word isn't 0 is listed
-speaks : (k : Start) (p : ℕ) (l : Bool) {word : ℕ} (debt : ℕ) (e : Work) → word ≢ 0 → HoldAgrees word debt e → IsAllowed k p l e → l ≡ true
-speaks k p l debt (Announced n) some hold allowed = allowed
-speaks k p l debt (Guarded f n) some hold allowed = allowed
-speaks k p l debt Idle some hold allowed = absurd (some hold.0)
-speaks k p l debt (Counted f n) some hold allowed = absurd (some hold.0)
-speaks k p l debt (Owing n) some hold allowed = absurd (some hold.0)
-speaks k p l debt (Yielding f n) some hold allowed = absurd (some hold.0)
-speaks k p l debt (Searching n) some hold allowed = absurd (some hold.0)
-speaks k p l debt (Placing n w) some hold allowed = absurd (some hold.0)
-speaks k p l debt (Retiring f n t nx m) some hold allowed = absurd (some hold.0)
-speaks k p l debt (Emptying n) some hold allowed = absurd (some hold.0)
+speaks : (stock : List ℕ) (l : Bool) {word : ℕ} (debt : ℕ) (e : Work) → word ≢ 0 → HoldAgrees word debt e → IsAllowed stock l e → l ≡ true
+speaks stock l debt (Announced n) some hold allowed = allowed
+speaks stock l debt (Guarded f n) some hold allowed = allowed
+speaks stock l debt Idle some hold allowed = absurd (some hold.0)
+speaks stock l debt (Counted f n) some hold allowed = absurd (some hold.0)
+speaks stock l debt (Owing n) some hold allowed = absurd (some hold.0)
+speaks stock l debt (Yielding f n) some hold allowed = absurd (some hold.0)
+speaks stock l debt (Searching n) some hold allowed = absurd (some hold.0)
+speaks stock l debt (Placing n w) some hold allowed = absurd (some hold.0)
+speaks stock l debt (Retiring f n t nx m) some hold allowed = absurd (some hold.0)
+speaks stock l debt (Emptying n) some hold allowed = absurd (some hold.0)
 
 module _ (turn : Turn) (f : File) (n t : ℕ) (nx : Round) (m : ℕ) (works : turn.v.work ≡ Retiring f n t nx m) (index : ℕ) (inside : index < 16)
     (low : nx.next ≤ 64 * index + 1) (between : (p : ℕ) → nx.next ≤ p → p ≤ 64 * index → IsPassed turn.x.number nx p) where
@@ -35,7 +35,7 @@ module _ (turn : Turn) (f : File) (n t : ℕ) (nx : Round) (m : ℕ) (works : tu
   its_bit : (p : ℕ) → 0 < p → p ≤ v.start.passes → word_at st.words (hold_word_of v.start p) ≢ 0 → IsListedIn (word_at st.words (list_place p)) p
   its_bit p more high some = let a = find_pass r more high in let o = (r.each_view a.0 a.1 a.3).logs a.2 a.4 in
       let said : word_at st.words (hold_word_of v.start a.2.number) ≢ 0 = λ none. some (ap (λ (q : ℕ). word_at st.words (hold_word_of v.start q)) (sym a.5) ∙ none) in
-      subst (λ (q : ℕ). IsListedIn (word_at st.words (list_place q)) q) a.5 (o.list (speaks v.start a.2.number a.2.listed (r.debt a.2.number) a.1.work said o.hold o.allowed))
+      subst (λ (q : ℕ). IsListedIn (word_at st.words (list_place q)) q) a.5 (o.list (speaks a.2.stock a.2.listed (r.debt a.2.number) a.1.work said o.hold o.allowed))
 
   -- who had still to be visited has still to be, if it holds a file by its hold word
   still : (p : ℕ) → p ≢ x.number → (0 < p) × (p ≤ v.start.passes) → word_at st.words (hold_word_of v.start p) ≢ 0 → IsToVisit nx p → IsToVisit nx' p

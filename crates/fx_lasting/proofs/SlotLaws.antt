@@ -3,18 +3,21 @@ use Rattle.fx_lasting.proofs.Words.{◌≡◌, ◌≢◌, ℕ, ◌+◌, ◌^◌,
 use Rattle.fx_lasting.proofs.Words.{keeps, gives, rest, get_elem?, false, inl, inr, ◌⊎◌, eqb, Closed, File, numbered, Event, Action}
 use Rattle.fx_lasting.proofs.Words.{Put, Clear, Take, Allocate, ◌▷◌, State, with_removed, changed_at, changed_here, changed_else, pass_event, held_by}
 use Rattle.fx_lasting.proofs.Words.{Agrees, NodeAgrees, OwnerAgrees, WorkAgrees, IsHistory, state_after_all, slots_of, nodes_of, slot_place, word_of}
-use Rattle.fx_lasting.proofs.Words.{count_in, name_in, slot_word_of, name_made, entry_made, taken_of, taking, held_in, owed, sum_by, sum_set, Phase}
+use Rattle.fx_lasting.proofs.Words.{count_in, full_name_in, file_word_of, full_name_made, file_entry_made, taken_of, taking, held_in, owed, sum_by, sum_set, Phase}
 use Rattle.fx_lasting.proofs.Words.{placed, seated, removed_in, Change, Idle, Placing, Removes, Installs, Exchanges, Stepped, IsOffCount}
 use Rattle.fx_lasting.proofs.Words.{IsInRange, ClearsKeep, TakesOutKeep, InstallsKeep, ExchangesKeep, account, uncounted, group_of, range_at_start, Outside, Bool, true, step, set_here, set_else}
-use Rattle.fx_lasting.proofs.Words.{length-set, exchanged, IsInside, retiring_work, takes_made}
-use Rattle.fx_lasting.proofs.Words.{◌*◌, ◌≤◌, HasNoFile}
+use Rattle.fx_lasting.proofs.Words.{length-set, exchanged, IsInside, retiring_work, file_takes_made}
+use Rattle.fx_lasting.proofs.Words.{◌*◌, ◌-◌, ◌≤◌, HasNoFile, Whereabouts, IsInStock, as_stocked, as_swapped, first_log, Log, without_file, name_in, name_mask, bit_and}
+use Rattle.fx_lasting.proofs.Words.{name_made, name_left, no_file_left, no_takes_left, mask_leaves_name, file_heat_made}
+use Rattle.fx_lasting.proofs.StockMoves.{names_a_node, where_moved, stock_moved, moved_names, moved_slot, moved_stock, moved_stocks, one_entry}
 use Rattle.std.proofs.lemmas.Nat.{mod-mul-add}
 use Rattle.std.proofs.Math.Nat.{le-mul_of_pos_right}
 use Rattle.fx_lasting.proofs.Words.{Labels, Written, written_in, label_of}
 use prog.Atomic.{either}
+use Rattle.atomic_table.specs.Table.{put_back}
 use Rattle.fx_lasting.proofs.Histories.{grows_one, legal_more, part_mine, held_mine, each_changed, same_shape}
 use Rattle.fx_lasting.proofs.Frames.{busy, owner_stays, node_same}
-use Rattle.fx_lasting.proofs.Keeping.{Turn, turn_of, After, word_at, slot_word, Made, by_turn, its_log, its_work, in_range, tells, w, end, Homes, asks_alike, few_slots}
+use Rattle.fx_lasting.proofs.Keeping.{Turn, turn_of, After, word_at, slot_word, Made, by_turn, its_log, its_work, its_stock, in_range, tells, tells_stocked, w, end, Homes, asks_alike, few_slots}
 use Rattle.fx_lasting.proofs.Groups.{counts_swap, removal_balances, removal_keeps, fill_balances, fill_keeps, in_range_so}
 use Rattle.fx_lasting.proofs.Peeking.{goes_still, still}
 use Rattle.fx_lasting.proofs.Calm.{read_after, read_kept}
@@ -58,13 +61,17 @@ module _ (act : ℕ → Option File → Action) (does : IsRemoval act) (turn : T
   abbrev h₁ : List Event
   h₁ = pass_event x (act s old) ∷ r.history
 
+  -- the word keeps its name alone
+  abbrev left : ℕ
+  left = without_file (found turn s inside)
+
   abbrev c₁ : Change
   c₁ = account (range_at_start v.start) s old
 
   abbrev pub removal : After turn
-  removal = swap_after turn s inside old refl h₁ 0 None st.homes r.phase r.next_number c₁
+  removal = swap_after turn s inside old refl h₁ left None st.homes r.phase r.next_number c₁ r.where_is x.stock
 
-  removes : Swap turn s inside old refl h₁ 0 None st.homes r.phase r.next_number c₁
+  removes : Swap turn s inside old refl h₁ left None st.homes r.phase r.next_number c₁ r.where_is x.stock
   removes = let o = its_log turn in let h = holds_none free_of o.hold in let e = does turn s inside in record {
     grows = grows_one x.number r.history _ refl;
     legal = e.0;
@@ -75,9 +82,13 @@ module _ (act : ℕ → Option File → Action) (does : IsRemoval act) (turn : T
     homes = refl;
     later = omega arith;
     removed_else = λ m. refl;
-    names = refl;
-    no_takes = refl;
-    no_heat = refl;
+    named_new = let o = r.named s inside in record { node = o.node; named = name_left (found turn s inside) ∙ o.named; inside = o.inside; here = o.here };
+    named_else = λ i n other at. at;
+    stock = its_stock turn;
+    stocks = λ n q e other at. at;
+    names = no_file_left (found turn s inside);
+    no_takes = (no_takes_left (found turn s inside)).0;
+    no_heat = (no_takes_left (found turn s inside)).1;
     seat = tt;
     seat_apart = λ f is. absurd (cc is);
     kept = λ n. inl refl;
@@ -85,13 +96,13 @@ module _ (act : ℕ → Option File → Action) (does : IsRemoval act) (turn : T
         (let t = sum_set (taken_of n) st.views id v (w turn removal) here in let a = no_take free_of n in let b = untaken n in omega arith)
         refl refl (r.phase n) (λ i f is there. let other : i ≢ s = λ same. apart f (ap (λ (j : ℕ). (state_after_all v.start r.history).at j) (sym same) ∙ there)
         (sym (in_phase turn l is).file.its_node) in
-        (ap (λ (z : State). z.at i) e.1 ∙ changed_else (state_after_all v.start r.history).at s None i other, ap count_in (slot_else turn s inside 0 i other)))
+        (ap (λ (z : State). z.at i) e.1 ∙ changed_else (state_after_all v.start r.history).at s None i other, ap count_in (slot_else turn s inside left i other)))
         (r.each_node n l);
     old_home = λ f is. refl;
     owners = λ n l apart. owner_stays st.views id v (w turn removal) here n (λ bad. let a = not_busy free_of in omega arith) (r.phase n) (r.each_owner n l);
     labels = λ n l apart. r.each_label n l;
     idle_hands = (no_file free_of, no_take free_of, h.0, h.1);
-    counts = counts_swap id (w turn removal) here r.counts s old None (few_slots turn) refl (slot_alike turn s inside 0) (asks_alike turn removal refl) refl
+    counts = counts_swap id (w turn removal) here r.counts s old None (few_slots turn) refl (slot_alike turn s inside left) (asks_alike turn removal refl) refl
         (removal_balances (range_at_start v.start) s old off) (removal_keeps id (w turn removal) here s old off refl);
   }
     where
@@ -103,7 +114,7 @@ module _ (act : ℕ → Option File → Action) (does : IsRemoval act) (turn : T
           go (Some f) = refl
 
   pub removal_agrees : Agrees v.start (end turn removal)
-  removal_agrees = swap_kept turn s inside old refl h₁ 0 None st.homes r.phase r.next_number c₁ removes
+  removal_agrees = swap_kept turn s inside old refl h₁ left None st.homes r.phase r.next_number c₁ r.where_is x.stock removes
 
   pub removal_tells : (carried : List (ℕ × Option Closed))
       → Stepped (v, carried) ([] ▷ act s old) (retiring_work v.start (found turn s inside) old) v.glance c₁ (w turn removal, carried)
@@ -116,12 +127,13 @@ module _ (act : ℕ → Option File → Action) (does : IsRemoval act) (turn : T
           (let n = (old_at turn s inside old refl is).0 in let e = old_named turn s inside old refl is in omega arith)
 
   pub removal_made : (slots : ℕ) (carried : List (ℕ × Option Closed))
-      → Made turn carried (slot_place s) (λ _. 0) (Removes act (step slots (slot_place s) 0 0 none) (v, carried))
-  removal_made slots carried = (
+      → found turn s inside < 18446744073709551616
+      → Made turn carried (slot_place s) (λ word. bit_and word name_mask) (Removes act (step slots (slot_place s) name_mask 0 none) (v, carried))
+  removal_made slots carried fits = (
     w turn removal,
     keeps,
     tt,
-    removal_agrees,
+    rw (mask_leaves_name (found turn s inside) fits) removal_agrees,
     record {
       file = old;
       names = found_so turn s inside old refl;
@@ -132,13 +144,13 @@ module _ (act : ℕ → Option File → Action) (does : IsRemoval act) (turn : T
 
 pub clears_keep : ClearsKeep (Removes Clear)
 clears_keep k slots id i s m x has works inside off place = by_turn slots (λ k. (s < slots_of k) × IsOffCount k s m.0.change)
-    (λ _. slot_place s) (λ _. 0) (λ i. Removes Clear (step slots i 0 0 none) m) has (inside, off) place
-    (λ st r here is fits. removal_made Clear cleared (turn_of m x has.1 id st r here) s is.0 works is.1 slots m.1)
+    (λ _. slot_place s) (λ word. bit_and word name_mask) (λ i. Removes Clear (step slots i name_mask 0 none) m) has (inside, off) place
+    (λ st r here is fits. removal_made Clear cleared (turn_of m x has.1 id st r here) s is.0 works is.1 slots m.1 fits)
 
 pub takes_out_keep : TakesOutKeep (Removes Take)
 takes_out_keep k slots id i s m x has works inside off place = by_turn slots (λ k. (s < slots_of k) × IsOffCount k s m.0.change)
-    (λ _. slot_place s) (λ _. 0) (λ i. Removes Take (step slots i 0 0 none) m) has (inside, off) place
-    (λ st r here is fits. removal_made Take taken (turn_of m x has.1 id st r here) s is.0 works is.1 slots m.1)
+    (λ _. slot_place s) (λ word. bit_and word name_mask) (λ i. Removes Take (step slots i name_mask 0 none) m) has (inside, off) place
+    (λ st r here is fits. removal_made Take taken (turn_of m x has.1 id st r here) s is.0 works is.1 slots m.1 fits)
 
 -- a number that none had before, and which says the node
 pub new_number : (turn : Turn) {n : ℕ} {l : Written} → turn.v.work ≡ Placing n l → (m : ℕ) × (turn.r.next_number ≤ m) × (turn.r.node_of m ≡ n)
@@ -168,7 +180,7 @@ module _ (turn : Turn) (s : ℕ) (inside : s < slots_of turn.v.start) (old : Opt
   its = subst (WorkAgrees v.start r.phase id) works (its_work turn)
 
   abbrev new_word : ℕ
-  new_word = slot_word_of n file.entry
+  new_word = file_word_of n file.entry
 
   abbrev homes₁ : Homes
   homes₁ = set st.homes n (some (Some file))
@@ -176,11 +188,21 @@ module _ (turn : Turn) (s : ℕ) (inside : s < slots_of turn.v.start) (old : Opt
   abbrev phase₁ : ℕ → Phase
   phase₁ = changed_at r.phase n (seated s new_file)
 
+  -- the file's node goes from the stock to the slot
+  pub its_entry : IsInStock x.stock n
+  its_entry = rw works at (its_log turn).allowed
+
+  abbrev where₁ : ℕ → Whereabouts
+  where₁ = where_moved turn s inside n its_entry
+
+  abbrev stock₁ : List ℕ
+  stock₁ = stock_moved turn s inside n its_entry
+
   abbrev c₂ : Change
   c₂ = account (range_at_start v.start) s old
 
   abbrev pub installed : After turn
-  installed = swap_after turn s inside old was h₂ new_word (Some new_file) homes₁ phase₁ (number + 1) c₂
+  installed = swap_after turn s inside old was h₂ new_word (Some new_file) homes₁ phase₁ (number + 1) c₂ where₁ stock₁
 
   -- what the action does
   pub record Effect : Type 0 where
@@ -211,7 +233,7 @@ module _ (turn : Turn) (s : ℕ) (inside : s < slots_of turn.v.start) (old : Opt
     total_now m = let t = sum_set (taken_of m) st.views id v (w turn installed) here in let b = ap (taking m) works in let c = untaken m in omega arith
 
     no_count : count_in new_word ≡ 0
-    no_count = let e = takes_made n file.entry in omega arith
+    no_count = file_takes_made n file.entry
 
     abbrev Node₁ : ℕ → Phase → Type 0
     Node₁ m = NodeAgrees (state_after_all v.start h₂).at (slots_of v.start) (λ i. count_in (slot_word (slot_words turn s inside new_word) i)) r.node_of
@@ -239,7 +261,7 @@ module _ (turn : Turn) (s : ℕ) (inside : s < slots_of turn.v.start) (old : Opt
         (ap (λ (z : State). z.at i) does.state ∙ changed_else before.at s (Some new_file) i away, ap count_in (slot_else turn s inside new_word i away)))
         (r.each_node m l)
 
-    installs : Swap turn s inside old was h₂ new_word (Some new_file) homes₁ phase₁ (number + 1) c₂
+    installs : Swap turn s inside old was h₂ new_word (Some new_file) homes₁ phase₁ (number + 1) c₂ where₁ stock₁
     installs = let o = its_log turn in let h = rw works at o.hold in let apart = not_old turn s inside old was its.1 (λ g bad. cc bad) in record {
       grows = grows_one x.number r.history _ refl;
       legal = does.legal;
@@ -250,9 +272,13 @@ module _ (turn : Turn) (s : ℕ) (inside : s < slots_of turn.v.start) (old : Opt
       homes = length-set st.homes n (some (Some file));
       later = omega (arith, late);
       removed_else = removed_same;
-      names = (name_made n file.entry small ∙ ap (λ (i : ℕ). i + 1) (sym on_n), entry_made n file.entry small);
+      named_new = moved_names turn s inside n its_entry new_word (name_made n file.entry small);
+      named_else = moved_slot turn s inside n its_entry;
+      stock = moved_stock turn s inside n its_entry;
+      stocks = moved_stocks turn s inside n its_entry;
+      names = (full_name_made n file.entry small ∙ ap (λ (i : ℕ). i + 1) (sym on_n), file_entry_made n file.entry small);
       no_takes = no_count;
-      no_heat = let e = takes_made n file.entry in omega arith;
+      no_heat = file_heat_made n file.entry;
       seat = rw on_n (its.0, changed_here r.phase n (seated s new_file) n refl);
       seat_apart = λ f is. let e : number ≡ f.number = (let z : new_file ≡ f = cc is in ap (λ (y : File). y.number) z) in
           subst (λ (i : ℕ). NotOf r.node_of (r.node_of i) old) e (rw on_n apart);
@@ -273,13 +299,20 @@ module _ (turn : Turn) (s : ℕ) (inside : s < slots_of turn.v.start) (old : Opt
     }
 
     pub installation_agrees : Agrees v.start (end turn installed)
-    installation_agrees = swap_kept turn s inside old was h₂ new_word (Some new_file) homes₁ phase₁ (number + 1) c₂ installs
+    installation_agrees = swap_kept turn s inside old was h₂ new_word (Some new_file) homes₁ phase₁ (number + 1) c₂ where₁ stock₁ installs
 
-    pub installation_tells : (carried homes : List (ℕ × Option Closed))
-        → Stepped (v, carried) ([] ▷ a) (retiring_work v.start (found turn s inside) old) v.glance c₂ (w turn installed, homes)
-    installation_tells carried homes = tells turn installed refl carried homes ([] ▷ a) (grows_one x.number r.history _ refl) does.legal
-        (part_mine r.history refl) (knows old refl)
+    pub installation_tells : (carried homes : List (ℕ × Option Closed)) (e : ℕ) → get_elem? (first_log v.logs).stock e ≡ some n
+        → Stepped (as_swapped e (name_in (found turn s inside) - 1) (v, carried)) ([] ▷ a) (retiring_work v.start (found turn s inside) old) v.glance c₂
+        (w turn installed, homes)
+    installation_tells carried homes e is = subst (λ (z : List ℕ × ℕ). Stepped (as_stocked (set z.0 z.1 (name_in (found turn s inside) - 1)) (v, carried)) ([] ▷ a)
+        (retiring_work v.start (found turn s inside) old) v.glance c₂ (w turn installed, homes))
+        (λ i. (sym same_stock i, one_entry turn s inside n its_entry e (ap (λ (l : List ℕ). get_elem? l e) (sym same_stock) ∙ is) i))
+        (tells_stocked turn installed refl carried homes ([] ▷ a) (grows_one x.number r.history _ refl) does.legal
+        (part_mine r.history refl) (knows old refl))
       where
+        same_stock : (first_log v.logs).stock ≡ x.stock
+        same_stock = ap (λ (l : List Log). (first_log l).stock) one
+
         knows : (o : Option File) → old ≡ o → IsInside v.start (retiring_work v.start (found turn s inside) old)
         knows None is = subst (λ (o : Option File). IsInside v.start (retiring_work v.start (found turn s inside) o)) (sym is) tt
         knows (Some f) is = subst (λ (o : Option File). IsInside v.start (retiring_work v.start (found turn s inside) o)) (sym is)
@@ -307,8 +340,8 @@ module _ (turn : Turn) (s : ℕ) (inside : s < slots_of turn.v.start) (n : ℕ) 
     held = held_mine (pass_event x put_action) r.history refl;
   }
 
-  pub install_made : Made turn carried (slot_place s) (λ _. slot_word_of n file.entry)
-      (Installs (step slots (slot_place s) (slot_word_of n file.entry) 0 none) (v, carried))
+  pub install_made : Made turn carried (slot_place s) (λ _. file_word_of n file.entry)
+      (Installs (step slots (slot_place s) (file_word_of n file.entry) 0 none) (v, carried))
   install_made = (
     w turn (installed turn s inside put_old refl n file works small out number late on_n put_action),
     gives,
@@ -317,12 +350,13 @@ module _ (turn : Turn) (s : ℕ) (inside : s < slots_of turn.v.start) (n : ℕ) 
     record {
       replaced = put_old;
       names = found_so turn s inside put_old refl;
-      stepped = λ m other works' carries'. let same_f : file ≡ other = cc (ap file_carried (sym carries ∙ carries')) in
-          rw (← same_f, slot_back s) (
+      named = names_a_node turn inside;
+      stepped = λ m e other works' carries' at. let same_f : file ≡ other = cc (ap file_carried (sym carries ∙ carries')) in
+          let same : n ≡ m = cc (sym works ∙ works') in rw (← same_f, slot_back s) (
             number,
-            sym (r.numbering number) ∙ (on_n ∙ (let same : n ≡ m = cc (sym works ∙ works') in same)),
+            sym (r.numbering number) ∙ (on_n ∙ same),
             installation_tells turn s inside put_old refl n file works small out number late on_n put_action putting
-                carried (rest carried),
+                carried (rest carried) e (at ∙ ap some (sym same)),
           );
       carried = refl;
     },
@@ -330,7 +364,7 @@ module _ (turn : Turn) (s : ℕ) (inside : s < slots_of turn.v.start) (n : ℕ) 
 
 module _ (turn : Turn) (slots s n old_word : ℕ) (file : Closed) (carried : List (ℕ × Option Closed)) (works : turn.v.work ≡ Placing n (label_of file))
     (carries : carried ≡ (n, Some file) ∷ []) (small : file.entry < 2 ^ 8) (out : turn.v.change ≡ Outside) (in_range : IsInRange turn.v.start s)
-    (empty : name_in old_word ≡ 0) (number : ℕ) (late : turn.r.next_number ≤ number) (on_n : turn.r.node_of number ≡ n) where
+    (empty : full_name_in old_word ≡ 0) (number : ℕ) (late : turn.r.next_number ≤ number) (on_n : turn.r.node_of number ≡ n) where
   open turn use {st, v, r, id, x, here, one}
 
   abbrev word : ℕ
@@ -340,7 +374,7 @@ module _ (turn : Turn) (slots s n old_word : ℕ) (file : Closed) (carried : Lis
   within = let a = r.shape.range in let b = in_range.1 in omega arith
 
   abbrev Goal : ℕ → Type 0
-  Goal y = Made turn carried (slot_place s) (λ _. y) (Exchanges (step slots (slot_place s) old_word (slot_word_of n file.entry) none) (v, carried))
+  Goal y = Made turn carried (slot_place s) (λ _. y) (Exchanges (step slots (slot_place s) old_word (file_word_of n file.entry) none) (v, carried))
 
   lost : word ≢ old_word → Goal word
   lost other = (
@@ -348,12 +382,12 @@ module _ (turn : Turn) (slots s n old_word : ℕ) (file : Closed) (carried : Lis
     keeps,
     tt,
     read_kept turn v.work v.glance (slot_place s) (still turn),
-    record { wins = λ m f w' c' is. absurd (other is); loses = λ _. goes_still turn carried },
+    record { wins = λ m e f w' c' at is. absurd (other is); loses = λ _. goes_still turn carried },
   )
 
   module _ (is : word ≡ old_word) where
     at_none : (state_after_all v.start r.history).at s ≡ None
-    at_none = unnamed turn s within (ap name_in is ∙ empty)
+    at_none = unnamed turn s within (ap full_name_in is ∙ empty)
 
     abbrev alloc : Action
     alloc = Allocate s (numbered number file)
@@ -367,39 +401,45 @@ module _ (turn : Turn) (slots s n old_word : ℕ) (file : Closed) (carried : Lis
       held = held_mine (pass_event x alloc) r.history refl;
     }
 
-    won : Goal (slot_word_of n file.entry)
+    won : Goal (file_word_of n file.entry)
     won = (
       w turn (installed turn s within None at_none n file works small out number late on_n alloc),
       gives,
       tt,
-      rw carries (installation_agrees turn s within None at_none n file works small out number late on_n alloc allocating),
+      subst (λ (l : List (ℕ × Option Closed)). Agrees v.start record {
+        words = set st.words (slot_place s) (file_word_of n file.entry);
+        homes = put_back st.homes l;
+        views = set st.views id (w turn (installed turn s within None at_none n file works small out number late on_n alloc));
+      }) (sym carries) (installation_agrees turn s within None at_none n file works small out number late on_n alloc allocating),
       record {
-        wins = λ m other works' carries' _. let same_f : file ≡ other = cc (ap file_carried (sym carries ∙ carries')) in (
-          number,
-          sym (r.numbering number) ∙ (on_n ∙ (let same : n ≡ m = cc (sym works ∙ works') in same)),
-          rw (← same_f, slot_back s)
-              (subst (λ (b : Bool). Stepped (v, carried) ([] ▷ alloc) Idle v.glance (uncounted b true (group_of (range_at_start v.start) s)) (w turn (installed turn s within None at_none n file works small out number late on_n alloc), rest carried))
-              (in_range_so (range_at_start v.start) s in_range.0 in_range.1)
-              (installation_tells turn s within None at_none n file works small out number late on_n alloc allocating carried (rest carried))),
-          refl,
-        );
+        wins = λ m e other works' carries' at _. let same_f : file ≡ other = cc (ap file_carried (sym carries ∙ carries')) in
+            let same : n ≡ m = cc (sym works ∙ works') in (
+              number,
+              sym (r.numbering number) ∙ (on_n ∙ same),
+              names_a_node turn within,
+              rw (← same_f, slot_back s)
+                  (subst (λ (b : Bool). Stepped (as_swapped e (name_in word - 1) (v, carried)) ([] ▷ alloc) Idle v.glance (uncounted b true (group_of (range_at_start v.start) s)) (w turn (installed turn s within None at_none n file works small out number late on_n alloc), rest carried))
+                  (in_range_so (range_at_start v.start) s in_range.0 in_range.1)
+                  (installation_tells turn s within None at_none n file works small out number late on_n alloc allocating carried (rest carried) e (at ∙ ap some (sym same)))),
+              refl,
+            );
         loses = λ other. absurd (other is);
       },
     )
 
 pub installs_keep : InstallsKeep Installs
 installs_keep k slots id i s n new file m x has works carries small inside out place made = rw made (by_turn slots
-    (λ k. s < slots_of k) (λ _. slot_place s) (λ _. slot_word_of n file.entry)
-    (λ i. Installs (step slots i (slot_word_of n file.entry) 0 none) m) has inside place
+    (λ k. s < slots_of k) (λ _. slot_place s) (λ _. file_word_of n file.entry)
+    (λ i. Installs (step slots i (file_word_of n file.entry) 0 none) m) has inside place
     (λ st r here is fits. let turn = turn_of m x has.1 id st r here in let new = new_number turn works in
     install_made turn s is n file works small out slots m.1 carries new.0 new.1 new.2))
 
 pub exchanges_keep : ExchangesKeep Exchanges
 exchanges_keep k slots id i s n old new file m x has works carries small out in_range place empty made = rw made (by_turn slots
-    (λ k. IsInRange k s) (λ _. slot_place s) (λ word. either (eqb word old) (slot_word_of n file.entry) word)
-    (λ i. Exchanges (step slots i old (slot_word_of n file.entry) none) m) has in_range place
+    (λ k. IsInRange k s) (λ _. slot_place s) (λ word. either (eqb word old) (file_word_of n file.entry) word)
+    (λ i. Exchanges (step slots i old (file_word_of n file.entry) none) m) has in_range place
     (λ st r here is fits. let turn = turn_of m x has.1 id st r here in let new = new_number turn works in
-    exchanged (word_at st.words (slot_place s)) old (slot_word_of n file.entry)
+    exchanged (word_at st.words (slot_place s)) old (file_word_of n file.entry)
     (Goal turn slots s n old file m.1 works carries small out is empty new.0 new.1 new.2)
     (won turn slots s n old file m.1 works carries small out is empty new.0 new.1 new.2)
     (lost turn slots s n old file m.1 works carries small out is empty new.0 new.1 new.2)))

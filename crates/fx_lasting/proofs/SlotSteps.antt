@@ -3,11 +3,11 @@ use Rattle.fx_lasting.proofs.Words.{inl, true, Deed, untouched, has_acted, has_h
 use Rattle.fx_lasting.proofs.Words.{◌≡◌, ◌≢◌, ℕ, ◌+◌, ◌<◌, ◌≤◌, List, [], set, sym, refl, ap, ◌∙◌, subst, arith, Option, Some, None, Bool, held_by, File}
 use Rattle.fx_lasting.proofs.Words.{Event, NodeAgrees, IsAllowed, SlotAgrees, Names, Agrees, slots_of, nodes_of, IsHistory, state_after_all}
 use Rattle.fx_lasting.proofs.Words.{held_in, held_of, taken_of, taking, Phase, free, placed, seated, leaving, retired, emptied, Work, Glance, ⊎_elim}
-use Rattle.fx_lasting.proofs.Words.{◌⊎◌, inr, dite, ℕ_discrete, slot_place, word_of, count_in, name_in, entry_in, IsHot, cold_takes, tally, birth_word}
+use Rattle.fx_lasting.proofs.Words.{◌⊎◌, inr, dite, ℕ_discrete, slot_place, word_of, count_in, name_in, full_name_in, entry_in, IsHot, cold_takes, tally, birth_word}
 use Rattle.fx_lasting.proofs.Words.{owed, sum_set, sum_by, get_elem?, length-set, MayBeUnmarked, dec_le, suc}
 use Rattle.fx_lasting.proofs.Histories.{Grows}
 use Rattle.fx_lasting.proofs.Frames.{busy, owner_stays, owner_same, slot_same, node_same, Leaves, keeps_other, guards_same}
-use Rattle.fx_lasting.proofs.Keeping.{Turn, After, Keeps, word_at, slot_word, step_kept, w, end, asks_alike, few_slots}
+use Rattle.fx_lasting.proofs.Keeping.{Turn, After, Keeps, word_at, slot_word, step_kept, w, end, its_stock, names_on, asks_alike, few_slots}
 use Rattle.fx_lasting.proofs.Groups.{counts_same}
 use Rattle.fx_lasting.proofs.Places.{slot_words, slot_here, slot_node, slot_else, slot_hold, slot_alike, slot_list, slot_label}
 use Rattle.fx_lasting.proofs.Keeping.{labels_same}
@@ -35,6 +35,8 @@ module _ (turn : Turn) (s : ℕ) (inside : s < slots_of turn.v.start) (new : ℕ
     asked = x.asked;
     listed = x.listed;
     still_listed = λ l. l;
+    where_is = r.where_is;
+    stock = x.stock;
   }
 
   abbrev old : ℕ
@@ -47,7 +49,8 @@ module _ (turn : Turn) (s : ℕ) (inside : s < slots_of turn.v.start) (new : ℕ
     pub fresh : (state_after_all v.start h').fresh ≡ (state_after_all v.start r.history).fresh
     pub removed : (state_after_all v.start h').removed ≡ (state_after_all v.start r.history).removed
     -- the word names the same file, and stays hot
-    pub name : name_in new ≡ name_in old
+    pub own_name : name_in new ≡ name_in old
+    pub name : full_name_in new ≡ full_name_in old
     pub entry : entry_in new ≡ entry_in old
     pub hot : IsHot old → IsHot new
     pub takes : count_in new ≤ cold_takes v.start.passes + tally (λ p. has_acted (deed' s p)) v.start.passes
@@ -62,7 +65,7 @@ module _ (turn : Turn) (s : ℕ) (inside : s < slots_of turn.v.start) (new : ℕ
     -- the pass
     pub owners : (d ≡ v.work) ⊎ (busy v.work ≡ 0)
     pub held : held_by h' x.number ≡ held_in d
-    pub allowed : IsAllowed v.start x.number x.listed d
+    pub allowed : IsAllowed x.stock x.listed d
     pub its : Keeps turn slot_after id x.number d g
     pub holds : (n : ℕ) → (state_after_all v.start h').holds n + held_of n v ≡ (state_after_all v.start r.history).holds n + held_of n (w turn slot_after)
 
@@ -88,10 +91,16 @@ module _ (turn : Turn) (s : ℕ) (inside : s < slots_of turn.v.start) (new : ℕ
     at_is : (i : ℕ) → (state_after_all v.start h').at i ≡ (state_after_all v.start r.history).at i
     at_is i = ap (λ (f : ℕ → Option File). f i) p.at
 
-    same_name : (i : ℕ) → name_in (slot_word words' i) ≡ name_in (slot_word st.words i)
+    same_name : (i : ℕ) → full_name_in (slot_word words' i) ≡ full_name_in (slot_word st.words i)
     same_name i = dite (ℕ_discrete i s)
+        (λ same. subst (λ (j : ℕ). full_name_in (slot_word words' j) ≡ full_name_in (slot_word st.words j)) (sym same)
+        (ap full_name_in (slot_here turn s inside new) ∙ p.name))
+        (λ other. ap full_name_in (slot_else turn s inside new i other))
+
+    same_own_name : (i : ℕ) → i < slots_of v.start → name_in (slot_word words' i) ≡ name_in (slot_word st.words i)
+    same_own_name i l = dite (ℕ_discrete i s)
         (λ same. subst (λ (j : ℕ). name_in (slot_word words' j) ≡ name_in (slot_word st.words j)) (sym same)
-        (ap name_in (slot_here turn s inside new) ∙ p.name))
+        (ap name_in (slot_here turn s inside new) ∙ p.own_name))
         (λ other. ap name_in (slot_else turn s inside new i other))
 
     slot_now : SlotAgrees v.start r.node_of r.phase (deed' s) s ((state_after_all v.start h').at s) (slot_word words' s)
@@ -106,7 +115,7 @@ module _ (turn : Turn) (s : ℕ) (inside : s < slots_of turn.v.start) (new : ℕ
     leaves = record {
       guards = λ q e other range. guards_same turn slot_after q e (slot_hold turn s inside new q range.0) refl (covers_slot p.hot q);
       owned = λ n some not_mine. refl;
-      spare = λ n q is low block other. is;
+      spare = λ n q e is at other. is;
       open_file = λ j u f n other there holds at. at;
       slots = λ i q l other. dite (ℕ_discrete i s)
           (λ same. inr (
@@ -169,7 +178,10 @@ module _ (turn : Turn) (s : ℕ) (inside : s < slots_of turn.v.start) (new : ℕ
       removed = λ number. ap (λ (f : ℕ → Option File). f number) p.removed ∙ r.removed number;
       unborn = r.unborn;
       fresh = λ number l. ap (λ (f : ℕ → Bool). f number) p.fresh ∙ r.fresh number l;
-      others = λ j u z other there at n range o work. keeps_other turn slot_after leaves j u z other there n range o work;
+      named = names_on turn _ same_own_name;
+      stock = its_stock turn;
+      stocks = λ n p e other at. at;
+      others = λ j u z other there at n range o work. keeps_other turn slot_after leaves j u z other there at n range o work;
       held = p.held;
       allowed = p.allowed;
       lists = λ i few. inl (slot_list turn s inside new i few);

@@ -1,6 +1,8 @@
 -- A table that is opened with empty slots: its contents, and its first words and places.
 use Rattle.fx_lasting.proofs.Words.{◌≡◌, ℕ, zero, suc, ◌+◌, List, length, sym, refl, ap, ◌∙◌, arith, Option, Some, None, slice_index}
-use Rattle.fx_lasting.proofs.Words.{State, state_of}
+use Rattle.fx_lasting.proofs.Words.{State, state_of, ◌≢◌, ◌<◌, ◌≤◌, subst}
+use Rattle.fx_lasting.specs.Firsts.{AreNamed}
+use Rattle.fx_lasting.proofs.Starting.{AreWordsSoFar, named_so_far}
 use Rattle.fx_lasting.proofs.Words.{[], false, File, word_for, node_for}
 use Rattle.fx_plain.specs.State.{file_numbered}
 use Rattle.fx_plain.specs.Table.{identity_of}
@@ -40,23 +42,27 @@ module _ (size : ℕ) (range : ℕ × ℕ) where
   none_full off zero = refl
   none_full off (suc len) = let rest = none_full off len in let here = ap if_full (none_first (off + len)) in omega (arith, rest, here)
 
-  -- all words are 0
-  module _ (passes nodes : ℕ) {words : List ℕ} (are : words ≡ replicate (words_for size passes nodes) 0) where
-    all_zero : (place : ℕ) → slice_index words place ≡ 0
-    all_zero place = ap (λ (l : List ℕ). slice_index l place) are ∙ read_default (words_for size passes nodes) place 0
+  -- the words of slots name their nodes, and all others are 0
+  module _ (passes nodes : ℕ) {words words' : List ℕ} (are : words ≡ replicate (words_for size passes nodes) 0) (named : AreNamed size words words') where
+    so_far : AreWordsSoFar st passes nodes 0 0 words'
+    so_far = named_so_far st passes nodes (are ∙ ap (λ (n : ℕ). replicate {A = ℕ} (words_for n passes nodes) 0) (sym same_size))
+        (subst (λ (n : ℕ). AreNamed n words words') (sym same_size) named)
 
-    pub first_words : AreFirstWords st passes nodes words
+    zero_at : (place : ℕ) → ((slot : ℕ) → slot < size → place ≢ slot_place slot) → slice_index words' place ≡ 0
+    zero_at place apart = named.others place apart ∙ (ap (λ (l : List ℕ). slice_index l place) are ∙ read_default (words_for size passes nodes) place 0)
+
+    pub first_words : AreFirstWords st passes nodes words'
     first_words = record {
-      count = ap (length {A = ℕ}) are
-          ∙ (length-replicate {A = ℕ} (words_for size passes nodes) 0 ∙ ap (λ (n : ℕ). words_for n passes nodes) (sym same_size));
+      count = so_far.count;
       entries = λ slot f l there. absurd (let bad : None ≡ Some f = sym (none_first slot) ∙ there in cc bad);
-      question = all_zero question_place;
-      groups = λ group low l. all_zero (group_place group) ∙ sym (none_full (group_start range group) (group_len range.1 group));
-      slot_words = λ slot l. all_zero (slot_place slot) ∙ sym (ap word_for (none_first slot));
-      node_words = λ slot l. all_zero (node_place st.size passes slot) ∙ sym (ap node_for (none_first slot));
-      free = λ node g l. all_zero (node_place st.size passes node);
-      lists = λ pass high. all_zero (list_place pass);
-      holds = λ pass low high. all_zero (hold_place st.size pass);
+      question = so_far.question;
+      groups = λ group low l. zero_at (group_place group) (λ s k bad. omega (arith, bad, low))
+          ∙ sym (none_full (group_start range group) (group_len range.1 group));
+      slot_words = λ slot l. so_far.slots_left slot (omega arith) l ∙ ap (word_for slot) (sym (none_first slot));
+      node_words = λ slot l. so_far.nodes_left slot (omega arith) ∙ sym (ap node_for (none_first slot));
+      free = λ node g l. so_far.nodes_left node (omega arith);
+      lists = so_far.lists;
+      holds = so_far.holds;
     }
 
   pub first_homes : (nodes : ℕ) → AreFirstHomes (empty_slots size range) nodes (replicate nodes None)

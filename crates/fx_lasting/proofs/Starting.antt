@@ -8,7 +8,11 @@ use Rattle.fx_lasting.proofs.Words.{node_for, sym, ◌∙◌, dite, Closed, stat
 use Rattle.fx_lasting.proofs.Words.{[], zero, suc}
 use Rattle.fx_plain.specs.State.{file_numbered, files_in_order, files_of}
 use Rattle.fx_plain.specs.Table.{identity_of}
-use Rattle.fx_lasting.specs.Firsts.{AreFirstWords, AreLabelled}
+use Rattle.fx_lasting.specs.Firsts.{AreFirstWords, AreNamed, AreLabelled}
+use Rattle.fx_lasting.proofs.Words.{empty_word_of}
+use Rattle.fx_plain.proofs.Cells.{read_default}
+use Rattle.std.proofs.lemmas.List.{length-replicate}
+use Rattle.std.proofs.Math.ListN.{replicate}
 use Rattle.fx_lasting.proofs.Words.{Labels, label_of, tag_place, number_place, HasWritten}
 use Rattle.fx_table.specs.FullSlots.{first_at}
 use Rattle.fx_table.specs.Shells.{AreFirstHomes, IsShell, file_in_place}
@@ -16,7 +20,7 @@ use Rattle.fx_lasting.proofs.Words.{number_of_mark}
 use Rattle.fx_lasting.specs.Layout.{words_for}
 use Rattle.fx_table.proofs.Shells.{in_place, none_outside}
 use Rattle.fx_lasting.proofs.Groups.{few_groups}
-use Rattle.fx_lasting.proofs.Words.{◌≢◌, subst, ℕ_discrete, length-set, get_or-set_other, get_or-set_same, slot_word_of, birth_word}
+use Rattle.fx_lasting.proofs.Words.{◌≢◌, subst, ℕ_discrete, length-set, get_or-set_other, get_or-set_same, file_word_of, birth_word}
 use Rattle.std.specs.Prelude.{slice_set, option_map}
 
 -- the words of the first groups and slots, this many, are written so
@@ -26,12 +30,31 @@ pub record AreWordsSoFar (st : State) (passes nodes groups_done done : ℕ) (wor
   pub question : slice_index words question_place ≡ 0
   pub groups : (group : ℕ) → group < 64 → group < groups_done → slice_index words (group_place group)
       ≡ full_in (first_at st) (group_start st.range group) (group_len st.range.1 group)
-  pub slots : (slot : ℕ) → slot < done → slice_index words (slot_place slot) ≡ word_for (first_at st slot)
+  pub slots : (slot : ℕ) → slot < done → slice_index words (slot_place slot) ≡ word_for slot (first_at st slot)
   pub nodes_so : (slot : ℕ) → slot < done → slice_index words (node_place st.size passes slot) ≡ node_for (first_at st slot)
-  pub slots_left : (slot : ℕ) → done ≤ slot → slot < st.size → slice_index words (slot_place slot) ≡ 0
+  pub slots_left : (slot : ℕ) → done ≤ slot → slot < st.size → slice_index words (slot_place slot) ≡ empty_word_of slot
   pub nodes_left : (node : ℕ) → done ≤ node → slice_index words (node_place st.size passes node) ≡ 0
   pub lists : (pass : ℕ) → pass ≤ 1024 → slice_index words (list_place pass) ≡ 0
   pub holds : (pass : ℕ) → 0 < pass → pass ≤ passes → slice_index words (hold_place st.size pass) ≡ 0
+
+-- no word is written yet but those of empty slots
+pub named_so_far : (st : State) (passes nodes : ℕ) {words words' : List ℕ} → words ≡ replicate (words_for st.size passes nodes) 0 → AreNamed st.size words words'
+    → AreWordsSoFar st passes nodes 0 0 words'
+named_so_far st passes nodes {words} {words'} are named = record {
+  count = named.count ∙ (ap (length {A = ℕ}) are ∙ length-replicate {A = ℕ} (words_for st.size passes nodes) 0);
+  entries = λ slot f l. absurd (omega (arith, l));
+  question = zero_at question_place (λ s l bad. omega (arith, bad));
+  groups = λ group low l. absurd (omega (arith, l));
+  slots = λ s l. absurd (omega (arith, l));
+  nodes_so = λ s l. absurd (omega (arith, l));
+  slots_left = λ s low high. named.named s high;
+  nodes_left = λ n low. zero_at (node_place st.size passes n) (λ s l bad. omega (arith, bad, l));
+  lists = λ p l. zero_at (list_place p) (λ s k bad. omega (arith, bad, l));
+  holds = λ p low high. zero_at (hold_place st.size p) (λ s l bad. omega (arith, bad, low, l));
+}
+  where
+    zero_at : (place : ℕ) → ((slot : ℕ) → slot < st.size → place ≢ slot_place slot) → slice_index words' place ≡ 0
+    zero_at place apart = named.others place apart ∙ (ap (λ (l : List ℕ). slice_index l place) are ∙ read_default (words_for st.size passes nodes) place 0)
 
 -- the word of one group more is written
 module _ {st : State} {passes nodes g : ℕ} {words : List ℕ} (so : AreWordsSoFar st passes nodes g 0 words) (few : g < 64) (full : ℕ)
@@ -79,8 +102,8 @@ module _ {st : State} {passes nodes gs slot : ℕ} {words : List ℕ} (so : AreW
     question = so.question;
     groups = so.groups;
     slots = λ s l. dite (ℕ_discrete s slot)
-        (λ same. subst (λ (i : ℕ). slice_index words (slot_place i) ≡ word_for (first_at st i)) (sym same)
-        (so.slots_left slot (omega arith) inside ∙ ap word_for (sym gone))) (λ other. so.slots s (omega (arith, l, other)));
+        (λ same. subst (λ (i : ℕ). slice_index words (slot_place i) ≡ word_for i (first_at st i)) (sym same)
+        (so.slots_left slot (omega arith) inside ∙ ap (word_for slot) (sym gone))) (λ other. so.slots s (omega (arith, l, other)));
     nodes_so = λ s l. dite (ℕ_discrete s slot)
         (λ same. subst (λ (i : ℕ). slice_index words (node_place st.size passes i) ≡ node_for (first_at st i)) (sym same)
         (so.nodes_left slot (omega arith) ∙ ap node_for (sym gone))) (λ other. so.nodes_so s (omega (arith, l, other)));
@@ -94,17 +117,17 @@ module _ {st : State} {passes nodes gs slot : ℕ} {words : List ℕ} (so : AreW
   module _ (many : st.size ≤ nodes) (f : File) (there : first_at st slot ≡ Some f) (number : f.number ≡ slot) (entry : ℕ)
       (is : f.identity.entry ≡ entry) (small : entry < 256) where
     abbrev one : List ℕ
-    one = slice_set words (slot_place slot) (slot_word_of slot entry)
+    one = slice_set words (slot_place slot) (file_word_of slot entry)
 
     abbrev two : List ℕ
     two = slice_set one (node_place st.size passes slot) birth_word
 
     still : (place : ℕ) → place ≢ slot_place slot → place ≢ node_place st.size passes slot → slice_index two place ≡ slice_index words place
     still place a b = get_or-set_other one (node_place st.size passes slot) place birth_word 0 b
-        ∙ get_or-set_other words (slot_place slot) place (slot_word_of slot entry) 0 a
+        ∙ get_or-set_other words (slot_place slot) place (file_word_of slot entry) 0 a
 
     count_one : length one ≡ words_for st.size passes nodes
-    count_one = length-set words (slot_place slot) (slot_word_of slot entry) ∙ so.count
+    count_one = length-set words (slot_place slot) (file_word_of slot entry) ∙ so.count
 
     pub slot_written : AreWordsSoFar st passes nodes gs (slot + 1) two
     slot_written = record {
@@ -115,10 +138,10 @@ module _ {st : State} {passes nodes gs slot : ℕ} {words : List ℕ} (so : AreW
       question = still question_place (λ bad. omega (arith, bad)) (λ bad. omega (arith, bad)) ∙ so.question;
       groups = λ g low l. still (group_place g) (λ bad. omega (arith, bad, low)) (λ bad. omega (arith, bad, low)) ∙ so.groups g low l;
       slots = λ s l. dite (ℕ_discrete s slot)
-          (λ same. subst (λ (i : ℕ). slice_index two (slot_place i) ≡ word_for (first_at st i)) (sym same)
+          (λ same. subst (λ (i : ℕ). slice_index two (slot_place i) ≡ word_for i (first_at st i)) (sym same)
           (get_or-set_other one (node_place st.size passes slot) (slot_place slot) birth_word 0 (λ bad. omega (arith, bad, inside))
-          ∙ (get_or-set_same words (slot_place slot) (slot_word_of slot entry) 0 (omega (arith, so.count, inside))
-          ∙ ((λ i. slot_word_of (sym number i) (sym is i)) ∙ ap word_for (sym there)))))
+          ∙ (get_or-set_same words (slot_place slot) (file_word_of slot entry) 0 (omega (arith, so.count, inside))
+          ∙ ((λ i. file_word_of (sym number i) (sym is i)) ∙ ap (word_for slot) (sym there)))))
           (λ other. still (slot_place s) (λ bad. other (omega (arith, bad))) (λ bad. omega (arith, bad, inside, l)) ∙ so.slots s (omega (arith, l, other)));
       nodes_so = λ s l. dite (ℕ_discrete s slot)
           (λ same. subst (λ (i : ℕ). slice_index two (node_place st.size passes i) ≡ node_for (first_at st i)) (sym same)

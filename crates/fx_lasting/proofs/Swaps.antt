@@ -1,12 +1,12 @@
 -- A swap of a slot's word: a file leaves the slot, if there was one, and the slot gets another or
 -- none.
-use Rattle.fx_lasting.proofs.Words.{IsToVisit, new_round, inl, true}
+use Rattle.fx_lasting.proofs.Words.{IsToVisit, new_round, inl, true, Whereabouts, at_slot, in_stock, NamesItsNode, StockAgrees, name_in}
 use Rattle.fx_lasting.proofs.Words.{◌≡◌, ◌≢◌, ℕ, suc, ◌-◌, ◌^◌, ◌<◌, ◌≤◌, List, [], set, length, sym, refl, ap, ◌∙◌, subst, arith, Option, Some, None}
 use Rattle.fx_lasting.proofs.Words.{get_elem?, Bool, true, false, inl, inr, ⊎_elim, ◌⊎◌, dite, ℕ_discrete, dec_le, eq-eqb, ne_eqb, File, Event}
 use Rattle.fx_lasting.proofs.Words.{State, held_by, with_removed, changed_at, changed_here, changed_else, Agrees, NodeAgrees, OwnerAgrees, WorkAgrees}
 use Rattle.fx_lasting.proofs.Words.{SlotAgrees, Names, IsSeated, HoldAgrees, GuardAgrees, MayBeUnmarked, IsAllowed, RangeCounts, Nodes}
 use Rattle.fx_lasting.proofs.Words.{IsHistory, state_after_all, slots_of, nodes_of, range_at_start, slot_place, word_of, hold_word_of, count_in}
-use Rattle.fx_lasting.proofs.Words.{name_in, heat_in, IsHot, Deed, untouched, has_heated, owed, taken_of, taking, held_in, if_file, sum_by, sum_set, Phase, free, placed, seated}
+use Rattle.fx_lasting.proofs.Words.{full_name_in, heat_in, IsHot, Deed, untouched, has_heated, owed, taken_of, taking, held_in, if_file, sum_by, sum_set, Phase, free, placed, seated}
 use Rattle.fx_lasting.proofs.Words.{leaving, retired, emptied, owner, file_in, removed_in, first_visit, retiring_work, Found, Work, Change, Idle, Retiring}
 use Rattle.fx_lasting.proofs.Words.{length-set}
 use Rattle.fx_lasting.proofs.Counts.{tally_same, tally_none}
@@ -47,7 +47,7 @@ module _ (turn : Turn) (s : ℕ) (inside : s < slots_of turn.v.start) where
     pub old_at : {f : File} → old ≡ Some f → (r.node_of f.number < nodes_of v.start) × (r.phase (r.node_of f.number) ≡ seated s f)
     old_at is = subst (IsSeated v.start r.node_of r.phase s) is seat_old
 
-    pub old_named : {f : File} → old ≡ Some f → name_in found - 1 ≡ r.node_of f.number
+    pub old_named : {f : File} → old ≡ Some f → full_name_in found - 1 ≡ r.node_of f.number
     old_named {f} is = let n = subst (Names r.node_of found) is names_old in let a = n.0 in omega arith
 
     pub found_so : Found found old
@@ -81,7 +81,8 @@ module _ (turn : Turn) (s : ℕ) (inside : s < slots_of turn.v.start) where
     abbrev gone_as : File → Phase
     gone_as f = leaving id (count_in found) (new_round (first_visit v.start.passes found)) 0 f
 
-    module _ (h' : List Event) (new_word : ℕ) (new : Option File) (homes' : Homes) (phase₁ : ℕ → Phase) (next' : ℕ) (c : Change) where
+    module _ (h' : List Event) (new_word : ℕ) (new : Option File) (homes' : Homes) (phase₁ : ℕ → Phase) (next' : ℕ) (c : Change)
+        (where_is' : ℕ → Whereabouts) (stock' : List ℕ) where
       abbrev deed' : ℕ → ℕ → Deed
       deed' = changed_at r.deed s (λ p. untouched)
 
@@ -109,6 +110,8 @@ module _ (turn : Turn) (s : ℕ) (inside : s < slots_of turn.v.start) where
         asked = x.asked;
         listed = x.listed;
         still_listed = λ l. l;
+        where_is = where_is';
+        stock = stock';
       }
 
       abbrev after : State
@@ -129,6 +132,11 @@ module _ (turn : Turn) (s : ℕ) (inside : s < slots_of turn.v.start) where
         pub homes : length homes' ≡ length st.homes
         pub later : r.next_number ≤ next'
         pub removed_else : (m : ℕ) → removed_in m (phase₁ (r.node_of m)) ≡ removed_in m (r.phase (r.node_of m))
+        -- the nodes that slots name, and those of stocks
+        pub named_new : NamesItsNode v.start where_is' s new_word
+        pub named_else : (i n : ℕ) → i ≢ s → r.where_is n ≡ at_slot i → where_is' n ≡ at_slot i
+        pub stock : StockAgrees v.start where_is' x.number stock'
+        pub stocks : (n q e : ℕ) → q ≢ x.number → r.where_is n ≡ in_stock q e → where_is' n ≡ in_stock q e
         -- the new file of the slot
         pub names : Names r.node_of new_word new
         pub no_takes : count_in new_word ≡ 0
@@ -230,7 +238,7 @@ module _ (turn : Turn) (s : ℕ) (inside : s < slots_of turn.v.start) where
             (λ same. inl (ap (λ (f : ℕ → Deed). f q) (changed_here r.deed s (λ p. untouched) i same)))
             (λ other. inr (
               ap (λ (f : ℕ → Deed). f q) (changed_else r.deed s (λ p. untouched) i other),
-              ap name_in (slot_else turn s inside new_word i other),
+              ap full_name_in (slot_else turn s inside new_word i other),
               λ h. rw (slot_else turn s inside new_word i other) h,
             ))
 
@@ -238,7 +246,7 @@ module _ (turn : Turn) (s : ℕ) (inside : s < slots_of turn.v.start) where
         leaves = record {
           guards = λ q e other range. guards_same turn swap_after q e (slot_hold turn s inside new_word q range.0) refl (covers q range);
           owned = λ n some not_mine. same_phase refl (not_old refl (λ f bad. some (ap owner bad))) (λ l bad. not_mine (ap owner bad));
-          spare = λ n q is low block other. same_phase is (not_old is (λ f bad. cc bad)) (λ l bad. cc bad);
+          spare = λ n q e is at other. same_phase is (not_old is (λ f bad. cc bad)) (λ l bad. cc bad);
           open_file = λ j u f n other there holds at. (
             at.0,
             by_old r.node_of old {n = n} (file_in (phase' n) ≡ Some f)
@@ -302,9 +310,18 @@ module _ (turn : Turn) (s : ℕ) (inside : s < slots_of turn.v.start) where
           removed = removed_now;
           unborn = λ n l. same_phase (r.unborn n l) (not_old (r.unborn n l) (λ f bad. cc bad)) (λ z bad. cc bad);
           fresh = λ number l. ap (λ (z : State). z.fresh number) p.leads ∙ p.fresh_on number l;
-          others = λ j u z other there at n range o work. keeps_other turn swap_after leaves j u z other there n range o work;
+          named = λ i l. dite (ℕ_discrete i s) (λ same. rw (same, slot_here turn s inside new_word) p.named_new)
+              (λ other. let o = r.named i l in record {
+                node = o.node;
+                named = ap name_in (slot_else turn s inside new_word i other) ∙ o.named;
+                inside = o.inside;
+                here = p.named_else i o.node other o.here;
+              });
+          stock = p.stock;
+          stocks = p.stocks;
+          others = λ j u z other there at n range o work. keeps_other turn swap_after leaves j u z other there at n range o work;
           held = p.held ∙ (o.held ∙ (hands.0 ∙ by_retiring (λ q. None ≡ held_in q) refl (λ f is. refl)));
-          allowed = by_retiring (IsAllowed v.start x.number x.listed) tt (λ f is. tt);
+          allowed = by_retiring (IsAllowed stock' x.listed) tt (λ f is. tt);
           lists = λ i few. inl (slot_list turn s inside new_word i few);
           deed_on = λ i q l is. ⊎_elim (λ new. absurd (is new)) (λ same. inl (λ e. is (same.0 ∙ e))) (slots_on q i);
           its_bit = λ l. inl l;

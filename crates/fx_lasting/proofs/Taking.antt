@@ -4,7 +4,7 @@ use Rattle.fx_lasting.proofs.Words.{◌≡◌, ◌≢◌, ℕ, ◌+◌, ◌%◌,
 use Rattle.fx_lasting.proofs.Words.{keeps, Closed, File, Event, Look, ◌▷◌, WorkAgrees, GlanceAgrees, Heats, state_after_all, slots_of, nodes_of}
 use Rattle.fx_lasting.proofs.Words.{held_in, if_file, taken_of, taking, pass_event, seated, file_in, Work, Glance, Idle, Counted, Cold, Heating}
 use Rattle.fx_lasting.proofs.Words.{Deed, untouched, over, heated, has_acted, has_heated}
-use Rattle.fx_lasting.proofs.Words.{Nothing, Takes, HeatTells, TakesOnceKeep, HeatsKeep, IsHot, heat_in, name_in, entry_in, count_in, cold_takes}
+use Rattle.fx_lasting.proofs.Words.{Nothing, Takes, HeatTells, TakesOnceKeep, HeatsKeep, IsHot, heat_in, name_in, full_name_in, same_full_name, entry_in, count_in, cold_takes}
 use Rattle.fx_lasting.proofs.Words.{glance_after, heat_unit, slot_place, step, inl, inr, ⊎_elim, dite, ℕ_discrete, dec_le, one_more_at, Bool, true}
 use Rattle.fx_lasting.proofs.Words.{false, cond, lt-ltb, le-ltb, tally, sum_set, changed_at, changed_here, changed_else, one_if, bit_here, bit_else}
 use Rattle.fx_lasting.proofs.Words.{IsInside, Announced, Owing, Guarded, Yielding, Searching, Placing, Retiring, Emptying}
@@ -18,14 +18,16 @@ use Rattle.fx_lasting.proofs.SlotSteps.{slot_after, SlotStep, slot_kept, covers_
 use Rattle.fx_lasting.proofs.Unheld.{in_phase}
 
 -- one take more, and nothing else
-pub one_take : (word : ℕ) → count_in word + 1 < 2097152 → (name_in (word + 1) ≡ name_in word) × (entry_in (word + 1) ≡ entry_in word)
-    × (heat_in (word + 1) ≡ heat_in word) × (count_in (word + 1) ≡ count_in word + 1)
-one_take word room = (omega arith, omega arith, omega arith, omega arith)
+pub one_take : (word : ℕ) → count_in word + 1 < 1048576 → (full_name_in (word + 1) ≡ full_name_in word) × (entry_in (word + 1) ≡ entry_in word)
+    × (heat_in (word + 1) ≡ heat_in word) × (count_in (word + 1) ≡ count_in word + 1) × (name_in (word + 1) ≡ name_in word)
+one_take word room =
+    (same_full_name (word + 1) word (omega arith) (omega arith), omega arith, omega arith, omega arith, omega arith)
 
 -- one heat more, and nothing else
-pub one_heat : (word : ℕ) → heat_in word + 1 < 2048 → (name_in (word + 2097152) ≡ name_in word) × (entry_in (word + 2097152) ≡ entry_in word)
-    × (heat_in (word + 2097152) ≡ heat_in word + 1) × (count_in (word + 2097152) ≡ count_in word)
-one_heat word room = (omega arith, omega arith, omega arith, omega arith)
+pub one_heat : (word : ℕ) → heat_in word + 1 < 2048 → (full_name_in (word + 2097152) ≡ full_name_in word) × (entry_in (word + 2097152) ≡ entry_in word)
+    × (heat_in (word + 2097152) ≡ heat_in word + 1) × (count_in (word + 2097152) ≡ count_in word) × (name_in (word + 2097152) ≡ name_in word)
+one_heat word room =
+    (same_full_name (word + 2097152) word (omega arith) (omega arith), omega arith, omega arith, omega arith, omega arith)
 
 module _ (turn : Turn) (s : ℕ) (inside : s < slots_of turn.v.start) where
   open turn use {st, v, r, id, x, here, one}
@@ -34,7 +36,7 @@ module _ (turn : Turn) (s : ℕ) (inside : s < slots_of turn.v.start) where
   found = slot_word st.words s
 
   -- a take leaves room: nobody takes twice beyond the takes of a cold slot
-  room : count_in found + 1 < 2097152
+  room : count_in found + 1 < 1048576
   room = let a = (r.each_slot s inside).takes in let b = tally_few (λ q. has_acted (r.deed s q)) v.start.passes in let c = r.shape.passes in
       omega (arith, few_cold v.start.passes)
 
@@ -66,8 +68,11 @@ module _ (turn : Turn) (s : ℕ) (inside : s < slots_of turn.v.start) where
     new_is : new ≡ found + 1
     new_is = let a = room in omega arith
 
-    same_name : name_in new ≡ name_in found
-    same_name = ap name_in new_is ∙ (one_take found room).0
+    same_name : full_name_in new ≡ full_name_in found
+    same_name = ap full_name_in new_is ∙ (one_take found room).0
+
+    own_name : name_in new ≡ name_in found
+    own_name = ap name_in new_is ∙ (one_take found room).4
 
     same_entry : entry_in new ≡ entry_in found
     same_entry = ap entry_in new_is ∙ (one_take found room).1
@@ -143,6 +148,7 @@ module _ (turn : Turn) (s : ℕ) (inside : s < slots_of turn.v.start) where
         at = refl;
         fresh = refl;
         removed = refl;
+        own_name = own_name;
         name = same_name;
         entry = same_entry;
         hot = still_hot;
@@ -185,6 +191,7 @@ module _ (turn : Turn) (s : ℕ) (inside : s < slots_of turn.v.start) where
           at = refl;
           fresh = refl;
           removed = refl;
+          own_name = own_name;
           name = same_name;
           entry = same_entry;
           hot = still_hot;
@@ -214,7 +221,7 @@ module _ (turn : Turn) (s : ℕ) (inside : s < slots_of turn.v.start) where
       pub takes_either : (slots : ℕ) (carried : List (ℕ × Option Closed))
           → Made turn carried (slot_place s) (λ word. (word + 1) % 2 ^ 64) (Takes (step slots (slot_place s) 1 0 none) (v, carried))
       takes_either slots carried = ⊎_elim
-          (λ (none_named : name_in found ≡ 0). let e = none_taken (unnamed turn s inside none_named) in (
+          (λ (none_named : full_name_in found ≡ 0). let e = none_taken (unnamed turn s inside none_named) in (
             w turn after₀,
             keeps,
             tt,
@@ -227,7 +234,7 @@ module _ (turn : Turn) (s : ℕ) (inside : s < slots_of turn.v.start) where
               holds = λ i n saw' is. absurd (omega arith);
             },
           ))
-          (λ (z : (n : ℕ) × (name_in found ≡ n + 1)). let o = named turn s inside z.1 in let e = file_taken z.0 o.0 o.1 o.3 o.4 in (
+          (λ (z : (n : ℕ) × (full_name_in found ≡ n + 1)). let o = named turn s inside z.1 in let e = file_taken z.0 o.0 o.1 o.3 o.4 in (
             w turn (after₁ z.0 o.0 o.1 o.3 o.4),
             keeps,
             tt,
@@ -278,9 +285,10 @@ module _ (turn : Turn) (s : ℕ) (inside : s < slots_of turn.v.start) where
     hot_is : hot_word ≡ found + 2097152
     hot_is = let a = heat_room in omega arith
 
-    parts_of : (name_in hot_word ≡ name_in found) × (entry_in hot_word ≡ entry_in found) × (heat_in hot_word ≡ heat_in found + 1)
-        × (count_in hot_word ≡ count_in found)
-    parts_of = let z = one_heat found heat_room in (ap name_in hot_is ∙ z.0, ap entry_in hot_is ∙ z.1, ap heat_in hot_is ∙ z.2, ap count_in hot_is ∙ z.3)
+    parts_of : (full_name_in hot_word ≡ full_name_in found) × (entry_in hot_word ≡ entry_in found) × (heat_in hot_word ≡ heat_in found + 1)
+        × (count_in hot_word ≡ count_in found) × (name_in hot_word ≡ name_in found)
+    parts_of = let z = one_heat found heat_room in
+        (ap full_name_in hot_is ∙ z.0, ap entry_in hot_is ∙ z.1, ap heat_in hot_is ∙ z.2, ap count_in hot_is ∙ z.3, ap name_in hot_is ∙ z.4)
 
     is_hot : IsHot hot_word
     is_hot = let a = parts_of.2 in omega arith
@@ -301,6 +309,7 @@ module _ (turn : Turn) (s : ℕ) (inside : s < slots_of turn.v.start) where
           at = refl;
           fresh = refl;
           removed = refl;
+          own_name = z.4;
           name = z.0;
           entry = z.1;
           hot = λ _. is_hot;

@@ -3,10 +3,11 @@ use Rattle.fx_lasting.proofs.Words.{◌≡◌, ℕ, ◌+◌, ◌*◌, ◌<◌, �
 use Rattle.fx_lasting.proofs.Words.{numbered, Allocate, Sat, Work, Glance, Change, Placing, Idle, Outside, Inside, Runs, Goes, Exchanges, slot_of}
 use Rattle.fx_lasting.proofs.Words.{Stepped, LastingTable, IsInRange, List, Action, Start, Searching, group_of, range_at_start}
 use Rattle.fx_lasting.specs.Passes.{node_of_number}
+use Rattle.fx_lasting.proofs.Words.{◌▷▷◌, ◌-◌, IsAtWork, IsInStock, NamesANode, as_swapped, pass_in, name_in, nodes_of, get_elem?, some}
 use Rattle.fx_lasting.proofs.Words.{Written, label_of}
 use Rattle.fx_lasting.specs.Tries.{IsPlacing, HasAllocated, StillPlaces, group_steps}
 use Rattle.fx_lasting.proofs.Groups.{by_size}
-use Rattle.fx_lasting.proofs.Running.{runs_one, runs_then, runs_goes, runs_within, turns_then, does_then}
+use Rattle.fx_lasting.proofs.Running.{runs_one, runs_then, runs_goes, runs_within, turns_then, does_then, swapped_then, at_swapped, still_at_work}
 
 -- a slot of the range is one of the table
 pub in_size : (t : LastingTable) (slot : ℕ) → IsInRange t.table.shared.key slot → slot < t.size
@@ -41,41 +42,92 @@ module _ {m m₁ m₂ : Sat} {n i slots found old new : ℕ} {file : Closed} (p 
 
   -- the file is at the slot
   module _ (won : found ≡ old) {slot : ℕ} (here : slot_of i ≡ slot) where
-    abbrev wins : (number : ℕ) × (node_of_number m₁.0.start number ≡ n) × Stepped m₁ ([] ▷ Allocate (slot_of i) (numbered number file)) Idle m₁.0.glance (Inside (group_of (range_at_start m₁.0.start) (slot_of i))) m₂
-        × (m₂.1 ≡ rest m₁.1)
-    wins = tries.wins n file (peeked p goes).work still_there won
+    same_stock : (pass_in m₁).stock ≡ (pass_in m).stock
+    same_stock = goes.stepped.stock
 
-    pub won_run : Runs m ([] ▷ Allocate slot (numbered wins.0 file)) Idle m.0.glance (Inside (group_of (range_at_start m.0.start) slot)) 2 m₂
-    won_run = runs_then (peeked p goes) (subst (λ (z : ℕ × Glance × Start). Runs m₁ ([] ▷ Allocate z.0 (numbered wins.0 file)) Idle z.1
-        (Inside (group_of (range_at_start z.2) z.0)) 1 m₂) (λ j. (here j, (peeked p goes).glance j, (peeked p goes).start j)) (runs_one wins.2))
+    abbrev Wins : ℕ → Type 0
+    Wins e = (number : ℕ) × (node_of_number m₁.0.start number ≡ n) × NamesANode m₁.0.start found
+        × Stepped (as_swapped e (name_in found - 1) m₁) ([] ▷ Allocate (slot_of i) (numbered number file)) Idle m₁.0.glance
+        (Inside (group_of (range_at_start m₁.0.start) (slot_of i))) m₂ × (m₂.1 ≡ rest m₁.1)
 
-    pub won_so : {m₃ : Sat} → Runs m₂ [] m₂.0.work m₂.0.glance Outside 1 m₃ → m₃.1 ≡ m₂.1 → HasAllocated n file slot 3 m m₃
-    won_so ended same = (
-      wins.0,
-      subst (λ (k : Start). node_of_number k wins.0 ≡ n) (peeked p goes).start wins.1,
-      back_outside out (turns_then won_run ended),
-      same ∙ (wins.3 ∙ ap rest still_there),
+    wins : (e : ℕ) → get_elem? (pass_in m).stock e ≡ some n → Wins e
+    wins e at = tries.wins n e file (peeked p goes).work still_there (ap (λ (l : List ℕ). get_elem? l e) same_stock ∙ at) won
+
+    pub won_run : (e : ℕ) → get_elem? (pass_in m).stock e ≡ some n → (number : ℕ) × (node_of_number m.0.start number ≡ n)
+        × Runs (as_swapped e (name_in found - 1) m) ([] ▷ Allocate slot (numbered number file)) Idle m.0.glance (Inside (group_of (range_at_start m.0.start) slot)) 2 m₂
+    won_run e at = let z = wins e at in (
+      z.0,
+      subst (λ (k : Start). node_of_number k z.0 ≡ n) (peeked p goes).start z.1,
+      swapped_then e (name_in found - 1) (peeked p goes) (subst (λ (y : ℕ × Glance × Start). Runs (as_swapped e (name_in found - 1) m₁) ([] ▷ Allocate y.0 (numbered z.0 file)) Idle y.1
+          (Inside (group_of (range_at_start y.2) y.0)) 1 m₂) (λ j. (here j, (peeked p goes).glance j, (peeked p goes).start j)) (runs_one z.3)),
+    )
+
+    -- the pass is at work after its step
+    pub won_at_work : {k : Start} {q : ℕ} → IsAtWork k q m → IsAtWork k q m₂
+    won_at_work at = let l = (its_named).1 in
+        still_at_work (at_swapped at p.stocked.0 (name_in found - 1) (subst (λ (z : Start). name_in found - 1 < nodes_of z) at.pass.0 l)) (won_run p.stocked.0 p.stocked.1).2
+      where
+        its_named : NamesANode m.0.start found
+        its_named = subst (λ (k : Start). NamesANode k found) (peeked p goes).start (wins p.stocked.0 p.stocked.1).2
+
+    pub won_named : NamesANode m.0.start found
+    won_named = subst (λ (k : Start). NamesANode k found) (peeked p goes).start (wins p.stocked.0 p.stocked.1).2
+
+    pub won_so : {m₃ : Sat} (named : ℕ) → named ≡ name_in found - 1 → Runs m₂ [] m₂.0.work m₂.0.glance Outside 1 m₃ → m₃.1 ≡ m₂.1
+        → HasAllocated n file slot named 3 m m₃
+    won_so {m₃} named is ended same = subst (λ (z : ℕ). HasAllocated n file slot z 3 m m₃) (sym is) (
+      won_named.1,
+      same ∙ ((wins p.stocked.0 p.stocked.1).4 ∙ ap rest still_there),
+      λ e at. let z = won_run e at in (z.0, z.1, back_outside out (turns_then z.2 ended)),
     )
 
 -- some slots in a row
 pub still_then : {m m' m'' : Sat} {n a b : ℕ} (file : Closed) → StillPlaces n file a m m' → StillPlaces n file b m' m'' → StillPlaces n file (a + b) m m''
 still_then file one two = (does_then one.0 two.0, two.1 ∙ one.1)
 
-pub allocated_then : {m m' m'' : Sat} {n a b slot : ℕ} {file : Closed} → StillPlaces n file a m m' → HasAllocated n file slot b m' m''
-    → HasAllocated n file slot (a + b) m m''
-allocated_then {n = n} one two =
-    (two.0, subst (λ (k : Start). node_of_number k two.0 ≡ n) one.0.start two.1, does_then one.0 two.2, two.3)
+pub allocated_then : {m m' m'' : Sat} {n a b slot : ℕ} (named : ℕ) {file : Closed} → StillPlaces n file a m m' → HasAllocated n file slot named b m' m''
+    → HasAllocated n file slot named (a + b) m m''
+allocated_then {m} {m'} {m''} {n} {a} {b} {slot} named {file} one two = (
+  subst (λ (k : Start). named < nodes_of k) one.0.start two.0,
+  two.1,
+  λ e at. let z = two.2 e (ap (λ (l : List ℕ). get_elem? l e) one.0.stock ∙ at) in (
+    z.0,
+    subst (λ (k : Start). node_of_number k z.0 ≡ n) one.0.start z.1,
+    swapped_then e named one.0 (subst (λ (y : Glance × Change). Runs (as_swapped e named m') ([] ▷ Allocate slot (numbered z.0 file)) Idle y.0 y.1 b m'')
+        (λ i. (one.0.glance i, one.0.change i)) z.2),
+  ),
+)
 
 pub still_within : {m m' : Sat} {n a b : ℕ} (file : Closed) → a ≤ b → StillPlaces n file a m m' → StillPlaces n file b m m'
 still_within file few one = (runs_within few one.0, one.1)
 
-pub allocated_within : {m m' : Sat} {n a b slot : ℕ} {file : Closed} → a ≤ b → HasAllocated n file slot a m m' → HasAllocated n file slot b m m'
-allocated_within few one = (one.0, one.1, runs_within few one.2, one.3)
+pub allocated_within : (m m' : Sat) (n slot named : ℕ) (file : Closed) {a b : ℕ} → a ≤ b → HasAllocated n file slot named a m m'
+    → HasAllocated n file slot named b m m'
+allocated_within m m' n slot named file few one = (one.0, one.1, λ e at. let z = one.2 e at in (z.0, z.1, runs_within few z.2))
 
 pub still_placing : {m m' : Sat} {n a : ℕ} {file : Closed} → IsPlacing n file m → StillPlaces n file a m m' → IsPlacing n file m'
-still_placing p s = record { work = s.0.work; place = s.1 ∙ p.place }
+still_placing {n = n} p s = record { work = s.0.work; place = s.1 ∙ p.place; stocked = subst (λ (l : List ℕ). IsInStock l n) (sym s.0.stock) p.stocked }
 
--- a pass that has put a file into the place of a node that it found
+-- a pass that goes on with another node in its stock
+pub swapped_does : {m m' m'' : Sat} {xs ys : List Action} {w w' : Work} {n n' : ℕ} (entry node : ℕ) → Runs m xs w m.0.glance m.0.change n m'
+    → Runs (as_swapped entry node m') ys w' m'.0.glance m'.0.change n' m'' → Runs (as_swapped entry node m) (xs ▷▷ ys) w' m.0.glance m.0.change (n + n') m''
+swapped_does {m' = m'} {m'' = m''} {ys = ys} {w' = w'} {n' = n'} entry node a b = swapped_then entry node a
+    (subst (λ (z : Glance × Change). Runs (as_swapped entry node m') ys w' z.0 z.1 n' m'') (λ i. (a.glance i, a.change i)) b)
+
+-- the entry of a node, after some steps
+pub stocked_at : (stock : List ℕ) (m m' : Sat) (e n : ℕ) → stock ≡ (pass_in m).stock → (pass_in m').stock ≡ (pass_in m).stock → get_elem? stock e ≡ some n
+    → get_elem? (pass_in m').stock e ≡ some n
+stocked_at stock m m' e n its same at = ap (λ (l : List ℕ). get_elem? l e) (same ∙ sym its) ∙ at
+
+-- a pass that has put a file into the place of a node of its stock
+pub is_placing : (stock : List ℕ) (m : Sat) {m' : Sat} {n most : ℕ} (e : ℕ) {file : Closed} → Runs m [] (Placing n (label_of file)) m.0.glance m.0.change most m' → stock ≡ (pass_in m).stock
+    → get_elem? stock e ≡ some n → m'.1 ≡ (n, Some file) ∷ [] → IsPlacing n file m'
+is_placing stock m {n = n} e run its at place = record {
+  work = run.work;
+  place = place;
+  stocked = (e, ap (λ (l : List ℕ). get_elem? l e) (run.stock ∙ sym its) ∙ at);
+}
+
 pub until_put : {m m₂ m₃ : Sat} {n most : ℕ} {l : Written} → Runs m [] (Searching n) m.0.glance m.0.change most m₂
     → Runs m₂ [] (Placing n l) m₂.0.glance m₂.0.change 3 m₃ → Runs m [] (Placing n l) m.0.glance m.0.change (most + 3) m₃
 until_put sought born = does_then sought born
@@ -83,8 +135,8 @@ until_put sought born = does_then sought born
 -- The steps of a search through some groups
 pub group_more : (len count most : ℕ) → most ≤ count * group_steps len → most + group_steps len ≤ (count + 1) * group_steps len
 group_more len count most = by_size (λ size. most ≤ count * (3 * size + 1) → most + (3 * size + 1) ≤ (count + 1) * (3 * size + 1))
-    (λ l. omega (arith, l)) (λ l. omega (arith, l)) len
+    (λ l. omega (arith, l)) (λ l. omega (arith, l)) (λ l. omega (arith, l)) (λ l. omega (arith, l)) len
 
 pub groups_most : (len count most groups : ℕ) → count ≤ groups → most ≤ count * group_steps len → most ≤ groups * group_steps len
 groups_most len count most groups few = by_size (λ size. most ≤ count * (3 * size + 1) → most ≤ groups * (3 * size + 1))
-    (λ l. omega (arith, l, few)) (λ l. omega (arith, l, few)) len
+    (λ l. omega (arith, l, few)) (λ l. omega (arith, l, few)) (λ l. omega (arith, l, few)) (λ l. omega (arith, l, few)) len

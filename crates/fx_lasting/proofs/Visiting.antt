@@ -79,7 +79,7 @@ module _ (turn : Turn) (f : File) (n t : ℕ) (nx : Round) (m : ℕ) (works : tu
           taken_else = λ k other. sym (ap (taking k) works);
           free_else = λ k other bad. let a = ap busy works in other (omega arith);
           may = inr (inr (ap owner its.1));
-          its_block = λ is. cc (sym its.1 ∙ is);
+          its_stock = λ is. cc (sym its.1 ∙ is);
           at_slot = λ i h is. cc (sym its.1 ∙ is);
           open_file = λ j u h other there holds is. sym (ap file_in its.1) ∙ is;
           guards = s.guards;

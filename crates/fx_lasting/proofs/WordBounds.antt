@@ -1,6 +1,6 @@
 -- The bounds of the words.
 use Rattle.fx_lasting.proofs.Words.{◌≡◌, ℕ, ◌+◌, ◌<◌, ◌≤◌, Option, Some, None, subst, arith, File, sum_by, get_elem?, Agrees, Names, IsSeated}
-use Rattle.fx_lasting.proofs.Words.{NodeAgrees, WorkAgrees, slots_of, word_of, state_after_all, taken_of, owed, count_in, name_in}
+use Rattle.fx_lasting.proofs.Words.{NodeAgrees, WorkAgrees, slots_of, word_of, state_after_all, taken_of, owed, count_in, full_name_in}
 use Rattle.fx_lasting.proofs.Words.{Phase, Shared, Start, range_at_start, group_start, group_len, full_few, cold_takes, has_acted, has_heated}
 use Rattle.fx_lasting.specs.Bounds.{AreBounded, slot_word_in, node_word_in}
 use Rattle.fx_lasting.proofs.Groups.{few_slots}
@@ -17,7 +17,7 @@ module _ (k : Start) (s : Shared) (r : Agrees k s) where
       (word_at s.words (word_of k n)) (sum_by (taken_of n) s.views) (owed r.debt k.passes n) (get_elem? s.homes n)
 
   of_slot : (slot node : ℕ) → slot < slots_of k → (file : Option File) → Names r.node_of (slot_word_in s slot) file
-      → IsSeated k r.node_of r.phase slot file → name_in (slot_word_in s slot) ≡ node + 1 → 2 < node_word_in k s node
+      → IsSeated k r.node_of r.phase slot file → full_name_in (slot_word_in s slot) ≡ node + 1 → 2 < node_word_in k s node
   of_slot slot node inside None names seat is = absurd (omega arith)
   of_slot slot node inside (Some f) names seat is = let a = names.0 in let same : r.node_of f.number ≡ node = omega arith in
       let o = subst (Node (r.node_of f.number)) seat.1 (r.each_node (r.node_of f.number) seat.0) in

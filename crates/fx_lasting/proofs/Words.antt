@@ -19,14 +19,19 @@ pub use Rattle.fx_lasting.specs.LabelSteps.{Tags, Numbers, ReadsTag, ReadsNumber
 pub use Rattle.fx_lasting.specs.Labels.{number_of_mark, label_of, HasWritten}
 pub use Rattle.fx_lasting.specs.Laws.{HasItsPlace, TagsKeep, NumbersKeep, ReadsTagKeep, ReadsNumberKeep}
 pub use Rattle.fx_lasting.specs.Laws.{RetiresKeep, IsInRange, ListsKeep, SkimsKeep, IsPassed, SeesKeep, TakesIfKeep, ReplacesKeep}
-pub use Rattle.fx_lasting.specs.Layout.{question_place, group_place, list_place, slot_place, hold_place, node_place, block_for, block_start}
+pub use Rattle.fx_lasting.specs.Layout.{question_place, group_place, list_place, slot_place, hold_place, node_place, stock_start, stock_for, stock_of, stocks_back}
 pub use Rattle.fx_lasting.specs.Layout.{tag_place, number_place}
 pub use Rattle.fx_lasting.specs.Layout.{group_size, groups_in, group_of, group_start, group_len}
 pub use Rattle.fx_lasting.specs.Opens.{word_for, node_for, home_for, first_file, OpensWith}
 pub use Rattle.fx_lasting.specs.Deeds.{Deed, untouched, over, heated, has_acted, has_heated}
 pub use Rattle.fx_lasting.specs.Parts.{heat_unit, count_in, heat_in, IsHot, cold_takes, birth_word, closed_word, retirement_amount, announced, mark}
-pub use Rattle.fx_lasting.specs.Parts.{bit_of, IsListedIn}
-pub use Rattle.fx_lasting.specs.Passes.{node_of_number, HasNoFile, Shared, Sat, state_at_start, slots_of, range_at_start, nodes_of, IsInBlock}
+pub use Rattle.fx_lasting.specs.Parts.{bit_of, IsListedIn, full_name_in, file_node_in, file_word_of, empty_word_of, without_file, name_mask}
+pub use Rattle.fx_lasting.specs.Passes.{node_of_number, HasNoFile, Shared, Sat, state_at_start, slots_of, range_at_start, nodes_of, stock_len, first_stock}
+pub use Rattle.fx_lasting.specs.Stocks.{Whereabouts, at_slot, in_stock, IsInStock, NamesItsNode, IsStockOf, StockAgrees}
+pub use Rattle.fx_lasting.proofs.SlotWords.{full_bit, when_full, when_empty, name_of_file, same_full_name, name_made, full_name_made, file_entry_made}
+pub use Rattle.fx_lasting.proofs.SlotWords.{file_takes_made, file_heat_made, empty_name_made, empty_file_made, empty_takes_made, name_left, no_file_left}
+pub use Rattle.fx_lasting.proofs.SlotWords.{no_takes_left, mask_leaves_name}
+pub use Rattle.std.specs.Prelude.{bit_and}
 pub use Rattle.fx_lasting.specs.Passes.{word_of, hold_word_of, logs_of, lengths, state_after_all, IsHistory, new_log, first_log, held_in, if_file}
 pub use Rattle.fx_lasting.specs.Passes.{held_of, taking, taken_of, tag_word_of, number_word_of, HoldsOn}
 pub use Rattle.fx_lasting.specs.Phases.{Phase, owner, file_in, file_if_numbered, removed_in, written_in, free, placed, seated, leaving, retired, emptied}
@@ -39,7 +44,7 @@ pub use Rattle.fx_lasting.specs.Tells.{LetsGo, At, rested, Lists, Skims, IsOnLis
 pub use Rattle.fx_lasting.specs.Tells.{Confirms, Withdraws, glance_after, Takes, HeatTells, StepsDown, TakesOut, slot_of, pass_at, pass_event}
 pub use Rattle.fx_lasting.specs.Tells.{pass_in, IsInside, Stepped, Goes, Glances, Exchanges, LettingGo, Seeks, Births, Rests, Visits, Marks, Retires}
 pub use Rattle.fx_lasting.specs.Tells.{first_visit, retiring_work, Found, Installs, Removes, Turns, Asks, Peeks, as_asked, group_at}
-pub use Rattle.fx_lasting.specs.Tells.{Lowers, Checks, Breaks, Raises, Begins, Counts, Decides, Sees, TakesIf, Replaces}
+pub use Rattle.fx_lasting.specs.Tells.{as_stocked, as_swapped, NamesANode, Lowers, Checks, Breaks, Raises, Begins, Counts, Decides, Sees, TakesIf, Replaces}
 pub use Rattle.fx_lasting.specs.Visits.{Visited, HasVisited, HasMarked, round_to}
 pub use Rattle.fx_lasting.specs.Searches.{next_of}
 pub use Rattle.fx_lasting.specs.declared.view.Change.{Change}
@@ -70,8 +75,7 @@ pub use Rattle.fx_plain.specs.declared.event.File.{File}
 pub use Rattle.fx_table.proofs.SumLemmas.{contains_head, contains_map, contains_only, stands_at, one_if, bit_here, bit_else, once_is, one_more_at}
 pub use Rattle.fx_table.proofs.SumLemmas.{one_less_at, counted_once, found_by, found_sum, sum_at, sum_two, sum_set, sum_le_at, sum_of, sum_zero_at}
 pub use Rattle.fx_table.proofs.SumLemmas.{sum_only}
-pub use Rattle.fx_words.proofs.Parts.{name_made, entry_made, takes_made}
-pub use Rattle.fx_words.specs.Words.{node_in, name_in, entry_in, slot_word_of}
+pub use Rattle.fx_words.specs.Words.{name_in, entry_in, named}
 pub use Rattle.std.proofs.Common.{bit_or, eq-eqb, ne_eqb, length-append, true, map, get_or, IsSome, ◌*◌, get_or-set_other, get_or-set_same, ◌/◌}
 pub use Rattle.std.proofs.Common.{lt-ltb, le-ltb, Option, Some, None, slice_index, ◌+◌, ◌-◌, ◌%◌, ◌^◌, false, eqb, inl, ◌++◌, ◌⊎◌, inr, ⊎_elim}
 pub use Rattle.std.proofs.Common.{length-set, ◌≡◌, ◌≢◌, ℕ, zero, suc, ◌<◌, ◌≤◌, Bool, cond, nat_lt, List, [], ◌∷◌, length, set, sym, refl, ap, ◌∙◌}

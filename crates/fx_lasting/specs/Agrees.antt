@@ -12,21 +12,23 @@ use Rattle.fx_plain.specs.History.{IsSeenBy, part_of_pass, held_by}
 use Rattle.fx_plain.specs.declared.event.Event.{Event}
 use Rattle.fx_plain.specs.declared.event.File.{File}
 use Rattle.fx_table.specs.Numbers.{once}
-use Rattle.fx_words.specs.Words.{name_in, entry_in}
+use Rattle.fx_words.specs.Words.{entry_in}
 use Rattle.fx_lasting.specs.Groups.{RangeCounts}
 use Rattle.fx_lasting.specs.Counts.{tally, owed}
 use Rattle.fx_lasting.specs.Deeds.{Deed, untouched, over, heated, has_acted, has_heated}
 use Rattle.fx_lasting.specs.Labels.{HasWritten}
 use Rattle.fx_lasting.specs.Layout.{list_place, slot_place, words_for}
-use Rattle.fx_lasting.specs.Parts.{IsHot, count_in, heat_in, cold_takes, birth_word, closed_word}
+use Rattle.fx_lasting.specs.Parts.{full_name_in, IsHot, count_in, heat_in, cold_takes, birth_word}
+use Rattle.fx_lasting.specs.Parts.{closed_word}
 use Rattle.fx_lasting.specs.Parts.{announced, mark, bit_of, IsListedIn}
-use Rattle.fx_lasting.specs.Passes.{Shared, slots_of, range_at_start, nodes_of, IsInBlock}
+use Rattle.fx_lasting.specs.Passes.{Shared, slots_of, range_at_start, nodes_of}
 use Rattle.fx_lasting.specs.Passes.{word_of, tag_word_of, number_word_of}
 use Rattle.fx_lasting.specs.Passes.{hold_word_of, state_after_all, IsHistory, held_in, held_of}
 use Rattle.fx_lasting.specs.Passes.{taken_of}
 use Rattle.fx_lasting.specs.Passes.{logs_of, lengths, node_of_number}
 use Rattle.fx_lasting.specs.Phases.{Phase, free, placed, seated, leaving, retired, emptied, file_in}
 use Rattle.fx_lasting.specs.Phases.{removed_in, written_in}
+use Rattle.fx_lasting.specs.Stocks.{Whereabouts, IsInStock, NamesItsNode, StockAgrees}
 use Rattle.fx_lasting.specs.declared.layout.TheConstants.{MOST_SLOTS}
 use Rattle.fx_lasting.specs.declared.view.Change.TheVariants.{Outside}
 use Rattle.fx_lasting.specs.declared.view.Glance.{Glance}
@@ -48,9 +50,9 @@ Nodes = ℕ → ℕ
 
 -- what a slot's word says of the file at the slot
 abbrev pub Names : Nodes → ℕ → Option File → Type 0
-Names node_of word None = name_in word ≡ 0
+Names node_of word None = full_name_in word ≡ 0
 Names node_of word (Some f) =
-    (name_in word ≡ node_of f.number + 1) × (entry_in word ≡ f.identity.entry)
+    (full_name_in word ≡ node_of f.number + 1) × (entry_in word ≡ f.identity.entry)
 
 -- the node of the file at a slot knows its slot
 abbrev pub IsSeated : Start → Nodes → (ℕ → Phase) → ℕ → Option File → Type 0
@@ -99,7 +101,7 @@ module _ (at : ℕ → Option File) (size : ℕ) (takes_at : ℕ → ℕ) (node_
   pub record IsLeaving (takes : ℕ) (round : Round) (marks : ℕ) (f : File) : Type 0 where
     pub file : IsFileOfNode node_of next_number node home f
     pub counts : word + takes + marks ≡ birth_word + taken + owing
-    pub few_takes : takes < 2 ^ 21
+    pub few_takes : takes < 2 ^ 20
     pub few_marks : marks < round.next
     pub few_visits : round.next ≤ 2 ^ 16
 
@@ -121,7 +123,8 @@ module _ (at : ℕ → Option File) (size : ℕ) (takes_at : ℕ → ℕ) (node_
 -- the label of the node is so, as far as it is written
 abbrev pub Labels : Start → List ℕ → ℕ → Written → Type 0
 Labels k words node written =
-    HasWritten written (slice_index words (tag_word_of k node)) (slice_index words (number_word_of k node))
+    HasWritten written (slice_index words (tag_word_of k node))
+    (slice_index words (number_word_of k node))
 
 -- the pass of the seat does this work
 abbrev pub Does : List View → ℕ → Work → Type 0
@@ -157,14 +160,14 @@ WorkAgrees k phase seat (Retiring f node takes round marks) =
     IsIn k phase node (leaving seat takes round marks f)
 WorkAgrees k phase seat (Emptying node) = IsIn k phase node (emptied seat)
 
--- a pass looks for a free node in its own block, and installs its files there; and it announces a
+-- a pass looks for a free node in its own stock, and places its files there; and it announces a
 -- node, or holds a file by its hold word, only if it is listed
-abbrev pub IsAllowed : Start → ℕ → Bool → Work → Type 0
-IsAllowed k pass listed (Searching node) = IsInBlock k pass node
-IsAllowed k pass listed (Placing node written) = IsInBlock k pass node
-IsAllowed k pass listed (Announced node) = listed ≡ true
-IsAllowed k pass listed (Guarded f node) = listed ≡ true
-IsAllowed k pass listed _ = Unit {0}
+abbrev pub IsAllowed : List ℕ → Bool → Work → Type 0
+IsAllowed stock listed (Searching node) = IsInStock stock node
+IsAllowed stock listed (Placing node written) = IsInStock stock node
+IsAllowed stock listed (Announced node) = listed ≡ true
+IsAllowed stock listed (Guarded f node) = listed ≡ true
+IsAllowed stock listed _ = Unit {0}
 
 -- a hold word names the node, and nothing is owed; or it is marked, and so much is owed
 abbrev pub NamesNode : ℕ → ℕ → ℕ → Type 0
@@ -203,7 +206,8 @@ GuardAgrees slot_word phase pass debt _ = Unit {0}
 abbrev pub GlanceAgrees : Start → (ℕ → ℕ) → (ℕ → Deed) → Glance → Type 0
 GlanceAgrees k slot_word deed Nothing = Unit {0}
 GlanceAgrees k slot_word deed (Hot slot node) = (slot < slots_of k) × (node < nodes_of k)
-    × (((name_in (slot_word slot) ≡ node + 1) × IsHot (slot_word slot)) ⊎ (deed slot ≡ untouched))
+    × (((full_name_in (slot_word slot) ≡ node + 1) × IsHot (slot_word slot))
+    ⊎ (deed slot ≡ untouched))
 GlanceAgrees k slot_word deed (Cold slot) = (slot < slots_of k) × (deed slot ≡ untouched)
 GlanceAgrees k slot_word deed (Heating slot) = (slot < slots_of k) × (deed slot ≢ heated)
 
@@ -218,7 +222,7 @@ pub record LogAgrees (k : Start) (h : List Event) (words : List ℕ) (phase : �
   pub seen : IsSeenBy x.front h
   pub own : part_of_pass x.number h ≡ part_of_pass x.number x.front
   pub held : held_by h x.number ≡ held_in work
-  pub allowed : IsAllowed k x.number x.listed work
+  pub allowed : IsAllowed x.stock x.listed work
   -- the list has its bit if it is listed, and only then
   pub list : x.listed ≡ true → IsListedIn (slice_index words (list_place x.number)) x.number
   pub unlisted : IsListedIn (slice_index words (list_place x.number)) x.number → x.listed ≡ true
@@ -281,6 +285,12 @@ pub record Agrees (k : Start) (s : Shared) : Type 0 where
       → (state_after_all k history).fresh number ≡ true
   pub each_view : (seat : ℕ) (v : View) → get_elem? s.views seat ≡ some v
       → ViewAgrees k history s.words phase debt deed seat v
+  -- each node is named by one slot, or in one stock
+  pub where_is : ℕ → Whereabouts
+  pub named : (slot : ℕ) → slot < slots_of k
+      → NamesItsNode k where_is slot (slice_index s.words (slot_place slot))
+  pub stocks : (seat : ℕ) (v : View) (x : Log) → get_elem? s.views seat ≡ some v
+      → Contains v.logs x → StockAgrees k where_is x.number x.stock
   -- each shown history stays an initial part of the history
   pub known : (seat : ℕ) (v : View) → get_elem? s.views seat ≡ some v → IsSeenBy v.known history
   -- the holds of a file are the passes that hold it

@@ -4,6 +4,7 @@ use Rattle.fx_base.specs.Identity.{Identity}
 use Rattle.fx_plain.specs.declared.event.File.{File}
 use Rattle.fx_lasting.specs.Laws.{HasPass, HasItsPlace}
 use Rattle.fx_lasting.specs.Passes.{Sat, IsHistory}
+use Rattle.fx_lasting.specs.Stocks.{IsStockOf}
 use Rattle.fx_lasting.specs.Tells.{IsInside}
 use Rattle.fx_lasting.specs.declared.view.Log.{Log}
 use Rattle.fx_lasting.specs.declared.view.Start.{Start}
@@ -19,6 +20,7 @@ pub record IsAtWork (k : Start) (number : ℕ) (m : Sat) : Type 0 where
   pub high : number ≤ k.passes
   pub legal : IsHistory k log.front
   pub inside : IsInside k m.0.work
+  pub stock : IsStockOf k number log.stock
 
 -- the pass is about to release the file of the node
 abbrev pub IsReleasing : Work → File → ℕ → Type 0

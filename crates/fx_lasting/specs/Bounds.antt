@@ -3,10 +3,9 @@ use Rattle.std.specs.Prelude.{◌≡◌, ℕ, ◌+◌, ◌%◌, ◌^◌, ◌<◌
 use mathlib.Core.Option.{some}
 use lib.ListN.{get_elem?}
 use Rattle.fx_plain.specs.declared.event.File.{File}
-use Rattle.fx_words.specs.Words.{name_in}
 use Rattle.fx_lasting.specs.Agrees.{Agrees}
 use Rattle.fx_lasting.specs.Layout.{group_place, slot_place, groups_in}
-use Rattle.fx_lasting.specs.Parts.{count_in, heat_in, cold_takes}
+use Rattle.fx_lasting.specs.Parts.{full_name_in, count_in, heat_in, cold_takes}
 use Rattle.fx_lasting.specs.Passes.{Shared, slots_of, range_at_start, word_of}
 use Rattle.fx_lasting.specs.declared.view.Round.{Round}
 use Rattle.fx_lasting.specs.declared.view.Start.{Start}
@@ -27,23 +26,23 @@ group_word_in s group = slice_index s.words (group_place group)
 
 -- the bounds of a table's words
 pub record AreBounded (k : Start) (s : Shared) : Type 0 where
-  -- a slot has at most the takes of a cold one, and one more for each pass: 21 bits have room
+  -- a slot has at most the takes of a cold one, and one more for each pass: 20 bits have room
   pub takes : (slot : ℕ) → slot < slots_of k
       → count_in (slot_word_in s slot) ≤ cold_takes k.passes + k.passes
-  pub room : cold_takes k.passes + k.passes < 2 ^ 21
+  pub room : cold_takes k.passes + k.passes < 2 ^ 20
   -- each pass heats a slot at most once until its word is swapped: 11 bits have room
   pub heat : (slot : ℕ) → slot < slots_of k → heat_in (slot_word_in s slot) ≤ k.passes
   pub heat_room : k.passes < 2 ^ 11
-  -- no drop finds 2 while a slot names the node
-  pub named : (slot node : ℕ) → slot < slots_of k → name_in (slot_word_in s slot) ≡ node + 1
+  -- no drop finds 2 while the file of the node is at a slot
+  pub named : (slot node : ℕ) → slot < slots_of k → full_name_in (slot_word_in s slot) ≡ node + 1
       → 2 < node_word_in k s node
   -- nor after its file's removal, until the file is retired
   pub leaving : (seat node takes marks : ℕ) (round : Round) (v : View) (f : File)
       → get_elem? s.views seat ≡ some v → v.work ≡ Retiring f node takes round marks
       → 2 < node_word_in k s node
-  -- of at most 64 full slots, a group's word counts at most one too few for each pass
+  -- of at most 16,384 full slots, a group's word counts at most one too few for each pass
   pub groups : (group : ℕ) → group < groups_in (range_at_start k).1
-      → (group_word_in s group + 1024) % 2 ^ 64 ≤ 1024 + 64
+      → (group_word_in s group + 1024) % 2 ^ 64 ≤ 1024 + 16384
 
 -- the bounds hold between any two steps
 abbrev pub WordsAreBounded : Type 0

@@ -11,14 +11,14 @@ use Rattle.fx_lasting.specs.declared.view.View.{View}
 use Rattle.fx_lasting.specs.declared.view.Work.TheVariants.{Idle}
 
 -- n new passes, from p on
-abbrev pub new_logs : ℕ → ℕ → List Log
-new_logs p n = map new_log (range_with_len p n)
+abbrev pub new_logs : Start → ℕ → ℕ → List Log
+new_logs k p n = map (new_log k) (range_with_len p n)
 
 -- the view of the seat that opens the table
 abbrev pub first_view : Start → View
 first_view k = record {
   start = k;
-  logs = new_logs 1 k.passes;
+  logs = new_logs k 1 k.passes;
   work = Idle;
   glance = Nothing;
   change = Outside;

@@ -1,5 +1,5 @@
 -- The first words of a shared table, from the table of one thread.
-use Rattle.std.specs.Prelude.{◌≡◌, ℕ, ◌<◌, ◌≤◌, List, Option, Some, length, slice_index}
+use Rattle.std.specs.Prelude.{◌≡◌, ◌≢◌, ℕ, ◌<◌, ◌≤◌, List, Option, Some, length, slice_index}
 use Rattle.fx_base.specs.Identity.{Identity}
 use Rattle.fx_plain.specs.State.{State}
 use Rattle.fx_plain.specs.declared.event.File.{File}
@@ -10,6 +10,14 @@ use Rattle.fx_lasting.specs.Layout.{question_place, group_place, list_place, slo
 use Rattle.fx_lasting.specs.Layout.{hold_place, node_place, words_for, groups_in, group_start}
 use Rattle.fx_lasting.specs.Layout.{group_len, tag_place, number_place}
 use Rattle.fx_lasting.specs.Opens.{word_for, node_for}
+use Rattle.fx_lasting.specs.Parts.{empty_word_of}
+
+-- the words of the first slots are those of empty slots, and all others are as they were
+pub record AreNamed (done : ℕ) (old new : List ℕ) : Type 0 where
+  pub count : length new ≡ length old
+  pub named : (slot : ℕ) → slot < done → slice_index new (slot_place slot) ≡ empty_word_of slot
+  pub others : (place : ℕ) → ((slot : ℕ) → slot < done → place ≢ slot_place slot)
+      → slice_index new place ≡ slice_index old place
 
 -- the first words of a table with these passes and nodes: those of the slots and of their nodes,
 -- and 0 elsewhere
@@ -22,7 +30,7 @@ pub record AreFirstWords (st : State) (passes nodes : ℕ) (words : List ℕ) : 
       → slice_index words (group_place group)
       ≡ full_in (first_at st) (group_start st.range group) (group_len st.range.1 group)
   pub slot_words : (slot : ℕ) → slot < st.size
-      → slice_index words (slot_place slot) ≡ word_for (first_at st slot)
+      → slice_index words (slot_place slot) ≡ word_for slot (first_at st slot)
   pub node_words : (slot : ℕ) → slot < st.size
       → slice_index words (node_place st.size passes slot) ≡ node_for (first_at st slot)
   pub free : (node : ℕ) → st.size ≤ node → node < nodes

@@ -6,9 +6,9 @@ use Rattle.fx_plain.specs.declared.event.File.{File}
 use Rattle.fx_table.specs.declared.values.Doing.TheVariants.{Holding, Retiring}
 use Rattle.fx_table.specs.declared.values.Hold.{Hold}
 use Rattle.fx_table.specs.declared.values.Retired.{Retired}
-use Rattle.fx_words.specs.Words.{name_in}
 use Rattle.fx_lasting.specs.Agrees.{Agrees}
 use Rattle.fx_lasting.specs.Bounds.{slot_word_in, node_word_in}
+use Rattle.fx_lasting.specs.Parts.{full_name_in}
 use Rattle.fx_lasting.specs.Passes.{Shared, slots_of, node_of_number, state_after_all}
 use Rattle.fx_lasting.specs.Tables.{doing_in}
 use Rattle.fx_lasting.specs.declared.view.Start.{Start}
@@ -28,7 +28,7 @@ pub record HoldsNameFiles (k : Start) (s : Shared) (r : Agrees k s) : Type 0 whe
       → hold.node ≡ node_of_number k f.number
   -- it is the file of the slot whose word names the node
   pub there : (f g : File) (hold : Hold) (slot : ℕ) → IsHeldBy s f hold → slot < slots_of k
-      → name_in (slot_word_in s slot) ≡ hold.node + 1
+      → full_name_in (slot_word_in s slot) ≡ hold.node + 1
       → (state_after_all k r.history).at slot ≡ Some g → f ≡ g
   -- a node whose word is 0 is that of no file which is held
   pub none : (f : File) (hold : Hold) → IsHeldBy s f hold → node_word_in k s hold.node ≢ 0

@@ -1,5 +1,8 @@
 -- The calls that empty or replace a slot if its file is on a node that the caller names.
-use Rattle.std.specs.Prelude.{◌≡◌, ◌≢◌, ℕ, ◌+◌, ◌≤◌, List, [], Option, Some, None, Result, Ok, Err}
+use Rattle.std.specs.Prelude.{◌≡◌, ◌≢◌, ℕ, ◌+◌, ◌<◌, ◌≤◌, List, [], Option, Some, None, Result}
+use Rattle.std.specs.Prelude.{Ok, Err}
+use mathlib.Core.Option.{some}
+use lib.ListN.{get_elem?}
 use Rattle.fx_base.specs.Identity.{Identity}
 use Rattle.fx_plain.specs.History.{◌▷◌, IsSeenBy}
 use Rattle.fx_plain.specs.declared.event.Action.TheVariants.{Put, Take}
@@ -10,13 +13,13 @@ use Rattle.fx_table.specs.Calls.{Adds, IsNewFile, no_use, one_number}
 use Rattle.fx_table.specs.Pass.{PassView, IsFileRemoval}
 use Rattle.fx_table.specs.declared.values.Doing.TheVariants.{Idle as DoesNothing}
 use Rattle.fx_table.specs.declared.values.Doing.TheVariants.{Retiring as Retires}
-use Rattle.fx_words.specs.Words.{name_in}
 use Rattle.fx_lasting.specs.Agrees.{Names}
 use Rattle.fx_lasting.specs.Ends.{Does}
-use Rattle.fx_lasting.specs.Passes.{Sat, node_of_number, state_after_all}
+use Rattle.fx_lasting.specs.Parts.{full_name_in}
+use Rattle.fx_lasting.specs.Passes.{Sat, nodes_of, node_of_number, state_after_all}
 use Rattle.fx_lasting.specs.Runs.{Runs}
 use Rattle.fx_lasting.specs.Tables.{opening_of}
-use Rattle.fx_lasting.specs.Tells.{pass_in, retiring_work}
+use Rattle.fx_lasting.specs.Tells.{as_swapped, pass_in, retiring_work}
 use Rattle.fx_lasting.specs.declared.answers.Miss.{Miss}
 use Rattle.fx_lasting.specs.declared.answers.Miss.TheVariants.{Empty, Other, Again}
 use Rattle.fx_lasting.specs.declared.answers.PutIf.{PutIf}
@@ -81,9 +84,9 @@ TriesPut (put.Missed miss back) before after = HasTriedIf miss before after
 
 -- a slot's word names the node, or says why the slot is left as it is
 abbrev pub SaysIf : ℕ → ℕ → Result ℕ Miss → Type 0
-SaysIf word node (Ok same) = (same ≡ word) × (name_in word ≡ node + 1)
-SaysIf word node (Err Empty) = name_in word ≡ 0
-SaysIf word node (Err Other) = (name_in word ≢ 0) × (name_in word ≢ node + 1)
+SaysIf word node (Ok same) = (same ≡ word) × (full_name_in word ≡ node + 1)
+SaysIf word node (Err Empty) = full_name_in word ≡ 0
+SaysIf word node (Err Other) = (full_name_in word ≢ 0) × (full_name_in word ≢ node + 1)
 SaysIf word node (Err Again) = ⊥
 
 -- the slot was so when a pass made some steps
@@ -94,7 +97,7 @@ WasIn k slot node miss m m' =
 -- a pass that read a slot's word: it names the node, or the slot is left as it is
 abbrev pub SawIf : Start → ℕ → ℕ → Sat → Result ℕ Miss → Sat → Type 0
 SawIf k slot node m (Ok word) m' =
-    (name_in word ≡ node + 1) × WasIn k slot node Again m m' × Does m [] m.0.work 1 m'
+    (full_name_in word ≡ node + 1) × WasIn k slot node Again m m' × Does m [] m.0.work 1 m'
 SawIf k slot node m (Err miss) m' =
     WasIn k slot node miss m m' × Does m [] m.0.work 1 m' × (miss ≢ Again)
 
@@ -106,7 +109,7 @@ FailedIf k slot node Other m m' = WasIn k slot node Other m m'
 
 -- a pass that tried to empty a slot, whose word named the node
 abbrev pub TriedTake : Start → ℕ → ℕ → Sat → Result ℕ Miss → Sat → Type 0
-TriedTake k slot node m (Ok word) m' = (f : File) × (name_in word ≡ node + 1)
+TriedTake k slot node m (Ok word) m' = (f : File) × (full_name_in word ≡ node + 1)
     × Names (node_of_number k) word (Some f)
     × Runs m ([] ▷ Take slot (Some f)) (retiring_work k word (Some f)) m.0.glance Outside 4 m'
 TriedTake k slot node m (Err miss) m' =
@@ -114,10 +117,11 @@ TriedTake k slot node m (Err miss) m' =
 
 -- a pass that tried to put the file that it places at such a slot, on the node of the place
 abbrev pub TriedReplace : Start → ℕ → ℕ → ℕ → Identity → Sat → Result ℕ Miss → Sat → Type 0
-TriedReplace k slot node own file m (Ok word) m' = (number : ℕ) × (f : File)
-    × (node_of_number k number ≡ own) × (name_in word ≡ node + 1)
+TriedReplace k slot node own file m (Ok word) m' = (full_name_in word ≡ node + 1) × (m'.1 ≡ [])
+    × (node < nodes_of k) × ((entry : ℕ) → get_elem? (pass_in m).stock entry ≡ some own
+    → (number : ℕ) × (f : File) × (node_of_number k number ≡ own)
     × Names (node_of_number k) word (Some f)
-    × Runs m ([] ▷ Put slot (numbered number file) (Some f)) (retiring_work k word (Some f))
-    m.0.glance Outside 4 m' × (m'.1 ≡ [])
+    × Runs (as_swapped entry node m) ([] ▷ Put slot (numbered number file) (Some f))
+    (retiring_work k word (Some f)) m.0.glance Outside 4 m')
 TriedReplace k slot node own file m (Err miss) m' =
     FailedIf k slot node miss m m' × Does m [] m.0.work 4 m' × (m'.1 ≡ m.1)

@@ -1,22 +1,22 @@
 -- The kinds of step keep the rule, whatever the table and the other passes are. A law takes the
 -- place of its word as a premise.
 use Rattle.std.specs.Prelude.{◌≡◌, ◌≢◌, ℕ, ◌+◌, ◌-◌, ◌*◌, ◌%◌, ◌^◌, ◌<◌, ◌≤◌, ◌==◌, ◌⊎◌}
-use Rattle.std.specs.Prelude.{true, false, [], ◌∷◌, Some, None}
+use Rattle.std.specs.Prelude.{true, false, [], ◌∷◌, Some, None, bit_and}
 use mathlib.Core.Option.{none}
 use prog.Atomic.{either}
 use Rattle.atomic_table.specs.Table.{step, Splits, Joins, Allows}
 use Rattle.fx_base.specs.Identity.{Identity}
 use Rattle.fx_plain.specs.declared.event.File.{File}
-use Rattle.fx_words.specs.Words.{name_in, slot_word_of}
 use Rattle.fx_lasting.specs.Agrees.{Agrees, IsIdleIn}
 use Rattle.fx_lasting.specs.Groups.{is_in, uncounted}
 use Rattle.fx_lasting.specs.Labels.{label_of}
 use Rattle.fx_lasting.specs.Layout.{question_place, group_place, list_place}
 use Rattle.fx_lasting.specs.Layout.{slot_place, groups_in, group_of}
 use Rattle.fx_lasting.specs.Parts.{heat_unit, birth_word, announced, mark, retirement_amount}
-use Rattle.fx_lasting.specs.Parts.{bit_of}
+use Rattle.fx_lasting.specs.Parts.{bit_of, full_name_in, file_word_of, without_file, name_mask}
 use Rattle.fx_lasting.specs.Passes.{Sat, HasNoFile, slots_of, range_at_start, word_of}
-use Rattle.fx_lasting.specs.Passes.{hold_word_of, IsInBlock, HoldsOn, tag_word_of, number_word_of}
+use Rattle.fx_lasting.specs.Passes.{hold_word_of, HoldsOn, tag_word_of, number_word_of}
+use Rattle.fx_lasting.specs.Stocks.{IsInStock}
 use Rattle.fx_lasting.specs.Tells.{At}
 use Rattle.fx_lasting.specs.declared.layout.TheConstants.{MOST_INSTALLING}
 use Rattle.fx_lasting.specs.declared.view.Survey.TheVariants.{None as NotAsked, Covered}
@@ -110,10 +110,10 @@ LettingGoKeeps tells = (k : Start) (slots id i node : ℕ) (m : Sat) (x : Log) �
     → Allows (Agrees k) slots id m i (λ word. (word + (2 ^ 64 - 1)) % 2 ^ 64)
     (tells (step slots i 1 0 none) m)
 
--- a pass loads the word of a node of its block, to find a free one
+-- a pass loads the word of a node of its stock, to find a free one
 abbrev pub SeeksKeep : Kind → Type 0
 SeeksKeep tells = (k : Start) (slots id i node : ℕ) (m : Sat) (x : Log) → HasPass k m x
-    → HasNoFile m.0.work → x.number ≤ k.installing → IsInBlock k x.number node → i ≡ word_of k node
+    → HasNoFile m.0.work → x.number ≤ k.installing → IsInStock x.stock node → i ≡ word_of k node
     → Allows (Agrees k) slots id m i (λ word. word) (tells (step slots i 0 0 none) m)
 
 -- a pass stores the first word of a file in that of a node that is free
@@ -285,28 +285,29 @@ abbrev pub InstallsKeep : Kind → Type 0
 InstallsKeep tells = (k : Start) (slots id i slot n new : ℕ) (file : Identity) (m : Sat) (x : Log)
     → HasPass k m x → m.0.work ≡ Placing n (label_of file) → m.1 ≡ (n, Some file) ∷ []
     → file.entry < 2 ^ 8 → slot < slots_of k → m.0.change ≡ Outside
-    → i ≡ slot_place slot → new ≡ slot_word_of n file.entry
+    → i ≡ slot_place slot → new ≡ file_word_of n file.entry
     → Allows (Agrees k) slots id m i (λ _. new) (tells (step slots i new 0 none) m)
 
--- an idle pass swaps 0 into a slot's word, for an update
+-- an idle pass leaves of a slot's word the name alone, for an update
 abbrev pub ClearsKeep : Kind → Type 0
 ClearsKeep tells = (k : Start) (slots id i slot : ℕ) (m : Sat) (x : Log) → HasPass k m x
     → HasNoFile m.0.work → slot < slots_of k → IsOffCount k slot m.0.change → i ≡ slot_place slot
-    → Allows (Agrees k) slots id m i (λ _. 0) (tells (step slots i 0 0 none) m)
+    → Allows (Agrees k) slots id m i (λ word. bit_and word name_mask)
+    (tells (step slots i name_mask 0 none) m)
 
--- an idle pass swaps 0 into a slot's word, for a close
+-- an idle pass leaves of a slot's word the name alone, for a close
 abbrev pub TakesOutKeep : Kind → Type 0
 TakesOutKeep tells = (k : Start) (slots id i slot : ℕ) (m : Sat) (x : Log) → HasPass k m x
     → HasNoFile m.0.work → slot < slots_of k → IsOffCount k slot m.0.change → i ≡ slot_place slot
-    → Allows (Agrees k) slots id m i (λ _. 0) (tells (step slots i 0 0 none) m)
+    → Allows (Agrees k) slots id m i (λ word. bit_and word name_mask)
+    (tells (step slots i name_mask 0 none) m)
 
--- a pass exchanges a word that names no file, at a slot of the range, for the word of
--- the file that it places
+-- a pass exchanges the word of an empty slot of the range for the word of the file that it places
 abbrev pub ExchangesKeep : Kind → Type 0
 ExchangesKeep tells = (k : Start) (slots id i slot n old new : ℕ) (file : Identity) (m : Sat)
     (x : Log) → HasPass k m x → m.0.work ≡ Placing n (label_of file) → m.1 ≡ (n, Some file) ∷ []
     → file.entry < 2 ^ 8 → m.0.change ≡ Outside → IsInRange k slot → i ≡ slot_place slot
-    → name_in old ≡ 0 → new ≡ slot_word_of n file.entry
+    → full_name_in old ≡ 0 → new ≡ file_word_of n file.entry
     → Allows (Agrees k) slots id m i (λ word. either (word == old) new word)
     (tells (step slots i old new none) m)
 
@@ -316,18 +317,19 @@ SeesKeep tells = (k : Start) (slots id i slot : ℕ) (m : Sat) (x : Log) → Has
     → slot < slots_of k → i ≡ slot_place slot
     → Allows (Agrees k) slots id m i (λ word. word) (tells (step slots i 0 0 none) m)
 
--- an idle pass exchanges the word of a slot that it saw for 0
+-- an idle pass exchanges the word of a slot that it saw for its name alone
 abbrev pub TakesIfKeep : Kind → Type 0
-TakesIfKeep tells = (k : Start) (slots id i slot old : ℕ) (m : Sat) (x : Log) → HasPass k m x
+TakesIfKeep tells = (k : Start) (slots id i slot old new : ℕ) (m : Sat) (x : Log) → HasPass k m x
     → HasNoFile m.0.work → slot < slots_of k → IsOffCount k slot m.0.change → i ≡ slot_place slot
-    → Allows (Agrees k) slots id m i (λ word. either (word == old) 0 word)
-    (tells (step slots i old 0 none) m)
+    → new ≡ without_file old
+    → Allows (Agrees k) slots id m i (λ word. either (word == old) new word)
+    (tells (step slots i old new none) m)
 
 -- a pass exchanges the word of a slot that it saw for the word of the file that it places
 abbrev pub ReplacesKeep : Kind → Type 0
 ReplacesKeep tells = (k : Start) (slots id i slot n old new : ℕ) (file : Identity) (m : Sat)
     (x : Log) → HasPass k m x → m.0.work ≡ Placing n (label_of file) → m.1 ≡ (n, Some file) ∷ []
     → file.entry < 2 ^ 8 → slot < slots_of k → m.0.change ≡ Outside → i ≡ slot_place slot
-    → new ≡ slot_word_of n file.entry
+    → new ≡ file_word_of n file.entry
     → Allows (Agrees k) slots id m i (λ word. either (word == old) new word)
     (tells (step slots i old new none) m)

@@ -1,9 +1,11 @@
 -- Where the words and the open files of a lasting table are.
-use Rattle.std.specs.Prelude.{◌≡◌, ◌≢◌, ℕ, ◌+◌, ◌-◌, ◌*◌, ◌/◌, ◌<◌, ◌≤◌, nat_lt}
-use Rattle.std.specs.Prelude.{if◌then◌else◌}
+use Rattle.std.specs.Prelude.{◌≡◌, ◌≢◌, ℕ, ◌+◌, ◌-◌, ◌*◌, ◌/◌, ◌<◌, ◌≤◌, min, nat_lt}
+use Rattle.std.specs.Prelude.{if◌then◌else◌, zero, suc, List, [], ◌∷◌, ◌++◌}
+use Rattle.std.specs.List.{range_with_len}
 use Rattle.fx_lasting.specs.Parts.{bit_of}
 
--- The question word, each group of slots, each slot and each pass have a cache line of their own.
+-- The question word, each group of slots, each of the first 4,096 slots and each pass have a cache
+-- line of their own.
 -- The list of passes that ever looked a file up has a bit for each of 1,024 passes, 64 in a word.
 
 -- the word with a bit for each pass that asks whether the allocation range is full
@@ -18,44 +20,63 @@ group_place group = 24 + 8 * group
 abbrev pub list_place : ℕ → ℕ
 list_place pass = 8 + (pass - 1) / 64
 
+-- the number of words that the first `n` slots take: each of the first 4,096 slots has a cache line
+-- of its own, and the words of the others are side by side
+abbrev pub slot_words : ℕ → ℕ
+slot_words n = n + 7 * min n 4096
+
 -- the word of a slot
 abbrev pub slot_place : ℕ → ℕ
-slot_place slot = 536 + 8 * slot
+slot_place slot = 536 + slot_words slot
 
 -- the hold word of a pass, from 1
 abbrev pub hold_place : ℕ → ℕ → ℕ
-hold_place size pass = 528 + 8 * size + 8 * pass
+hold_place size pass = 528 + slot_words size + 8 * pass
 
 -- the word of a node: these follow all others but the labels, side by side
 abbrev pub node_place : ℕ → ℕ → ℕ → ℕ
-node_place size passes node = 536 + 8 * size + 8 * passes + node
+node_place size passes node = 536 + slot_words size + 8 * passes + node
 
 -- the two words of a node's label, the tag of its file and the number: these come last
 abbrev pub tag_place : ℕ → ℕ → ℕ → ℕ → ℕ
-tag_place size passes nodes node = 536 + 8 * size + 8 * passes + nodes + 2 * node
+tag_place size passes nodes node = 536 + slot_words size + 8 * passes + nodes + 2 * node
 
 abbrev pub number_place : ℕ → ℕ → ℕ → ℕ → ℕ
 number_place size passes nodes node = tag_place size passes nodes node + 1
 
 -- the number of words of a table with `nodes` nodes
 abbrev pub words_for : ℕ → ℕ → ℕ → ℕ
-words_for size passes nodes = 536 + 8 * size + 8 * passes + 3 * nodes
+words_for size passes nodes = 536 + slot_words size + 8 * passes + 3 * nodes
 
--- the number of nodes in a pass's block: one of them is free whenever the pass does nothing
-abbrev pub block_for : ℕ → ℕ → ℕ
-block_for size passes = 2 * (size + passes)
+-- the first node of a pass's first stock: the nodes that the slots name first come before all
+-- stocks
+abbrev pub stock_start : ℕ → ℕ → ℕ → ℕ
+stock_start size passes pass = size + (pass - 1) * passes
 
--- the first node of a pass's block: the nodes of the files that were there come before all blocks
-abbrev pub block_start : ℕ → ℕ → ℕ → ℕ
-block_start size passes pass = size + (pass - 1) * block_for size passes
+-- the number of nodes of a pass's stock: as many as the table has passes, if it installs files
+abbrev pub stock_for : (passes installing pass : ℕ) → ℕ
+stock_for passes installing pass = if nat_lt installing pass then 0 else passes
 
--- the number of nodes of a table in which `installing` passes install
+-- the nodes of its first stock
+abbrev pub stock_of : (size passes installing pass : ℕ) → List ℕ
+stock_of size passes installing pass =
+    range_with_len (stock_start size passes pass) (stock_for passes installing pass)
+
+-- the first stocks of the `n` passes from `pass` on, the last one's first
+abbrev pub stocks_back : (size passes installing pass n : ℕ) → List (List ℕ)
+stocks_back size passes installing pass zero = []
+stocks_back size passes installing pass (suc n) =
+    stocks_back size passes installing (pass + 1) n ++ stock_of size passes installing pass ∷ []
+
+-- the number of nodes of a table in which `installing` passes install: one for each slot, and for
+-- each of these passes as many as the table has passes
 abbrev pub nodes_for : ℕ → ℕ → ℕ → ℕ
-nodes_for size passes installing = size + installing * block_for size passes
+nodes_for size passes installing = size + installing * passes
 
 -- the number of slots of a group, in a range of `len` slots. The last group may have fewer
 abbrev pub group_size : ℕ → ℕ
-group_size len = if nat_lt 256 len then 64 else 4
+group_size len = if nat_lt 65536 len then 16384
+    else if nat_lt 4096 len then 1024 else if nat_lt 256 len then 64 else 4
 
 -- the number of groups
 abbrev pub groups_in : ℕ → ℕ

@@ -21,18 +21,19 @@ use Rattle.fx_lasting.specs.declared.view.View.{View}
 
 -- the view of a seat that has the new passes from p to the last
 abbrev pub dealt : Start → ℕ → View
-dealt k p = record (first_view k) { logs = new_logs p ((k.passes + 1) - p) }
+dealt k p = record (first_view k) { logs = new_logs k p ((k.passes + 1) - p) }
 
 -- the passes of these seats, in their order
 abbrev pub logs_in : List LastingPass → List Log
 logs_in ps = flat_map (λ p. p.seat.me.0.logs) ps
 
--- the pass has this seat and number, begins its searches at this node, and has made no step
-pub record IsNewPass (seat : Seat (Option Identity) View) (number node : ℕ)
+-- the pass has this seat, number and stock, and has made no step
+pub record IsNewPass (seat : Seat (Option Identity) View) (number : ℕ) (stock : List ℕ)
     (p : LastingPass) : Type 0 where
   pub its_seat : p.seat ≡ seat
   pub its_number : p.number ≡ number
-  pub its_node : p.next_node ≡ node
+  pub its_stock : p.stock.items ≡ stock
+  pub next : p.next_entry ≡ 0
   pub flag : p.idle ≡ true
   pub unlisted : p.listed ≡ false
   pub unsure : p.sure ≡ false

@@ -6,13 +6,12 @@ use lib.ListN.{get_elem?}
 use Rattle.atomic_table.specs.Table.{opening}
 use Rattle.fx_base.specs.Identity.{Identity}
 use Rattle.fx_plain.specs.declared.event.File.{File}
-use Rattle.fx_words.specs.Words.{slot_word_of}
 use Rattle.fx_table.specs.FullSlots.{full_in}
 use Rattle.fx_lasting.specs.Agrees.{Labels}
 use Rattle.fx_lasting.specs.Labels.{label_of}
 use Rattle.fx_lasting.specs.Layout.{question_place, group_place, list_place, slot_place}
 use Rattle.fx_lasting.specs.Layout.{words_for, groups_in, group_start, group_len}
-use Rattle.fx_lasting.specs.Parts.{birth_word}
+use Rattle.fx_lasting.specs.Parts.{birth_word, empty_word_of, file_word_of}
 use Rattle.fx_lasting.specs.Passes.{Shared, slots_of, range_at_start, nodes_of}
 use Rattle.fx_lasting.specs.Passes.{word_of, hold_word_of}
 use Rattle.fx_lasting.specs.Passes.{state_after_all}
@@ -20,10 +19,11 @@ use Rattle.fx_lasting.specs.declared.layout.TheConstants.{MOST_SLOTS}
 use Rattle.fx_lasting.specs.declared.view.Start.{Start}
 use Rattle.fx_lasting.specs.declared.view.View.{View}
 
--- the word of a slot: the file there has the slot's number, and the node of that number
-abbrev pub word_for : Option File → ℕ
-word_for None = 0
-word_for (Some f) = slot_word_of f.number f.identity.entry
+-- the word of a slot names the slot's node: the file there has the slot's number, and the node of
+-- that number
+abbrev pub word_for : ℕ → Option File → ℕ
+word_for slot None = empty_word_of slot
+word_for slot (Some f) = file_word_of f.number f.identity.entry
 
 -- the word of the node
 abbrev pub node_for : Option File → ℕ
@@ -55,7 +55,7 @@ pub record OpensWith (k : Start) (words : List ℕ) (homes : List (Option Identi
       ≡ full_in (first_file k) (group_start (range_at_start k) group)
       (group_len (range_at_start k).1 group)
   pub slot_words : (slot : ℕ) → slot < slots_of k
-      → slice_index words (slot_place slot) ≡ word_for (first_file k slot)
+      → slice_index words (slot_place slot) ≡ word_for slot (first_file k slot)
   pub node_words : (slot : ℕ) → slot < slots_of k
       → slice_index words (word_of k slot) ≡ node_for (first_file k slot)
   -- each file's label is written

@@ -1,14 +1,43 @@
 -- The parts of words, as numbers.
-use Rattle.std.specs.Prelude.{◌≡◌, ℕ, ◌+◌, ◌-◌, ◌/◌, ◌%◌, ◌^◌, ◌<◌, ◌==◌, if◌then◌else◌}
+use Rattle.std.specs.Prelude.{◌≡◌, ℕ, ◌+◌, ◌-◌, ◌*◌, ◌/◌, ◌%◌, ◌^◌, ◌<◌, ◌==◌, if◌then◌else◌}
+use Rattle.std.specs.Prelude.{Option}
 use Rattle.std.specs.Int.{bit_at}
+use Rattle.fx_words.specs.Words.{name_in, named, slot_word_of}
 
--- the name, the entry and the node of a slot's word are those of `fx_words`. The 32 bits below them
--- count the passes that heated the slot, 11 bits, and its takes, 21 bits
+-- the name and the entry of a slot's word are those of `fx_words`. The 32 bits below them count the
+-- passes that heated the slot, 11 bits, say whether the slot is full, one bit, and count its takes,
+-- 20 bits. An empty slot's word keeps the name of a node
+abbrev pub full_unit : ℕ
+full_unit = 2 ^ 20
+
+-- the name of the node of the file at the slot, or 0 if the slot is empty
+abbrev pub full_name_in : ℕ → ℕ
+full_name_in word = if word / 2 ^ 20 % 2 == 1 then name_in word else 0
+
+-- the node of the file at the slot
+abbrev pub file_node_in : ℕ → Option ℕ
+file_node_in word = named (full_name_in word)
+
+-- the word of a slot with a file on this node, and of an empty slot that names this node
+abbrev pub file_word_of : (node entry : ℕ) → ℕ
+file_word_of node entry = slot_word_of node entry + full_unit
+
+abbrev pub empty_word_of : ℕ → ℕ
+empty_word_of node = (node + 1) * 2 ^ 40
+
+-- the bits of the name
+abbrev pub name_mask : ℕ
+name_mask = 2 ^ 64 - 2 ^ 40
+
+-- the word of a slot once its file was removed: the name alone
+abbrev pub without_file : ℕ → ℕ
+without_file word = word / 2 ^ 40 * 2 ^ 40
+
 abbrev pub heat_unit : ℕ
 heat_unit = 2 ^ 21
 
 abbrev pub count_in : ℕ → ℕ
-count_in word = word % 2 ^ 21
+count_in word = word % 2 ^ 20
 
 abbrev pub heat_in : ℕ → ℕ
 heat_in word = word / 2 ^ 21 % 2 ^ 11
@@ -19,7 +48,7 @@ IsHot word = 0 < heat_in word
 
 -- the takes from which on a slot becomes hot: a pass that is alone disturbs nobody
 abbrev pub cold_takes : ℕ → ℕ
-cold_takes passes = if passes == 1 then 2 ^ 20 else 16
+cold_takes passes = if passes == 1 then 2 ^ 19 else 16
 
 -- the place of a pass's bit in its word of the list
 abbrev pub bit_of : ℕ → ℕ

@@ -10,7 +10,7 @@ use Rattle.fx_plain.specs.History.{state_after, action_of, IsLegal}
 use Rattle.fx_plain.specs.State.{State, opening}
 use Rattle.fx_plain.specs.declared.event.Event.{Event}
 use Rattle.fx_plain.specs.declared.event.File.{File}
-use Rattle.fx_lasting.specs.Layout.{block_for, block_start, nodes_for, hold_place, node_place}
+use Rattle.fx_lasting.specs.Layout.{stock_for, stock_of, nodes_for, hold_place, node_place}
 use Rattle.fx_lasting.specs.Layout.{tag_place, number_place}
 use Rattle.fx_lasting.specs.declared.view.Survey.TheVariants.{None as NotAsked}
 use Rattle.fx_lasting.specs.declared.view.Log.{Log}
@@ -64,11 +64,6 @@ nodes_of k = nodes_for (slots_of k) k.passes k.installing
 abbrev pub node_of_number : Start → ℕ → ℕ
 node_of_number k number = number % nodes_of k
 
--- the node is one of the pass's block
-abbrev pub IsInBlock : Start → ℕ → ℕ → Type 0
-IsInBlock k pass node = let first = block_start (slots_of k) k.passes pass in
-    (first ≤ node) × (node < first + block_for (slots_of k) k.passes)
-
 -- where the word of a node is, and the hold word of a pass
 abbrev pub word_of : Start → ℕ → ℕ
 word_of k node = node_place (slots_of k) k.passes node
@@ -90,14 +85,30 @@ state_after_all k h = state_after (state_at_start k) (map action_of h)
 abbrev pub IsHistory : Start → List Event → Type 0
 IsHistory k h = IsLegal (state_at_start k) h (state_after_all k h)
 
+-- the number of nodes that a pass has in stock, and these nodes at first
+abbrev pub stock_len : Start → ℕ → ℕ
+stock_len k p = stock_for k.passes k.installing p
+
+abbrev pub first_stock : Start → ℕ → List ℕ
+first_stock k p = stock_of (slots_of k) k.passes k.installing p
+
 -- a pass that has seen and done nothing
-abbrev pub new_log : ℕ → Log
-new_log p =
-    record { number = p; front = []; steps = 0; listed = false; asked = NotAsked }
+abbrev pub log_with : ℕ → List ℕ → Log
+log_with p stock = record {
+  number = p;
+  front = [];
+  steps = 0;
+  listed = false;
+  asked = NotAsked;
+  stock = stock;
+}
+
+abbrev pub new_log : Start → ℕ → Log
+new_log k p = log_with p (first_stock k p)
 
 -- the one pass of a seat
 abbrev pub first_log : List Log → Log
-first_log [] = new_log 0
+first_log [] = log_with 0 []
 first_log (x ∷ xs) = x
 
 -- the file that the pass holds

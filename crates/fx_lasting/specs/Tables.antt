@@ -1,5 +1,5 @@
 -- A lasting table and its passes, as their callers see them.
-use Rattle.std.specs.Prelude.{◌≡◌, ℕ, ◌+◌, ◌<◌, ◌^◌, ◌⊎◌, nat_lt, if◌then◌else◌, Bool, true}
+use Rattle.std.specs.Prelude.{◌≡◌, ℕ, ◌+◌, ◌<◌, ◌≤◌, ◌^◌, ◌⊎◌, nat_lt, if◌then◌else◌, Bool, true}
 use Rattle.std.specs.Prelude.{false, List, [], map}
 use Rattle.atomic_table.specs.Seated.{TableId}
 use Rattle.fx_plain.specs.History.{part_of_pass}
@@ -14,7 +14,7 @@ use Rattle.fx_table.specs.declared.values.Hold.{Hold}
 use Rattle.fx_table.specs.declared.values.Retired.{Retired}
 use Rattle.fx_lasting.specs.AtWork.{IsAtWork}
 use Rattle.fx_lasting.specs.Layout.{groups_in}
-use Rattle.fx_lasting.specs.Passes.{contents_of, first_log, range_at_start, IsInBlock}
+use Rattle.fx_lasting.specs.Passes.{contents_of, first_log, range_at_start}
 use Rattle.fx_lasting.specs.Tells.{pass_in, new_round}
 use Rattle.fx_lasting.specs.declared.view.Survey.TheVariants.{Covered}
 use Rattle.fx_lasting.specs.declared.view.Change.TheVariants.{Outside}
@@ -86,7 +86,7 @@ IsBetweenCalls passes idle guarded visit (Searching node) = idle ≡ true
 IsBetweenCalls passes idle guarded visit (Counted f node) = (idle ≡ false) × (guarded ≡ false)
 IsBetweenCalls passes idle guarded visit (Guarded f node) = (idle ≡ false) × (guarded ≡ true)
 IsBetweenCalls passes idle guarded visit (Retiring f node takes round marks) =
-    (idle ≡ false) × (round ≡ new_round visit) × (marks ≡ 0) × (takes < 2 ^ 21)
+    (idle ≡ false) × (round ≡ new_round visit) × (marks ≡ 0) × (takes < 2 ^ 20)
     × ((visit ≡ 1) ⊎ (visit ≡ passes + 1))
 IsBetweenCalls passes idle guarded visit _ = ⊥
 
@@ -97,7 +97,8 @@ pub record IsSeatOf (id : TableId) (k : Start) (p : LastingPass) : Type 0 where
   pub places : p.seat.me.1 ≡ []
   pub at : IsAtWork k p.number p.seat.me
   pub change : p.seat.me.0.change ≡ Outside
-  pub block : IsInBlock k p.number p.next_node
+  pub stock : p.stock.items ≡ (pass_in p.seat.me).stock
+  pub next : p.number ≤ k.installing → p.next_entry < k.passes
   pub listed : p.listed ≡ (pass_in p.seat.me).listed
   -- a pass that is sure has visited all groups
   pub sure : p.sure ≡ true → (pass_in p.seat.me).asked ≡ Covered (groups_in (range_at_start k).1)

@@ -1,7 +1,10 @@
 -- Each kind of step: its effect on the pass that makes it.
 use Rattle.std.specs.Prelude.{◌≡◌, ◌≢◌, ℕ, ◌+◌, ◌-◌, ◌*◌, ◌/◌, ◌<◌, ◌==◌, nat_lt}
-use Rattle.std.specs.Prelude.{if◌then◌else◌, ◌≤◌, true, List, [], ◌∷◌, ◌++◌, map, Option, Some}
-use Rattle.std.specs.Prelude.{None}
+use Rattle.std.specs.Prelude.{if◌then◌else◌, min}
+use Rattle.std.specs.Prelude.{◌≤◌, true, List, [], slice_set}
+use mathlib.Core.Option.{some}
+use lib.ListN.{get_elem?}
+use Rattle.std.specs.Prelude.{◌∷◌, ◌++◌, map, Option, Some, None}
 use Rattle.atomic_table.specs.Table.{Step, rest}
 use Rattle.fx_base.specs.Identity.{Identity}
 use Rattle.fx_plain.specs.History.{◌▷◌, IsSeenBy, part_of_pass}
@@ -11,13 +14,15 @@ use Rattle.fx_plain.specs.declared.event.Event.{Event}
 use Rattle.fx_plain.specs.declared.event.Action.{Action}
 use Rattle.fx_plain.specs.declared.event.Action.TheVariants.{Look, Release, Put, Allocate, Full}
 use Rattle.fx_plain.specs.declared.event.Action.TheVariants.{Close, Take}
-use Rattle.fx_words.specs.Words.{name_in, entry_in}
+use Rattle.fx_words.specs.Words.{entry_in, name_in}
 use Rattle.fx_lasting.specs.Agrees.{Names}
 use Rattle.fx_lasting.specs.Labels.{label_of}
-use Rattle.fx_lasting.specs.Layout.{list_place, group_of, group_len}
-use Rattle.fx_lasting.specs.Parts.{heat_in, IsHot, count_in, cold_takes, announced, IsListedIn}
+use Rattle.fx_lasting.specs.Layout.{slot_words, list_place, group_of, group_len}
+use Rattle.fx_lasting.specs.Parts.{full_name_in, heat_in, IsHot, count_in, cold_takes, announced}
+use Rattle.fx_lasting.specs.Parts.{IsListedIn}
 use Rattle.fx_lasting.specs.Groups.{account, HasQuestionOf}
-use Rattle.fx_lasting.specs.Passes.{Sat, slots_of, nodes_of, range_at_start, IsInBlock, word_of}
+use Rattle.fx_lasting.specs.Stocks.{IsInStock}
+use Rattle.fx_lasting.specs.Passes.{Sat, slots_of, nodes_of, range_at_start, word_of}
 use Rattle.fx_lasting.specs.Passes.{IsHistory, node_of_number, first_log, state_after_all}
 use Rattle.fx_lasting.specs.declared.view.Survey.{Survey}
 use Rattle.fx_lasting.specs.declared.view.Survey.TheVariants.{None as NotAsked, Covered}
@@ -40,7 +45,7 @@ At = Step (Option Identity)
 
 -- the slot whose word is there
 abbrev pub slot_of : ℕ → ℕ
-slot_of place = (place - 536) / 8
+slot_of place = min ((place - 536) / 8) 4096 + (place - (536 + 8 * 4096))
 
 -- the group whose word is there
 abbrev pub group_at : ℕ → ℕ
@@ -48,7 +53,7 @@ group_at place = (place - 24) / 8
 
 -- the pass whose hold word is there
 abbrev pub pass_at : Start → ℕ → ℕ
-pass_at k place = (place - (528 + 8 * slots_of k)) / 8
+pass_at k place = (place - (528 + slot_words (slots_of k))) / 8
 
 -- an action of a pass: a lasting table knows no chains
 abbrev pub pass_event : Log → Action → Event
@@ -83,6 +88,18 @@ as_listed m = (record m.0 { logs = record (pass_in m) { listed = true } ∷ [] }
 abbrev pub as_asked : Survey → Sat → Sat
 as_asked asked m = (record m.0 { logs = record (pass_in m) { asked = asked } ∷ [] }, m.1)
 
+-- a seat whose pass has this stock
+abbrev pub as_stocked : List ℕ → Sat → Sat
+as_stocked stock m = (record m.0 { logs = record (pass_in m) { stock = stock } ∷ [] }, m.1)
+
+-- a seat whose pass has this node at an entry of its stock
+abbrev pub as_swapped : (entry node : ℕ) → Sat → Sat
+as_swapped entry node m = as_stocked (slice_set (pass_in m).stock entry node) m
+
+-- the word of a slot, full or empty, names a node of the table
+abbrev pub NamesANode : Start → ℕ → Type 0
+NamesANode k found = (name_in found ≢ 0) × (name_in found - 1 < nodes_of k)
+
 -- One step of a seat with one pass: it saw more of the history and took these actions, and now it
 -- does this work
 pub record Stepped (m : Sat) (actions : List Action) (w : Work) (g : Glance) (c : Change)
@@ -96,6 +113,7 @@ pub record Stepped (m : Sat) (actions : List Action) (w : Work) (g : Glance) (c 
   pub steps : (pass_in m').steps ≡ (pass_in m).steps + 1
   pub listed : (pass_in m').listed ≡ (pass_in m).listed
   pub asked : (pass_in m').asked ≡ (pass_in m).asked
+  pub stock : (pass_in m').stock ≡ (pass_in m).stock
   pub work : m'.0.work ≡ w
   pub inside : IsInside m.0.start w
   pub glance : m'.0.glance ≡ g
@@ -110,10 +128,10 @@ pub record Goes (m : Sat) (actions : List Action) (w : Work) (g : Glance) (m' : 
 -- Glance: an empty slot is looked up at once. Of a hot one a listed pass is to announce the node;
 -- what another one names is to be taken
 pub record Glances (st : At) (m : Sat) (found : ℕ) (m' : Sat) : Type 0 where
-  pub empty : name_in found ≡ 0 → Goes m ([] ▷ Look (slot_of st.word) None) Idle Nothing m'
-  pub cold : (node : ℕ) → name_in found ≡ node + 1 → (IsHot found × IsOnList m → ⊥)
+  pub empty : full_name_in found ≡ 0 → Goes m ([] ▷ Look (slot_of st.word) None) Idle Nothing m'
+  pub cold : (node : ℕ) → full_name_in found ≡ node + 1 → (IsHot found × IsOnList m → ⊥)
       → Goes m [] Idle (Cold (slot_of st.word)) m'
-  pub hot : (node : ℕ) → name_in found ≡ node + 1 → IsHot found → IsOnList m
+  pub hot : (node : ℕ) → full_name_in found ≡ node + 1 → IsHot found → IsOnList m
       → Goes m [] Idle (Hot (slot_of st.word) node) m' × (node < nodes_of m.0.start)
 
 -- List: the list has the pass's bit
@@ -133,10 +151,10 @@ Shows found f = entry_in found ≡ f.identity.entry
 -- is to be withdrawn, and what the slot names now is to be taken
 pub record Confirms (st : At) (m : Sat) (found : ℕ) (m' : Sat) : Type 0 where
   pub holds : (slot node : ℕ) → m.0.glance ≡ Hot slot node → m.0.work ≡ Announced node
-      → name_in found ≡ node + 1 → IsHot found
+      → full_name_in found ≡ node + 1 → IsHot found
       → (f : File) × Shows found f × Goes m ([] ▷ Look slot (Some f)) (Guarded f node) Nothing m'
   pub moved : (slot node : ℕ) → m.0.glance ≡ Hot slot node → m.0.work ≡ Announced node
-      → ((name_in found ≡ node + 1) × IsHot found → ⊥)
+      → ((full_name_in found ≡ node + 1) × IsHot found → ⊥)
       → Goes m [] (Announced node) (Cold slot) m'
 
 -- Withdraw: a mark that was found is owed
@@ -154,9 +172,9 @@ glance_after passes slot found =
 
 -- Take: the file that the slot names is held by a take, if there is one
 pub record Takes (st : At) (m : Sat) (found : ℕ) (m' : Sat) : Type 0 where
-  pub empty : (slot : ℕ) → m.0.glance ≡ Cold slot → name_in found ≡ 0
+  pub empty : (slot : ℕ) → m.0.glance ≡ Cold slot → full_name_in found ≡ 0
       → Goes m ([] ▷ Look slot None) Idle (glance_after m.0.start.passes slot found) m'
-  pub holds : (slot node : ℕ) → m.0.glance ≡ Cold slot → name_in found ≡ node + 1
+  pub holds : (slot node : ℕ) → m.0.glance ≡ Cold slot → full_name_in found ≡ node + 1
       → (f : File) × Shows found f
       × Goes m ([] ▷ Look slot (Some f)) (Counted f node)
       (glance_after m.0.start.passes slot found) m'
@@ -194,11 +212,11 @@ pub record LettingGo (st : At) (m : Sat) (found : ℕ) (m' : Sat) : Type 0 where
       × (found ≡ 2 → TakesOut m ([] ▷ Release f) f node m')
 
 -- Seek, of a node's word: where it is 0 the node is free, and the pass may use it; else another
--- node of its block is free, and it stays so while the pass looks on
+-- node of its stock is free, and it stays so while the pass looks on
 pub record Seeks (st : At) (m : Sat) (found : ℕ) (m' : Sat) : Type 0 where
   pub node : ℕ
   pub goes : Goes m [] (Searching node) m.0.glance m'
-  pub block : IsInBlock m.0.start (pass_in m).number node
+  pub stock : IsInStock (pass_in m).stock node
   pub here : found ≡ 0 → st.word ≡ word_of m.0.start node
   pub other : found ≢ 0 → st.word ≢ word_of m.0.start node
   pub stays : (n : ℕ) → m.0.work ≡ Searching n → found ≢ 0 → node ≡ n
@@ -282,27 +300,30 @@ new_round first = record { next = first; words = 0; last = 0 }
 abbrev pub retiring_work : Start → ℕ → Option File → Work
 retiring_work k found None = Idle
 retiring_work k found (Some f) =
-    Retiring f (name_in found - 1) (count_in found) (new_round (first_visit k.passes found)) 0
+    Retiring f (full_name_in found - 1) (count_in found) (new_round (first_visit k.passes found)) 0
 
 -- what a swap found
 abbrev pub Found : ℕ → Option File → Type 0
-Found found None = name_in found ≡ 0
-Found found (Some f) = (name_in found ≢ 0) × Shows found f
+Found found None = full_name_in found ≡ 0
+Found found (Some f) = (full_name_in found ≢ 0) × Shows found f
 
 -- Swap, to the word of the file that the pass places: the file has a number that none had before,
--- and which says its node
+-- and which says its node. The node that the word named takes the place of the file's in the stock
 pub record Installs (st : At) (m : Sat) (found : ℕ) (m' : Sat) : Type 0 where
   pub replaced : Option File
   pub names : Found found replaced
-  pub stepped : (n : ℕ) (file : Identity) → m.0.work ≡ Placing n (label_of file)
+  pub named : NamesANode m.0.start found
+  pub stepped : (n entry : ℕ) (file : Identity) → m.0.work ≡ Placing n (label_of file)
       → m.1 ≡ (n, Some file) ∷ []
+      → get_elem? (pass_in m).stock entry ≡ some n
       → (number : ℕ) × (node_of_number m.0.start number ≡ n)
-      × Stepped m ([] ▷ Put (slot_of st.word) (numbered number file) replaced)
+      × Stepped (as_swapped entry (name_in found - 1) m)
+      ([] ▷ Put (slot_of st.word) (numbered number file) replaced)
       (retiring_work m.0.start found replaced) m.0.glance
       (account (range_at_start m.0.start) (slot_of st.word) replaced) m'
   pub carried : m'.1 ≡ rest m.1
 
--- Swap, to an empty slot's word, by a clear or by a take
+-- And, to an empty slot's word, by a clear or by a take
 pub record Removes (action : ℕ → Option File → Action)
     (st : At) (m : Sat) (found : ℕ) (m' : Sat) : Type 0 where
   pub file : Option File
@@ -365,11 +386,12 @@ pub record Peeks (st : At) (m : Sat) (found : ℕ) (m' : Sat) : Type 0 where
 
 -- Exchange: the file that the pass places is at the slot, which was empty; or nothing changed
 pub record Exchanges (st : At) (m : Sat) (found : ℕ) (m' : Sat) : Type 0 where
-  pub wins : (n : ℕ) (file : Identity) → m.0.work ≡ Placing n (label_of file)
+  pub wins : (n entry : ℕ) (file : Identity) → m.0.work ≡ Placing n (label_of file)
       → m.1 ≡ (n, Some file) ∷ []
-      → found ≡ st.first
-      → (number : ℕ) × (node_of_number m.0.start number ≡ n)
-      × Stepped m ([] ▷ Allocate (slot_of st.word) (numbered number file)) Idle m.0.glance
+      → get_elem? (pass_in m).stock entry ≡ some n → found ≡ st.first
+      → (number : ℕ) × (node_of_number m.0.start number ≡ n) × NamesANode m.0.start found
+      × Stepped (as_swapped entry (name_in found - 1) m)
+      ([] ▷ Allocate (slot_of st.word) (numbered number file)) Idle m.0.glance
       (Inside (group_of (range_at_start m.0.start) (slot_of st.word))) m'
       × (m'.1 ≡ rest m.1)
   pub loses : found ≢ st.first → Goes m [] m.0.work m.0.glance m'
@@ -391,12 +413,13 @@ pub record TakesIf (st : At) (m : Sat) (found : ℕ) (m' : Sat) : Type 0 where
 -- Replace, if the slot's word is the one that the pass saw: the file that the pass places is at the
 -- slot then; or nothing changed
 pub record Replaces (st : At) (m : Sat) (found : ℕ) (m' : Sat) : Type 0 where
-  pub wins : (n : ℕ) (file : Identity) → m.0.work ≡ Placing n (label_of file)
+  pub wins : (n entry : ℕ) (file : Identity) → m.0.work ≡ Placing n (label_of file)
       → m.1 ≡ (n, Some file) ∷ []
-      → found ≡ st.first
+      → get_elem? (pass_in m).stock entry ≡ some n → found ≡ st.first
       → (replaced : Option File) × (number : ℕ) × Names (node_of_number m.0.start) found replaced
-      × (node_of_number m.0.start number ≡ n)
-      × Stepped m ([] ▷ Put (slot_of st.word) (numbered number file) replaced)
+      × (node_of_number m.0.start number ≡ n) × NamesANode m.0.start found
+      × Stepped (as_swapped entry (name_in found - 1) m)
+      ([] ▷ Put (slot_of st.word) (numbered number file) replaced)
       (retiring_work m.0.start found replaced) m.0.glance
       (account (range_at_start m.0.start) (slot_of st.word) replaced) m' × (m'.1 ≡ rest m.1)
   pub loses : found ≢ st.first → Sees st m found m'

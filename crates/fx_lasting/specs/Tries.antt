@@ -1,6 +1,8 @@
 -- A pass that searches the allocation range for an empty slot.
-use Rattle.std.specs.Prelude.{◌≡◌, ℕ, ◌+◌, ◌*◌, ◌<◌, Bool, true, false, [], ◌∷◌, Some, Result, Ok}
+use Rattle.std.specs.Prelude.{◌≡◌, ℕ, ◌+◌, ◌*◌, ◌<◌, [], ◌∷◌, Option, Some, None, Result, Ok}
 use Rattle.std.specs.Prelude.{Err}
+use mathlib.Core.Option.{some}
+use lib.ListN.{get_elem?}
 use Rattle.fx_base.specs.Identity.{Identity}
 use Rattle.fx_plain.specs.History.{◌▷◌}
 use Rattle.fx_plain.specs.Table.{numbered}
@@ -13,20 +15,26 @@ use Rattle.fx_table.specs.declared.values.Doing.TheVariants.{Idle as DoesNothing
 use Rattle.fx_lasting.specs.Ends.{Does}
 use Rattle.fx_lasting.specs.Labels.{label_of}
 use Rattle.fx_lasting.specs.Layout.{group_size, groups_in}
-use Rattle.fx_lasting.specs.Passes.{Sat, node_of_number}
+use Rattle.fx_lasting.specs.Passes.{Sat, nodes_of, node_of_number}
+use Rattle.fx_lasting.specs.Stocks.{IsInStock}
+use Rattle.fx_lasting.specs.Tells.{as_swapped, pass_in}
 use Rattle.fx_lasting.specs.declared.tried.TriedPut.{TriedPut}
 use Rattle.fx_lasting.specs.declared.tried.TriedPut.TheVariants.{At, Full as AllFull, Again}
 use Rattle.fx_lasting.specs.declared.view.Work.TheVariants.{Idle, Placing}
 
--- the seat's pass has the place of the node, with the file that it is about to install
+-- the seat's pass has the place of a node of its stock, with the file that it is about to install
 pub record IsPlacing (node : ℕ) (file : Identity) (m : Sat) : Type 0 where
   pub work : m.0.work ≡ Placing node (label_of file)
   pub place : m.1 ≡ (node, Some file) ∷ []
+  pub stocked : IsInStock (pass_in m).stock node
 
--- the file is at the slot, which was empty before, on the node
-abbrev pub HasAllocated : ℕ → Identity → ℕ → ℕ → Sat → Sat → Type 0
-HasAllocated node file slot most m m' = (number : ℕ) × (node_of_number m.0.start number ≡ node)
-    × Does m ([] ▷ Allocate slot (numbered number file)) Idle most m' × (m'.1 ≡ [])
+-- the file is at the slot, which was empty before, on the node. The node that the slot named before
+-- takes its place in the stock
+abbrev pub HasAllocated : (node : ℕ) → Identity → (slot named most : ℕ) → Sat → Sat → Type 0
+HasAllocated node file slot named most m m' = (named < nodes_of m.0.start) × (m'.1 ≡ [])
+    × ((entry : ℕ) → get_elem? (pass_in m).stock entry ≡ some node
+    → (number : ℕ) × (node_of_number m.0.start number ≡ node)
+    × Does (as_swapped entry named m) ([] ▷ Allocate slot (numbered number file)) Idle most m')
 
 -- the file is still to be installed
 abbrev pub StillPlaces : ℕ → Identity → ℕ → Sat → Sat → Type 0
@@ -41,9 +49,9 @@ abbrev pub scan_steps : ℕ → ℕ
 scan_steps len = groups_in len * group_steps len + 3
 
 -- a try at one slot
-abbrev pub Tries : ℕ → Identity → ℕ → Sat → Bool → Sat → Type 0
-Tries node file slot m true m' = HasAllocated node file slot 3 m m'
-Tries node file slot m false m' = StillPlaces node file 3 m m'
+abbrev pub Tries : ℕ → Identity → ℕ → Sat → Option ℕ → Sat → Type 0
+Tries node file slot m (Some named) m' = HasAllocated node file slot named 3 m m'
+Tries node file slot m None m' = StillPlaces node file 3 m m'
 
 -- the result of a search that doesn't ask whether all is full
 abbrev pub without_asking : Result ℕ Identity → TriedPut

@@ -7,9 +7,7 @@ ghost use Rattle.fx_table.specs.Calls.{Looked, LookedUp, Released, Placed, Clear
 ghost use Rattle.fx_table.specs.Opening.{size_of};
 ghost use Rattle.fx_table.specs.Pass.{IsIdle, IsHoldOf, IsRetiredOf};
 ghost use Rattle.fx_table.specs.declared.values.LookFault.TheVariants.{Spent};
-ghost use Rattle.fx_words.specs.Words.{name_in};
-ghost use Rattle.fx_lasting.specs.Layout.{block_for};
-ghost use Rattle.fx_lasting.specs.Parts.{count_in};
+ghost use Rattle.fx_lasting.specs.Parts.{count_in, full_name_in};
 ghost use Rattle.fx_lasting.specs.Tables.{view_of, steps_taken, retired_at, opening_of_table, IsPassOfTable, IsSeatOfTable};
 ghost use Rattle.fx_lasting.specs.Tells.{Found, first_visit, IsOnList};
 ghost use Rattle.fx_lasting.specs.declared.view.Glance.TheVariants.{Hot, Cold};
@@ -17,12 +15,14 @@ ghost use Rattle.fx_lasting.specs.declared.view.Work.TheVariants.{Idle};
 
 use crate::kinds::{Clearing, Glancing, Installing, Listing, Retire, TakingOut};
 use crate::layout::{list_place, node_place, slot_place};
-use crate::parts::{count_of, is_hot, list_bit, retire_amount};
+use crate::parts::{
+    NAME, count_of, file_node_of, file_word, is_hot, list_bit, node_named, retire_amount,
+};
 use crate::pass::LastingPass;
 use crate::table::LastingTable;
 use fx_base::OpenFile;
 use fx_table::{Empty, Hold, LookFault, LookUp, Retired};
-use fx_words::{entry_of, node_of, slot_word};
+use fx_words::entry_of;
 
 impl LastingTable {
     /// Looks up a slot below `size`, for an idle pass (`is_idle`), in at most eight atomic steps.
@@ -46,7 +46,7 @@ impl LastingTable {
     {
         let shared = &self.table.shared;
         let word = shared.load::<Glancing>(&mut pass.seat, slot_place(slot));
-        let Some(node) = node_of(word) else {
+        let Some(node) = file_node_of(word) else {
             return LookUp {
                 found: Err(LookFault::Empty),
                 freed: None,
@@ -158,7 +158,7 @@ impl LastingTable {
 
     /// Installs a file at a slot below `size`, under a number that no file has had, for an idle
     /// pass (`is_idle`) that installs files (`numbers_left`). It makes at most five atomic steps
-    /// more than the pass's block has nodes. Returns the file that it replaced, to be retired, or
+    /// more than the table has passes. Returns the file that it replaced, to be retired, or
     /// `None` (io_uring_prep_openat(3), `io_uring_prep_openat_direct`).
     #[inline(always)]
     pub fn put(&self, pass: &mut LastingPass, slot: u32, file: OpenFile) -> Option<Retired>
@@ -169,18 +169,20 @@ impl LastingTable {
         ensures fits { IsPassOfTable self.now pass.new }
         ensures placed { Placed (opening_of_table self.now) (view_of pass.old) slot file result
             (view_of pass.new) }
-        ensures steps { let block = block_for self.now.size self.now.passes in
-            steps_taken pass.new ≤ steps_taken pass.old + (block + 5) }
+        ensures steps { let passes = self.now.passes in
+            steps_taken pass.new ≤ steps_taken pass.old + (passes + 5) }
     {
-        let node = self.seek(&mut pass.seat, pass.number, pass.next_node);
-        let word = slot_word(node, file.entry());
+        let stock = pass.stock.as_slice();
+        let (entry, node) = self.seek(&mut pass.seat, pass.number, stock, pass.next_entry);
+        let word = file_word(node, file.entry());
         self.put_in(&mut pass.seat, node, file);
         let shared = &self.table.shared;
         let found = shared.swap::<Installing>(&mut pass.seat, slot_place(slot), word);
         let replaced = removed_in(found);
         let inside = self.is_in_range(slot);
         self.raise(&mut pass.seat, slot, inside, replaced.is_none());
-        pass.next_node = node;
+        pass.stock[entry as usize] = node_named(found);
+        pass.next_entry = entry;
         pass.next_visit = self.first_visit(found);
         pass.idle = replaced.is_none();
         replaced
@@ -202,7 +204,7 @@ impl LastingTable {
         let inside = self.is_in_range(slot);
         self.lower(&mut pass.seat, slot, inside);
         let shared = &self.table.shared;
-        let found = shared.swap::<Clearing>(&mut pass.seat, slot_place(slot), 0);
+        let found = shared.fetch_and::<Clearing>(&mut pass.seat, slot_place(slot), NAME);
         let removed = removed_in(found);
         self.raise(&mut pass.seat, slot, inside, removed.is_none());
         pass.next_visit = self.first_visit(found);
@@ -230,7 +232,7 @@ impl LastingTable {
         let inside = self.is_in_range(slot);
         self.lower(&mut pass.seat, slot, inside);
         let shared = &self.table.shared;
-        let found = shared.swap::<TakingOut>(&mut pass.seat, slot_place(slot), 0);
+        let found = shared.fetch_and::<TakingOut>(&mut pass.seat, slot_place(slot), NAME);
         let removed = removed_in(found);
         self.raise(&mut pass.seat, slot, inside, removed.is_none());
         pass.next_visit = self.first_visit(found);
@@ -279,12 +281,12 @@ impl LastingTable {
     }
 }
 
-// Returns the file that a slot's word names, to be retired, or `None`.
+// Returns the file that was at a slot with this word, to be retired, or `None`.
 fn removed_in(word: u64) -> Option<Retired>
     ensures { (file : Option File) → Found word file
-        → result ≡ option_map (λ f. retired_at f (name_in word - 1) (count_in word)) file }
+        → result ≡ option_map (λ f. retired_at f (full_name_in word - 1) (count_in word)) file }
 {
-    match node_of(word) {
+    match file_node_of(word) {
         None => None,
         Some(node) => Some(Retired {
             node,

@@ -37,7 +37,11 @@ impl LastingTable {
         ensures few { result < groups_in self.now.range_len }
     {
         let index = slot - self.range_start;
-        if self.range_len > 256 {
+        if self.range_len > 65_536 {
+            index / 16_384
+        } else if self.range_len > 4096 {
+            index / 1024
+        } else if self.range_len > 256 {
             index / 64
         } else {
             index / 4

@@ -11,12 +11,12 @@ ghost use Rattle.fx_lasting.specs.Tables.{view_of, opening_of_table, IsPassOfTab
 
 use crate::kinds::Gather;
 use crate::layout::slot_place;
+use crate::parts::file_node_of;
 use crate::pass::LastingPass;
 use crate::table::LastingTable;
 use crate::view::View;
 use atomic_table::{Closed, Seat};
 use fx_base::OpenFile;
-use fx_words::node_of;
 use std::alloc::Global;
 
 impl LastingTable {
@@ -88,7 +88,7 @@ impl LastingTable {
         } = self;
         let mut closed = table.close_with(seat);
         for slot in 0..size {
-            if let Some(node) = node_of(closed.word(slot_place(slot))) {
+            if let Some(node) = file_node_of(closed.word(slot_place(slot))) {
                 if let Some(file) = take_home(&mut closed, node as usize) {
                     files.push_reserved((slot, file));
                 }

@@ -9,12 +9,11 @@
 ghost use Rattle.std.specs.Prelude.{◌≡◌, ℕ, ◌+◌, ◌<◌, ◌≤◌};
 ghost use Rattle.fx_table.specs.Opening.{size_of};
 ghost use Rattle.fx_table.specs.Pass.{IsIdle};
-ghost use Rattle.fx_words.specs.Words.{entry_in, name_in};
+ghost use Rattle.fx_words.specs.Words.{entry_in};
 ghost use Rattle.fx_lasting.specs.AtWork.{IsAtWork};
 ghost use Rattle.fx_lasting.specs.Keyed.{HasPutIf, HasTakenIf, SawIf, SaysIf, TriedReplace, TriedTake, TriesPut, TriesTake};
 ghost use Rattle.fx_lasting.specs.Laws.{IsOffCount};
-ghost use Rattle.fx_lasting.specs.Layout.{block_for};
-ghost use Rattle.fx_lasting.specs.Parts.{count_in};
+ghost use Rattle.fx_lasting.specs.Parts.{count_in, full_name_in};
 ghost use Rattle.fx_lasting.specs.Passes.{HasNoFile};
 ghost use Rattle.fx_lasting.specs.Tables.{view_of, steps_taken, opening_of_table, IsPassOfTable};
 ghost use Rattle.fx_lasting.specs.Tries.{IsPlacing};
@@ -23,14 +22,14 @@ ghost use Rattle.fx_lasting.specs.declared.view.Change.TheVariants.{Outside};
 use crate::answers::{Miss, PutIf, TakenIf};
 use crate::kinds::{Replacing, Seeing, TakingIf};
 use crate::layout::slot_place;
-use crate::parts::count_of;
+use crate::parts::{count_of, file_node_of, file_word, without_file};
 use crate::pass::LastingPass;
 use crate::table::LastingTable;
 use crate::view::View;
 use atomic_table::Seat;
 use fx_base::{Closed, OpenFile};
 use fx_table::Retired;
-use fx_words::{entry_of, node_of, slot_word};
+use fx_words::entry_of;
 
 impl LastingTable {
     /// Empties a slot below `size` for a close, if its file is on this node, for an idle pass
@@ -69,7 +68,7 @@ impl LastingTable {
 
     /// Installs a file at a slot below `size`, in place of a file that is on this node, under a
     /// number that no file has had, for an idle pass (`is_idle`) that installs files
-    /// (`numbers_left`). It makes at most nine atomic steps more than the pass's block has nodes
+    /// (`numbers_left`). It makes at most nine atomic steps more than the table has passes
     /// (io_uring_prep_openat(3), `io_uring_prep_openat_direct`). The file that was there is to be
     /// retired. Otherwise nothing changes, and the new file comes back.
     pub fn put_if(&self, pass: &mut LastingPass, slot: u32, node: u32, file: OpenFile) -> PutIf
@@ -81,19 +80,21 @@ impl LastingTable {
         ensures placed { HasPutIf self.now.table.shared.key (view_of pass.old) slot node file result
             (view_of pass.new) }
         ensures tries { TriesPut result (steps_taken pass.old) (steps_taken pass.new) }
-        ensures steps { let block = block_for self.now.size self.now.passes in
-            steps_taken pass.new ≤ steps_taken pass.old + (block + 9) }
+        ensures steps { let passes = self.now.passes in
+            steps_taken pass.new ≤ steps_taken pass.old + (passes + 9) }
     {
         let word = match self.see(&mut pass.seat, slot, node) {
             Ok(word) => word,
             Err(miss) => return PutIf::Missed(miss, file),
         };
-        let own = self.seek(&mut pass.seat, pass.number, pass.next_node);
+        let stock = pass.stock.as_slice();
+        let (entry, own) = self.seek(&mut pass.seat, pass.number, stock, pass.next_entry);
         let identity = file.identity();
         self.put_in(&mut pass.seat, own, file);
-        pass.next_node = own;
+        pass.next_entry = entry;
         match self.try_replace(&mut pass.seat, slot, node, word, own, identity) {
             Ok(found) => {
+                pass.stock[entry as usize] = node;
                 pass.next_visit = self.first_visit(found);
                 pass.idle = false;
                 PutIf::Replaced(removed_by(found, node))
@@ -137,7 +138,7 @@ impl LastingTable {
         requires idle { HasNoFile seat.old.me.0.work }
         requires slot { slot < self.now.size }
         requires off { IsOffCount self.now.table.shared.key slot seat.old.me.0.change }
-        requires named { name_in word ≡ node + 1 }
+        requires named { full_name_in word ≡ node + 1 }
         ensures table { seat.new.table_id ≡ seat.old.table_id }
         ensures places { seat.new.me.1 ≡ seat.old.me.1 }
         ensures tried { TriedTake self.now.table.shared.key slot node seat.old.me result
@@ -147,7 +148,8 @@ impl LastingTable {
         let place = slot_place(slot);
         let mut expected = word;
         for _ in 0..4u32 {
-            let found = shared.compare_exchange::<TakingIf>(seat, place, expected, 0);
+            let left = without_file(expected);
+            let found = shared.compare_exchange::<TakingIf>(seat, place, expected, left);
             if found == expected {
                 return Ok(found);
             }
@@ -176,14 +178,14 @@ impl LastingTable {
         requires placing { IsPlacing own file seat.old.me }
         requires slot { slot < self.now.size }
         requires change { seat.old.me.0.change ≡ Outside }
-        requires named { name_in word ≡ node + 1 }
+        requires named { full_name_in word ≡ node + 1 }
         ensures table { seat.new.table_id ≡ seat.old.table_id }
         ensures tried { TriedReplace self.now.table.shared.key slot node own file seat.old.me result
             seat.new.me }
     {
         let shared = &self.table.shared;
         let place = slot_place(slot);
-        let new = slot_word(own, file.entry);
+        let new = file_word(own, file.entry);
         let mut expected = word;
         for _ in 0..4u32 {
             let seen = shared.compare_exchange::<Replacing>(seat, place, expected, new);
@@ -203,7 +205,7 @@ impl LastingTable {
 fn named_by(word: u64, node: u32) -> Result<u64, Miss>
     ensures { SaysIf word node result }
 {
-    match node_of(word) {
+    match file_node_of(word) {
         None => Err(Miss::Empty),
         Some(named) => {
             if named == node {

@@ -122,7 +122,7 @@ impl Play<Option<OpenFile>, View> for Letting {
     ghost then = { LettingGo };
 }
 
-/// Seek: a pass reads whether a node of its block is free.
+/// Seek: a pass reads whether a node of its stock is free.
 pub struct Seeking;
 
 impl Play<Option<OpenFile>, View> for Seeking {
@@ -223,7 +223,8 @@ impl Play<Option<OpenFile>, View> for Retire {
     ghost then = { Retires };
 }
 
-/// Install: the file that the pass places goes to a slot, in place of what was there.
+/// Install: the file that the pass places goes to a slot, in place of what was there. The node that
+/// the slot named goes into the pass's stock.
 pub struct Installing;
 
 impl Play<Option<OpenFile>, View> for Installing {
@@ -232,7 +233,8 @@ impl Play<Option<OpenFile>, View> for Installing {
     ghost then = { Installs };
 }
 
-/// Exchange: the file that the pass places goes to a slot that is still empty.
+/// Exchange: the file that the pass places goes to a slot that is still empty. The node that the
+/// slot named goes into the pass's stock.
 pub struct Exchanging;
 
 impl Play<Option<OpenFile>, View> for Exchanging {
@@ -278,7 +280,7 @@ impl Play<Option<OpenFile>, View> for Replacing {
     ghost then = { Replaces };
 }
 
-/// Swap: a slot is emptied for an update.
+/// And: a slot is emptied for an update. Its word names the node still.
 pub struct Clearing;
 
 impl Play<Option<OpenFile>, View> for Clearing {
@@ -288,7 +290,7 @@ impl Play<Option<OpenFile>, View> for Clearing {
     ghost then = { Removes Clear };
 }
 
-/// Swap: a slot is emptied for a close.
+/// And: a slot is emptied for a close. Its word names the node still.
 pub struct TakingOut;
 
 impl Play<Option<OpenFile>, View> for TakingOut {

@@ -21,10 +21,10 @@ use crate::view::{Start, View};
 use atomic_table::{Join, Play, Split, TableRule};
 use fx_base::OpenFile;
 
-/// States that a table has at most 4,096 slots and at most 1,024 passes, that at most 64 of these
-/// install files, and that a slot's word has room for the number of each node.
+/// States that a table has at most 1,048,576 slots and at most 1,024 passes, that at most 64 of
+/// these install files, and that a slot's word has room for the number of each node.
 pub fn limits_are_numbers()
-    ensures most_slots { MOST_SLOTS ≡ 4096 }
+    ensures most_slots { MOST_SLOTS ≡ 1048576 }
     ensures most_passes { MOST_PASSES ≡ 1024 }
     ensures most_installing { MOST_INSTALLING ≡ 64 }
     ensures nodes_fit { MOST_NODES ≤ last_node }
@@ -85,12 +85,12 @@ pub fn let_go_keeps_rule()
     ensures { LettingGoKeeps ⟦<Letting as Play<Option<OpenFile>, View>>⟧.then }
 {}
 
-/// A pass that loads the word of a node of its block keeps the rule, and one of the block is free.
+/// A pass that loads the word of a node of its stock keeps the rule, and one of the stock is free.
 pub fn seek_keeps_rule()
     ensures { SeeksKeep ⟦<Seeking as Play<Option<OpenFile>, View>>⟧.then }
 {}
 
-/// A pass that stores the first word of a file in that of a free node of its block keeps the rule,
+/// A pass that stores the first word of a file in that of a free node of its stock keeps the rule,
 /// and has its place.
 pub fn birth_keeps_rule()
     ensures { BirthsKeep ⟦<Birth as Play<Option<OpenFile>, View>>⟧.then }
@@ -208,14 +208,14 @@ pub fn join_keeps_rule()
     ensures { JoinsKeep ⟦<Gather as Join<View>>⟧.both ⟦<Gather as Join<View>>⟧.spent }
 {}
 
-/// An idle pass that swaps 0 into a slot's word for an update keeps the rule, and has the file that
-/// was there to retire.
+/// An idle pass that leaves of a slot's word the name alone, for an update, keeps the rule, and has
+/// the file that was there to retire.
 pub fn clear_keeps_rule()
     ensures { ClearsKeep ⟦<Clearing as Play<Option<OpenFile>, View>>⟧.then }
 {}
 
-/// An idle pass that swaps 0 into a slot's word for a close keeps the rule, and has the file that
-/// was there to retire.
+/// An idle pass that leaves of a slot's word the name alone, for a close, keeps the rule, and has
+/// the file that was there to retire.
 pub fn take_out_keeps_rule()
     ensures { TakesOutKeep ⟦<TakingOut as Play<Option<OpenFile>, View>>⟧.then }
 {}
@@ -226,8 +226,8 @@ pub fn install_keeps_rule()
     ensures { InstallsKeep ⟦<Installing as Play<Option<OpenFile>, View>>⟧.then }
 {}
 
-/// A pass that exchanges a word that names no file for that of the file that it places keeps the
-/// rule.
+/// A pass that exchanges the word of an empty slot for that of the file that it places keeps the
+/// rule. The node that the slot named goes into its stock.
 pub fn exchange_keeps_rule()
     ensures { ExchangesKeep ⟦<Exchanging as Play<Option<OpenFile>, View>>⟧.then }
 {}
@@ -237,8 +237,8 @@ pub fn see_keeps_rule()
     ensures { SeesKeep ⟦<Seeing as Play<Option<OpenFile>, View>>⟧.then }
 {}
 
-/// An idle pass that exchanges the word of a slot that it saw for 0 keeps the rule, and has the
-/// file that was there to retire.
+/// An idle pass that exchanges the word of a slot that it saw for its name alone keeps the rule,
+/// and has the file that was there to retire.
 pub fn take_if_keeps_rule()
     ensures { TakesIfKeep ⟦<TakingIf as Play<Option<OpenFile>, View>>⟧.then }
 {}
@@ -250,7 +250,7 @@ pub fn replace_keeps_rule()
 {}
 
 /// While the rule holds, no word overflows, and no part of a slot's word carries into the next. A
-/// slot has at most the takes of a cold one, and one more for each pass, in 21 bits; its heat is at
+/// slot has at most the takes of a cold one, and one more for each pass, in 20 bits; its heat is at
 /// most the number of passes, in 11 bits. The word of a node is above 2 until its file is retired,
 /// so no drop finds 2 before that. A group's word is between -1,024 and 64, modulo 2^64.
 pub fn words_are_bounded()

@@ -1,12 +1,13 @@
-//! The places of a table's words. The question word, each group's word, each slot's word and each
-//! pass's hold word have a cache line of their own, and so has the list of passes that ever looked
-//! a file up, a bit for each. The nodes' words follow them, side by side, and then the two words of
+//! The places of a table's words. The question word, each group's word, the word of each of the
+//! first 4,096 slots and each pass's hold word have a cache line of their own, and so has the list
+//! of passes that ever looked a file up, a bit for each. The words of the other slots are side by
+//! side. The nodes' words follow them, side by side, and then the two words of
 //! each node's label: the tag of its file, and the number of the file's mark.
 ghost use Rattle.std.specs.Prelude.{◌≡◌, ◌<◌, ◌≤◌};
-ghost use Rattle.fx_lasting.specs.Layout.{question_place, group_place, group_size, groups_in, group_len, list_place, slot_place, hold_place, node_place, tag_place, number_place, words_for, block_for, block_start, nodes_for};
+ghost use Rattle.fx_lasting.specs.Layout.{question_place, group_place, group_size, groups_in, group_len, list_place, slot_place, hold_place, node_place, tag_place, number_place, words_for, slot_words, stock_start, nodes_for};
 
 /// The greatest number of slots of a table.
-pub const MOST_SLOTS: u32 = 4096;
+pub const MOST_SLOTS: u32 = 1_048_576;
 
 /// The greatest number of passes of a table.
 pub const MOST_PASSES: u32 = 1024;
@@ -14,8 +15,9 @@ pub const MOST_PASSES: u32 = 1024;
 /// The greatest number of passes of a table that install files.
 pub const MOST_INSTALLING: u32 = 64;
 
-// The greatest number of nodes of a table, those of MOST_SLOTS slots and of MOST_INSTALLING blocks.
-pub(crate) const MOST_NODES: u32 = 659_456;
+// The greatest number of nodes of a table: one for each slot, and one for each pass in the stock of
+// each pass that installs.
+pub(crate) const MOST_NODES: u32 = 1_114_112;
 
 // The greatest number of groups.
 pub(crate) const MOST_GROUPS: u32 = 64;
@@ -29,7 +31,15 @@ pub(crate) const QUESTION: usize = 0;
 pub(crate) fn group_size(len: u32) -> u32
     ensures { result ≡ group_size len }
 {
-    if len > 256 { 64 } else { 4 }
+    if len > 65_536 {
+        16_384
+    } else if len > 4096 {
+        1024
+    } else if len > 256 {
+        64
+    } else {
+        4
+    }
 }
 
 // Returns the number of groups of a range of `len` slots.
@@ -38,7 +48,11 @@ pub(crate) fn groups_in(len: u32) -> u32
     requires { len ≤ MOST_SLOTS }
     ensures { result ≡ groups_in len }
 {
-    if len > 256 {
+    if len > 65_536 {
+        (len + 16_383) / 16_384
+    } else if len > 4096 {
+        (len + 1023) / 1024
+    } else if len > 256 {
         (len + 63) / 64
     } else {
         (len + 3) / 4
@@ -74,12 +88,28 @@ pub(crate) fn list_place(pass: u32) -> usize
     8 + (pass - 1) as usize / 64
 }
 
+// The number of slots whose words have a cache line of their own.
+const OWN_LINES: u32 = 4096;
+
+// Returns the number of words that the first `n` slots take.
+#[inline(always)]
+fn slot_words(n: u32) -> u32
+    requires { n ≤ MOST_SLOTS }
+    ensures { result ≡ slot_words n }
+{
+    if n < OWN_LINES {
+        8 * n
+    } else {
+        n + 7 * OWN_LINES
+    }
+}
+
 // Returns the place of a slot's word.
 pub(crate) fn slot_place(slot: u32) -> usize
     requires { slot < MOST_SLOTS }
     ensures { result ≡ slot_place slot }
 {
-    536 + 8 * slot as usize
+    536 + slot_words(slot) as usize
 }
 
 // Returns the place of a pass's hold word.
@@ -88,7 +118,7 @@ pub(crate) fn hold_place(size: u32, pass: u32) -> usize
     requires pass { pass ≤ MOST_PASSES }
     ensures { result ≡ hold_place size pass }
 {
-    (528 + 8 * size + 8 * pass) as usize
+    (528 + slot_words(size) + 8 * pass) as usize
 }
 
 // Returns the place of a node's word.
@@ -98,7 +128,7 @@ pub(crate) fn node_place(size: u32, passes: u32, node: u32) -> usize
     requires node { node < MOST_NODES }
     ensures { result ≡ node_place size passes node }
 {
-    (536 + 8 * size + 8 * passes + node) as usize
+    (536 + slot_words(size) + 8 * passes + node) as usize
 }
 
 // Returns the place of the tag of a node's file, in a table with `nodes` nodes.
@@ -110,7 +140,7 @@ pub(crate) fn tag_place(size: u32, passes: u32, nodes: u32, node: u32) -> usize
     requires node { node < nodes }
     ensures { result ≡ tag_place size passes nodes node }
 {
-    (536 + 8 * size + 8 * passes + nodes + 2 * node) as usize
+    (536 + slot_words(size) + 8 * passes + nodes + 2 * node) as usize
 }
 
 // Returns the place of the number of a node's file, in a table with `nodes` nodes.
@@ -132,26 +162,17 @@ pub(crate) fn words_for(size: u32, passes: u32, nodes: u32) -> usize
     requires nodes { nodes ≤ MOST_NODES }
     ensures { result ≡ words_for size passes nodes }
 {
-    (536 + 8 * size + 8 * passes + 3 * nodes) as usize
+    (536 + slot_words(size) + 8 * passes + 3 * nodes) as usize
 }
 
-// Returns the number of nodes in a pass's block.
-pub(crate) fn block_for(size: u32, passes: u32) -> u32
-    requires size { size ≤ MOST_SLOTS }
-    requires passes { passes ≤ MOST_PASSES }
-    ensures { result ≡ block_for size passes }
-{
-    2 * (size + passes)
-}
-
-// Returns the first node of a pass's block.
-pub(crate) fn block_start(size: u32, passes: u32, pass: u32) -> u32
+// Returns the first node of a pass's first stock.
+pub(crate) fn stock_start(size: u32, passes: u32, pass: u32) -> u32
     requires size { size ≤ MOST_SLOTS }
     requires passes { passes ≤ MOST_PASSES }
     requires pass { (1 ≤ pass) × (pass ≤ passes) }
-    ensures { result ≡ block_start size passes pass }
+    ensures { result ≡ stock_start size passes pass }
 {
-    size + (pass - 1) * block_for(size, passes)
+    size + (pass - 1) * passes
 }
 
 // Returns the number of nodes of a table in which `installing` passes install.
@@ -162,5 +183,5 @@ pub(crate) fn nodes_for(size: u32, passes: u32, installing: u32) -> u32
     ensures nodes { result ≡ nodes_for size passes installing }
     ensures few { result ≤ MOST_NODES }
 {
-    size + installing * block_for(size, passes)
+    size + installing * passes
 }

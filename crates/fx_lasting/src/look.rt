@@ -10,13 +10,13 @@ ghost use Rattle.fx_lasting.specs.declared.view.Work.TheVariants.{Idle};
 
 use crate::kinds::{Announcing, Confirming, HeatingUp, Taking};
 use crate::layout::{hold_place, slot_place};
-use crate::parts::{HEAT, announced, cold_takes, count_of, is_hot_at};
+use crate::parts::{HEAT, announced, cold_takes, count_of, file_node_of, is_hot_at};
 use crate::table::LastingTable;
 use crate::view::View;
 use atomic_table::Seat;
 use fx_base::OpenFile;
 use fx_table::{Hold, LookFault};
-use fx_words::{entry_of, node_of};
+use fx_words::entry_of;
 
 impl LastingTable {
     // Announces the node of a hot slot and looks at the slot again, in two steps. Returns the
@@ -72,7 +72,7 @@ impl LastingTable {
         let shared = &self.table.shared;
         let word = shared.fetch_add::<Taking>(seat, slot_place(slot), 1);
         self.heat(seat, slot, word);
-        match node_of(word) {
+        match file_node_of(word) {
             None => Err(LookFault::Empty),
             Some(node) => Ok(Hold {
                 node,

@@ -1,26 +1,26 @@
 //! Opening a table.
-ghost use Rattle.std.specs.Prelude.{◌≡◌, ◌+◌, ◌*◌, ◌<◌, ◌≤◌, [], length, map, slice_set, All, IfOk, IfErr, OnOk, OnErr, vec_len, vec_capacity};
+ghost use Rattle.std.specs.Prelude.{◌≡◌, ℕ, ◌+◌, ◌*◌, ◌<◌, ◌≤◌, [], length, map, slice_set, All, IfOk, IfErr, OnOk, OnErr, vec_len, vec_capacity};
 ghost use Rattle.fx_plain.specs.State.{IsSettled, vacant};
 ghost use Rattle.fx_plain.specs.Contents.{state_of, IsPrepared};
 ghost use Rattle.fx_table.specs.FullSlots.{full_in, first_at};
 ghost use Rattle.fx_table.specs.Opening.{IsGivenBack, lasting_opening, size_of};
 ghost use Rattle.fx_table.specs.Pass.{IsIdle};
-ghost use Rattle.fx_words.specs.Words.{slot_word_of};
-ghost use Rattle.fx_lasting.specs.Firsts.{AreFirstWords, AreLabelled};
-ghost use Rattle.fx_lasting.specs.Layout.{slot_place, node_place, words_for, block_start};
+ghost use Rattle.fx_lasting.specs.Firsts.{AreFirstWords, AreLabelled, AreNamed};
+ghost use Rattle.fx_lasting.specs.Layout.{slot_place, node_place, words_for, stock_of, stocks_back};
 ghost use Rattle.fx_lasting.specs.Lives.{HasAllPasses, IsNewPass};
-ghost use Rattle.fx_lasting.specs.Parts.{birth_word};
+ghost use Rattle.fx_lasting.specs.Parts.{birth_word, file_word_of};
 ghost use Rattle.fx_lasting.specs.Passes.{empty_slots};
 ghost use Rattle.fx_lasting.specs.Tables.{view_of, opening_of_table, first_passes, IsPassOfTable};
+ghost use Rattle.std.specs.List.{range_with_len};
 ghost use Rattle.fx_lasting.specs.declared.layout.TheConstants.{MOST_SLOTS, MOST_NODES, MOST_PASSES, MOST_INSTALLING};
 
 use crate::kinds::Deal;
 use crate::labels::number_of_mark;
 use crate::layout::{
-    MOST_INSTALLING, MOST_PASSES, MOST_SLOTS, block_start, group_len, group_place, group_size,
-    groups_in, node_place, nodes_for, number_place, slot_place, tag_place, words_for,
+    MOST_INSTALLING, MOST_PASSES, MOST_SLOTS, group_len, group_place, group_size, groups_in,
+    node_place, nodes_for, number_place, slot_place, stock_start, tag_place, words_for,
 };
-use crate::parts::BORN;
+use crate::parts::{BORN, empty_word, file_word};
 use crate::pass::LastingPass;
 use crate::table::LastingTable;
 use crate::view::{Start, View};
@@ -28,7 +28,6 @@ use atomic_table::{Refused, Seat, Table};
 use fx_base::{NoMemory, OpenFile};
 use fx_plain::PlainTable;
 use fx_table::{move_out, put_all};
-use fx_words::slot_word;
 use std::alloc::Global;
 use std::snapshot::Snapshot;
 
@@ -63,9 +62,13 @@ impl LastingTable {
         let Ok(mut list) = Vec::with_capacity(alloc, passes as usize) else {
             return Err((plain, NoMemory));
         };
+        let Ok(stocks) = first_stocks(alloc, plain.size(), passes, installing) else {
+            list.destroy_empty();
+            return Err((plain, NoMemory));
+        };
         match LastingTable::start(alloc, plain, passes, installing) {
             Ok((table, seat)) => {
-                table.deal(seat, &mut list);
+                table.deal(seat, &mut list, stocks);
                 Ok((table, list))
             }
             Err(refused) => {
@@ -104,10 +107,11 @@ impl LastingTable {
         ensures new { IfOk result (λ (_, list).
             map view_of list.items ≡ first_passes installing passes) }
     {
+        let stocks = first_stocks(alloc, slots, passes, installing)?;
         let mut list = Vec::with_capacity(alloc, passes as usize)?;
         match LastingTable::start_sparse(alloc, slots, range, passes, installing) {
             Ok((table, seat)) => {
-                table.deal(seat, &mut list);
+                table.deal(seat, &mut list, stocks);
                 Ok((table, list))
             }
             Err(refused) => {
@@ -145,7 +149,8 @@ impl LastingTable {
             installing,
         };
         let nodes = nodes_for(size, passes, installing);
-        let words = vec![in alloc; 0; words_for(size, passes, nodes)]?;
+        let mut words = vec![in alloc; 0; words_for(size, passes, nodes)]?;
+        name_slots(&mut words, size);
         let (table, seat) = Table::vacant(alloc, words.as_slice(), nodes as usize, &key)?;
         let table = LastingTable {
             table,
@@ -217,9 +222,16 @@ impl LastingTable {
         }
     }
 
-    // Hands each pass a seat of its own.
-    fn deal(&self, mut seat: Seat<Option<OpenFile>, View>, list: &mut Vec<LastingPass>)
+    // Hands each pass a seat and a stock of its own.
+    fn deal(
+        &self,
+        mut seat: Seat<Option<OpenFile>, View>,
+        list: &mut Vec<LastingPass>,
+        mut stocks: Vec<Vec<u32>>,
+    )
         requires seat { HasAllPasses self.now seat }
+        requires stocks { map (λ stock. stock.items) stocks.items
+            ≡ stocks_back self.now.size self.now.passes self.now.installing 1 self.now.passes }
         requires list { (list.old.items ≡ []) × (self.now.passes ≤ vec_capacity list.old) }
         ensures ready { All (λ p. IsPassOfTable self.now p × IsIdle (view_of p)) list.new.items }
         ensures count { length list.new.items ≡ self.now.passes }
@@ -229,19 +241,80 @@ impl LastingTable {
         let mut number = 1;
         while number < self.passes {
             let one = self.table.shared.split_seat::<Deal>(&mut seat);
-            list.push_reserved(self.new_pass(one, number));
+            let Some(stock) = stocks.pop() else {
+                unreachable!()
+            };
+            list.push_reserved(LastingPass::new(one, number, stock));
             number += 1;
         }
-        list.push_reserved(self.new_pass(seat, number));
+        let Some(stock) = stocks.pop() else {
+            unreachable!()
+        };
+        list.push_reserved(LastingPass::new(seat, number, stock));
     }
+}
 
-    // Creates the pass of a seat that has made no step.
-    fn new_pass(&self, seat: Seat<Option<OpenFile>, View>, number: u32) -> LastingPass
-        requires { (1 ≤ number) × (number ≤ self.now.passes) }
-        ensures { let node = block_start self.now.size self.now.passes number in
-            IsNewPass seat number node result }
-    {
-        LastingPass::new(seat, number, block_start(self.size, self.passes, number))
+// Creates the first stock of a pass.
+fn first_stock(
+    alloc: Global,
+    size: u32,
+    passes: u32,
+    installing: u32,
+    pass: u32,
+) -> Result<Vec<u32>, NoMemory>
+    requires size { size ≤ MOST_SLOTS }
+    requires passes { (1 ≤ pass) × (pass ≤ passes) × (passes ≤ MOST_PASSES) }
+    requires installing { installing ≤ MOST_INSTALLING }
+    ensures { IfOk result (λ stock. stock.items ≡ stock_of size passes installing pass) }
+{
+    if installing < pass {
+        return numbers_from(alloc, 0, 0);
+    }
+    numbers_from(alloc, stock_start(size, passes, pass), passes)
+}
+
+// Creates a list of `len` numbers, from `first` on.
+fn numbers_from(alloc: Global, first: u32, len: u32) -> Result<Vec<u32>, NoMemory>
+    requires { first + len ≤ MOST_NODES }
+    ensures { IfOk result (λ list. list.items ≡ range_with_len first len) }
+{
+    let mut list = Vec::with_capacity(alloc, len as usize)?;
+    for number in first..first + len {
+        list.push_reserved(number);
+    }
+    Ok(list)
+}
+
+// Creates the first stocks of all passes, the last one's first.
+fn first_stocks(
+    alloc: Global,
+    size: u32,
+    passes: u32,
+    installing: u32,
+) -> Result<Vec<Vec<u32>>, NoMemory>
+    requires size { size ≤ MOST_SLOTS }
+    requires passes { passes ≤ MOST_PASSES }
+    requires installing { installing ≤ MOST_INSTALLING }
+    ensures { IfOk result (λ stocks. map (λ stock. stock.items) stocks.items
+        ≡ stocks_back size passes installing 1 passes) }
+{
+    let mut stocks = Vec::with_capacity(alloc, passes as usize)?;
+    let mut pass = passes;
+    while 0 < pass {
+        stocks.push_reserved(first_stock(alloc, size, passes, installing, pass)?);
+        pass -= 1;
+    }
+    Ok(stocks)
+}
+
+// Writes the words of empty slots: each names the slot's node.
+fn name_slots(words: &mut Vec<u64>, size: u32)
+    requires size { size ≤ MOST_SLOTS }
+    requires inside { (slot : ℕ) → slot < size → slot_place slot < vec_len words.old }
+    ensures { AreNamed size words.old.items words.new.items }
+{
+    for slot in 0..size {
+        words[slot_place(slot)] = empty_word(slot);
     }
 }
 
@@ -253,9 +326,9 @@ fn write_slot(words: &mut Vec<u64>, size: u32, passes: u32, slot: u32, entry: u8
     requires inside { node_place size passes slot < vec_len words.old }
     ensures entry { entry < 256 }
     ensures words { words.new.items ≡ slice_set (slice_set words.old.items
-        (slot_place slot) (slot_word_of slot entry)) (node_place size passes slot) birth_word }
+        (slot_place slot) (file_word_of slot entry)) (node_place size passes slot) birth_word }
 {
-    words[slot_place(slot)] = slot_word(slot, entry);
+    words[slot_place(slot)] = file_word(slot, entry);
     words[node_place(size, passes, slot)] = BORN;
 }
 
@@ -288,6 +361,7 @@ fn first_words(
 {
     let size = plain.size();
     let mut words = vec![in alloc; 0; words_for(size, passes, nodes)]?;
+    name_slots(&mut words, size);
     let (start, len) = plain.range();
     for group in 0..groups_in(len) {
         let first = start + group * group_size(len);

@@ -1,13 +1,21 @@
-//! The parts of words that `fx_words` doesn't have: a slot's heat and takes, and what a retirement
-//! subtracts.
-ghost use Rattle.std.specs.Prelude.{◌≡◌, ◌+◌, ◌≤◌, ◌^◌, ◌↔◌, IsTrue};
-ghost use Rattle.fx_words.specs.Words.{name_in};
+//! The parts of words that `fx_words` doesn't have: whether a slot is full, its heat and takes, and
+//! what a retirement subtracts.
+ghost use Rattle.std.specs.Prelude.{◌≡◌, ◌≢◌, ◌+◌, ◌-◌, ◌<◌, ◌≤◌, ◌^◌, ◌↔◌, IsTrue};
+ghost use Rattle.fx_words.specs.Words.{last_node, name_in};
 ghost use Rattle.fx_lasting.specs.Groups.{HasQuestionOf};
-ghost use Rattle.fx_lasting.specs.Parts.{count_in, IsHot, bit_of, announced, mark, retirement_amount, cold_takes};
+ghost use Rattle.fx_lasting.specs.Parts.{full_name_in, file_node_in, file_word_of, empty_word_of, without_file, name_mask, count_in, IsHot, bit_of, announced, mark, retirement_amount, cold_takes};
+
+use fx_words::{node_of, slot_word};
 
 // The amount that a pass adds to a slot's word to heat the slot: its file is looked up by hold
 // words then.
 pub(crate) const HEAT: u64 = 1 << 21;
+
+// The bit of a slot's word that says that the slot is full.
+const FULL: u64 = 1 << 20;
+
+// The bits of a slot's word that name a node.
+pub(crate) const NAME: u64 = 0xffff_ff00_0000_0000;
 
 // The word of a node before anybody has let its file go.
 pub(crate) const BORN: u64 = (1 << 32) + 1;
@@ -17,14 +25,56 @@ pub(crate) const BORN: u64 = (1 << 32) + 1;
 pub(crate) fn cold_takes(passes: u32) -> u32
     ensures { result ≡ cold_takes passes }
 {
-    if passes == 1 { 1 << 20 } else { 16 }
+    if passes == 1 { 1 << 19 } else { 16 }
+}
+
+// Returns the word of a slot with a file of this entry on this node.
+pub(crate) fn file_word(node: u32, entry: u8) -> u64
+    requires { node ≤ last_node }
+    ensures { result ≡ file_word_of node entry }
+{
+    slot_word(node, entry) + FULL
+}
+
+// Returns the word of an empty slot that names this node.
+pub(crate) fn empty_word(node: u32) -> u64
+    requires { node ≤ last_node }
+    ensures { result ≡ empty_word_of node }
+{
+    (u64::from(node) + 1) << 40
+}
+
+// Returns what a removal leaves of a slot's word.
+pub(crate) fn without_file(word: u64) -> u64
+    ensures { result ≡ without_file word }
+{
+    word / (1 << 40) * (1 << 40)
+}
+
+// Returns the node of the file at the slot with this word, or `None` if the slot is empty.
+pub(crate) fn file_node_of(word: u64) -> Option<u32>
+    ensures { result ≡ file_node_in word }
+{
+    if word / FULL % 2 == 1 {
+        node_of(word)
+    } else {
+        None
+    }
+}
+
+// Returns the node that the word of a slot names, full or empty.
+pub(crate) fn node_named(word: u64) -> u32
+    requires { name_in word ≢ 0 }
+    ensures { result ≡ name_in word - 1 }
+{
+    (word / (1 << 40) - 1) as u32
 }
 
 // Returns the number of takes in a slot's word.
 pub(crate) fn count_of(word: u64) -> u32
     ensures { result ≡ count_in word }
 {
-    (word % (1 << 21)) as u32
+    (word % (1 << 20)) as u32
 }
 
 // Checks whether a slot's word is hot.
@@ -34,11 +84,11 @@ pub(crate) fn is_hot(word: u64) -> bool
     0 < word / (1 << 21) % (1 << 11)
 }
 
-// Checks whether a slot's word is hot and names the node.
+// Checks whether a slot is hot and its file is on the node, by the slot's word.
 pub(crate) fn is_hot_at(word: u64, node: u32) -> bool
-    ensures { IsTrue result ↔ ((name_in word ≡ node + 1) × IsHot word) }
+    ensures { IsTrue result ↔ ((full_name_in word ≡ node + 1) × IsHot word) }
 {
-    word / (1 << 40) == u64::from(node) + 1 && is_hot(word)
+    word / (1 << 40) == u64::from(node) + 1 && word / FULL % 2 == 1 && is_hot(word)
 }
 
 // Returns the bit of a pass in its word of the list.

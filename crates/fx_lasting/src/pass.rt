@@ -14,8 +14,10 @@ pub struct LastingPass {
     pub(crate) seat: Seat<Option<OpenFile>, View>,
     // The number of the pass, from 1.
     pub(crate) number: u32,
-    // The node of its block where its next search begins.
-    pub(crate) next_node: u32,
+    // The nodes for its next files, which no slot names.
+    pub(crate) stock: Vec<u32>,
+    // The entry of its stock where its next search begins.
+    pub(crate) next_entry: u32,
     // The first pass that its next retirement may visit, if it has a file to retire.
     pub(crate) next_visit: u32,
     pub(crate) idle: bool,
@@ -30,10 +32,10 @@ pub struct LastingPass {
     pub(crate) spacing: Spacing,
 }
 
-// The distance between a pass and the next one: the fields before it take 56 bytes.
+// The distance between a pass and the next one: the fields before it take 80 bytes.
 #[derive(Drop)]
 pub(crate) struct Spacing {
-    unused: [u64; 9],
+    unused: [u64; 6],
 }
 
 impl LastingPass {
@@ -41,21 +43,22 @@ impl LastingPass {
     pub(crate) fn new(
         seat: Seat<Option<OpenFile>, View>,
         number: u32,
-        next_node: u32,
+        stock: Vec<u32>,
     ) -> LastingPass
-        ensures { IsNewPass seat number next_node result }
+        ensures { IsNewPass seat number stock.items result }
     {
         LastingPass {
             seat,
             number,
-            next_node,
+            stock,
+            next_entry: 0,
             next_visit: 0,
             idle: true,
             guarded: false,
             listed: false,
             sure: false,
             emptied: Emptied::new(),
-            spacing: Spacing { unused: [0; 9] },
+            spacing: Spacing { unused: [0; 6] },
         }
     }
 
@@ -66,7 +69,8 @@ impl LastingPass {
         let LastingPass {
             seat,
             number: _,
-            next_node: _,
+            stock: _,
+            next_entry: _,
             next_visit: _,
             idle: _,
             guarded: _,

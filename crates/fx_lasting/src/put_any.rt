@@ -4,7 +4,7 @@ ghost use Rattle.fx_table.specs.Calls.{Allocated};
 ghost use Rattle.fx_table.specs.Pass.{IsIdle};
 ghost use Rattle.fx_lasting.specs.AtWork.{IsAtWork};
 ghost use Rattle.fx_lasting.specs.Laws.{IsInRange};
-ghost use Rattle.fx_lasting.specs.Layout.{block_for, groups_in};
+ghost use Rattle.fx_lasting.specs.Layout.{groups_in};
 ghost use Rattle.fx_lasting.specs.Questions.{HasAsked};
 ghost use Rattle.fx_lasting.specs.declared.layout.TheConstants.{MOST_PASSES};
 ghost use Rattle.fx_lasting.specs.Tables.{view_of, steps_taken, opening_of_table, IsPassOfTable};
@@ -13,13 +13,13 @@ ghost use Rattle.fx_lasting.specs.declared.view.Change.TheVariants.{Outside};
 
 use crate::kinds::{Exchanging, Peeking};
 use crate::layout::{group_len, group_place, group_size, groups_in, slot_place};
+use crate::parts::{file_node_of, file_word, node_named};
 use crate::pass::LastingPass;
 use crate::table::LastingTable;
 use crate::tried::TriedPut;
 use crate::view::View;
 use atomic_table::Seat;
 use fx_base::{Closed, OpenFile};
-use fx_words::{node_of, slot_word};
 use std::sync::Wait;
 use std::thread;
 
@@ -64,7 +64,7 @@ impl LastingTable {
     /// Tries once to install a file at an empty slot of the allocation range, under a number that
     /// no file has had, for an idle pass (`is_idle`) that installs files (`numbers_left`). It never
     /// waits: it makes at most three atomic steps for each slot of a group, two for each group, and
-    /// eleven more than the pass's block has nodes. It tries the slot that the pass emptied last, or
+    /// eleven more than the table has passes. It tries the slot that the pass emptied last, or
     /// else the one after the slot that it filled last, and then goes once over the groups that
     /// aren't full. Returns the slot, or the file if every slot of the range had a file at one
     /// moment (ENFILE), or if neither was found; then nothing has changed.
@@ -75,9 +75,8 @@ impl LastingTable {
         ensures fits { IsPassOfTable self.now pass.new }
         ensures tried { TriedSo (opening_of_table self.now) (view_of pass.old) file result
             (view_of pass.new) }
-        ensures steps { let block = block_for self.now.size self.now.passes in
-            let len = self.now.range_len in
-            steps_taken pass.new ≤ steps_taken pass.old + (block + scan_steps len
+        ensures steps { let passes = self.now.passes in let len = self.now.range_len in
+            steps_taken pass.new ≤ steps_taken pass.old + (passes + scan_steps len
             + groups_in len + 8) }
     {
         if self.is_still_full(pass) {
@@ -104,17 +103,18 @@ impl LastingTable {
         ensures fits { IsPassOfTable self.now pass.new }
         ensures tried { TriedSo (opening_of_table self.now) (view_of pass.old) file
             (without_asking result) (view_of pass.new) }
-        ensures steps { let block = block_for self.now.size self.now.passes in
-            let len = self.now.range_len in
-            steps_taken pass.new ≤ steps_taken pass.old + (block + scan_steps len + 4) }
+        ensures steps { let passes = self.now.passes in let len = self.now.range_len in
+            steps_taken pass.new ≤ steps_taken pass.old + (passes + scan_steps len + 4) }
     {
-        let node = self.seek(&mut pass.seat, pass.number, pass.next_node);
+        let stock = pass.stock.as_slice();
+        let (entry, node) = self.seek(&mut pass.seat, pass.number, stock, pass.next_entry);
         let identity = file.identity();
         self.put_in(&mut pass.seat, node, file);
-        pass.next_node = node;
+        pass.next_entry = entry;
         let from = pass.emptied.take_last();
         match self.scan(&mut pass.seat, pass.number, node, identity, from) {
-            Some(slot) => {
+            Some((slot, named)) => {
+                pass.stock[entry as usize] = named;
                 pass.emptied.fill(slot);
                 Ok(slot)
             }
@@ -149,9 +149,9 @@ impl LastingTable {
         pass.sure
     }
 
-    // Installs the file at a slot of the range that is empty when the scan reaches it, and returns
-    // that slot. The scan begins at `from`, if that is in the range, and goes once over the groups
-    // that aren't full, by the step of its pass.
+    // Installs the file at a slot of the range that is empty when the scan reaches it. Returns that
+    // slot, and the node that it named while it was empty. The scan begins at `from`, if that is in
+    // the range, and goes once over the groups that aren't full, by the step of its pass.
     fn scan(
         &self,
         seat: &mut Seat<Option<OpenFile>, View>,
@@ -159,15 +159,16 @@ impl LastingTable {
         node: u32,
         file: Closed,
         from: u32,
-    ) -> Option<u32>
+    ) -> Option<(u32, u32)>
         requires table { seat.old.table_id ≡ self.now.table.shared.table_id }
         requires at { IsAtWork self.now.table.shared.key number seat.old.me }
         requires placing { IsPlacing node file seat.old.me }
         requires change { seat.old.me.0.change ≡ Outside }
         ensures table { seat.new.table_id ≡ seat.old.table_id }
-        ensures slot { IfSome result (λ slot. slot < self.now.size) }
-        ensures found { IfSome result (λ slot.
-            HasAllocated node file slot (scan_steps self.now.range_len) seat.old.me seat.new.me) }
+        ensures slot { IfSome result (λ (slot, _). slot < self.now.size) }
+        ensures found { IfSome result (λ (slot, named).
+            HasAllocated node file slot named (scan_steps self.now.range_len) seat.old.me
+            seat.new.me) }
         ensures none { result ≡ None
             → StillPlaces node file (scan_steps self.now.range_len) seat.old.me seat.new.me }
     {
@@ -175,39 +176,40 @@ impl LastingTable {
             return None;
         }
         let first = self.first_slot(from, number);
-        if self.try_slot(seat, node, file, first) {
-            return Some(first);
+        if let Some(named) = self.try_slot(seat, node, file, first) {
+            return Some((first, named));
         }
         let groups = groups_in(self.range_len);
         let step = step_of(number, groups);
         let mut group = self.group_of(first);
         for _ in 0..groups {
             match self.try_group(seat, node, file, group) {
-                Some(slot) => return Some(slot),
+                Some(found) => return Some(found),
                 None => group = (group + step) % groups,
             }
         }
         None
     }
 
-    // Installs the file at an empty slot of the group, and returns that slot. A group that counts
-    // all its slots has none.
+    // Installs the file at an empty slot of the group, and returns that slot and the node that it
+    // named. A group that counts all its slots has none.
     fn try_group(
         &self,
         seat: &mut Seat<Option<OpenFile>, View>,
         node: u32,
         file: Closed,
         group: u32,
-    ) -> Option<u32>
+    ) -> Option<(u32, u32)>
         requires table { seat.old.table_id ≡ self.now.table.shared.table_id }
         requires at { (number : ℕ) × IsAtWork self.now.table.shared.key number seat.old.me }
         requires placing { IsPlacing node file seat.old.me }
         requires change { seat.old.me.0.change ≡ Outside }
         requires group { group < groups_in self.now.range_len }
         ensures table { seat.new.table_id ≡ seat.old.table_id }
-        ensures slot { IfSome result (λ slot. slot < self.now.size) }
-        ensures found { IfSome result (λ slot.
-            HasAllocated node file slot (group_steps self.now.range_len) seat.old.me seat.new.me) }
+        ensures slot { IfSome result (λ (slot, _). slot < self.now.size) }
+        ensures found { IfSome result (λ (slot, named).
+            HasAllocated node file slot named (group_steps self.now.range_len) seat.old.me
+            seat.new.me) }
         ensures none { result ≡ None
             → StillPlaces node file (group_steps self.now.range_len) seat.old.me seat.new.me }
     {
@@ -218,8 +220,8 @@ impl LastingTable {
         }
         let first = self.range_start + group * group_size(self.range_len);
         for slot in first..first + len {
-            if self.try_slot(seat, node, file, slot) {
-                return Some(slot);
+            if let Some(named) = self.try_slot(seat, node, file, slot) {
+                return Some((slot, named));
             }
         }
         None
@@ -241,15 +243,15 @@ impl LastingTable {
         }
     }
 
-    // Tries to install the file at the slot, in at most three steps. Returns whether the slot was
-    // empty and now has the file.
+    // Tries to install the file at the slot, in at most three steps. If the slot was empty and now
+    // has the file, it returns the node that the slot named before.
     pub(crate) fn try_slot(
         &self,
         seat: &mut Seat<Option<OpenFile>, View>,
         node: u32,
         file: Closed,
         slot: u32,
-    ) -> bool
+    ) -> Option<u32>
         requires table { seat.old.table_id ≡ self.now.table.shared.table_id }
         requires at { (number : ℕ) × IsAtWork self.now.table.shared.key number seat.old.me }
         requires placing { IsPlacing node file seat.old.me }
@@ -261,16 +263,17 @@ impl LastingTable {
         let shared = &self.table.shared;
         let place = slot_place(slot);
         let old = shared.load::<Peeking>(seat, place);
-        if node_of(old).is_some() {
-            return false;
+        if file_node_of(old).is_some() {
+            return None;
         }
-        let new = slot_word(node, file.entry);
+        let new = file_word(node, file.entry);
         let found = shared.compare_exchange::<Exchanging>(seat, place, old, new);
         if found != old {
-            return false;
+            return None;
         }
+        let named = node_named(old);
         self.raise(seat, slot, true, true);
-        true
+        Some(named)
     }
 }
 

@@ -4,19 +4,19 @@ ghost use Rattle.std.specs.Prelude.{◌≡◌, ℕ, ◌+◌, ◌<◌, ◌≤◌,
 ghost use Rattle.fx_table.specs.Pass.{IsIdle};
 ghost use Rattle.fx_lasting.specs.AtWork.{IsAtWork};
 ghost use Rattle.fx_lasting.specs.Laws.{IsInRange};
-ghost use Rattle.fx_lasting.specs.Layout.{block_for, groups_in};
+ghost use Rattle.fx_lasting.specs.Layout.{groups_in};
 ghost use Rattle.fx_lasting.specs.Tables.{view_of, steps_taken, opening_of_table, IsPassOfTable};
 ghost use Rattle.fx_lasting.specs.Vacant.{HasPutEmpty, SeesFile, TellsFull};
 
 use crate::answers::PutEmpty;
 use crate::kinds::Seeing;
 use crate::layout::slot_place;
+use crate::parts::file_node_of;
 use crate::pass::LastingPass;
 use crate::table::LastingTable;
 use crate::view::View;
 use atomic_table::Seat;
 use fx_base::OpenFile;
-use fx_words::node_of;
 
 impl LastingTable {
     /// Checks whether the slot is in the allocation range.
@@ -29,7 +29,7 @@ impl LastingTable {
 
     /// Installs a file at a slot of the allocation range (`allocates`) if it is empty, under a
     /// number that no file has had, for an idle pass (`is_idle`) that installs files
-    /// (`numbers_left`). It makes at most eight atomic steps more than the pass's block has nodes.
+    /// (`numbers_left`). It makes at most eight atomic steps more than the table has passes.
     /// Otherwise nothing changes, and the file comes back.
     pub fn put_empty(&self, pass: &mut LastingPass, slot: u32, file: OpenFile) -> PutEmpty
         requires fits { IsPassOfTable self.now pass.old }
@@ -39,17 +39,19 @@ impl LastingTable {
         ensures fits { IsPassOfTable self.now pass.new }
         ensures placed { HasPutEmpty self.now.table.shared.key (view_of pass.old) slot file result
             (view_of pass.new) }
-        ensures steps { let block = block_for self.now.size self.now.passes in
-            steps_taken pass.new ≤ steps_taken pass.old + (block + 8) }
+        ensures steps { let passes = self.now.passes in
+            steps_taken pass.new ≤ steps_taken pass.old + (passes + 8) }
     {
         if self.sees_file(&mut pass.seat, slot) {
             return PutEmpty::HasFile(file);
         }
-        let node = self.seek(&mut pass.seat, pass.number, pass.next_node);
+        let stock = pass.stock.as_slice();
+        let (entry, node) = self.seek(&mut pass.seat, pass.number, stock, pass.next_entry);
         let identity = file.identity();
         self.put_in(&mut pass.seat, node, file);
-        pass.next_node = node;
-        if self.try_slot(&mut pass.seat, node, identity, slot) {
+        pass.next_entry = entry;
+        if let Some(named) = self.try_slot(&mut pass.seat, node, identity, slot) {
+            pass.stock[entry as usize] = named;
             return PutEmpty::Installed;
         }
         PutEmpty::Lost(self.take_out(&mut pass.seat, node))
@@ -86,6 +88,6 @@ impl LastingTable {
         ensures saw { SeesFile self.now.table.shared.key slot seat.old.me result seat.new.me }
     {
         let word = self.table.shared.load::<Seeing>(seat, slot_place(slot));
-        node_of(word).is_some()
+        file_node_of(word).is_some()
     }
 }

@@ -32,6 +32,8 @@ pub struct Log {
     pub listed: bool,
     /// Its question whether the allocation range is full.
     pub asked: Survey,
+    /// The nodes that it has in stock for its next files: no slot names them.
+    pub stock: LinkedList<u32>,
 }
 
 /// The survey of the groups by a pass that asks whether the allocation range is full, as contracts
@@ -83,7 +85,7 @@ pub enum Work {
     /// Its hold of the file of the node was marked, and it has still to subtract the mark, which is
     /// its release.
     Yielding(File, u32),
-    /// It looks for a free node of its block, and this one is free.
+    /// It looks for a free node of its stock, and this one is free.
     Searching(u32),
     /// It has the place of the node, whose file it is about to install, and has stored these words
     /// of the file's label.

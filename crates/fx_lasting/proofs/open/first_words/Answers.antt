@@ -1,7 +1,10 @@
 use Rattle.fx_lasting.proofs.Words.{◌<◌, ◌+◌, ◌*◌, ◌∙◌, ap, sym, subst, arith, state_of, ℕ, group_size, group_len, full_in, first_at}
 use Rattle.std.specs.Prelude.{slice_set}
 use Rattle.fx_lasting.proofs.Groups.{few_groups}
-use Rattle.fx_lasting.proofs.Starting.{AreWordsSoFar, group_written, entry_full, entry_none, slot_written, slot_empty}
+use Rattle.fx_lasting.specs.Firsts.{AreNamed}
+use Rattle.fx_lasting.specs.Layout.{words_for}
+use Rattle.std.proofs.Math.ListN.{replicate}
+use Rattle.fx_lasting.proofs.Starting.{AreWordsSoFar, named_so_far, group_written, entry_full, entry_none, slot_written, slot_empty}
 use Rattle.fx_lasting.proofs.open.first_words.Goals.{in-Some, in_default}
 use Rattle.fx_lasting.proofs.open.first_words.Goals as goal
 
@@ -32,3 +35,9 @@ loop-slot-preserved c = let st = state_of c.args.plain.now in let so = c.loop-sl
           (slot_written so inside c.requires.nodes.1 z.0 z.1 z.2 w.in-Some.entry z.3 w.write_slot.ensures.entry)
       | in_default w ↦ rw w.words-is (slot_empty so inside (entry_none (st.at slot) slot w.in_default.ensures))
     ]
+
+pub loop-group-init : goal.loop-group-init
+loop-group-init c = named_so_far (state_of c.args.plain.now) c.args.passes c.args.nodes
+    (c.in_ok-words.ensures.items_if_clones_equal (λ y is. is) ∙ ap (λ (m : ℕ). replicate {A = ℕ} m 0)
+    (c.words_for.ensures ∙ ap (λ (n : ℕ). words_for n c.args.passes c.args.nodes) c.size-size.ensures.value))
+    (subst (λ (n : ℕ). AreNamed n c.in_ok-words.words.items c.name_slots.new.words.items) c.size-size.ensures.value c.name_slots.ensures)

@@ -1,7 +1,7 @@
-use Rattle.fx_lasting.proofs.Words.{◌≡◌, ◌≤◌, [], ◌∙◌, ap, arith, Sat, View}
+use Rattle.fx_lasting.proofs.Words.{◌≡◌, ◌≤◌, ◌+◌, ◌-◌, suc, [], ◌∙◌, ℕ, List, length, length-map, ap, arith, Sat, View, stocks_back}
 use Rattle.fx_lasting.specs.Cuts.{without_first, first_alone}
 use Rattle.fx_table.proofs.Chains.{one_dealt, all_dealt}
-use Rattle.fx_lasting.proofs.Calling.{first_of}
+use Rattle.fx_lasting.proofs.FirstStocks.{stock_taken, its_first, length_back}
 use Rattle.fx_lasting.proofs.Gathered.{rest_is_dealt, last_is_dealt, is_new_pass, shown_so}
 use Rattle.fx_lasting.proofs.Seats.{splits_keep}
 use Rattle.fx_lasting.proofs.table.LastingTable.deal.Goals as goal
@@ -21,13 +21,18 @@ loop-number-preserved c =
     let k = t.table.shared.key in
     let test = c.loop-number-test.true in
     let high : c.loop-number.number ≤ k.passes = omega (arith, t.key.0, test) in
-    let new = is_new_pass k i.before.low high (first_of t c.loop-number.number) c.new_pass.ensures (s.3 ∙ i.table)
+    let more : (t.passes + 1) - c.loop-number.number ≡ suc (t.passes - c.loop-number.number) = omega (arith, test) in
+    let taken = stock_taken (λ s. s.items) t.size t.passes t.installing c.loop-number.number (t.passes - c.loop-number.number) _ _ c.in-Some.stock c.in-Some.ensures.items
+    (i.stocks ∙ ap (stocks_back t.size t.passes t.installing c.loop-number.number) more) in
+    let new = is_new_pass k i.before.low high (taken.1 ∙ its_first t c.loop-number.number) c.new.ensures (s.3 ∙ i.table)
     (s.4 ∙ ap (λ (m : Sat). (first_alone m.0, [])) i.me) in
     record {
       before = one_dealt i.before c.push_reserved.ensures.items new test;
       table = s.0 ∙ i.table;
       me = s.2 ∙ (ap (λ (m : Sat). (without_first m.0, m.1)) i.me ∙ ap (λ (v : View). (v, [])) (rest_is_dealt high));
       room = let a = i.room in let b = c.push_reserved.ensures.capacity in omega arith;
+      stocks = let e : t.passes - c.loop-number.number ≡ (t.passes + 1) - (c.loop-number.number + 1) = omega arith in
+          taken.0 ∙ ap (stocks_back t.size t.passes t.installing (c.loop-number.number + 1)) e;
     }
 
 pub returns : goal.returns
@@ -38,7 +43,24 @@ returns c =
     let all = t.key.0 in
     let last : c.loop-number.number ≡ t.passes = omega (arith, c.loop-number-test.false, i.before.high) in
     let high : c.loop-number.number ≤ k.passes = omega (arith, last, all) in
-    let new = is_new_pass k i.before.low high (first_of t c.loop-number.number) c.new_pass-2.ensures i.table
+    let more : (t.passes + 1) - c.loop-number.number ≡ suc 0 = omega (arith, last) in
+    let taken = stock_taken (λ s. s.items) t.size t.passes t.installing c.loop-number.number 0 _ _ c.in-Some-pop.stock c.in-Some-pop.ensures.items
+    (i.stocks ∙ ap (stocks_back t.size t.passes t.installing c.loop-number.number) more) in
+    let new = is_new_pass k i.before.low high (taken.1 ∙ its_first t c.loop-number.number) c.new-2.ensures i.table
     (i.me ∙ ap (λ (v : View). (v, [])) (last_is_dealt (last ∙ all))) in
     let done = all_dealt i.before c.push_reserved-2.ensures.items new last in
     record { ready = done.0; count = done.1; new = shown_so t.table.shared.table_id k _ done.0 _ done.2 }
+
+pub unreachable-requires : goal.unreachable-requires
+unreachable-requires c =
+    let t = c.args.self.now in
+    let i = c.loop-number.invariant in
+    let test = c.loop-number-test.true in
+    omega (
+      arith,
+      c.in_default.ensures.cases.0,
+      ap (length {A = List ℕ}) i.stocks,
+      length-map c.loop-number.stocks.items (λ s. s.items),
+      length_back t.size t.passes t.installing c.loop-number.number ((t.passes + 1) - c.loop-number.number),
+      test,
+    )

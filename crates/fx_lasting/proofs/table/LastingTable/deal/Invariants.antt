@@ -1,4 +1,4 @@
-use Rattle.fx_lasting.proofs.Words.{◌≡◌, ◌≤◌, ◌-◌, vec_capacity, [], dealt, IsPassOf}
+use Rattle.fx_lasting.proofs.Words.{◌≡◌, ◌≤◌, ◌-◌, ◌+◌, map, vec_capacity, stocks_back, [], dealt, IsPassOf}
 use Rattle.fx_table.proofs.Chains.{AreDealt}
 use Rattle.fx_lasting.proofs.Gathered.{shown}
 use Rattle.fx_lasting.proofs.table.LastingTable.deal.Given as goal
@@ -9,6 +9,8 @@ invariant-loop-number l = record {
   table : l.seat.table_id ≡ l.self.table.shared.table_id;
   me : l.seat.me ≡ (dealt l.self.table.shared.key l.number, []);
   room : l.self.passes ≤ vec_capacity l.list;
+  stocks : map (λ s. s.items) l.stocks.items
+      ≡ stocks_back l.self.size l.self.passes l.self.installing l.number ((l.self.passes + 1) - l.number);
 }
 
 abbrev pub decreases-loop-number : goal.decreases-loop-number

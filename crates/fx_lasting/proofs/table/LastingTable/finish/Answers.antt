@@ -1,5 +1,5 @@
 use Rattle.std.specs.Prelude.{vec_len, vec_capacity}
-use Rattle.fx_lasting.proofs.Words.{length, ◌+◌, ◌≤◌, ◌≡◌, ℕ, List, sym, refl, ap, ◌∙◌, arith, rules, Option, None, some, get_elem?, slots_items, Closed, node_in}
+use Rattle.fx_lasting.proofs.Words.{length, ◌+◌, ◌≤◌, ◌≡◌, ℕ, List, sym, refl, ap, ◌∙◌, arith, rules, Option, None, some, get_elem?, slots_items, Closed, file_node_in}
 use Rattle.fx_lasting.proofs.Words.{slot_place, false, get_or-set_other, slots_filled}
 use Rattle.fx_plain.proofs.Cells.{each_set}
 use Rattle.fx_table.proofs.SumLemmas.{read_at}
@@ -12,9 +12,9 @@ use Rattle.fx_lasting.proofs.table.LastingTable.finish.Goals as goal
 
 -- the node that a slot's word names
 named_by : (slot : ℕ) {ws now : List ℕ} {place word : ℕ} {n : Option ℕ} → now ≡ ws → place ≡ slot_place slot
-    → get_elem? now place ≡ some word → n ≡ node_in word → node_at ws slot ≡ n
+    → get_elem? now place ≡ some word → n ≡ file_node_in word → node_at ws slot ≡ n
 named_by slot {ws} {now} {place} same is there named =
-    ap node_in (read_at ws (slot_place slot) 0 (ap (get_elem? ws) (sym is) ∙ (ap (λ (l : List ℕ). get_elem? l place) (sym same) ∙ there))) ∙ sym named
+    ap file_node_in (read_at ws (slot_place slot) 0 (ap (get_elem? ws) (sym is) ∙ (ap (λ (l : List ℕ). get_elem? l place) (sym same) ∙ there))) ∙ sym named
 
 pub loop-slot-init : goal.loop-slot-init
 loop-slot-init c = record {
@@ -38,13 +38,13 @@ pub loop-slot-preserved : goal.loop-slot-preserved
 loop-slot-preserved c =
     let t = c.args.self in let i = c.loop-slot.invariant in let ws : List ℕ = slots_items c.close_with-closed.result.words in
     let home = home_at_end t (slots_items c.close_with-closed.result.slots) c.close_with-closed.ensures.values.2 c.requires.idle in
-    let named : (n : Option ℕ) → n ≡ node_in c.word.result → node_at ws c.loop-slot.slot ≡ n =
+    let named : (n : Option ℕ) → n ≡ file_node_in c.word.result → node_at ws c.loop-slot.slot ≡ n =
     λ n is. named_by c.loop-slot.slot (ap slots_items i.words) c.slot_place.ensures c.word.ensures is in
     let inside : c.loop-slot.slot + 1 ≤ t.size = omega (arith, c.loop-slot-test.true) in
     let more : vec_len c.loop-slot.files ≤ c.loop-slot.slot + 1 = omega (arith, i.room) in
     let room_left : (n : ℕ) → n ≡ vec_len c.loop-slot.files + 1 → n ≤ c.loop-slot.slot + 1 = λ n is. omega (arith, i.room, is) in
     let same_room : (n : ℕ) → n ≡ vec_capacity c.loop-slot.files → t.size ≤ n = λ n is. omega (arith, i.capacity, is) in
-    elim c.match-node_of.branch [
+    elim c.match-file_node_of.branch [
       | in-Some+in-Some-take_home w ↦ let took = w.take_home.ensures in rw (w.files-is, w.closed-is) (assumption (
         one_listed t.size (node_at ws) i.listed home c.loop-slot-test.true (named _ w.in-Some.ensures) took.value took.items
             w.in-Some-take_home.is w.push_reserved.ensures.items,

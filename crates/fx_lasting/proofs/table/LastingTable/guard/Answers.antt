@@ -1,4 +1,4 @@
-use Rattle.fx_lasting.proofs.Words.{rules, ◌≡◌, ◌+◌, ◌∙◌, name_in, IsHot, sym, ap, List, Log, first_log, true}
+use Rattle.fx_lasting.proofs.Words.{rules, ◌≡◌, ◌+◌, ◌∙◌, full_name_in, IsHot, sym, ap, List, Log, first_log, true}
 use Rattle.fx_lasting.proofs.Calling.{hold_inside, hold_word, slot_inside}
 use Rattle.fx_lasting.proofs.HoldWords.{announces_keep}
 use Rattle.fx_lasting.proofs.Looking.{confirms_keep}
@@ -30,13 +30,13 @@ load-word-requires c =
 pub returns-then-is_hot_at-clause-guards : goal.returns-then-is_hot_at-clause-guards
 returns-then-is_hot_at-clause-guards c =
     let goes = c.store.ensures.2.goes c.args.slot c.args.node c.requires.saw in
-    let still : (name_in c.load-word.result ≡ c.args.node + 1) × IsHot c.load-word.result = c.is_hot_at.ensures.0 c.if-is_hot_at.true in
+    let still : (full_name_in c.load-word.result ≡ c.args.node + 1) × IsHot c.load-word.result = c.is_hot_at.ensures.0 c.if-is_hot_at.true in
     let h = c.load-word.ensures.2.holds c.args.slot c.args.node (goes.stepped.glance ∙ c.requires.saw) goes.stepped.work still.0 still.1 in
     (h.0, c.entry_of.ensures ∙ h.1, looks_then (runs_goes goes) (runs_goes h.2))
 
 pub returns-else-is_hot_at-clause-guards : goal.returns-else-is_hot_at-clause-guards
 returns-else-is_hot_at-clause-guards c =
     let goes = c.store.ensures.2.goes c.args.slot c.args.node c.requires.saw in
-    let moved : (name_in c.load-word.result ≡ c.args.node + 1) × IsHot c.load-word.result → ⊥ = search rules in
+    let moved : (full_name_in c.load-word.result ≡ c.args.node + 1) × IsHot c.load-word.result → ⊥ = search rules in
     let h = c.load-word.ensures.2.moved c.args.slot c.args.node (goes.stepped.glance ∙ c.requires.saw) goes.stepped.work moved in
     looks_then (runs_goes goes) (runs_goes h)

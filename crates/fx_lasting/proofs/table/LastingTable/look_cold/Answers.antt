@@ -12,7 +12,7 @@ returns c =
     let run = took_run s c.args.slot c.take_at-found.new.seat.me c.take_at-found.result took.takes _ (sym c.is_err-pass.ensures.value)
     c.args.self.now.table.shared.key.passes c.args.pass.now.next_visit in
     record {
-      fits = still_pass s _ (at_ease s run.2) (refl, refl) took.table (took.places ∙ s.places) s.block run.3;
+      fits = still_pass s _ (at_ease s run.2) (refl, refl) took.table (took.places ∙ s.places) (refl, s.next) run.3;
       looked = looked_so s c.args.slot c.take_at-found.new.seat.me c.take_at-found.result took.takes;
       never_spent = never_spent s c.args.slot c.take_at-found.new.seat.me c.take_at-found.result took.takes;
       steps = let few = run.2.steps in omega arith;

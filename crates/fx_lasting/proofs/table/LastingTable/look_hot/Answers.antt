@@ -11,7 +11,7 @@ returns-in-Some c =
     let g = c.in-Some.ensures.guards in
     let run = at_ease s g.2 in
     record {
-      fits = still_pass s _ run (refl, refl) c.guard.ensures.table (c.guard.ensures.places ∙ s.places) s.block (refl, refl);
+      fits = still_pass s _ run (refl, refl) c.guard.ensures.table (c.guard.ensures.places ∙ s.places) (refl, s.next) (refl, refl);
       looked = (
         g.0,
         record { entry = g.1; same = λ e. absurd (cc e) },
@@ -37,7 +37,7 @@ look_cold-found-requires-clause-seated c =
     let s = c.requires.seated in
     let lets = marks_run c.guard.new.seat.me c.withdraw-freed.new.seat.me 3 c.withdraw-freed.result c.withdraw-freed.ensures.withdraws in
     still_seat s _ (at_ease s (does_then c.in-None.ensures.guards lets.1)) (refl, refl) (c.withdraw-freed.ensures.table ∙ c.guard.ensures.table)
-    c.withdraw-freed.ensures.places s.block
+    c.withdraw-freed.ensures.places (refl, s.next)
 
 pub look_cold-found-requires-clause-listed : goal.look_cold-found-requires-clause-listed
 look_cold-found-requires-clause-listed c = (marks_run c.guard.new.seat.me c.withdraw-freed.new.seat.me 3 c.withdraw-freed.result c.withdraw-freed.ensures.withdraws).1.listed

@@ -29,7 +29,7 @@ returns-in_default c =
     let run = at_ease s (runs_goes goes) in
     let here : slot_of c.slot_place.result ≡ c.args.slot = ap slot_of c.slot_place.ensures ∙ slot_back c.args.slot in
     record {
-      fits = still_pass s _ run (refl, refl) c.load-word.ensures.0 (goes.carried ∙ s.places) s.block
+      fits = still_pass s _ run (refl, refl) c.load-word.ensures.0 (goes.carried ∙ s.places) (refl, s.next)
           (its_flag c.requires.fits c.requires.idle);
       looked = subst (λ (z : ℕ). Adds (opening_of k) (view_of p) ([] ▷ Look z None) DoesNothing one_look (pass_of c.load-word.new.seat.me.0)) here
           (adds_so s run one_look);
@@ -48,7 +48,7 @@ look_first-requires c =
     let goes = c.load-word.ensures.2.cold c.in-Some.node (its_name c.load-word.result c.in-Some.node c.in-Some.ensures) cold in
     let here : slot_of c.slot_place.result ≡ c.args.slot = ap slot_of c.slot_place.ensures ∙ slot_back c.args.slot in
     record {
-      seated = still_seat s _ (at_ease s (runs_goes goes)) (refl, refl) c.load-word.ensures.0 (goes.carried ∙ s.places) s.block;
+      seated = still_seat s _ (at_ease s (runs_goes goes)) (refl, refl) c.load-word.ensures.0 (goes.carried ∙ s.places) (refl, s.next);
       idle = goes.stepped.work;
       unlisted = c.if-not-pass.true;
       cold = goes.stepped.glance ∙ ap (λ (z : ℕ). Cold z) here;
@@ -78,7 +78,7 @@ look_hot-requires c =
     (c.is_hot.ensures.0 c.if-is_hot.true) (listed_so c.requires.fits c.if-not-pass.false)).0 in
     let here : slot_of c.slot_place.result ≡ c.args.slot = ap slot_of c.slot_place.ensures ∙ slot_back c.args.slot in
     record {
-      seated = still_seat s _ (at_ease s (runs_goes goes)) (refl, refl) c.load-word.ensures.0 (goes.carried ∙ s.places) s.block;
+      seated = still_seat s _ (at_ease s (runs_goes goes)) (refl, refl) c.load-word.ensures.0 (goes.carried ∙ s.places) (refl, s.next);
       idle = goes.stepped.work;
       listed = goes.stepped.listed ∙ listed_so c.requires.fits c.if-not-pass.false;
       hot = goes.stepped.glance ∙ ap (λ (z : ℕ). Hot z c.in-Some.node) here;
@@ -108,7 +108,7 @@ look_cold-found-requires c =
     let goes = c.load-word.ensures.2.cold c.in-Some.node (its_name c.load-word.result c.in-Some.node c.in-Some.ensures) cold in
     let here : slot_of c.slot_place.result ≡ c.args.slot = ap slot_of c.slot_place.ensures ∙ slot_back c.args.slot in
     record {
-      seated = still_seat s _ (at_ease s (runs_goes goes)) (refl, refl) c.load-word.ensures.0 (goes.carried ∙ s.places) s.block;
+      seated = still_seat s _ (at_ease s (runs_goes goes)) (refl, refl) c.load-word.ensures.0 (goes.carried ∙ s.places) (refl, s.next);
       idle = goes.stepped.work;
       listed = goes.stepped.listed ∙ listed_so c.requires.fits c.if-not-pass.false;
       cold = goes.stepped.glance ∙ ap (λ (z : ℕ). Cold z) here;

@@ -1,13 +1,14 @@
 use Rattle.fx_lasting.proofs.Words.{◌-◌, ◌∷◌, inr, refl, sym, ap, ◌∙◌, subst, arith, [], ◌▷◌, Put, numbered, Some, Closed, HasPlace, false}
-use Rattle.fx_lasting.proofs.Words.{Start, Work, Runs, rested, name_in, count_in, retired_at, opening_of, view_of, pass_of}
+use Rattle.fx_lasting.proofs.Words.{Start, Work, Runs, rested, full_name_in, count_in, retired_at, opening_of, view_of, pass_of}
 use Rattle.fx_table.specs.Calls.{Adds, no_use, one_number}
 use Rattle.fx_table.specs.declared.values.Doing.TheVariants.{Retiring as Retires}
 use Rattle.fx_table.specs.declared.values.Retired.{Retired}
 use Rattle.fx_lasting.proofs.Words.{Placing, label_of}
-use Rattle.fx_lasting.proofs.ByNode.{acts_then, stands_then, missed_so, tried_none, tried_so, value_so, removal_so, is_on, adds_none}
-use Rattle.fx_lasting.proofs.Passing.{adds_so, at_rest, still_pass, its_idle, its_flag, may_install, knows_removed, at_ease_looking, first_by}
+use Rattle.fx_lasting.proofs.ByNode.{swapped_acts, stands_then, missed_so, tried_none, tried_so, value_so, removal_so, is_on, adds_none}
+use Rattle.fx_lasting.proofs.Passing.{adds_swapped, swapped_pass, swapped_looking, adds_so, at_rest, still_pass, its_idle, its_flag, may_install, knows_removed, first_by}
 use Rattle.fx_lasting.proofs.Running.{still_at_work, does_then}
-use Rattle.fx_lasting.proofs.Trying.{until_put}
+use Rattle.fx_lasting.proofs.Trying.{until_put, stocked_at}
+use Rattle.fx_lasting.proofs.Calling.{begins_at}
 use Rattle.fx_lasting.proofs.table.LastingTable.put_if.Goals as goal
 
 pub see-requires-clause-slot : goal.see-requires-clause-slot
@@ -20,14 +21,14 @@ returns-in-Err c =
     let saw = c.in-Err.ensures.saw in
     let run = at_rest fits saw.1 in
     record {
-      fits = still_pass s _ run (refl, refl) c.see.ensures.table (c.see.ensures.places ∙ s.places) s.block fits.knows;
+      fits = still_pass s _ run (refl, refl) c.see.ensures.table (c.see.ensures.places ∙ s.places) (refl, s.next) fits.knows;
       placed = (refl, record { was = saw.0; adds = adds_none fits c.requires.idle saw.1 });
       tries = tried_none c.in-Err.miss _ _ saw.2;
       steps = let few = run.steps in omega arith;
     }
 
-pub seek-own-requires : goal.seek-own-requires
-seek-own-requires c =
+pub seek-entry-requires : goal.seek-entry-requires
+seek-entry-requires c =
     let t = c.args.self.now in
     let f = c.requires.fits in
     let saw = c.in-Ok.ensures.saw in
@@ -35,15 +36,16 @@ seek-own-requires c =
       table = c.see.ensures.table ∙ f.seated.table;
       at = still_at_work f.seated.at saw.2;
       idle = rw saw.2.work (its_idle f c.requires.idle);
-      block = f.seated.block;
       installs = omega (arith, may_install f.seated c.requires.numbers, t.key.1);
+      stock = c.as_slice-stock.ensures.value ∙ (f.seated.stock ∙ sym saw.2.stock);
+      start = begins_at t f (omega (arith, may_install f.seated c.requires.numbers, t.key.1));
     }
 
 pub put_in-requires : goal.put_in-requires
 put_in-requires c =
     let f = c.requires.fits in
     let saw = c.in-Ok.ensures.saw in
-    let sought = c.seek-own.ensures in
+    let sought = c.seek-entry.ensures in
     record {
       table = sought.table ∙ (c.see.ensures.table ∙ f.seated.table);
       at = (c.args.pass.now.number, still_at_work (still_at_work f.seated.at saw.2) sought.found);
@@ -55,13 +57,18 @@ pub try_replace-requires : goal.try_replace-requires
 try_replace-requires c =
     let f = c.requires.fits in
     let saw = c.in-Ok.ensures.saw in
-    let placed = does_then saw.2 (until_put c.seek-own.ensures.found c.put_in.ensures.born) in
+    let placed = does_then saw.2 (until_put c.seek-entry.ensures.found c.put_in.ensures.born) in
     record {
-      table = c.put_in.ensures.table ∙ (c.seek-own.ensures.table ∙ (c.see.ensures.table ∙ f.seated.table));
+      table = c.put_in.ensures.table ∙ (c.seek-entry.ensures.table ∙ (c.see.ensures.table ∙ f.seated.table));
       at = (c.args.pass.now.number, still_at_work f.seated.at placed);
       placing = record {
-        work = placed.work ∙ ap (λ (z : Closed). Placing c.seek-own.result (label_of z)) (sym c.identity-identity.ensures);
-        place = c.put_in.ensures.place ∙ ap (λ (z : Closed). (c.seek-own.result, Some z) ∷ []) (sym c.identity-identity.ensures);
+        work = placed.work ∙ ap (λ (z : Closed). Placing c.seek-entry.result.1 (label_of z)) (sym c.identity-identity.ensures);
+        place = c.put_in.ensures.place ∙ ap (λ (z : Closed). (c.seek-entry.result.1, Some z) ∷ []) (sym c.identity-identity.ensures);
+        stocked = (
+          c.seek-entry.result.0,
+          stocked_at c.as_slice-stock.result.now c.args.pass.now.seat.me c.put_in.new.seat.me c.seek-entry.result.0
+              c.seek-entry.result.1 (c.as_slice-stock.ensures.value ∙ f.seated.stock) placed.stock c.seek-entry.ensures.stocked,
+        );
       };
       slot = omega (arith, c.requires.slot, c.args.self.now.same_size);
       change = placed.change ∙ f.seated.change;
@@ -75,32 +82,37 @@ returns-in-Ok-try_replace c =
     let fits = c.requires.fits in
     let s = fits.seated in
     let saw = c.in-Ok.ensures.saw in
-    let sought = c.seek-own.ensures in
+    let sought = c.seek-entry.ensures in
+    let e = c.seek-entry.result.0 in
+    let node = c.args.node in
     let did = c.in-Ok-try_replace.ensures.tried in
     let found = c.in-Ok-try_replace.found in
-    let f = did.1 in
+    let placed = does_then saw.2 (until_put sought.found c.put_in.ensures.born) in
+    let z = did.3 e (stocked_at c.as_slice-stock.result.now c.args.pass.now.seat.me c.put_in.new.seat.me e c.seek-entry.result.1
+    (c.as_slice-stock.ensures.value ∙ s.stock) placed.stock sought.stocked) in
+    let f = z.1 in
     let x = c.removed_by.result in
     let its = c.removed_by.ensures in
-    let placed = does_then saw.2 (until_put sought.found c.put_in.ensures.born) in
-    let run = at_ease_looking fits found (Some f) (acts_then placed did.5) refl in
+    let run = swapped_looking fits e node found (Some f) (swapped_acts e node placed z.4) refl in
     let v = view_of c.args.pass.now in
     let w = pass_of c.try_replace.new.seat.me.0 in
-    let new = numbered did.0 c.identity-identity.result in
-    let adds = adds_so s run one_number in
+    let new = numbered z.0 c.identity-identity.result in
+    let adds = adds_swapped s e node did.2 run one_number in
     record {
-      fits = still_pass s _ run (refl, refl)
-          (c.try_replace.ensures.table ∙ (c.put_in.ensures.table ∙ (sought.table ∙ c.see.ensures.table))) did.6 sought.block
-          (knows_removed k found (Some f) (Some (retired_at f (name_in found - 1) (count_in found))) _ false _ refl refl
+      fits = swapped_pass s e node did.2 _ run (refl, refl)
+          (c.try_replace.ensures.table ∙ (c.put_in.ensures.table ∙ (sought.table ∙ c.see.ensures.table))) did.1
+          (refl, λ _. omega (arith, sought.entry, t.key.0))
+          (knows_removed k found (Some f) (Some (retired_at f (full_name_in found - 1) (count_in found))) _ false _ refl refl
           (c.first_visit-pass.ensures ∙ first_by t found));
       placed = (
         new,
         f,
         its.node,
-        is_on found x its.node its.entry its.takes did.3 f k did.4.0,
+        is_on found x its.node its.entry its.takes did.0 f k z.3.0,
         record { identity = c.identity-identity.ensures; same = λ e. absurd (cc e) },
-        removal_so found x its.node its.entry its.takes did.3 f k did.4.1,
-        subst (λ (z : Retired). Adds (opening_of k) v ([] ▷ Put c.args.slot new (Some f)) (Retires f z) one_number w)
-            (value_so found x its.node its.entry its.takes did.3 f did.4.1) adds,
+        removal_so found x its.node its.entry its.takes did.0 f k z.3.1,
+        subst (λ (y : Retired). Adds (opening_of k) v ([] ▷ Put c.args.slot new (Some f)) (Retires f y) one_number w)
+            (value_so found x its.node its.entry its.takes did.0 f z.3.1) adds,
       );
       tries = tt;
       steps = let few = run.steps in omega arith;
@@ -111,10 +123,10 @@ take_out-requires c =
     let f = c.requires.fits in
     let saw = c.in-Ok.ensures.saw in
     let failed = c.in-Err-try_replace.ensures.tried in
-    let placed = does_then saw.2 (until_put c.seek-own.ensures.found c.put_in.ensures.born) in
+    let placed = does_then saw.2 (until_put c.seek-entry.ensures.found c.put_in.ensures.born) in
     let run = stands_then placed failed.1 in
     record {
-      table = c.try_replace.ensures.table ∙ (c.put_in.ensures.table ∙ (c.seek-own.ensures.table ∙ (c.see.ensures.table ∙ f.seated.table)));
+      table = c.try_replace.ensures.table ∙ (c.put_in.ensures.table ∙ (c.seek-entry.ensures.table ∙ (c.see.ensures.table ∙ f.seated.table)));
       at = (c.args.pass.now.number, still_at_work f.seated.at run);
       place = (c.args.file, record { work = inr (label_of c.args.file, run.work); place = failed.2 ∙ c.put_in.ensures.place });
     }
@@ -125,7 +137,7 @@ returns-in-Err-try_replace c =
     let fits = c.requires.fits in
     let s = fits.seated in
     let saw = c.in-Ok.ensures.saw in
-    let sought = c.seek-own.ensures in
+    let sought = c.seek-entry.ensures in
     let failed = c.in-Err-try_replace.ensures.tried in
     let end = c.take_out.ensures in
     let m = c.args.pass.now.seat.me in
@@ -138,10 +150,10 @@ returns-in-Err-try_replace c =
     let rests = subst (λ (z : Work). Runs m₃ [] (rested z) m₃.0.glance m₃.0.change 1 m₄) tried.work end.rests in
     let run = at_rest fits (does_then tried rests) in
     let since = does_then (stands_then (until_put sought.found c.put_in.ensures.born) failed.1) rests in
-    let place : HasPlace c.seek-own.result (Some c.args.file) m₃ = record { work = inr (label_of c.args.file, tried.work); place = failed.2 ∙ c.put_in.ensures.place } in
+    let place : HasPlace c.seek-entry.result.1 (Some c.args.file) m₃ = record { work = inr (label_of c.args.file, tried.work); place = failed.2 ∙ c.put_in.ensures.place } in
     record {
       fits = still_pass s _ run (refl, refl)
-          (end.table ∙ (c.try_replace.ensures.table ∙ (c.put_in.ensures.table ∙ (sought.table ∙ c.see.ensures.table)))) end.empty sought.block
+          (end.table ∙ (c.try_replace.ensures.table ∙ (c.put_in.ensures.table ∙ (sought.table ∙ c.see.ensures.table)))) end.empty (refl, λ _. omega (arith, sought.entry, c.args.self.now.key.0))
           (its_flag fits c.requires.idle);
       placed = (
         end.file c.args.file place,

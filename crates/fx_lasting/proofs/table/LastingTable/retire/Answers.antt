@@ -71,7 +71,7 @@ returns-then-found-amount c =
     (at a).pass.0 went.1 in
     record {
       fits = still_pass s _ run (refl, refl) (c.fetch_sub-found.ensures.0 ∙ c.mark_all-marks.ensures.table)
-          (went.0.carried ∙ (c.mark_all-marks.ensures.places ∙ s.places)) s.block refl;
+          (went.0.carried ∙ (c.mark_all-marks.ensures.places ∙ s.places)) (refl, s.next) refl;
       retired = (file a, c.requires.removed.1, (removed, adds_so s run no_use));
       steps = let few = run.steps in omega (arith, few, t.bounds.0);
     }
@@ -108,7 +108,7 @@ returns c =
     let run = at_rest fits (does_then (visited a) (out_and_home went c.take_out.ensures.rests)) in
     record {
       fits = still_pass s _ run (refl, refl) (c.take_out.ensures.table ∙ (c.fetch_sub-found.ensures.0 ∙ c.mark_all-marks.ensures.table)) c.take_out.ensures.empty
-          s.block refl;
+          (refl, s.next) refl;
       retired = (file a, c.requires.removed.1, (c.take_out.ensures.file (file a).identity (place a went), adds_so s run no_use));
       steps = let few = run.steps in omega (arith, few, t.bounds.0);
     }

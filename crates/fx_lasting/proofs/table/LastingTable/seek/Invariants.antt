@@ -7,5 +7,5 @@ abbrev pub invariant-loop : goal.invariant-loop
 invariant-loop l = record {
   table : l.seat.table_id ≡ l.initial.seat.table_id;
   places : l.seat.me.1 ≡ l.initial.seat.me.1;
-  sought : Sought l.self.table.shared.key l.number l.len l.start l.counter l.node l.initial.seat.me l.seat.me;
+  sought : Sought l.stock l.len l.start l.counter l.entry l.initial.seat.me l.seat.me;
 }

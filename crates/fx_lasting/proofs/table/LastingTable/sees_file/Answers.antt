@@ -19,6 +19,6 @@ returns c =
     record {
       table = c.load-word.ensures.0;
       places = saw.goes.carried;
-      saw = rw c.is_some.ensures (sees_so c.requires.at.1.pass.0 (ap slot_of c.slot_place.ensures ∙ slot_back c.args.slot) saw c.node_of.result
-          c.node_of.ensures);
+      saw = rw c.is_some.ensures (sees_so c.requires.at.1.pass.0 (ap slot_of c.slot_place.ensures ∙ slot_back c.args.slot) saw c.file_node_of.result
+          c.file_node_of.ensures);
     }

@@ -23,9 +23,8 @@ vacant-requires c =
     let many : n ≡ nodes_of k = c.nodes_for-nodes.ensures.nodes ∙ ap (λ (m : ℕ). nodes_for m c.args.passes c.args.installing) (sym same) in
     let zeros : List ℕ = replicate (words_for c.args.size c.args.passes n) 0 in
     let items : c.in_ok-words.words.items ≡ zeros = c.in_ok-words.ensures.items_if_clones_equal (λ y is. is) ∙ ap (λ (m : ℕ). replicate {A = ℕ} m 0) c.words_for.ensures in
-    let are : c.as_slice.result.now ≡ zeros = c.as_slice.ensures.value ∙ items in
     let words = subst (λ (m : ℕ). AreFirstWords (state_of (contents_of k)) c.args.passes m c.as_slice.result.now) many
-    (first_words c.args.size c.args.range c.args.passes n are) in
+    (rw c.as_slice.ensures.value (first_words c.args.size c.args.range c.args.passes n items c.name_slots.ensures)) in
     let homes = subst (λ (m : ℕ). AreFirstHomes (contents_of k) m (replicate n None)) many (first_homes c.args.size c.args.range n) in
     opening_keeps k _ _ (opens_with k c.as_slice.result.now (replicate n None) (omega (arith, same, c.requires.size)) (omega (arith, same, c.requires.range))
     c.requires.passes.1 (omega (arith, many, c.nodes_for-nodes.ensures.few)) words homes

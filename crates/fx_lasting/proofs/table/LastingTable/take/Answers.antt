@@ -8,8 +8,8 @@ use Rattle.fx_lasting.proofs.SlotLaws.{takes_out_keep}
 use Rattle.fx_lasting.proofs.Passing.{adds_so, still_pass, its_idle, goes_in, goes_around, account_so, knows_removed, taken_so, at_ease_looking, first_by}
 use Rattle.fx_lasting.proofs.table.LastingTable.take.Goals as goal
 
-pub swap-found-requires : goal.swap-found-requires
-swap-found-requires c =
+pub fetch_and-found-requires : goal.fetch_and-found-requires
+fetch_and-found-requires c =
     let t = c.args.self.now in
     let f = c.requires.fits in
     let began = c.lower.ensures in
@@ -24,15 +24,15 @@ swap-found-requires c =
 
 pub raise-requires-clause-at : goal.raise-requires-clause-at
 raise-requires-clause-at c = let f = c.requires.fits in
-    (c.args.pass.now.number, still_at_work f.seated.at (goes_in c.lower.ensures.runs c.swap-found.ensures.2.stepped))
+    (c.args.pass.now.number, still_at_work f.seated.at (goes_in c.lower.ensures.runs c.fetch_and-found.ensures.2.stepped))
 
 pub raise-requires-clause-change : goal.raise-requires-clause-change
 raise-requires-clause-change c =
     let k : Start = c.args.self.now.table.shared.key in
-    let went = c.swap-found.ensures.2 in
+    let went = c.fetch_and-found.ensures.2 in
     let start : c.lower.new.seat.me.0.start ≡ k = c.lower.ensures.runs.start ∙ c.requires.fits.seated.at.pass.0 in
     let here : slot_of c.slot_place.result ≡ c.args.slot = ap slot_of c.slot_place.ensures ∙ slot_back c.args.slot in
-    went.stepped.change ∙ ((λ i. account (range_at_start (start i)) (here i) went.file) ∙ account_so (range_at_start k) c.args.slot c.swap-found.result went.file
+    went.stepped.change ∙ ((λ i. account (range_at_start (start i)) (here i) went.file) ∙ account_so (range_at_start k) c.args.slot c.fetch_and-found.result went.file
     c.removed_in-removed.result c.is_in_range-inside.result c.is_none.result (c.removed_in-removed.ensures went.file went.names) c.is_none.ensures
     c.is_in_range-inside.ensures)
 
@@ -42,8 +42,8 @@ returns c =
     let fits = c.requires.fits in
     let s = fits.seated in
     let began = c.lower.ensures in
-    let went = c.swap-found.ensures.2 in
-    let found = c.swap-found.result in
+    let went = c.fetch_and-found.ensures.2 in
+    let found = c.fetch_and-found.result in
     let file = went.file in
     let removed = c.removed_in-removed.result in
     let is = c.removed_in-removed.ensures file went.names in
@@ -54,8 +54,8 @@ returns c =
     let here : slot_of c.slot_place.result ≡ c.args.slot = ap slot_of c.slot_place.ensures ∙ slot_back c.args.slot in
     let adds = subst (λ (z : ℕ). Adds (opening_of k) v ([] ▷ Take z file) (doing_in (retiring_work k found file)) no_use w) here (adds_so s run no_use) in
     record {
-      fits = still_pass s _ run (refl, refl) (c.raise.ensures.table ∙ (c.swap-found.ensures.0 ∙ began.table))
-          (c.raise.ensures.places ∙ (went.carried ∙ (began.places ∙ s.places))) s.block
+      fits = still_pass s _ run (refl, refl) (c.raise.ensures.table ∙ (c.fetch_and-found.ensures.0 ∙ began.table))
+          (c.raise.ensures.places ∙ (went.carried ∙ (began.places ∙ s.places))) (refl, s.next)
           (knows_removed k found file removed _ _ _ is c.is_none-pass.ensures (c.first_visit-pass.ensures ∙ first_by c.args.self.now found));
       taken = taken_so k v c.args.slot found w file removed is _ _ c.ok_or.ensures.value adds;
       steps = let few = run.steps in omega arith;

@@ -1,5 +1,5 @@
 use Rattle.fx_lasting.proofs.Words.{◌-◌, refl, ap, ◌∙◌, subst, arith, [], ◌▷◌, Take, Some, Bool, true, false, uncounted, group_of, range_at_start}
-use Rattle.fx_lasting.proofs.Words.{Start, Glance, Outside, Runs, name_in, count_in, retired_at, opening_of, view_of, pass_of}
+use Rattle.fx_lasting.proofs.Words.{Start, Glance, Outside, Runs, full_name_in, count_in, retired_at, opening_of, view_of, pass_of}
 use Rattle.fx_table.specs.Calls.{Adds, no_use}
 use Rattle.fx_table.specs.declared.values.Doing.TheVariants.{Retiring as Retires}
 use Rattle.fx_table.specs.declared.values.Retired.{Retired}
@@ -18,7 +18,7 @@ returns-in-Err c =
     let saw = c.in-Err.ensures.saw in
     let run = at_rest fits saw.1 in
     record {
-      fits = still_pass s _ run (refl, refl) c.see.ensures.table (c.see.ensures.places ∙ s.places) s.block fits.knows;
+      fits = still_pass s _ run (refl, refl) c.see.ensures.table (c.see.ensures.places ∙ s.places) (refl, s.next) fits.knows;
       taken = record { was = saw.0; adds = adds_none fits c.requires.idle saw.1 };
       tries = tried_none c.in-Err.miss _ _ saw.2;
       steps = let few = run.steps in omega arith;
@@ -63,8 +63,8 @@ returns-in-Ok-try_take c =
     let w = pass_of c.try_take.new.seat.me.0 in
     record {
       fits = still_pass s _ run (refl, refl) (c.try_take.ensures.table ∙ (began.table ∙ c.see.ensures.table))
-          (c.try_take.ensures.places ∙ (began.places ∙ (c.see.ensures.places ∙ s.places))) s.block
-          (knows_removed k found (Some f) (Some (retired_at f (name_in found - 1) (count_in found))) _ false _ refl refl
+          (c.try_take.ensures.places ∙ (began.places ∙ (c.see.ensures.places ∙ s.places))) (refl, s.next)
+          (knows_removed k found (Some f) (Some (retired_at f (full_name_in found - 1) (count_in found))) _ false _ refl refl
           (c.first_visit-pass.ensures ∙ first_by t found));
       taken = (
         f,
@@ -110,7 +110,7 @@ returns-in-Err-try_take c =
     record {
       fits = still_pass s _ (subst (λ (g : Glance). Runs m [] m.0.work g Outside 9 m₄) fits.calm run) (refl, refl)
           (end.table ∙ (c.try_take.ensures.table ∙ (began.table ∙ c.see.ensures.table)))
-          (end.places ∙ (c.try_take.ensures.places ∙ (began.places ∙ (c.see.ensures.places ∙ s.places)))) s.block fits.knows;
+          (end.places ∙ (c.try_take.ensures.places ∙ (began.places ∙ (c.see.ensures.places ∙ s.places)))) (refl, s.next) fits.knows;
       taken = record {
         was = missed_so k c.args.slot c.args.node m m₁ m₂ m₃ m₄ c.in-Err-try_take.miss saw.1 failed.0 first.seen
             (turns_then (stands_then began.runs failed.1) end.runs).seen end.runs.seen;

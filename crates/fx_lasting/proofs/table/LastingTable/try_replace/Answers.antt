@@ -1,4 +1,4 @@
-use Rattle.fx_lasting.proofs.Words.{◌≤◌, ◌<◌, ◌^◌, ◌+◌, ℕ, refl, ap, ◌∙◌, arith, slot_of, name_in, rest}
+use Rattle.fx_lasting.proofs.Words.{◌≤◌, ◌<◌, ◌^◌, ◌+◌, ℕ, refl, ap, ◌∙◌, arith, slot_of, full_name_in, rest}
 use Rattle.fx_lasting.proofs.Calling.{slot_inside, slot_low}
 use Rattle.fx_lasting.proofs.ByNode.{won_replace, lost_run, lost_so, stands_then}
 use Rattle.fx_lasting.proofs.Places.{slot_back}
@@ -19,20 +19,20 @@ compare_exchange-seen-requires c =
       slot_inside t c.requires.slot c.slot_place-place.ensures,
       replaces_keep _ _ _ _ c.args.slot c.args.own _ _ c.args.file c.loop.seat.me _ at.pass (i.still.work ∙ c.requires.placing.work)
           (i.places ∙ c.requires.placing.place) small (slot_low t c.requires.slot) (i.still.change ∙ c.requires.change) c.slot_place-place.ensures
-          c.slot_word-new.ensures,
+          c.file_word-new.ensures,
     )
 
 pub returns-then-seen-expected : goal.returns-then-seen-expected
 returns-then-seen-expected c =
     let i = c.loop.invariant in
     let start = (still_at_work c.requires.at.1 i.still).pass.0 in
-    let won = c.compare_exchange-seen.ensures.2.wins c.args.own c.args.file (i.still.work ∙ c.requires.placing.work)
-    (i.places ∙ c.requires.placing.place) c.if-seen-expected.true in
     record {
       table = c.compare_exchange-seen.ensures.0 ∙ i.table;
       tried = won_replace c.args.node c.compare_exchange-seen.result start (ap slot_of c.slot_place-place.ensures ∙ slot_back c.args.slot) i.still
-          (omega (arith, c.loop-test.true)) (ap (λ (z : ℕ). name_in z) c.if-seen-expected.true ∙ i.named) won.0 won.3 won.2 won.4
-          (won.5 ∙ ap rest (i.places ∙ c.requires.placing.place));
+          (omega (arith, c.loop-test.true)) (ap (λ (z : ℕ). full_name_in z) c.if-seen-expected.true ∙ i.named) c.args.own c.args.file
+          c.requires.placing.stocked
+          (λ e at. c.compare_exchange-seen.ensures.2.wins c.args.own e c.args.file (i.still.work ∙ c.requires.placing.work)
+          (i.places ∙ c.requires.placing.place) at c.if-seen-expected.true) (ap rest (i.places ∙ c.requires.placing.place));
     }
 
 pub loop-preserved : goal.loop-preserved
@@ -43,7 +43,7 @@ loop-preserved c =
     record {
       table = c.compare_exchange-seen.ensures.0 ∙ i.table;
       places = saw.goes.carried ∙ i.places;
-      named = ap (λ (z : ℕ). name_in z) says.0 ∙ says.1;
+      named = ap (λ (z : ℕ). full_name_in z) says.0 ∙ says.1;
       still = stands_then i.still (runs_goes saw.goes);
       tries = omega (arith, i.tries, saw.goes.stepped.steps);
     }

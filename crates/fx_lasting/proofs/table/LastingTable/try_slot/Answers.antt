@@ -1,11 +1,11 @@
-use Rattle.fx_lasting.proofs.Words.{◌≡◌, ◌≢◌, ◌<◌, ◌^◌, ap, ◌∙◌, sym, arith, rules, None, node_in, slot_of, refl, Inside, group_of, range_at_start}
+use Rattle.fx_lasting.proofs.Words.{◌≡◌, ◌≢◌, ◌<◌, ◌^◌, ap, ◌∙◌, sym, arith, rules, None, file_node_in, name_in, ℕ, ◌-◌, subst, slot_of, refl, Inside, group_of, range_at_start}
 use Rattle.fx_lasting.proofs.Groups.{in_range_so}
 use Rattle.fx_lasting.proofs.Calling.{slot_inside}
 use Rattle.fx_lasting.proofs.Peeking.{peeks_keep}
 use Rattle.fx_lasting.proofs.Places.{slot_back}
 use Rattle.fx_lasting.proofs.Running.{still_at_work, no_name}
 use Rattle.fx_lasting.proofs.SlotLaws.{exchanges_keep}
-use Rattle.fx_lasting.proofs.Trying.{in_size, peeked, lost_still, won_run, won_so}
+use Rattle.fx_lasting.proofs.Trying.{in_size, peeked, lost_still, won_run, won_named, won_at_work, won_so}
 use Rattle.fx_lasting.proofs.table.LastingTable.try_slot.Goals as goal
 
 pub load-old-requires : goal.load-old-requires
@@ -24,12 +24,12 @@ compare_exchange-found-requires c =
     let run = peeked c.requires.placing goes in
     let at = still_at_work c.requires.at.1 run in
     let small : c.args.file.entry < 2 ^ 8 = omega arith in
-    let empty : node_in c.load-old.result ≡ None = search rules in (
+    let empty : file_node_in c.load-old.result ≡ None = search rules in (
       c.load-old.ensures.0 ∙ c.requires.table,
       slot_inside t (in_size t c.args.slot c.requires.range) place,
       exchanges_keep _ _ _ _ c.args.slot c.args.node _ _ c.args.file c.load-old.new.seat.me _ at.pass run.work
           (goes.carried ∙ c.requires.placing.place) small (run.change ∙ c.requires.change) c.requires.range place
-          (no_name c.load-old.result (sym empty)) c.slot_word-new.ensures,
+          (no_name c.load-old.result (sym empty)) c.file_word-new.ensures,
     )
 
 pub returns-then-found-old-clause-tries : goal.returns-then-found-old-clause-tries
@@ -37,11 +37,16 @@ returns-then-found-old-clause-tries c =
     let lost : c.compare_exchange-found.result ≢ c.load-old.result = c.if-found-old.true in
     lost_still c.requires.placing c.requires.change c.load-old.ensures.2.goes c.compare_exchange-found.ensures.2 lost
 
+pub node_named-named-requires : goal.node_named-named-requires
+node_named-named-requires c =
+    let won : c.compare_exchange-found.result ≡ c.load-old.result = omega (arith, c.if-found-old.false) in
+    subst (λ (z : ℕ). name_in z ≢ 0) won
+    (won_named c.requires.placing c.requires.change c.load-old.ensures.2.goes c.compare_exchange-found.ensures.2 won refl).0
+
 pub raise-requires-clause-at : goal.raise-requires-clause-at
 raise-requires-clause-at c =
     let won : c.compare_exchange-found.result ≡ c.load-old.result = omega (arith, c.if-found-old.false) in
-    let run = won_run c.requires.placing c.requires.change c.load-old.ensures.2.goes c.compare_exchange-found.ensures.2 won refl in
-    (c.requires.at.0, still_at_work c.requires.at.1 run)
+    (c.requires.at.0, won_at_work c.requires.placing c.requires.change c.load-old.ensures.2.goes c.compare_exchange-found.ensures.2 won refl c.requires.at.1)
 
 pub raise-requires-clause-inside : goal.raise-requires-clause-inside
 raise-requires-clause-inside c = sym (in_range_so (range_at_start c.args.self.now.table.shared.key) c.args.slot c.requires.range.0 c.requires.range.1)
@@ -49,12 +54,13 @@ raise-requires-clause-inside c = sym (in_range_so (range_at_start c.args.self.no
 pub raise-requires-clause-change : goal.raise-requires-clause-change
 raise-requires-clause-change c =
     let won : c.compare_exchange-found.result ≡ c.load-old.result = omega (arith, c.if-found-old.false) in
-    (won_run c.requires.placing c.requires.change c.load-old.ensures.2.goes c.compare_exchange-found.ensures.2 won
-    (ap slot_of c.slot_place-place.ensures ∙ slot_back c.args.slot)).change
-    ∙ λ i. Inside (group_of (range_at_start (c.requires.at.1.pass.0 i)) c.args.slot)
+    let run = won_run c.requires.placing c.requires.change c.load-old.ensures.2.goes c.compare_exchange-found.ensures.2 won
+    (ap slot_of c.slot_place-place.ensures ∙ slot_back c.args.slot) c.requires.placing.stocked.0 c.requires.placing.stocked.1 in
+    run.2.change ∙ λ i. Inside (group_of (range_at_start (c.requires.at.1.pass.0 i)) c.args.slot)
 
 pub returns-clause-tries : goal.returns-clause-tries
 returns-clause-tries c =
     let won : c.compare_exchange-found.result ≡ c.load-old.result = omega (arith, c.if-found-old.false) in
     won_so c.requires.placing c.requires.change c.load-old.ensures.2.goes c.compare_exchange-found.ensures.2 won
-    (ap slot_of c.slot_place-place.ensures ∙ slot_back c.args.slot) c.raise.ensures.runs c.raise.ensures.places
+    (ap slot_of c.slot_place-place.ensures ∙ slot_back c.args.slot) c.node_named-named.result
+    (c.node_named-named.ensures ∙ ap (λ (z : ℕ). name_in z - 1) (sym won)) c.raise.ensures.runs c.raise.ensures.places

@@ -1,4 +1,4 @@
-use Rattle.fx_lasting.proofs.Words.{◌≤◌, ◌+◌, ℕ, refl, ap, ◌∙◌, arith, slot_of, name_in}
+use Rattle.fx_lasting.proofs.Words.{◌≤◌, ◌+◌, ℕ, refl, ap, ◌∙◌, arith, slot_of, full_name_in}
 use Rattle.fx_lasting.proofs.Calling.{slot_inside, slot_low}
 use Rattle.fx_lasting.proofs.ByNode.{won_take, lost_run, lost_so, stands_then}
 use Rattle.fx_lasting.proofs.Places.{slot_back}
@@ -16,8 +16,9 @@ compare_exchange-found-requires c =
     let at = still_at_work c.requires.at.1 i.still in (
       i.table ∙ c.requires.table,
       slot_inside t c.requires.slot c.slot_place-place.ensures,
-      takes_if_keep _ _ _ _ c.args.slot _ c.loop.seat.me _ at.pass (rw i.still.work c.requires.idle) (slot_low t c.requires.slot)
-          (i.still.change ∙ c.requires.off) c.slot_place-place.ensures,
+      takes_if_keep _ _ _ _ c.args.slot c.loop.expected _ c.loop.seat.me _ at.pass (rw i.still.work c.requires.idle) (slot_low t c.requires.slot)
+          (i.still.change ∙ c.requires.off) c.slot_place-place.ensures
+          c.without_file-left.ensures,
     )
 
 pub returns-then-found-expected : goal.returns-then-found-expected
@@ -29,7 +30,7 @@ returns-then-found-expected c =
       table = c.compare_exchange-found.ensures.0 ∙ i.table;
       places = won.3 ∙ i.places;
       tried = won_take c.args.node c.compare_exchange-found.result start (ap slot_of c.slot_place-place.ensures ∙ slot_back c.args.slot) i.still
-          (omega (arith, c.loop-test.true)) (ap (λ (z : ℕ). name_in z) c.if-found-expected.true ∙ i.named) won.0 won.1 won.2;
+          (omega (arith, c.loop-test.true)) (ap (λ (z : ℕ). full_name_in z) c.if-found-expected.true ∙ i.named) won.0 won.1 won.2;
     }
 
 pub loop-preserved : goal.loop-preserved
@@ -40,7 +41,7 @@ loop-preserved c =
     record {
       table = c.compare_exchange-found.ensures.0 ∙ i.table;
       places = saw.goes.carried ∙ i.places;
-      named = ap (λ (z : ℕ). name_in z) says.0 ∙ says.1;
+      named = ap (λ (z : ℕ). full_name_in z) says.0 ∙ says.1;
       still = stands_then i.still (runs_goes saw.goes);
       tries = omega (arith, i.tries, saw.goes.stepped.steps);
     }

@@ -1,0 +1,93 @@
+-- Two nodes change where they are: one of a stock goes to a slot, and the one that the slot's word
+-- named takes its place in the stock.
+use Rattle.fx_lasting.proofs.Words.{◌≡◌, ◌≢◌, ℕ, ◌+◌, ◌-◌, ◌<◌, List, [], ◌∷◌, set, length, length-set, sym, refl, ap, ◌∙◌, subst, arith, Option, some}
+use Rattle.fx_lasting.proofs.Words.{some-injective, get_elem?, dite, ℕ_discrete, set_here, set_else, stands_at, slots_of, nodes_of, name_in}
+use Rattle.fx_lasting.proofs.Words.{changed_at, changed_here, changed_else, Whereabouts, at_slot, in_stock, IsInStock, NamesItsNode, StockAgrees, NamesANode}
+use Rattle.fx_lasting.proofs.Words.{Closed, Log, first_log, pass_in}
+use Rattle.fx_lasting.proofs.Keeping.{Turn, slot_word, its_stock, in_its_stock}
+
+-- what the word of a slot names is a node of the table
+pub names_a_node : (turn : Turn) {s : ℕ} → s < slots_of turn.v.start → NamesANode turn.v.start (slot_word turn.st.words s)
+names_a_node turn {s} inside = let o = turn.r.named s inside in let a = o.named in let b = o.inside in ((λ bad. omega (arith, bad, a)), omega arith)
+
+module _ (turn : Turn) (s : ℕ) (inside : s < slots_of turn.v.start) (n : ℕ) (stocked : IsInStock turn.x.stock n) where
+  open turn use {st, v, r, id, x, here, one}
+
+  abbrev pub entry : ℕ
+  entry = stocked.0
+
+  -- the node that the slot's word named
+  abbrev pub other : ℕ
+  other = name_in (slot_word st.words s) - 1
+
+  other_inside : other < nodes_of v.start
+  other_inside = (names_a_node turn inside).1
+
+  other_here : r.where_is other ≡ at_slot s
+  other_here = let o = r.named s inside in let a = o.named in let same : o.node ≡ other = omega arith in
+      subst (λ (m : ℕ). r.where_is m ≡ at_slot s) same o.here
+
+  its_place : (n < nodes_of v.start) × (r.where_is n ≡ in_stock x.number entry)
+  its_place = in_its_stock turn stocked
+
+  apart : n ≢ other
+  apart same = let bad : in_stock x.number entry ≡ at_slot s = sym its_place.1 ∙ (ap r.where_is same ∙ other_here) in cc bad
+
+  abbrev pub where_moved : ℕ → Whereabouts
+  where_moved = changed_at (changed_at r.where_is n (at_slot s)) other (in_stock x.number entry)
+
+  abbrev pub stock_moved : List ℕ
+  stock_moved = set x.stock entry other
+
+  moved_n : where_moved n ≡ at_slot s
+  moved_n = changed_else (changed_at r.where_is n (at_slot s)) other (in_stock x.number entry) n apart
+      ∙ changed_here r.where_is n (at_slot s) n refl
+
+  moved_other : where_moved other ≡ in_stock x.number entry
+  moved_other = changed_here (changed_at r.where_is n (at_slot s)) other (in_stock x.number entry) other refl
+
+  -- each other node is where it was
+  moved_else : (m : ℕ) → m ≢ n → m ≢ other → where_moved m ≡ r.where_is m
+  moved_else m a b = changed_else (changed_at r.where_is n (at_slot s)) other (in_stock x.number entry) m b
+      ∙ changed_else r.where_is n (at_slot s) m a
+
+  pub moved_slot : (i m : ℕ) → i ≢ s → r.where_is m ≡ at_slot i → where_moved m ≡ at_slot i
+  moved_slot i m away at = moved_else m
+      (λ same. let bad : in_stock x.number entry ≡ at_slot i = sym its_place.1 ∙ (ap r.where_is (sym same) ∙ at) in cc bad)
+      (λ same. let bad : at_slot s ≡ at_slot i = sym other_here ∙ (ap r.where_is (sym same) ∙ at) in let e : s ≡ i = cc bad in away (sym e)) ∙ at
+
+  -- the slot's new word names the node of the stock
+  pub moved_names : (word : ℕ) → name_in word ≡ n + 1 → NamesItsNode v.start where_moved s word
+  moved_names word is = record { node = n; named = is; inside = its_place.0; here = moved_n }
+
+  pub moved_stocks : (m q e : ℕ) → q ≢ x.number → r.where_is m ≡ in_stock q e → where_moved m ≡ in_stock q e
+  moved_stocks m q e away at = moved_else m
+      (λ same. let bad : in_stock x.number entry ≡ in_stock q e = sym its_place.1 ∙ (ap r.where_is (sym same) ∙ at) in let z : x.number ≡ q = cc bad in away (sym z))
+      (λ same. let bad : at_slot s ≡ in_stock q e = sym other_here ∙ (ap r.where_is (sym same) ∙ at) in cc bad) ∙ at
+
+  moved_entry : (e m : ℕ) → get_elem? stock_moved e ≡ some m → (m < nodes_of v.start) × (where_moved m ≡ in_stock x.number e)
+  moved_entry e m is = dite (ℕ_discrete e entry)
+      (λ same. let here : get_elem? stock_moved entry ≡ some other = set_here x.stock entry other (stands_at x.stock entry n stocked.1).0 in
+      let z : other ≡ m = some-injective other m (sym here ∙ (ap (get_elem? stock_moved) (sym same) ∙ is)) in
+      (subst (λ (k : ℕ). k < nodes_of v.start) z other_inside, ap where_moved (sym z) ∙ (moved_other ∙ ap (in_stock x.number) (sym same))))
+      (λ away. let was : get_elem? x.stock e ≡ some m = sym (set_else x.stock entry e other away) ∙ is in
+      let at = its_stock turn in (
+        at.its.inside e m was,
+        moved_else m
+            (λ same. let bad : in_stock x.number entry ≡ in_stock x.number e = sym its_place.1 ∙ (ap r.where_is (sym same) ∙ at.here e m was) in
+            let z : entry ≡ e = cc bad in away (sym z))
+            (λ same. let bad : at_slot s ≡ in_stock x.number e = sym other_here ∙ (ap r.where_is (sym same) ∙ at.here e m was) in cc bad) ∙ at.here e m was,
+      ))
+
+  pub moved_stock : StockAgrees v.start where_moved x.number stock_moved
+  moved_stock = record {
+    its = record {
+      count = length-set x.stock entry other ∙ (its_stock turn).its.count;
+      inside = λ e m is. (moved_entry e m is).0;
+    };
+    here = λ e m is. (moved_entry e m is).1;
+  }
+
+  -- the node is at one entry alone
+  pub one_entry : (e : ℕ) → get_elem? x.stock e ≡ some n → entry ≡ e
+  one_entry e is = let same : in_stock x.number entry ≡ in_stock x.number e = sym its_place.1 ∙ (its_stock turn).here e n is in cc same
