@@ -30,9 +30,11 @@ bool is_uncounted(const struct pass *it) {
     return it->step == RAISE || (is_lowered && removes && family->group_len);
 }
 
-/* Returns whether the pass is in a change of the range, after which the words are exact. */
+/* Returns whether the pass is in a change of the range, after which the words are exact, or changes
+ * a slot's word by a look-up: an exchange that expected another word fails then. */
 static bool is_changing(const struct pass *it) {
-    return is_uncounted(it) || it->step == LOWER_LATE || (it->step == SWAP && wrong == raise_before_the_fill);
+    bool looks = it->call == LOOK && (it->step == TAKE || it->step == HEAT);
+    return looks || is_uncounted(it) || it->step == LOWER_LATE || (it->step == SWAP && wrong == raise_before_the_fill);
 }
 
 void note_changes(struct state *s) {
@@ -135,7 +137,7 @@ static void peek_group(const struct state *s, struct pass *it, int who) {
 
 static void answer(const struct state *s, struct pass *it, bool is_full) {
     for (int slot = 0; slot < family->slots; slot++) {
-        want(!is_full || s->named[slot], "an allocation returns that the range is full, and a slot is empty");
+        want(!is_full || s->is_full[slot], "an allocation returns that the range is full, and a slot is empty");
     }
     want(is_full || !it->is_alone, "nobody else changes the range, and an allocation finds no slot and doesn't return that it is full");
     it->is_sure = is_full || (wrong == old_full_is_kept && it->is_sure);

@@ -2,8 +2,8 @@
  * steps of lasting_table.c.
  *
  * Passes make calls without end, and each call is chosen in every way. No word counts calls, so
- * there are finitely many states. A block has as many nodes as slots and passes together, the
- * fewest that suffice. */
+ * there are finitely many states. A stock has as many nodes as there are passes, the fewest
+ * that suffice. */
 #include <stddef.h>
 #include <string.h>
 
@@ -21,6 +21,9 @@ static const struct family families[] = {
     {"two passes, two slots in the range, one allocates", 2, 2, 1, 1, {PUT_ANY, PUT | REMOVE}, false},
     {"three passes, one slot in the range, that allocate and remove", 3, 1, 1, 1, {PUT_ANY, PUT_ANY, REMOVE}, false},
     {"three passes, one slot, hot after 1 take", 3, 1, 1, 0, {LOOK | PUT, REMOVE, LOOK}, false},
+    {"two passes, two slots, hot after 1 take", 2, 2, 1, 0, {REQUESTS, REQUESTS}, false},
+    {"two passes, two slots in the range", 2, 2, 1, 1, {REQUESTS | PUT_ANY, REQUESTS}, false},
+    {"three passes, one slot in the range, of which one makes all calls", 3, 1, 1, 1, {REQUESTS | PUT_ANY, REMOVE, LOOK}, false},
     {"two passes, files without nodes, a group of two slots and one of one", 2, 3, 1, 2, {CHANGES, CHANGES}, true},
     {"two passes, files without nodes, two groups of two slots", 2, 4, 1, 2, {CHANGES, CHANGES}, true},
     {"two passes, files without nodes, three groups of a slot", 2, 3, 1, 1, {CHANGES, CHANGES}, true},
@@ -48,7 +51,7 @@ static int takes_kept(const struct state *s, int node) {
     int kept = 0;
     for (int who = 0; who < family->passes; who++) {
         const struct pass *it = &s->pass[who];
-        kept += it->holds == node + 1 && (it->step == COUNTED || it->step == HEAT);
+        kept += it->holds == node && (it->step == COUNTED || it->step == HEAT);
     }
     return kept;
 }
@@ -58,7 +61,7 @@ static int marks_owed(const struct state *s, int node) {
     int owed = 0;
     for (int who = 0; who < family->passes; who++) {
         const struct pass *it = &s->pass[who];
-        owed += s->hold[who] == ((node + 1) | MARK);
+        owed += s->hold[who] == (node | MARK);
         owed += (it->step == DROP_OWED || it->step == DROP_YIELDED) && it->node == node;
     }
     return owed;
@@ -80,7 +83,7 @@ static const struct pass *worker_of(const struct state *s, int node, bool retire
 
 static int slot_of(const struct state *s, int node) {
     for (int slot = 0; slot < family->slots; slot++) {
-        if (s->named[slot] == node + 1) {
+        if (names(s, slot, node)) {
             return slot;
         }
     }
@@ -125,7 +128,7 @@ static void check_pass(const struct state *s, int who) {
     int hold = s->hold[who] & ~MARK;
     bool has_bit = s->list[who / PER_WORD] >> who % PER_WORD & 1;
     want(has_bit == it->is_listed, "the list has the wrong bit for a pass");
-    want(hold == 0 || (has_announced(it) && hold == it->node + 1) || (it->step == GUARDED && hold == it->holds),
+    want(hold == 0 || (has_announced(it) && hold == it->node) || (it->step == GUARDED && hold == it->holds),
          "a hold word names what its pass doesn't announce");
 }
 
@@ -134,7 +137,7 @@ static void check_range(const struct state *s, int group) {
     int from = group * family->group_len, full = 0, uncounted = 0;
     bool is_idle = true;
     for (int slot = from; slot < from + family->group_len && slot < family->slots; slot++) {
-        full += s->named[slot] != 0;
+        full += s->is_full[slot];
     }
     for (int who = 0; who < family->passes; who++) {
         const struct pass *it = &s->pass[who];
@@ -155,7 +158,7 @@ static void check_question(const struct state *s, int who) {
         return;
     }
     for (int slot = 0; slot < end && slot < family->slots; slot++) {
-        holds &= s->named[slot] != 0;
+        holds &= s->is_full[slot];
     }
     for (int other = 0; other < family->passes; other++) {
         const struct pass *its = &s->pass[other];
@@ -166,7 +169,7 @@ static void check_question(const struct state *s, int who) {
 
 static void check_state(const void *state) {
     const struct state *s = state;
-    for (int node = 0; node < family->passes * block; node++) {
+    for (int node = 1; stock && node < node_in_stock(family->passes, 0); node++) {
         check_node(s, node);
     }
     for (int who = 0; who < family->passes; who++) {
@@ -184,7 +187,7 @@ static void check_state(const void *state) {
 static const char *begin_family(int which, int table, void *state) {
     family = &families[which];
     wrong = table;
-    block = family->without_nodes ? 0 : family->slots + family->passes - (table == block_one_node_too_small);
+    stock = family->without_nodes ? 0 : family->passes - (table == stock_one_node_too_small);
     memset(state, 0, sizeof(struct state));
     return family->name;
 }

@@ -8,35 +8,119 @@
 
 const struct family *family;
 enum wrong wrong;
-int block;
+int stock;
+
+/* Nodes. A node is told by where it is: at a slot, or in the stock of a pass. So an installation gives
+ * two nodes each other's numbers, wherever one is named. */
+
+int node_in_stock(int who, int nth) {
+    return family->slots + who * stock + nth + 1;
+}
+
+int node_at(int slot) {
+    return slot + 1;
+}
+
+bool names(const struct state *s, int slot, int node) {
+    return s->is_full[slot] && node_at(slot) == node;
+}
+
+/* The slot whose node the last step exchanged, plus 1, or 0. */
+static int exchanged;
+
+static void exchange(uint8_t *one, uint8_t *other) {
+    uint8_t kept = *one;
+    *one = *other;
+    *other = kept;
+}
+
+/* Gives a name of one of two nodes, if it is one, the other's number. */
+static void rename_node(uint8_t *name, int one, int other) {
+    int node = *name & ~MARK;
+    *name = (*name & MARK) | (node == one ? other : node == other ? one : node);
+}
+
+static void exchange_nodes(struct state *s, int one, int other) {
+    exchange(&s->word[one], &s->word[other]);
+    exchange(&s->place[one], &s->place[other]);
+    exchange(&s->file[one], &s->file[other]);
+    for (int who = 0; who < family->passes; who++) {
+        struct pass *it = &s->pass[who];
+        uint8_t *those[] = {&it->node, &it->holds, &it->key, &it->named, &s->hold[who]};
+        for (size_t nth = 0; nth < sizeof those / sizeof *those; nth++) {
+            rename_node(those[nth], one, other);
+        }
+    }
+}
+
+/* What a state says of a node, as a number. */
+static uint64_t said_of(const struct state *s, int node) {
+    uint64_t said = s->word[node] | s->place[node] << 8 | s->file[node] << 10;
+    for (int who = 0; who < family->passes; who++) {
+        const struct pass *it = &s->pass[who];
+        int hold = s->hold[who] & ~MARK;
+        int those = (it->node == node) | (it->holds == node) << 1 | (it->key == node) << 2 | (it->named == node) << 3 | (hold == node) << 4;
+        said |= (uint64_t)those << (12 + 5 * who);
+    }
+    return said;
+}
+
+/* Sorts the stock of each pass that doesn't search in it: its order decides nothing then. */
+static void sort_stocks(struct state *s) {
+    for (int who = 0; who < family->passes; who++) {
+        for (int end = s->pass[who].step == SEEK ? 0 : stock; end > 1; end--) {
+            for (int nth = 0; nth + 1 < end; nth++) {
+                int node = node_in_stock(who, nth);
+                if (said_of(s, node) > said_of(s, node + 1)) {
+                    exchange_nodes(s, node, node + 1);
+                }
+            }
+        }
+    }
+}
 
 /* Events */
 
 static void hold_file(struct state *s, struct pass *it) {
-    want(s->file[it->node] == AT_SLOT && s->named[it->slot] == it->node + 1, "a look-up returns a file that isn't at the slot");
-    it->holds = it->node + 1;
+    want(s->file[it->node] == AT_SLOT && names(s, it->slot, it->node), "a look-up returns a file that isn't at the slot");
+    it->holds = it->node;
 }
 
 static void close_file(struct state *s, int node) {
     want(s->file[node] == REMOVED, "a file is closed that wasn't removed");
     for (int who = 0; who < family->passes; who++) {
-        want(s->pass[who].holds != node + 1, "a file is closed while a pass holds it");
+        want(s->pass[who].holds != node, "a file is closed while a pass holds it");
     }
     want(s->place[node] == OPEN_FILE, "a file is closed that isn't in its place");
     for (int who = 0; who < family->passes; who++) {
-        s->pass[who].is_stale |= s->pass[who].key == node + 1;
+        s->pass[who].is_stale |= s->pass[who].key == node;
     }
     s->file[node] = NO_FILE;
     s->place[node] = WITH_PASS;
 }
 
-static void install(struct state *s, const struct pass *it) {
-    s->named[it->slot] = it->node + 1;
-    s->takes[it->slot] = s->heat[it->slot] = 0;
-    if (block) {
-        s->file[it->node] = AT_SLOT;
-        s->place[it->node] = OPEN_FILE;
+/* Empties a slot's word but for the node that it names. */
+static void empty_slot(struct state *s, int slot) {
+    s->is_full[slot] = s->takes[slot] = s->heat[slot] = 0;
+}
+
+/* Puts the node of the pass at the slot, and the node that was named there in its place in the
+ * stock. Returns the node that was named. */
+static int install(struct state *s, struct pass *it) {
+    int own = it->node, first = node_in_stock(0, 0);
+    empty_slot(s, it->slot);
+    s->is_full[it->slot] = 1;
+    if (stock) {
+        s->file[own] = AT_SLOT;
+        s->place[own] = OPEN_FILE;
+        exchange_nodes(s, own, node_at(it->slot));
+        if (wrong == node_goes_to_another_stock) {
+            exchange_nodes(s, own, first);
+            own = first;
+        }
+        exchanged = node_at(it->slot);
     }
+    return own;
 }
 
 /* Calls */
@@ -83,12 +167,12 @@ static void rest(struct state *s, const struct pass *it) {
 /* A look-up */
 
 static void glance(struct state *s, struct pass *it) {
-    if (s->named[it->slot] == 0) {
+    if (!s->is_full[it->slot]) {
         begin_call(it, 0, IDLE);
     } else if (wrong == listed_at_each_look || (!it->is_listed && wrong != listed_after_the_second_look)) {
         it->step = LIST;
     } else if (s->heat[it->slot]) {
-        it->node = s->named[it->slot] - 1;
+        it->node = node_at(it->slot);
         it->step = wrong == announced_after_the_second_look ? CONFIRM : ANNOUNCE;
     } else {
         it->step = TAKE;
@@ -109,7 +193,7 @@ static void list(struct state *s, struct pass *it, int who) {
 }
 
 static void announce(struct state *s, struct pass *it, int who) {
-    s->hold[who] = it->node + 1;
+    s->hold[who] = it->node;
     if (wrong == no_second_look) {
         hold_file(s, it);
     }
@@ -121,15 +205,15 @@ static void announce(struct state *s, struct pass *it, int who) {
 }
 
 static void confirm(struct state *s, struct pass *it, int who) {
-    bool names = s->named[it->slot] == it->node + 1 && (s->heat[it->slot] || wrong == hot_not_asked_at_the_second_look);
+    bool still = names(s, it->slot, it->node) && (s->heat[it->slot] || wrong == hot_not_asked_at_the_second_look);
     bool is_announced = wrong != announced_after_the_second_look;
-    if (!names) {
+    if (!still) {
         it->step = is_announced ? WITHDRAW : TAKE;
         return;
     }
     hold_file(s, it);
     if (is_announced) {
-        want(s->hold[who] == it->node + 1, "a confirmed hold is marked");
+        want(s->hold[who] == it->node, "a confirmed hold is marked");
         if (it->is_listed) {
             hold_until_release(it, GUARDED);
         } else {
@@ -142,17 +226,17 @@ static void confirm(struct state *s, struct pass *it, int who) {
 
 /* Empties the hold word of the pass, and returns whether it was marked. */
 static bool empty_hold(struct state *s, const struct pass *it, int who, enum wrong by_a_store) {
-    int found = wrong == by_a_store ? it->node + 1 : s->hold[who];
+    int found = wrong == by_a_store ? it->node : s->hold[who];
     s->hold[who] = 0;
-    want((found & ~MARK) == it->node + 1, "a hold word names another node");
+    want((found & ~MARK) == it->node, "a hold word names another node");
     return found & MARK;
 }
 
 static void take(struct state *s, struct pass *it) {
     bool heats = s->takes[it->slot] >= family->cold_takes && wrong != slot_never_heated;
     s->takes[it->slot]++;
-    if (s->named[it->slot] != 0) {
-        it->node = s->named[it->slot] - 1;
+    if (s->is_full[it->slot]) {
+        it->node = node_at(it->slot);
         hold_file(s, it);
     }
     if (heats) {
@@ -225,19 +309,20 @@ void end_change(struct pass *it, int who) {
 }
 
 static void swap(struct state *s, struct pass *it, int who) {
-    int found = s->named[it->slot], takes = s->takes[it->slot], heat = s->heat[it->slot];
+    bool was_full = s->is_full[it->slot], removes = was_full && stock;
+    int takes = s->takes[it->slot], heat = s->heat[it->slot], found = node_at(it->slot);
+    if (removes) {
+        s->file[found] = REMOVED;
+    }
     if (it->call == PUT || it->call == PUT_IF) {
-        install(s, it);
+        found = install(s, it);
     } else {
-        s->named[it->slot] = s->takes[it->slot] = s->heat[it->slot] = 0;
+        empty_slot(s, it->slot);
     }
-    if (found && block) {
-        s->file[found - 1] = REMOVED;
-        it->node = found - 1;
-    }
-    it->takes = found && block ? takes : UINT8_MAX;
+    it->node = removes ? found : 0;
+    it->takes = removes ? takes : UINT8_MAX;
     it->heat = heat > 0;
-    it->step = after_swap(it, found == 0);
+    it->step = after_swap(it, !was_full);
     if (it->step == IDLE) {
         end_change(it, who);
     }
@@ -245,16 +330,16 @@ static void swap(struct state *s, struct pass *it, int who) {
 
 /* A mark is an exchange: only a pass that still announces the node gets it. */
 static void mark_hold(struct state *s, struct pass *it, int who) {
-    bool marks = s->hold[it->next] == it->node + 1 || wrong == mark_by_a_store;
+    bool marks = s->hold[it->next] == it->node || wrong == mark_by_a_store;
     if (marks) {
-        s->hold[it->next] = (it->node + 1) | MARK;
+        s->hold[it->next] = it->node | MARK;
     }
     it->marks += marks || wrong == failed_marks_counted;
     visit_next(it, who);
 }
 
 static void visit(struct state *s, struct pass *it, int who) {
-    if (s->hold[it->next] == it->node + 1) {
+    if (s->hold[it->next] == it->node) {
         it->step = MARK_HOLD;
     } else {
         visit_next(it, who);
@@ -280,17 +365,16 @@ static void retire(struct state *s, struct pass *it) {
 /* An installation */
 
 static void seek(struct state *s, struct pass *it, int who) {
-    int node = (wrong == birth_in_another_block ? 0 : who) * block + it->nth;
-    if (s->word[node] == FREE) {
+    int node = node_in_stock(wrong == birth_from_another_stock ? 0 : who, it->nth);
+    if (s->word[node] == FREE || wrong == birth_without_a_search) {
         it->node = node;
-        it->nth = it->call == PUT_ANY ? it->nth : 0;
-        it->tried = it->steps = 0;
+        it->nth = it->tried = it->steps = 0;
         it->step = BIRTH;
         return;
     }
     it->step = SEEK;
-    it->nth = (it->nth + 1) % block;
-    want(++it->tried < block, "no node of a block is free");
+    it->nth = (it->nth + 1) % stock;
+    want(++it->tried < stock, "no node of a stock is free");
 }
 
 static enum step after_birth(const struct pass *it) {
@@ -307,29 +391,31 @@ static void birth(struct state *s, struct pass *it) {
 }
 
 void begin_installation(struct pass *it) {
-    it->step = block ? SEEK : after_birth(it);
+    it->step = stock ? SEEK : after_birth(it);
 }
 
 enum step after_scan(void) {
-    return block ? REST_UNUSED : BEGIN;
+    return stock ? REST_UNUSED : BEGIN;
 }
 
 static void peek(struct state *s, struct pass *it, int who) {
-    if (s->named[it->slot]) {
+    if (s->is_full[it->slot]) {
         it->step = next_of_scan(it, who);
         return;
     }
+    it->named = stock ? node_at(it->slot) : 0;
     it->takes = s->takes[it->slot];
     it->heat = s->heat[it->slot];
     it->step = EXCHANGE;
 }
 
-static void exchange(struct state *s, struct pass *it, int who) {
-    bool wins = s->named[it->slot] == 0 && s->takes[it->slot] == it->takes && s->heat[it->slot] == it->heat;
-    it->takes = it->heat = 0;
+static void exchange_empty(struct state *s, struct pass *it, int who) {
+    bool is_same = !s->is_full[it->slot] && (!stock || it->named == node_at(it->slot));
+    bool wins = is_same && s->takes[it->slot] == it->takes && s->heat[it->slot] == it->heat;
+    it->takes = it->heat = it->named = 0;
     if (wins) {
         install(s, it);
-        it->next = 0;
+        it->node = it->next = 0;
         it->step = RAISE;
     } else {
         it->step = next_of_scan(it, who);
@@ -357,7 +443,7 @@ static void expect(const struct state *s, struct pass *it) {
 static void see(struct state *s, struct pass *it, int who) {
     it->key = key_of(s, who);
     expect(s, it);
-    if (s->named[it->slot] != it->key && wrong != node_is_not_compared) {
+    if (!names(s, it->slot, it->key) && wrong != node_is_not_compared) {
         begin_call(it, 0, IDLE);
     } else {
         it->step = it->call == PUT_IF ? SEEK : wrong == lower_after_the_exchange && family->group_len ? CHECK : first_of_removal();
@@ -377,17 +463,18 @@ static void miss(struct pass *it) {
 
 static void exchange_if(struct state *s, struct pass *it, int who) {
     bool swaps = wrong == node_is_not_compared || wrong == node_is_compared_before_a_swap;
-    bool names = s->named[it->slot] == it->key || (wrong == found_word_is_not_compared && it->tried && s->named[it->slot]);
-    if (swaps || (names && s->takes[it->slot] == it->takes && s->heat[it->slot] == it->heat)) {
-        want(s->named[it->slot] == it->key && !it->is_stale, "a call removes another file than the one whose node it names");
+    bool is_named = names(s, it->slot, it->key);
+    bool goes_on = is_named || (wrong == found_word_is_not_compared && it->tried && s->is_full[it->slot]);
+    if (swaps || (goes_on && s->takes[it->slot] == it->takes && s->heat[it->slot] == it->heat)) {
+        want(is_named && !it->is_stale, "a call removes another file than the one whose node it names");
         it->key = it->tried = it->changes = 0;
         swap(s, it, who);
-    } else if ((names || wrong == found_word_is_not_compared) && ++it->tried < TRIES) {
+    } else if ((goes_on || wrong == found_word_is_not_compared) && ++it->tried < TRIES) {
         if (wrong != old_word_is_expected_again) {
             expect(s, it);
         }
     } else {
-        want(!names || it->changes >= TRIES, "a call tries no more, and the slot's word changed less often than it tried");
+        want(!goes_on || it->changes >= TRIES, "a call tries no more, and the slot's word changed less often than it tried");
         it->tried = it->changes = 0;
         miss(it);
     }
@@ -397,8 +484,8 @@ static void exchange_if(struct state *s, struct pass *it, int who) {
 static void count_changes(const struct state *before, struct state *s, int who) {
     for (int other = 0; other < family->passes; other++) {
         struct pass *it = &s->pass[other];
-        bool changed = before->named[it->slot] != s->named[it->slot] || before->takes[it->slot] != s->takes[it->slot]
-            || before->heat[it->slot] != s->heat[it->slot];
+        bool changed = exchanged == node_at(it->slot) || before->is_full[it->slot] != s->is_full[it->slot]
+            || before->takes[it->slot] != s->takes[it->slot] || before->heat[it->slot] != s->heat[it->slot];
         it->changes += other != who && it->key && changed && it->changes < TRIES;
     }
 }
@@ -414,8 +501,8 @@ static void begin_at(struct state *s, struct pass *it, int who, int call, int sl
         glance(s, it);
     } else if (call == TAKE_IF || call == PUT_IF) {
         see(s, it, who);
-    } else if (call == REMOVE && wrong == scan_before_the_swap && s->named[slot] && s->heat[slot]) {
-        it->node = s->named[slot] - 1;
+    } else if (call == REMOVE && wrong == scan_before_the_swap && s->is_full[slot] && s->heat[slot]) {
+        it->node = node_at(slot);
         go_on(it, who);
     } else if (call == REMOVE && wrong == skimmed_before_the_swap && s->heat[slot]) {
         it->step = SKIM;
@@ -424,12 +511,12 @@ static void begin_at(struct state *s, struct pass *it, int who, int call, int sl
     }
 }
 
-/* Begins a call in the `nth` way: a search may begin at each node of the pass's block. */
+/* Begins a call in the `nth` way: a search may begin at each node of the pass's stock. */
 static bool begin_nth(struct state *s, struct pass *it, int who, int nth) {
     for (int call = LOOK; call <= PUT_IF; call *= 2) {
-        bool searches = block && (call == PUT || call == PUT_ANY || call == PUT_IF), is_keyed = call == TAKE_IF || call == PUT_IF;
+        bool searches = stock && (call == PUT || call == PUT_ANY || call == PUT_IF), is_keyed = call == TAKE_IF || call == PUT_IF;
         bool may = (family->calls[who] & call) && (!is_keyed || key_of(s, who));
-        int ways = may ? family->slots * (searches ? block : 1) : 0;
+        int ways = may ? family->slots * (searches ? stock : 1) : 0;
         if (nth < ways) {
             begin_at(s, it, who, call, nth % family->slots);
             it->nth = it->step == IDLE ? 0 : nth / family->slots;
@@ -444,6 +531,7 @@ bool take_step(void *state, int who, int nth) {
     struct state *s = state;
     struct pass *it = &s->pass[who];
     const struct state before = *s;
+    exchanged = 0;
     if (who >= family->passes) {
         return false;
     }
@@ -454,7 +542,7 @@ bool take_step(void *state, int who, int nth) {
         return false;
     }
     if (it->step == GUARDED || it->step == COUNTED) {
-        it->node = it->holds - 1;
+        it->node = it->holds;
     }
     it->steps += it->call != PUT_ANY;
     switch ((enum step)it->step) {
@@ -505,10 +593,11 @@ bool take_step(void *state, int who, int nth) {
     case MARK_HOLD: mark_hold(s, it, who); break;
     case RETIRE: retire(s, it); break;
     case PEEK: peek(s, it, who); break;
-    case EXCHANGE: exchange(s, it, who); break;
+    case EXCHANGE: exchange_empty(s, it, who); break;
     default: take_step_of_range(s, it, who); break;
     }
     note_changes(s);
     count_changes(&before, s, who);
+    sort_stocks(s);
     return true;
 }

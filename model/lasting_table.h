@@ -4,7 +4,7 @@
 
 /* A word of the list has the bits of PER_WORD passes, and not of 64, so that a round loads two
  * words. */
-enum { MOST_SLOTS = 4, MOST_GROUPS = 3, MOST_NODES = 12, PER_WORD = 2, MOST_WORDS = (MOST_PASSES + PER_WORD - 1) / PER_WORD };
+enum { MOST_SLOTS = 4, MOST_GROUPS = 3, MOST_NODES = 11, PER_WORD = 2, MOST_WORDS = (MOST_PASSES + PER_WORD - 1) / PER_WORD };
 
 /* The words of a node, where 64 is 2^32 + 1, and the mark of a hold word. */
 enum { FREE = 0, CLOSED = 1, LAST = 2, BORN = 64, MARK = 128 };
@@ -28,8 +28,9 @@ enum step {
 
 /* The right table and wrong ones: each is the right one with one change. */
 #define TABLES(X) \
-    X(right) X(free_word_of_a_closed_file) X(rest_before_the_file_is_out) X(block_one_node_too_small) \
-    X(birth_in_another_block) X(scan_before_the_swap) X(mark_by_a_store) X(no_second_look) \
+    X(right) X(free_word_of_a_closed_file) X(rest_before_the_file_is_out) X(stock_one_node_too_small) \
+    X(birth_from_another_stock) X(birth_without_a_search) X(node_goes_to_another_stock) \
+    X(scan_before_the_swap) X(mark_by_a_store) X(no_second_look) \
     X(announced_after_the_second_look) X(withdrawal_by_a_store) X(release_by_a_store) X(failed_marks_counted) \
     X(hot_not_asked_at_the_second_look) X(takes_left_out_of_a_retirement) X(last_pass_not_visited) X(no_visits) \
     X(closed_one_too_early) X(closed_one_too_late) X(slot_never_heated) X(listed_after_the_second_look) \
@@ -65,27 +66,30 @@ struct pass {
     /* The last question found the range full. In the model: since the call began, no other pass has
      * changed the range. */
     uint8_t is_sure, is_alone;
-    /* The place of a search in the pass's block, and the nodes that it found taken; the slot at
+    /* The place of a search in the pass's stock, and the nodes that it found taken; the slot at
      * which a scan began. */
     uint8_t nth, tried, from;
+    /* The node that a look at an empty slot found, or 0. */
+    uint8_t named;
     /* The heat that a look at an empty slot found; after a swap 1 if the slot was hot. */
     uint8_t heat;
     /* The atomic steps of the call so far; 0 in an allocation. */
     uint8_t steps;
-    /* In the model: the node of the file that the pass holds, plus 1, or 0. */
+    /* In the model: the node of the file that the pass holds, or 0. */
     uint8_t holds;
-    /* The node that a call names, plus 1, or 0. In the model: the file that the call means was
+    /* The node that a call names, or 0. In the model: the file that the call means was
      * closed, and the number of times that others changed the slot's word since the call began. */
     uint8_t key, is_stale, changes;
 };
 
 struct state {
-    /* Slot words: the node plus 1, or 0; the takes; and the number of passes that heated the
-     * slot. */
-    uint8_t named[MOST_SLOTS], takes[MOST_SLOTS], heat[MOST_SLOTS];
+    /* Slot words: whether a file is there; the takes; and the number of passes that heated the slot.
+     * Each names a node, whose number is that of its slot, from 1. */
+    uint8_t is_full[MOST_SLOTS], takes[MOST_SLOTS], heat[MOST_SLOTS];
     uint8_t hold[MOST_PASSES];
     /* The bits of the passes that ever looked a file up. */
     uint8_t list[MOST_WORDS];
+    /* By node, from 1: those at slots come first, and then the stocks of passes. */
     uint8_t word[MOST_NODES], place[MOST_NODES], file[MOST_NODES];
     /* The full slots of each group that are counted, and the question word: the bits of passes. */
     int8_t count[MOST_GROUPS];
@@ -95,8 +99,14 @@ struct state {
 
 extern const struct family *family;
 extern enum wrong wrong;
-/* The number of nodes of each pass's block. */
-extern int block;
+/* The number of nodes of each pass's stock. */
+extern int stock;
+
+/* The node that a slot names, and one of a pass's stock. */
+int node_at(int slot);
+int node_in_stock(int who, int nth);
+/* Returns whether the slot has a file, on this node. */
+bool names(const struct state *s, int slot, int node);
 /* Makes one step of a pass, as a `step_table` says. */
 bool take_step(void *state, int who, int nth);
 

@@ -3,7 +3,7 @@
 #include <stddef.h>
 #include <stdint.h>
 
-enum { MOST_PASSES = 3, MOST_STATE = 128 };
+enum { MOST_PASSES = 3, MOST_STATE = 136 };
 
 /* A model of a table, right or wrong by one change, with the programs that passes play on it. A
  * state is a struct of bytes. */
