@@ -46,7 +46,7 @@ extern "C" {
 
 /* The largest numbers of slots, of handles that install values, and of handles and readers
  * together, where each handle counts twice. */
-enum { YACHT_MOST_SLOTS = 4096, YACHT_MOST_HANDLES = 64, YACHT_MOST_IN_ALL = 1024 };
+enum { YACHT_MOST_SLOTS = 1048576, YACHT_MOST_HANDLES = 64, YACHT_MOST_IN_ALL = 1024 };
 
 /* What a function returns. A negative number is an error: the call has changed no slot. */
 enum {
@@ -168,9 +168,10 @@ int yacht_replace(yacht_handle *handle, yacht_key *key, void *value);
  * YACHT_READER. */
 int yacht_remove(yacht_handle *handle, yacht_key key);
 
-/* Returns a key in 64 bits, as for the data of epoll or io_uring: the slot in the lower 12, and
- * above them the number. Returns 0, which are the bits of no value's key, if the number has more
- * than 52 bits: a handle installs 2^52 values divided by the number of handles before that. */
+/* Returns a key in 64 bits, as for the data of epoll or io_uring: 0, a slot below 4,096 in 12 bits,
+ * and above them the number in 51; or 1, another slot in 20 bits, and the number in 43. Returns 0,
+ * which are the bits of no value's key, if the number has more bits: a handle installs 2^51 values,
+ * or 2^43, divided by the number of handles before that. */
 uint64_t yacht_key_to_bits(yacht_key key);
 
 /* Returns the key that has these bits. */

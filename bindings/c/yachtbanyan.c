@@ -333,16 +333,21 @@ int yacht_replace(yacht_handle *handle, yacht_key *key, void *value) {
     return end_hold(handle, it, answer);
 }
 
-enum { SLOT_BITS = 12 };
-_Static_assert(YACHT_MOST_SLOTS == 1 << SLOT_BITS, "a slot has this number of bits");
+/* The bits of a slot in those of a key: of one below 4,096, and of another one. The lowest bit of
+ * the key says which it is. */
+enum { NARROW_SLOT = 12, WIDE_SLOT = 20 };
+_Static_assert(YACHT_MOST_SLOTS == 1 << WIDE_SLOT, "a slot has this number of bits");
 
 uint64_t yacht_key_to_bits(yacht_key key) {
-    if (key.slot >= YACHT_MOST_SLOTS || key.number >> (64 - SLOT_BITS)) return 0;
-    return key.number << SLOT_BITS | key.slot;
+    bool is_wide = key.slot >> NARROW_SLOT;
+    int width = (is_wide ? WIDE_SLOT : NARROW_SLOT) + 1;
+    if (key.slot >= YACHT_MOST_SLOTS || key.number >> (64 - width)) return 0;
+    return key.number << width | (uint64_t)key.slot << 1 | is_wide;
 }
 
 yacht_key yacht_key_from_bits(uint64_t bits) {
-    return (yacht_key){bits >> SLOT_BITS, bits & (YACHT_MOST_SLOTS - 1)};
+    int width = bits & 1 ? WIDE_SLOT : NARROW_SLOT;
+    return (yacht_key){bits >> (width + 1), bits >> 1 & ((1u << width) - 1)};
 }
 
 const char *yacht_strerror(int answer) {

@@ -196,14 +196,20 @@ static void made_from_keys(void) {
 
 static void bits(void) {
     yacht_key key = yacht_key_from_bits(UINT64_MAX);
-    WANT(key.slot == 4095 && key.number == UINT64_MAX >> 12 && yacht_key_to_bits(key) == UINT64_MAX);
-    key = yacht_key_from_bits(5 << 12 | 3);
-    WANT(key.slot == 3 && key.number == 5 && yacht_key_to_bits(key) == (5 << 12 | 3));
-    key.number = 1ull << 52;
+    WANT(key.slot == 1048575 && key.number == UINT64_MAX >> 21 && yacht_key_to_bits(key) == UINT64_MAX);
+    key = yacht_key_from_bits(5 << 13 | 3 << 1);
+    WANT(key.slot == 3 && key.number == 5 && yacht_key_to_bits(key) == (5 << 13 | 3 << 1));
+    key.slot = 4095, key.number = UINT64_MAX >> 13;
+    WANT(yacht_key_to_bits(key) == UINT64_MAX - 1 && yacht_key_from_bits(UINT64_MAX - 1).slot == 4095);
+    key.number = 1ull << 51;
+    WANT(yacht_key_to_bits(key) == 0);
+    key.slot = 4096, key.number = 7;
+    WANT(yacht_key_to_bits(key) == (7 << 21 | 4096 << 1 | 1) && yacht_key_from_bits(7 << 21 | 4096 << 1 | 1).number == 7);
+    key.number = 1ull << 43;
     WANT(yacht_key_to_bits(key) == 0);
     key.number = 1, key.slot = YACHT_MOST_SLOTS;
     WANT(yacht_key_to_bits(key) == 0);
-    WANT(yacht_key_from_bits(0).number == 0 && yacht_key_from_bits(4095).number == 0);
+    WANT(yacht_key_from_bits(0).number == 0 && yacht_key_from_bits(8190).number == 0);
 }
 
 static void keys(void) {

@@ -1,7 +1,8 @@
-//! The connections of a server: 4,096 slots, four threads, and 100,000 connections in all. Any
-//! thread answers a request of any connection, or ends one. A request has the key of its connection
-//! in 64 bits, as `epoll` returns them. It may be late: its connection has ended, and another one
-//! has the slot. Then the key is stale, and the other connection is left alone.
+//! The connections of a server: four threads, and 100,000 connections in 4,096 slots, or 400,000 in
+//! 131,072, of which 100,000 are open at a time. Any thread answers a request of any connection, or
+//! ends one. A request has the key of its connection in 64 bits, as `epoll` returns them. It may be
+//! late: its connection has ended, and another one has the slot. Then the key is stale, and the
+//! other connection is left alone.
 //!
 //! The connections are numbers in place of sockets: cargo run --release --example server
 use std::collections::VecDeque;
@@ -9,11 +10,27 @@ use std::sync::atomic::{AtomicU32, Ordering::Relaxed};
 use std::sync::Mutex;
 use yachtbanyan::{Handle, Key, Options, Table};
 
-const SLOTS: u32 = 4_096;
 const THREADS: u32 = 4;
-const CONNECTIONS: u32 = 100_000;
-/// The number of connections that a thread keeps open.
-const OPEN: usize = (SLOTS / THREADS) as usize;
+
+/// The numbers of a server: its slots, its connections in all, and those that are open at a time.
+struct Load {
+    slots: u32,
+    connections: u32,
+    open: u32,
+}
+
+const LOADS: [Load; 2] = [
+    Load {
+        slots: 4_096,
+        connections: 100_000,
+        open: 4_096,
+    },
+    Load {
+        slots: 131_072,
+        connections: 400_000,
+        open: 100_000,
+    },
+];
 
 static CLOSED: AtomicU32 = AtomicU32::new(0);
 
@@ -34,6 +51,8 @@ type Request = Mutex<Option<(u64, u32)>>;
 struct Server<'a> {
     handle: Handle<Connection>,
     requests: &'a [Request],
+    /// The number of connections that this thread keeps open.
+    open: usize,
     random: u32,
     ended: u32,
     late: u32,
@@ -81,7 +100,7 @@ impl Server<'_> {
     fn serve(mut self, share: std::ops::Range<u32>) -> Self {
         let mut open = VecDeque::new();
         for number in share {
-            if open.len() == OPEN {
+            if open.len() == self.open {
                 open.pop_front().into_iter().for_each(|key| self.end(key));
             }
             open.push_back(self.accept(number));
@@ -99,20 +118,28 @@ impl Server<'_> {
 }
 
 fn main() -> Result<(), Box<dyn std::error::Error>> {
-    let table: Table<Connection> = Options::new(SLOTS).handles(THREADS).open()?;
+    for load in &LOADS {
+        serve_all(load)?;
+    }
+    Ok(())
+}
+
+fn serve_all(load: &Load) -> Result<(), Box<dyn std::error::Error>> {
+    let table: Table<Connection> = Options::new(load.slots).handles(THREADS).open()?;
     let requests: Vec<Request> = (0..64).map(|_| Mutex::default()).collect();
     let mut servers = Vec::new();
+    let each = load.connections / THREADS;
     for number in 0..THREADS {
-        let share = CONNECTIONS / THREADS * number..CONNECTIONS / THREADS * (number + 1);
         let server = Server {
             handle: table.handle()?,
             requests: &requests,
+            open: (load.open / THREADS) as usize,
             random: number,
             ended: 0,
             late: 0,
             wrong: 0,
         };
-        servers.push((server, share));
+        servers.push((server, each * number..each * (number + 1)));
     }
     let servers: Vec<Server> = std::thread::scope(|scope| {
         let mut threads = Vec::new();
@@ -122,12 +149,10 @@ fn main() -> Result<(), Box<dyn std::error::Error>> {
         threads.into_iter().map(|it| it.join().unwrap()).collect()
     });
     let sum = |count: fn(&Server) -> u32| servers.iter().map(count).sum::<u32>();
-    println!(
-        "{} connections were ended by their keys",
-        sum(|it| it.ended)
-    );
+    println!("{} connections at a time:", load.open);
+    println!("{} were ended by their keys", sum(|it| it.ended));
     println!("some requests were late: {}", sum(|it| it.late) > 0);
     println!("{} requests found another connection", sum(|it| it.wrong));
-    println!("{} connections were closed", CLOSED.load(Relaxed));
+    println!("{} connections were closed", CLOSED.swap(0, Relaxed));
     Ok(())
 }

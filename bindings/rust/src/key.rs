@@ -3,8 +3,10 @@ use crate::access::MOST_SLOTS;
 use std::fmt;
 use std::num::NonZeroU64;
 
-/// The number of bits of a slot.
-const SLOT_BITS: u32 = MOST_SLOTS.ilog2();
+/// The number of bits that a slot has in those of a key: one below 4,096, and another one. The
+/// lowest bit of the key says which it is.
+const NARROW_SLOT: u32 = 12;
+const WIDE_SLOT: u32 = MOST_SLOTS.ilog2();
 
 /// The name of one value in a table: its slot, and a number that no other value of the table has or
 /// will have. [`Handle::insert`](crate::Handle::insert) returns it, and so does
@@ -70,9 +72,10 @@ impl Key {
         self.number.is_some() && self.bits_of_number() == number.map_or(0, NonZeroU64::get)
     }
 
-    /// Returns the key in 64 bits, as for the data of `epoll` or `io_uring`: the slot in the lower
-    /// 12, and above them the number. Returns `None` if the number has more than 52 bits. A handle
-    /// installs 2^52 values divided by the number of handles before that.
+    /// Returns the key in 64 bits, as for the data of `epoll` or `io_uring`: a slot below 4,096 in
+    /// 12 of them and the number in 51, or a slot in 20 and the number in 43. Returns `None` if the
+    /// number has more bits. A handle installs 2^51 values, or 2^43, divided by the number of
+    /// handles before that.
     ///
     /// ```
     /// use yachtbanyan::{Key, Table};
@@ -84,13 +87,16 @@ impl Key {
     /// # Ok::<(), Box<dyn std::error::Error>>(())
     /// ```
     pub fn to_bits(self) -> Option<u64> {
-        let number = self.bits_of_number();
-        (number >> (64 - SLOT_BITS) == 0).then_some(number << SLOT_BITS | u64::from(self.slot))
+        let (number, slot) = (self.bits_of_number(), u64::from(self.slot));
+        let is_wide = slot >> NARROW_SLOT > 0;
+        let width = 1 + if is_wide { WIDE_SLOT } else { NARROW_SLOT };
+        let bits = number << width | slot << 1 | u64::from(is_wide);
+        (number >> (64 - width) == 0).then_some(bits)
     }
 
     /// Returns the key of these bits. Bits that [`Key::to_bits`] didn't return are those of some
-    /// key, which is stale, or finds a value, or has a slot that the table hasn't. Those below
-    /// 4,096, as 0, are a key of no value.
+    /// key, which is stale, or finds a value, or has a slot that the table hasn't. Those of the
+    /// number 0, as 0 itself, are a key of no value.
     ///
     /// ```
     /// use yachtbanyan::{GetError, Key, Table};
@@ -103,8 +109,13 @@ impl Key {
     /// # Ok::<(), Box<dyn std::error::Error>>(())
     /// ```
     pub fn from_bits(bits: u64) -> Key {
-        let slot = bits as u32 & ((1 << SLOT_BITS) - 1);
-        Key::new(slot, NonZeroU64::new(bits >> SLOT_BITS))
+        let width = if bits % 2 == 1 {
+            WIDE_SLOT
+        } else {
+            NARROW_SLOT
+        };
+        let slot = (bits >> 1) as u32 & ((1 << width) - 1);
+        Key::new(slot, NonZeroU64::new(bits >> (width + 1)))
     }
 }
 

@@ -89,7 +89,7 @@ fn a_key_of_no_value_finds_nothing() {
     handle.insert(7).unwrap();
     assert_eq!(finds_nothing(&table, &handle, Key::from_bits(0)), STALE);
     let no_slot = GetError::NoSlot(NoSlot { slot: 1, slots: 1 });
-    let past = Key::from_bits(1 << 12 | 1);
+    let past = Key::from_bits(1 << 13 | 1 << 1);
     assert_eq!(finds_nothing(&table, &handle, past), no_slot);
     assert_eq!(handle.remove_at(0), Ok(Old::Unused(7)));
     assert_eq!(finds_nothing(&table, &handle, Key::from_bits(0)), EMPTY);
@@ -132,13 +132,18 @@ fn a_key_has_its_slot_and_number_in_its_bits() {
     let table = Options::new(4).handles(1).open().unwrap();
     let key = table.insert(7).unwrap();
     // number 1, the first one
-    assert_eq!(key.to_bits(), Some(4_096 + u64::from(key.slot())));
+    assert_eq!(key.to_bits(), Some(1 << 13 | u64::from(key.slot()) << 1));
     assert_eq!(key.to_string(), format!("{}#1", key.slot()));
-    for bits in [0, 4_095, 4_096, 5 << 12 | 3, u64::MAX] {
+    for bits in [0, 8_190, 5 << 13 | 3 << 1, u64::MAX - 1, u64::MAX] {
         assert_eq!(Key::from_bits(bits).to_bits(), Some(bits));
     }
-    assert_eq!(Key::from_bits(5 << 12 | 3).to_string(), "3#5");
-    assert_eq!(Key::from_bits(5 << 12 | 3).slot(), 3);
+    assert_eq!(Key::from_bits(5 << 13 | 3 << 1).to_string(), "3#5");
+    assert_eq!(Key::from_bits(5 << 13 | 3 << 1).slot(), 3);
+    // a slot of 4,096 and above has 20 bits, and the lowest bit says so
+    let wide = Key::from_bits(7 << 21 | 4_096 << 1 | 1);
+    assert_eq!(wide.to_string(), "4096#7");
+    assert_eq!(wide.to_bits(), Some(7 << 21 | 4_096 << 1 | 1));
+    assert_eq!(Key::from_bits(u64::MAX).slot(), 1_048_575);
     assert_eq!(std::mem::size_of::<Key>(), 16);
 }
 

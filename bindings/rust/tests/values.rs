@@ -210,19 +210,26 @@ fn the_table_lends_a_seat_for_a_call() {
 }
 
 #[test]
-fn each_slot_of_the_largest_table_is_filled_and_emptied() {
-    let table = Table::with_slots(MOST_SLOTS).unwrap();
+fn each_slot_of_a_large_table_is_filled_and_emptied() {
+    // the slots of more than 4,096 have no cache lines of their own
+    for slots in [4_096, 10_000] {
+        fills_and_empties(slots);
+    }
+}
+
+fn fills_and_empties(slots: u32) {
+    let table = Options::new(slots).handles(2).open().unwrap();
     let handle = table.handle().unwrap();
     let insert = |number| handle.insert(number).unwrap().slot();
-    let mut filled: Vec<u32> = (0..4_096).map(insert).collect();
-    let refused = handle.insert(4_096).unwrap_err();
-    assert_eq!(refused.reason, Reason::Full { slots: 4_096 });
+    let mut filled: Vec<u32> = (0..slots).map(insert).collect();
+    let refused = handle.insert(slots).unwrap_err();
+    assert_eq!(refused.reason, Reason::Full { slots });
     for (number, &slot) in filled.iter().enumerate() {
         assert_eq!(handle.remove_at(slot), Ok(Old::Unused(number as u32)));
     }
     assert!(handle.is_empty());
     filled.sort_unstable();
-    assert!(filled.into_iter().eq(0..4_096));
+    assert!(filled.into_iter().eq(0..slots));
 }
 
 #[test]

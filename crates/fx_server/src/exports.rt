@@ -20,8 +20,8 @@ use crate::placing::place_all;
 use crate::worker::TableWorker;
 use std::alloc::Global;
 
-/// Opens a table of 1 to 4,096 empty slots, with a worker for each place of `workers`, 1 to 1,024,
-/// of which the first `installing`, 1 to 64, install files. It returns `DONE`; or `BAD` or
+/// Opens a table of 1 to 1,048,576 empty slots, with a worker for each place of `workers`, 1 to
+/// 1,024, of which the first `installing`, 1 to 64, install files. It returns `DONE`; or `BAD` or
 /// `NO_MEMORY`, and writes nothing.
 #[unsafe(no_mangle)]
 pub extern "C" fn yacht_core_open(

@@ -12,7 +12,7 @@ use fx_lasting::{LastingPass, LastingTable, MOST_INSTALLING, MOST_PASSES, MOST_S
 use std::alloc::{AllocError, Global};
 use std::sync::Arc;
 
-/// Opens a table of 1 to 4,096 empty slots, and returns its workers, 1 to 1,024, each in a box.
+/// Opens a table of 1 to 1,048,576 empty slots, and returns its workers, 1 to 1,024, each in a box.
 /// They hold nothing. The first `installing`, 1 to 64, install files.
 ///
 /// # Errors

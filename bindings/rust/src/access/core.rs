@@ -48,7 +48,7 @@ pub(crate) const NO_MEMORY: i64 = -9;
 pub(crate) const OTHER: i64 = -10;
 
 /// The largest number of slots.
-pub(crate) const MOST_SLOTS: u32 = 4096;
+pub(crate) const MOST_SLOTS: u32 = 1_048_576;
 /// The largest number of workers.
 pub(crate) const MOST_WORKERS: u32 = 1024;
 /// The largest number of workers that install values.
