@@ -6,9 +6,9 @@ use std::fmt;
 /// The reason why a table is not opened.
 ///
 /// ```
-/// let error = yachtbanyan::Table::<u64>::with_slots(100_000).unwrap_err();
+/// let error = yachtbanyan::Table::<u64>::with_slots(2_000_000).unwrap_err();
 /// let most = yachtbanyan::MOST_SLOTS;
-/// assert_eq!(error.to_string(), format!("100000 slots: a table has 1 to {most}"));
+/// assert_eq!(error.to_string(), format!("2000000 slots: a table has 1 to {most}"));
 /// ```
 #[derive(Clone, Copy, Debug, PartialEq, Eq)]
 #[non_exhaustive]

@@ -212,7 +212,7 @@ fn the_table_lends_a_seat_for_a_call() {
 #[test]
 fn each_slot_of_a_large_table_is_filled_and_emptied() {
     // the slots of more than 4,096 have no cache lines of their own
-    for slots in [4_096, 10_000] {
+    for slots in [4_096, 5_000] {
         fills_and_empties(slots);
     }
 }
