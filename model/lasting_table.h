@@ -83,8 +83,8 @@ struct pass {
 };
 
 struct state {
-    /* Slot words: whether a file is there; the takes; and the number of passes that heated the slot.
-     * Each names a node, whose number is that of its slot, from 1. */
+    /* Slot words: whether a file is there; the takes; and the number of passes that heated the
+     * slot. Each names a node, whose number is that of its slot, from 1. */
     uint8_t is_full[MOST_SLOTS], takes[MOST_SLOTS], heat[MOST_SLOTS];
     uint8_t hold[MOST_PASSES];
     /* The bits of the passes that ever looked a file up. */
