@@ -76,34 +76,48 @@ fn flag<'a>(alloc: Global, name: &'a str) -> Arg<'a> {
     option(alloc, name).action(ArgAction::SetTrue)
 }
 
-// Adds the options that limit a search.
-fn with_limits<'a>(alloc: Global, command: Command<'a>) -> Result<Command<'a>, AllocError> {
-    let states = option(alloc, "states")
+fn states<'a>(alloc: Global) -> Arg<'a> {
+    option(alloc, "states")
         .value_name("N")
         .value_parser(value_parser!(u32))
         .default_value("1000000")
-        .help("Largest number of states of a part of a submission; with more it is undecided");
-    let memory = option(alloc, "memory")
+        .help("Largest number of states of a part of a submission; with more it is undecided")
+}
+
+fn memory<'a>(alloc: Global) -> Arg<'a> {
+    option(alloc, "memory")
         .value_name("MIB")
         .value_parser(value_parser!(u32).range(1..=MOST_MEMORY))
         .default_value("1024")
-        .help("Largest number of MiB of these states; with more it is undecided");
-    command.arg(states)?.arg(memory)
+        .help("Largest number of MiB of these states; with more it is undecided")
 }
 
-// Adds the options that choose the question, and the form of its answer.
-fn with_questions<'a>(alloc: Global, command: Command<'a>) -> Result<Command<'a>, AllocError> {
-    let history = flag(alloc, "history").help(
+// Adds the options that limit a search.
+fn with_limits<'a>(alloc: Global, command: Command<'a>) -> Result<Command<'a>, AllocError> {
+    command.arg(states(alloc))?.arg(memory(alloc))
+}
+
+fn history<'a>(alloc: Global) -> Arg<'a> {
+    flag(alloc, "history").help(
         "Prints instead of the orders a whole legal history that gives the text",
-    );
-    let keep_going = flag(alloc, "keep-going")
+    )
+}
+
+fn keep_going<'a>(alloc: Global) -> Result<Arg<'a>, AllocError> {
+    flag(alloc, "keep-going")
         .help("Goes on after a break from the ring that the text shows, and prints every break")
         .conflicts_with("may")?
-        .conflicts_with("all")?;
-    let may = flag(alloc, "may").help(
+        .conflicts_with("all")
+}
+
+fn may<'a>(alloc: Global) -> Arg<'a> {
+    flag(alloc, "may").help(
         "Lists the answers of the request whose place, as 1.1.2, follows instead of TEXT",
-    );
-    let all = option(alloc, "all")
+    )
+}
+
+fn all<'a>(alloc: Global) -> Result<Arg<'a>, AllocError> {
+    option(alloc, "all")
         .value_name("N")
         .value_parser(value_parser!(u32))
         .num_args(0..=1)
@@ -111,8 +125,28 @@ fn with_questions<'a>(alloc: Global, command: Command<'a>) -> Result<Command<'a>
         .default_missing_value("100")
         .help("Lists every text of the script, the first N of them; by default 100")
         .conflicts_with("may")?
-        .conflicts_with("history")?;
-    command.arg(history)?.arg(keep_going)?.arg(may)?.arg(all)
+        .conflicts_with("history")
+}
+
+// Adds the options that choose the question, and the form of its answer.
+fn with_questions<'a>(alloc: Global, command: Command<'a>) -> Result<Command<'a>, AllocError> {
+    let command = command.arg(history(alloc))?.arg(keep_going(alloc)?)?;
+    command.arg(may(alloc))?.arg(all(alloc)?)
+}
+
+fn script<'a>(alloc: Global) -> Arg<'a> {
+    Arg::new(alloc, "script")
+        .value_name("SCRIPT")
+        .required(true)
+        .help("The script, or - for standard input")
+}
+
+fn text<'a>(alloc: Global) -> Result<Arg<'a>, AllocError> {
+    Arg::new(alloc, "text")
+        .value_name("TEXT")
+        .help("The text, or - for standard input; with --may the place of a request")
+        .required_unless_present("all")?
+        .required_unless_present("may")
 }
 
 fn command<'a>(alloc: Global) -> Result<Command<'a>, AllocError> {
@@ -120,17 +154,8 @@ fn command<'a>(alloc: Global) -> Result<Command<'a>, AllocError> {
         .version(VERSION)
         .about(ABOUT)
         .after_help(STATUSES);
-    let script = Arg::new(alloc, "script")
-        .value_name("SCRIPT")
-        .required(true)
-        .help("The script, or - for standard input");
-    let text = Arg::new(alloc, "text")
-        .value_name("TEXT")
-        .help("The text, or - for standard input; with --may the place of a request")
-        .required_unless_present("all")?
-        .required_unless_present("may")?;
     let command = with_questions(alloc, with_limits(alloc, command)?)?;
-    command.arg(script)?.arg(text)
+    command.arg(script(alloc))?.arg(text(alloc)?)
 }
 
 // Returns the question, by the words after the options, which must be those that the options take.

@@ -70,27 +70,34 @@ pub struct Settings {
     pub table: Table,
 }
 
-fn command<'a>(alloc: Global) -> Result<Command<'a>, AllocError> {
-    let workers = Arg::new(alloc, "workers")
+fn workers_option<'a>(alloc: Global) -> Arg<'a> {
+    Arg::new(alloc, "workers")
         .long("workers")
         .value_name("N")
         .value_parser(value_parser!(u32).range(1..=16))
         .default_value("1")
-        .help("How many threads play a submission, 1 to 16");
-    let table = Arg::new(alloc, "table")
+        .help("How many threads play a submission, 1 to 16")
+}
+
+fn table_option<'a>(alloc: Global) -> Arg<'a> {
+    Arg::new(alloc, "table")
         .long("table")
         .value_name("NAME")
         .value_parser(TABLES)
         .default_value("words")
-        .help("Which table they share: `words` has no lock, `baton` is guarded by one word");
-    // no script is an argument; one that is given is refused with a tip
-    let script = Arg::new(alloc, "script").hide(true);
-    Command::new(alloc, "fixfiles")
+        .help("Which table they share: `words` has no lock, `baton` is guarded by one word")
+}
+
+fn command<'a>(alloc: Global) -> Result<Command<'a>, AllocError> {
+    let command = Command::new(alloc, "fixfiles")
         .about(ABOUT)
         .after_help(SCRIPTS_AND_STATUSES)
-        .override_usage("fixfiles [OPTIONS] < SCRIPT")
-        .arg(workers)?
-        .arg(table)?
+        .override_usage("fixfiles [OPTIONS] < SCRIPT");
+    // no script is an argument; one that is given is refused with a tip
+    let script = Arg::new(alloc, "script").hide(true);
+    command
+        .arg(workers_option(alloc))?
+        .arg(table_option(alloc))?
         .arg(script)
 }
 
