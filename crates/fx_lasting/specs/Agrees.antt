@@ -121,7 +121,8 @@ module _ (at : ℕ → Option File) (size : ℕ) (takes_at : ℕ → ℕ) (node_
 -- the label of the node is so, as far as it is written
 abbrev pub Labels : Start → List ℕ → ℕ → Written → Type 0
 Labels k words node written =
-    HasWritten written (slice_index words (tag_word_of k node)) (slice_index words (number_word_of k node))
+    HasWritten written (slice_index words (tag_word_of k node))
+    (slice_index words (number_word_of k node))
 
 -- the pass of the seat does this work
 abbrev pub Does : List View → ℕ → Work → Type 0

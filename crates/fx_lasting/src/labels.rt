@@ -1,5 +1,5 @@
-//! The label of a file: its tag, and the number of its mark. An installation stores both in two words
-//! of the file's node before the file is at a slot, and a pass that holds the file loads them.
+//! The label of a file: its tag, and the number of its mark. An installation stores both in two
+//! words of the file's node before the file is at a slot. A pass that holds the file loads them.
 ghost use Rattle.std.specs.Prelude.{◌≡◌, ℕ, ◌+◌, ◌≤◌, []};
 ghost use Rattle.fx_plain.specs.declared.event.File.{File};
 ghost use Rattle.fx_table.specs.Pass.{IsHoldOf};

@@ -64,8 +64,8 @@ impl LastingTable {
     /// Tries once to install a file at an empty slot of the allocation range, under a number that
     /// no file has had, for an idle pass (`is_idle`) that installs files (`numbers_left`). It never
     /// waits: it makes at most three atomic steps for each slot of a group, two for each group, and
-    /// eleven more than the pass's block has nodes. It tries the slot that the pass emptied last, or
-    /// else the one after the slot that it filled last, and then goes once over the groups that
+    /// eleven more than the pass's block has nodes. It tries the slot that the pass emptied last,
+    /// or else the one after the slot that it filled last, and then goes once over the groups that
     /// aren't full. Returns the slot, or the file if every slot of the range had a file at one
     /// moment (ENFILE), or if neither was found; then nothing has changed.
     pub fn try_put_any(&self, pass: &mut LastingPass, file: OpenFile) -> TriedPut
