@@ -5,7 +5,7 @@ ghost use Rattle.fx_table.specs.Pass.{IsIdle};
 ghost use Rattle.fx_lasting.specs.Passes.{nodes_of};
 ghost use Rattle.fx_lasting.specs.Tables.{view_of, opening_of_table, IsPassOfTable};
 
-use crate::layout::{MOST_SLOTS, nodes_for};
+use crate::layout::MOST_SLOTS;
 use crate::pass::LastingPass;
 use crate::table::LastingTable;
 use fx_table::{CHAIN_NUMBERS, PASS_LOOKS};
@@ -44,7 +44,7 @@ impl LastingTable {
     pub fn nodes(&self) -> u32
         ensures { result ≡ nodes_of self.now.table.shared.key }
     {
-        nodes_for(self.size, self.passes, self.installing)
+        self.nodes
     }
 
     /// Checks whether the pass installs files: it is one of the first `installing` passes.

@@ -1,3 +1,4 @@
+use Rattle.std.proofs.Common.{rules}
 use Rattle.fx_server.proofs.calls.look.Goals as goal
 
 pub returns : goal.returns
@@ -6,7 +7,7 @@ returns c = record {
     look = c.look-look.result;
     good = c.look-look.ensures.good;
     looked = c.look-look.ensures.looked;
-    its_answer = c.found_node.ensures;
+    its_answer = search rules;
     its_label = c.label_in.ensures;
   };
 }
