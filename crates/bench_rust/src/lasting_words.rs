@@ -1,8 +1,9 @@
 //! The words of the lasting table, in plain, unproved Rust: the proved table is measured against
 //! it. A cold file is looked up by an addition to its slot's word, a hot one by its node in the
 //! pass's own hold word. The first look-up of a pass puts it into the list of passes that ever
-//! looked a file up. A word for each group counts its full slots, and the question word has a bit
-//! for each pass that asks whether all are full.
+//! looked a file up. A slot's word always names a node; an installation gives it a node of its
+//! pass's stock, and takes the one that was named. A word for each group counts its full slots, and
+//! the question word has a bit for each pass that asks whether all are full.
 use crate::table::{read_entry, File, Shape, Table};
 use std::cell::UnsafeCell;
 use std::hint::black_box;
@@ -14,9 +15,11 @@ const CLOSED: u64 = 1;
 const BORN: u64 = (1 << 32) + 1;
 
 // A slot's word: the node + 1 from bit 40 on, the entry from bit 32 on, the number of passes that
-// heated the slot, and the takes.
+// heated the slot, whether it is full, and the takes.
+const NAME: u64 = !0 << 40;
 const HEAT: u64 = 1 << 21;
-const TAKES: u64 = HEAT - 1;
+const FULL: u64 = 1 << 20;
+const TAKES: u64 = FULL - 1;
 const COLD_TAKES: u64 = 16;
 
 // A marked hold word.
@@ -42,12 +45,12 @@ pub struct LastingWords {
     holds: Vec<Line>,
     nodes: Vec<AtomicU64>,
     places: Vec<UnsafeCell<Option<File>>>,
+    /// The tag and the number of each node's file.
+    labels: Vec<[AtomicU64; 2]>,
     groups: Vec<Line>,
     question: Line,
     /// The number of slots of a group.
     group_size: usize,
-    /// The number of nodes of each pass.
-    block: usize,
     in_range: bool,
 }
 
@@ -55,10 +58,11 @@ pub struct LastingWords {
 // word to `CLOSED`.
 unsafe impl Sync for LastingWords {}
 
-/// A pass: its number, the node of its block at which its next search begins, whether it is in the
-/// list, whether it was sure that the table is full, and the slots that it emptied last.
+/// A pass: its number, its stock of nodes and the entry at which its next search begins, whether it
+/// is in the list, whether it was sure that the table is full, and the slots that it emptied last.
 pub struct Pass {
     number: usize,
+    stock: Vec<usize>,
     next: usize,
     listed: bool,
     sure: bool,
@@ -114,8 +118,14 @@ fn is_hot(word: u64) -> bool {
     word >> 21 & 0x7FF != 0
 }
 
+// The node that a slot's word names.
+fn named_in(word: u64) -> usize {
+    (word >> 40) as usize - 1
+}
+
+// The node of the file at a slot.
 fn node_in(word: u64) -> Option<usize> {
-    ((word >> 40) as usize).checked_sub(1)
+    (word & FULL != 0).then(|| named_in(word))
 }
 
 impl LastingWords {
@@ -168,7 +178,7 @@ impl LastingWords {
         }
         self.holds[pass.number].0.store(node as u64 + 1, SeqCst);
         let again = self.slots[slot].0.load(SeqCst);
-        if again >> 40 == word >> 40 && is_hot(again) {
+        if again & (NAME | FULL) == word & (NAME | FULL) && is_hot(again) {
             return Some(Held {
                 word,
                 node,
@@ -226,15 +236,16 @@ impl LastingWords {
         }
     }
 
-    fn install(&self, pass: &mut Pass, file: File) -> u64 {
-        let first = pass.number * self.block;
-        while self.nodes[first + pass.next].load(SeqCst) != FREE {
-            pass.next = (pass.next + 1) % self.block;
+    // Puts a file on a free node of the pass's stock, and returns the word that names it.
+    fn place(&self, pass: &mut Pass, file: File) -> u64 {
+        while self.nodes[pass.stock[pass.next]].load(SeqCst) != FREE {
+            pass.next = (pass.next + 1) % pass.stock.len();
         }
-        let node = first + pass.next;
-        pass.next = (pass.next + 1) % self.block;
+        let node = pass.stock[pass.next];
         self.nodes[node].store(BORN, SeqCst);
-        let word = (node as u64 + 1) << 40 | u64::from(file.entry) << 32;
+        self.labels[node][0].store(file.mark, SeqCst);
+        self.labels[node][1].store(u64::from(file.entry), SeqCst);
+        let word = (node as u64 + 1) << 40 | u64::from(file.entry) << 32 | FULL;
         unsafe { *self.places[node].get() = Some(file) };
         word
     }
@@ -250,24 +261,37 @@ impl LastingWords {
             .min(self.slots.len() - group * self.group_size)
     }
 
-    // Writes a slot's word. A slot of the range is taken off its group's count before it is
-    // emptied, and then the questions of other passes are cleared; one that was empty is added to
-    // the count afterwards.
-    fn change(&self, slot: usize, word: u64) -> u64 {
-        if self.in_range && word == 0 {
+    // Adds a slot of the range that was empty to its group's count.
+    fn raise(&self, slot: usize, found: u64) {
+        if self.in_range && node_in(found).is_none() {
+            self.count_of(slot).fetch_add(1, SeqCst);
+        }
+    }
+
+    // Empties a slot's word but for the node that it names. A slot of the range is taken off its
+    // group's count first, and the questions of other passes are cleared.
+    fn empty(&self, slot: usize) -> u64 {
+        if self.in_range {
             self.count_of(slot).fetch_sub(1, SeqCst);
             if self.question.0.load(SeqCst) != 0 {
                 self.question.0.swap(0, SeqCst);
             }
         }
-        let found = self.slots[slot].0.swap(word, SeqCst);
-        if self.in_range && node_in(found).is_none() {
-            self.count_of(slot).fetch_add(1, SeqCst);
-        }
+        let found = self.slots[slot].0.fetch_and(NAME, SeqCst);
+        self.raise(slot, found);
         found
     }
 
-    fn try_slot(&self, slot: usize, word: u64) -> bool {
+    // Swaps the word of the file that the pass has placed into a slot. The node that was named
+    // there comes into the stock.
+    fn install(&self, pass: &mut Pass, slot: usize, word: u64) -> u64 {
+        let found = self.slots[slot].0.swap(word, SeqCst);
+        pass.stock[pass.next] = named_in(found);
+        self.raise(slot, found);
+        found
+    }
+
+    fn try_slot(&self, pass: &mut Pass, slot: usize, word: u64) -> bool {
         let found = self.slots[slot].0.load(SeqCst);
         if node_in(found).is_some() {
             return false;
@@ -277,6 +301,7 @@ impl LastingWords {
             .compare_exchange(found, word, SeqCst, SeqCst)
             .is_ok();
         if is_mine {
+            pass.stock[pass.next] = named_in(found);
             self.count_of(slot).fetch_add(1, SeqCst);
         }
         is_mine
@@ -287,12 +312,12 @@ impl LastingWords {
     }
 
     // Tries the slots of a group, unless that counts all its slots.
-    fn try_group(&self, group: usize, word: u64) -> Option<usize> {
+    fn try_group(&self, pass: &mut Pass, group: usize, word: u64) -> Option<usize> {
         if self.is_full_group(group) {
             return None;
         }
         let first = group * self.group_size;
-        (first..first + self.len_of(group)).find(|it| self.try_slot(*it, word))
+        (first..first + self.len_of(group)).find(|it| self.try_slot(pass, *it, word))
     }
 
     // The slot at which a pass begins, if it neither emptied nor filled one: the first one of a
@@ -309,13 +334,13 @@ impl LastingWords {
             slot if slot < self.slots.len() => slot,
             _ => self.first_slot(number),
         };
-        if self.try_slot(first, word) {
+        if self.try_slot(pass, first, word) {
             return Some(first);
         }
         let mut group = first / self.group_size;
         let step = STEPS[number % 8] % groups;
         for _ in 0..groups {
-            if let Some(slot) = self.try_group(group, word) {
+            if let Some(slot) = self.try_group(pass, group, word) {
                 return Some(slot);
             }
             group = (group + step) % groups;
@@ -348,9 +373,8 @@ impl Table for LastingWords {
             threads,
             ..
         } = shape;
-        let block = 2 * (slots + threads);
-        let nodes = block * threads;
-        let slot = |n| line(if n < full { (n as u64 + 1) << 40 } else { 0 });
+        let nodes = slots + threads * threads;
+        let slot = |n| line((n as u64 + 1) << 40 | if n < full { FULL } else { 0 });
         let node = |n| AtomicU64::new(if n < full { BORN } else { FREE });
         let place = |n| UnsafeCell::new((n < full).then_some(File { entry: 0, mark: 0 }));
         let group_size = if slots > 256 { 64 } else { 4 };
@@ -364,17 +388,21 @@ impl Table for LastingWords {
             holds: (0..threads).map(|_| line(0)).collect(),
             nodes: (0..nodes).map(node).collect(),
             places: (0..nodes).map(place).collect(),
+            labels: (0..nodes).map(|_| Default::default()).collect(),
             groups: (0..slots).step_by(group_size).map(counted).collect(),
             question: line(0),
             group_size,
-            block,
             in_range,
         }
     }
 
     fn pass(&self, thread: usize) -> Pass {
+        let (slots, threads) = (self.slots.len(), self.holds.len());
         Pass {
             number: thread,
+            stock: (0..threads)
+                .map(|it| slots + thread * threads + it)
+                .collect(),
             next: 0,
             listed: false,
             sure: false,
@@ -399,8 +427,9 @@ impl Table for LastingWords {
     }
 
     fn put(&self, pass: &mut Pass, slot: usize, file: File) {
-        let word = self.install(pass, file);
-        self.retire(pass, self.change(slot, word));
+        let word = self.place(pass, file);
+        let found = self.install(pass, slot, word);
+        self.retire(pass, found);
     }
 
     fn put_any(&self, pass: &mut Pass, file: File) -> Option<usize> {
@@ -408,7 +437,7 @@ impl Table for LastingWords {
         if pass.sure {
             return None;
         }
-        let word = self.install(pass, file);
+        let word = self.place(pass, file);
         loop {
             if let Some(slot) = self.scan(pass, word) {
                 pass.emptied.next = slot + 1;
@@ -424,7 +453,7 @@ impl Table for LastingWords {
     }
 
     fn take(&self, pass: &mut Pass, slot: usize) {
-        let found = self.change(slot, 0);
+        let found = self.empty(slot);
         if self.in_range && node_in(found).is_some() {
             pass.emptied.keep(slot);
         }
