@@ -1,6 +1,6 @@
 -- A pass finds a free node of its stock, takes its place, and lays a node to rest.
-use Rattle.fx_lasting.proofs.Words.{◌≡◌, ◌≢◌, ℕ, ◌+◌, ◌-◌, ◌*◌, ◌<◌, ◌≤◌, List, [], ◌∷◌, set, sym, refl, ap, ◌∙◌, subst, arith, Option, Some, None}
-use Rattle.fx_lasting.proofs.Words.{none, some, keeps, takes, gives, rest, set_here, set_else, Closed, WorkAgrees, MayBeUnmarked, slots_of}
+use Rattle.fx_lasting.proofs.Words.{◌≡◌, ◌≢◌, ℕ, ◌+◌, ◌<◌, ◌≤◌, List, [], ◌∷◌, set, sym, refl, ap, ◌∙◌, subst, arith, Option, Some, None}
+use Rattle.fx_lasting.proofs.Words.{none, some, keeps, takes, gives, rest, set_here, set_else, Closed, WorkAgrees, MayBeUnmarked}
 use Rattle.fx_lasting.proofs.Words.{nodes_of, word_of, hold_word_of, held_in, if_file, taken_of, taking, owed, Phase, free, placed, seated, leaving}
 use Rattle.fx_lasting.proofs.Words.{retired, emptied, owner, file_in, removed_in, changed_here, Log, Work, Idle, Searching, Placing, Emptying, Seeks}
 use Rattle.fx_lasting.proofs.Words.{Births, Rests, SeeksKeep, BirthsKeep, RestsKeep, birth_word, step, inl, inr, ⊎_elim, dite, ℕ_discrete, sum_by}

@@ -1,6 +1,6 @@
 -- A step that sets a pass's bit in the list keeps the rule.
 use Rattle.fx_lasting.proofs.Words.{ℕ, ◌≤◌, ◌^◌, List, Option, Closed, refl, inl, inr, arith, none, keeps, Idle, Announced, Counted, Guarded, Owing, Yielding, Searching, Placing, Retiring, Emptying, true, bit_or, bit_of, list_place}
-use Rattle.fx_lasting.proofs.Words.{step, length-set, dite, ℕ_discrete, Work, IsAllowed, Lists, ListsKeep, [], Bool, Start}
+use Rattle.fx_lasting.proofs.Words.{step, length-set, dite, ℕ_discrete, Work, IsAllowed, Lists, ListsKeep, [], Bool}
 use Rattle.fx_lasting.proofs.Histories.{grows_none}
 use Rattle.fx_lasting.proofs.Frames.{guards_same, covers_same, sees_same}
 use Rattle.fx_lasting.proofs.Keeping.{Turn, turn_of, After, word_at, Made, by_turn, its_log, its_work, in_range, logged, w, end, asks_alike, few_slots}

@@ -1,13 +1,13 @@
 -- A table that is opened with empty slots: its contents, and its first words and places.
-use Rattle.fx_lasting.proofs.Words.{◌≡◌, ℕ, zero, suc, ◌+◌, List, length, sym, refl, ap, ◌∙◌, arith, Option, Some, None, slice_index}
-use Rattle.fx_lasting.proofs.Words.{State, state_of, ◌≢◌, ◌<◌, ◌≤◌, subst}
+use Rattle.fx_lasting.proofs.Words.{◌≡◌, ℕ, zero, suc, ◌+◌, List, sym, refl, ap, ◌∙◌, arith, Option, Some, None, slice_index}
+use Rattle.fx_lasting.proofs.Words.{State, state_of, ◌≢◌, ◌<◌, subst}
 use Rattle.fx_lasting.specs.Firsts.{AreNamed}
 use Rattle.fx_lasting.proofs.Starting.{AreWordsSoFar, named_so_far}
 use Rattle.fx_lasting.proofs.Words.{[], false, File, word_for, node_for}
 use Rattle.fx_plain.specs.State.{file_numbered}
 use Rattle.fx_plain.specs.Table.{identity_of}
 use Rattle.fx_lasting.proofs.Words.{full_in, if_full, first_at, AreFirstWords, AreFirstHomes}
-use Rattle.fx_lasting.specs.Layout.{question_place, group_place, group_start, group_len, slot_place, hold_place, node_place, list_place, words_for}
+use Rattle.fx_lasting.specs.Layout.{group_place, group_start, group_len, slot_place, words_for}
 use Rattle.fx_lasting.specs.Passes.{empty_slots}
 use Rattle.fx_plain.specs.Contents.{file_at}
 use Rattle.fx_plain.specs.State.{vacant}

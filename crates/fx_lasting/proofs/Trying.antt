@@ -7,7 +7,7 @@ use Rattle.fx_lasting.proofs.Words.{◌▷▷◌, ◌-◌, IsAtWork, IsInStock, 
 use Rattle.fx_lasting.proofs.Words.{Written, label_of}
 use Rattle.fx_lasting.specs.Tries.{IsPlacing, HasAllocated, StillPlaces, group_steps}
 use Rattle.fx_lasting.proofs.Groups.{by_size}
-use Rattle.fx_lasting.proofs.Running.{runs_one, runs_then, runs_goes, runs_within, turns_then, does_then, swapped_then, at_swapped, still_at_work}
+use Rattle.fx_lasting.proofs.Running.{runs_one, runs_goes, runs_within, turns_then, does_then, swapped_then, at_swapped, still_at_work}
 
 -- a slot of the range is one of the table
 pub in_size : (t : LastingTable) (slot : ℕ) → IsInRange t.table.shared.key slot → slot < t.size

@@ -1,5 +1,5 @@
 -- Views of passes, and their sums.
-use Rattle.std.specs.Prelude.{◌≡◌, ℕ, ◌+◌, ◌%◌, ◌<◌, ◌≤◌, ◌⊎◌, ◌==◌, not, nat_lt, List}
+use Rattle.std.specs.Prelude.{◌≡◌, ℕ, ◌%◌, ◌⊎◌, ◌==◌, not, nat_lt, List}
 use Rattle.std.specs.Prelude.{[], ◌∷◌, map, Option, option_map, unwrap_or, replicate}
 use Rattle.std.specs.Prelude.{Some, None}
 use Rattle.std.specs.Prelude.{length, count_by, if◌then◌else◌, false}

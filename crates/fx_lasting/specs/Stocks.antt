@@ -4,7 +4,7 @@ use Rattle.std.specs.Prelude.{◌≡◌, ℕ, ◌+◌, ◌<◌, List, length}
 use mathlib.Core.Option.{some}
 use lib.ListN.{get_elem?}
 use Rattle.fx_words.specs.Words.{name_in}
-use Rattle.fx_lasting.specs.Passes.{slots_of, nodes_of, stock_len}
+use Rattle.fx_lasting.specs.Passes.{nodes_of, stock_len}
 use Rattle.fx_lasting.specs.declared.view.Start.{Start}
 
 -- where a node is

@@ -1,4 +1,4 @@
-use Rattle.fx_lasting.proofs.Words.{◌≡◌, ◌+◌, ◌-◌, ℕ, List, length, length-map, ap, sym, ◌∙◌, arith}
+use Rattle.fx_lasting.proofs.Words.{◌+◌, ◌-◌, ℕ, List, length, length-map, ap, arith}
 use Rattle.fx_lasting.proofs.FirstStocks.{length_back}
 use Rattle.fx_lasting.proofs.open.first_stocks.Goals as goal
 

@@ -1,4 +1,4 @@
-use Rattle.fx_lasting.proofs.Words.{◌≡◌, ℕ, ap, arith}
+use Rattle.fx_lasting.proofs.Words.{arith}
 use Rattle.fx_lasting.proofs.FirstStocks.{one_named}
 use Rattle.fx_lasting.proofs.open.name_slots.Goals as goal
 

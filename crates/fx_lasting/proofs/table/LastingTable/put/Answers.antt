@@ -1,5 +1,5 @@
 use Rattle.fx_lasting.proofs.Words.{◌-◌, get_elem?, some, set, pass_in, name_in, nodes_of, as_swapped}
-use Rattle.fx_lasting.proofs.Words.{◌≡◌, ℕ, ◌<◌, ◌≤◌, refl, ap, ◌∙◌, subst, arith, Put, numbered, ◌▷◌, [], slot_of, opening_of, view_of, pass_of, Runs}
+use Rattle.fx_lasting.proofs.Words.{◌≡◌, ℕ, ◌<◌, refl, ap, ◌∙◌, subst, arith, Put, numbered, ◌▷◌, [], slot_of, opening_of, view_of, pass_of, Runs}
 use Rattle.fx_lasting.proofs.Words.{rest, retiring_work, doing_in, Start, Glance, Outside, file_word_of, IsAtWork}
 use Rattle.fx_table.specs.Calls.{Adds, one_number}
 use Rattle.fx_lasting.proofs.Calling.{slot_inside, slot_low, begins_at, few_nodes}

@@ -3,7 +3,6 @@ use Rattle.fx_lasting.proofs.Words.{◌<◌, nodes_of}
 use Rattle.fx_lasting.proofs.Words.{◌∷◌, inr, refl, sym, ap, ◌∙◌, subst, arith, [], Some, Closed, HasPlace, numbered}
 use Rattle.fx_lasting.proofs.Words.{Start, Work, Runs, rested, pass_in, true, false}
 use Rattle.fx_table.specs.Calls.{no_use, one_number}
-use Rattle.fx_lasting.specs.Tries.{HasAllocated, StillPlaces}
 use Rattle.fx_lasting.specs.Vacant.{SeesFile}
 use Rattle.fx_lasting.proofs.Words.{Placing, label_of}
 use Rattle.fx_lasting.proofs.ByNode.{adds_none, was_further}

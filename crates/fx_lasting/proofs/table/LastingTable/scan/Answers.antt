@@ -1,7 +1,7 @@
 use Rattle.fx_lasting.proofs.Words.{◌∙◌, arith, refl, ◌+◌, groups_in}
 use Rattle.fx_lasting.specs.Tries.{group_steps}
 use Rattle.fx_lasting.proofs.Running.{still_at_work, placed_none}
-use Rattle.fx_lasting.proofs.Trying.{in_size, still_then, allocated_then, still_within, allocated_within, group_more, groups_most}
+use Rattle.fx_lasting.proofs.Trying.{still_then, allocated_then, still_within, allocated_within, group_more, groups_most}
 use Rattle.fx_lasting.proofs.table.LastingTable.scan.Goals as goal
 
 pub loop-init : goal.loop-init
