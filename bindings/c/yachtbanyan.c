@@ -10,6 +10,7 @@
 #include "yachtbanyan.h"
 #include "core.h"
 #include <sched.h>
+#include <stdbool.h>
 #include <stdlib.h>
 
 /* The core is not compiled for ThreadSanitizer. If a program has the sanitizer's runtime, these
