@@ -1,11 +1,12 @@
 //! The states that a search met: the front of the flights at an event.
-ghost use Rattle.std.specs.Prelude.{◌≡◌, [], ◌∷◌, Contains, IfOk, IsTrue, List};
+ghost use Rattle.std.specs.Prelude.{◌≡◌, ◌<◌, ◌^◌, [], ◌∷◌, Contains, IfOk, IsTrue, List};
 ghost use Rattle.fx_chain.specs.Operation.{Asked};
 ghost use Rattle.check_flight.specs.Judged.{flight_view, flight_views};
 
+use crate::positions::file_number;
 use crate::state::FlightState;
-use check_outcomes::push_file;
-use fx_base::NoMemory;
+use check_outcomes::Progress;
+use fx_base::{Closed, NoMemory};
 use indexmap::IndexSet;
 use std::alloc::Global;
 
@@ -17,31 +18,58 @@ pub(crate) struct Front {
     /// The states, in the order in which they were met.
     pub(crate) states: Vec<FlightState>,
     /// The states in numbers, for looking them up.
-    keys: IndexSet<Vec<u32>>,
+    keys: IndexSet<Vec<u64>>,
 }
 
-// Returns a number that is small, as it is.
-fn number_of(n: usize) -> u32 {
-    n.min(u32::MAX as usize) as u32
+// Returns a number below 255 as it is, and 255 for the others.
+fn small(n: usize) -> u64
+    ensures { result < 256 }
+{
+    n.min(255) as u64
+}
+
+// Returns the number of the file at a slot, or 0 for none.
+fn number_at(file: &Option<Closed>) -> u64 {
+    match file {
+        Some(file) => file_number(*file),
+        None => 0,
+    }
+}
+
+// Appends the progress of calls, that of four in a number if few members are done and few accesses
+// made.
+fn push_progress(key: &mut Vec<u64>, chains: &[Progress]) -> Result<(), NoMemory> {
+    for some in chains.chunks(4) {
+        let mut number: u64 = 1;
+        for progress in some {
+            let both = small(progress.done) * 256 + small(progress.made);
+            number = number % (1 << 48) * 65_536 + both;
+            if progress.done > 254 || progress.made > 254 {
+                key.extend_from_slice(&[progress.done as u64, progress.made as u64])?;
+            }
+        }
+        key.push(number)?;
+    }
+    Ok(())
 }
 
 /// Returns a state in numbers.
-pub(crate) fn key_of(alloc: Global, state: &FlightState) -> Result<Vec<u32>, NoMemory> {
-    let mut key = Vec::new(alloc);
-    key.push(number_of(state.base))?;
-    for progress in &state.chains {
-        key.push(number_of(progress.done))?;
-        key.push(number_of(progress.made))?;
-    }
+pub(crate) fn key_of(alloc: Global, state: &FlightState) -> Result<Vec<u64>, NoMemory> {
+    let files = state.slots.at.len().saturating_add(state.removed.len());
+    let calls = state.chains.len().saturating_add(state.waiting.len());
+    let room = files.saturating_add(calls).saturating_add(3);
+    let mut key = Vec::with_capacity(alloc, room)?;
+    key.push(state.base as u64)?;
+    push_progress(&mut key, &state.chains)?;
     for file in &state.slots.at {
-        push_file(&mut key, file)?;
+        key.push(number_at(file))?;
     }
     for look in &state.waiting {
-        key.push(look.id)?;
+        key.push(look.id as u64)?;
     }
-    key.push(number_of(state.waiting.len()))?;
+    key.push(state.waiting.len() as u64)?;
     for file in &state.removed {
-        push_file(&mut key, &Some(*file))?;
+        key.push(file_number(*file))?;
     }
     Ok(key)
 }

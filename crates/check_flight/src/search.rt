@@ -5,7 +5,9 @@ use crate::followed::accesses_of;
 use crate::front::key_of;
 use crate::judged::{ChainCall, JudgedLog};
 use crate::passage::{Passage, passage_of};
-use crate::state::{FlightState, next_state};
+use crate::state::FlightState;
+use crate::step::allowed_state;
+use check_outcomes::Progress;
 use fx_base::NoMemory;
 use indexmap::IndexSet;
 use std::alloc::Global;
@@ -27,11 +29,12 @@ struct Frame {
     at: usize,
     state: FlightState,
     is_event_tried: bool,
-    // The calls, by their position after those that are over.
-    calls: Vec<usize>,
-    // The position of the next call to try, and that of its access.
-    call: usize,
+    // The call to try, by its position after those that are over, and the position of its next
+    // answer. `None` if no call was tried.
+    call: Option<(usize, usize)>,
+    // The position of the next access of that call to try, and whether there may be one.
     choice: usize,
+    has_more: bool,
 }
 
 // A move, and the state to which it leads after `at` events.
@@ -48,39 +51,68 @@ struct Lead {
 struct Search {
     frames: Vec<Frame>,
     steps: Vec<Step>,
-    dead: IndexSet<Vec<u32>>,
+    dead: IndexSet<Vec<u64>>,
+    // More than the number of events before each of those states.
+    dead_until: usize,
 }
 
-// Returns the open calls of a state, by their position after those that are over: the one whose
-// next answer comes first before the others.
-fn calls_by_answer(
+// Checks whether a call has no request left, by its number from 0.
+fn is_over(calls: &[ChainCall<'_>], i: usize, progress: &Progress) -> bool {
+    match calls.get(i) {
+        Some(call) => call.requests.len() <= progress.done,
+        None => true,
+    }
+}
+
+// Checks whether a pair is after the last one, and before the next one.
+fn is_between(
+    last: Option<(usize, usize)>,
+    pair: (usize, usize),
+    next: Option<(usize, usize)>,
+) -> bool {
+    if let Some(last) = last
+        && pair <= last
+    {
+        return false;
+    }
+    match next {
+        Some(next) => pair < next,
+        None => true,
+    }
+}
+
+// Returns the next call of a state to try that isn't over, with the position of its next answer:
+// calls are tried in the order of these positions, and then of their numbers.
+fn call_after(
     log: &JudgedLog<'_>,
+    calls: &[ChainCall<'_>],
     at: usize,
     state: &FlightState,
-) -> Result<Vec<usize>, NoMemory> {
-    let alloc = log.setting.alloc;
-    let mut order: Vec<(usize, usize)> = Vec::new(alloc);
-    for j in 0..state.chains.len() {
+    last: Option<(usize, usize)>,
+) -> Option<(usize, usize)> {
+    let mut next = None;
+    for (j, progress) in state.chains.iter().enumerate() {
         let i = state.base.saturating_add(j);
-        order.push((log.positions.answer_after(i, at), j))?;
+        if is_over(calls, i, progress) {
+            continue;
+        }
+        let own = (log.positions.answer_after(i, at), j);
+        if is_between(last, own, next) {
+            next = Some(own);
+        }
     }
-    order.sort_unstable();
-    let mut calls = Vec::new(alloc);
-    for (_, j) in order {
-        calls.push(j)?;
-    }
-    Ok(calls)
+    next
 }
 
 impl Frame {
-    fn new(alloc: Global, at: usize, state: FlightState) -> Frame {
+    fn new(at: usize, state: FlightState) -> Frame {
         Frame {
             at,
             state,
             is_event_tried: false,
-            calls: Vec::new(alloc),
-            call: 0,
+            call: None,
             choice: 0,
+            has_more: false,
         }
     }
 
@@ -103,37 +135,29 @@ impl Frame {
         }
     }
 
-    // Returns the state after the next access of the call to try, if there is one, and whether the
-    // call has more accesses to try.
+    // Returns the state after the next access of a call to try that is allowed.
     fn after_access(
         &mut self,
         log: &JudgedLog<'_>,
         calls: &[ChainCall<'_>],
         j: usize,
-    ) -> Result<(Option<Lead>, bool), NoMemory> {
+    ) -> Result<Option<Lead>, NoMemory> {
+        self.has_more = false;
         let Some(accesses) = accesses_of(log, calls, &self.state, j)? else {
-            return Ok((None, false));
+            return Ok(None);
         };
-        let choice = self.choice;
-        let Some(access) = accesses.get(choice) else {
-            return Ok((None, false));
-        };
-        self.choice = choice.saturating_add(1);
-        let mut answered = Vec::new(log.setting.alloc);
-        let next = next_state(log, calls, &self.state, j, access, &mut answered)?;
-        let Some(state) = next else {
-            return Ok((None, true));
-        };
-        if log.is_one_denied(&answered) {
-            return Ok((None, true));
+        for choice in self.choice..accesses.len() {
+            let next = allowed_state(log, calls, &self.state, j, &accesses[choice])?;
+            if let Some(state) = next {
+                self.choice = choice.saturating_add(1);
+                self.has_more = self.choice < accesses.len();
+                let call = self.state.base.saturating_add(j).saturating_add(1);
+                let call = call.min(u32::MAX as usize) as u32;
+                let (step, at) = (Step { call, choice }, self.at);
+                return Ok(Some(Lead { step, at, state }));
+            }
         }
-        let call = self.state.base.saturating_add(j).saturating_add(1);
-        let step = Step {
-            call: call.min(u32::MAX as usize) as u32,
-            choice,
-        };
-        let at = self.at;
-        Ok((Some(Lead { step, at, state }), true))
+        Ok(None)
     }
 
     // Returns the state after the next move that wasn't tried, or `None` if all were tried.
@@ -149,20 +173,19 @@ impl Frame {
             if let Some(lead) = self.after_event(log, calls)? {
                 return Ok(Some(lead));
             }
-            self.calls = calls_by_answer(log, self.at, &self.state)?;
-        } else if self.calls.is_empty() {
-            self.calls = calls_by_answer(log, self.at, &self.state)?;
         }
         for _ in 0..usize::MAX {
-            let Some(j) = self.calls.get(self.call).copied() else {
+            if !self.has_more {
+                let next = call_after(log, calls, self.at, &self.state, self.call);
+                if next.is_none() {
+                    return Ok(None);
+                }
+                (self.call, self.choice) = (next, 0);
+            }
+            let Some((_, j)) = self.call else {
                 return Ok(None);
             };
-            let (lead, has_more) = self.after_access(log, calls, j)?;
-            if !has_more {
-                self.call = self.call.saturating_add(1);
-                self.choice = 0;
-            }
-            if let Some(lead) = lead {
+            if let Some(lead) = self.after_access(log, calls, j)? {
                 return Ok(Some(lead));
             }
         }
@@ -172,26 +195,32 @@ impl Frame {
 
 impl Search {
     // Returns the number of a state that is looked up.
-    fn key(alloc: Global, at: usize, state: &FlightState) -> Result<Vec<u32>, NoMemory> {
+    fn key(alloc: Global, at: usize, state: &FlightState) -> Result<Vec<u64>, NoMemory> {
         let mut key = key_of(alloc, state)?;
-        key.push(at.min(u32::MAX as usize) as u32)?;
+        key.push(at as u64)?;
         Ok(key)
+    }
+
+    // Checks whether the state of a move leads nowhere.
+    fn is_dead(&self, alloc: Global, lead: &Lead) -> Result<bool, NoMemory> {
+        if lead.at >= self.dead_until {
+            return Ok(false);
+        }
+        let key = Search::key(alloc, lead.at, &lead.state)?;
+        Ok(self.dead.contains(&key))
     }
 
     // Goes on to a state, unless it leads nowhere. The first states of many are forgotten.
     fn enter(&mut self, alloc: Global, lead: Lead, most: usize) -> Result<(), NoMemory> {
-        if !self.dead.is_empty() {
-            let key = Search::key(alloc, lead.at, &lead.state)?;
-            if self.dead.contains(&key) {
-                return Ok(());
-            }
+        if self.is_dead(alloc, &lead)? {
+            return Ok(());
         }
         if self.frames.len() / 2 > most {
             let half = self.frames.len() / 2;
             self.frames = self.frames.split_off(half)?;
         }
         self.steps.push(lead.step)?;
-        self.frames.push(Frame::new(alloc, lead.at, lead.state))?;
+        self.frames.push(Frame::new(lead.at, lead.state))?;
         Ok(())
     }
 
@@ -203,7 +232,9 @@ impl Search {
         self.steps.pop();
         if self.dead.len() > most {
             self.dead = IndexSet::new(alloc);
+            self.dead_until = 0;
         }
+        self.dead_until = self.dead_until.max(frame.at.saturating_add(1));
         self.dead
             .insert(Search::key(alloc, frame.at, &frame.state)?)?;
         Ok(())
@@ -223,8 +254,9 @@ pub(crate) fn find(
         frames: Vec::new(alloc),
         steps: Vec::new(alloc),
         dead: IndexSet::new(alloc),
+        dead_until: 0,
     };
-    search.frames.push(Frame::new(alloc, 0, start))?;
+    search.frames.push(Frame::new(0, start))?;
     let (mut furthest, mut tries) = (0, 0);
     for _ in 0..usize::MAX {
         let Some(frame) = search.frames.last_mut() else {

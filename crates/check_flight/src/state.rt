@@ -1,5 +1,4 @@
-//! A state of the flights of a log, and where an access, a call, an answer of a look or a close
-//! leads from it.
+//! A state of the flights of a log, and where a call, an answer of a look or a close leads from it.
 ghost use Rattle.std.specs.Prelude.{◌≡◌, ◌+◌, ◌++◌, ◌<◌, ◌≤◌, ◌^◌, ℕ, [], ◌∷◌, Contains, IfOk, IfSome, IsPermutation, IsTrue, Option};
 ghost use Rattle.std.specs.Prelude.{length, slice_index_or};
 ghost use Rattle.std.specs.Option.{option_to_list};
@@ -49,23 +48,6 @@ pub(crate) struct FlightState {
     pub(crate) waiting: Vec<WaitingLook>,
 }
 
-// Returns the files that were removed after an access, in order of mark.
-fn removed_after(
-    alloc: Global,
-    removed: &[Closed],
-    access: &Access,
-) -> Result<Vec<Closed>, NoMemory>
-    ensures { IfOk result (λ after. IsPermutation
-        (removed.now ++ option_to_list (file_removed_by access.now)) after.items) }
-{
-    let mut after = Vec::from_slice(alloc, removed)?;
-    if let Some(file) = access.removed() {
-        after.push(file)?;
-    }
-    after.sort_unstable_by_key(|file| file.mark);
-    Ok(after)
-}
-
 /// Returns the files without this one.
 pub(crate) fn without(
     alloc: Global,
@@ -97,8 +79,8 @@ pub(crate) fn waits(log: &JudgedLog<'_>, slots: &Slots, look: &WaitingLook) -> b
     }
 }
 
-// Returns the looks that still wait in a table with these slots.
-fn still_waiting(
+/// Returns the looks that still wait in a table with these slots.
+pub(crate) fn still_waiting(
     log: &JudgedLog<'_>,
     slots: &Slots,
     waiting: &[WaitingLook],
@@ -179,61 +161,6 @@ impl FlightState {
         let not_begun = Progress { done: 0, made: 0 };
         self.chains.get(j).copied().unwrap_or(not_begun)
     }
-}
-
-/// Returns where an access leads of the call that follows those that are over and `j` others, and
-/// appends what is answered on the way. `None` if the state isn't one of the log, or its table
-/// doesn't permit the access.
-pub(crate) fn next_state(
-    log: &JudgedLog<'_>,
-    calls: &[ChainCall<'_>],
-    state: &FlightState,
-    j: usize,
-    access: &Access,
-    answered: &mut Vec<Completion>,
-) -> Result<Option<FlightState>, NoMemory>
-    requires call { state.now.base + j < length calls.now }
-    requires answered { answered.old.items ≡ [] }
-    ensures answered { IfOk result (λ next. IfSome next (λ next. all_completed answered.new.items
-        ≡ (step (rules_of_log log.now) (rest_of (runs_of_calls calls.now) state.now
-        (state.now.base + j + 1)) access.now).0)) }
-    ensures leads { IfOk result (λ next. IfSome next (λ next. StepsByAccess (rules_of_log log.now)
-        (flight_view (runs_of_calls calls.now) state.now) (state.now.base + j + 1) access.now
-        (flight_view (runs_of_calls calls.now) next))) }
-{
-    let alloc = log.setting.alloc;
-    if state.slots.at.len() != log.setting.size as usize || !state.slots.permits(access) {
-        return Ok(None);
-    }
-    let Some(progress) = state.chains.get(j) else {
-        return Ok(None);
-    };
-    let i = state.base + j;
-    if i >= u32::MAX as usize - 1 || progress.made > u32::MAX as usize {
-        return Ok(None);
-    }
-    let own = members_at(calls, i);
-    let after = step(
-        &log.setting,
-        first_place(i),
-        own,
-        *progress,
-        *access,
-        answered,
-    )?;
-    let mut chains = Vec::from_slice(alloc, &state.chains)?;
-    chains[j] = after;
-    let mut slots = state.slots.copy(alloc)?;
-    slots.make(access);
-    let removed = removed_after(alloc, &state.removed, access)?;
-    let waiting = still_waiting(log, &slots, &state.waiting)?;
-    Ok(Some(FlightState {
-        slots,
-        base: state.base,
-        chains,
-        removed,
-        waiting,
-    }))
 }
 
 /// Returns where the next call leads, and appends what is answered on the way. `None` if the state
