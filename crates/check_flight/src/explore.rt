@@ -24,7 +24,8 @@ fn states_after(
         return Ok(states);
     };
     for access in &accesses {
-        if let Some(next) = allowed_state(log, calls, state, j, access)? {
+        let mut answered = Vec::new(log.setting.alloc);
+        if let Some(next) = allowed_state(log, calls, state, j, access, &mut answered)? {
             states.push(next)?;
         }
     }

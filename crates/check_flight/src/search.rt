@@ -5,28 +5,56 @@ use crate::followed::accesses_of;
 use crate::front::key_of;
 use crate::judged::{ChainCall, JudgedLog};
 use crate::passage::{Passage, passage_of};
-use crate::state::FlightState;
+use crate::state::{FlightState, WaitingLook};
 use crate::step::allowed_state;
 use check_outcomes::Progress;
 use fx_base::NoMemory;
+use fx_chain::Completion;
+use fx_flight::LogEvent;
+use fx_order::Access;
 use indexmap::IndexSet;
 use std::alloc::Global;
 
-/// A move of a flight.
-#[derive(Clone, Copy)]
-pub(crate) struct Step {
-    /// The number of the call that makes an access, or 0 for the next event.
+/// A move of a flight: the next event, or an access.
+#[derive(Drop)]
+pub(crate) struct Move {
+    /// The number of the call that makes the access, or 0 for the next event.
     pub(crate) call: u32,
-    /// The position of the access among those that the call may make next.
-    pub(crate) choice: usize,
+    /// The access.
+    pub(crate) access: Option<Access>,
+    /// What a chain answers by the access.
+    pub(crate) answered: Vec<Completion>,
+}
+
+/// An access of a chain, and the state to which it leads.
+#[derive(Drop)]
+pub(crate) struct AccessLead {
+    /// The position of the next access that the chain may make in its place, and whether there is
+    /// one.
+    pub(crate) next: usize,
+    pub(crate) has_more: bool,
+    /// The access, as a move.
+    pub(crate) made: Move,
+    /// The state.
+    pub(crate) state: FlightState,
+}
+
+/// A flight that a search found: its moves, and the state after them.
+#[derive(Drop)]
+pub(crate) struct FoundFlight {
+    /// The moves.
+    pub(crate) moves: Vec<Move>,
+    /// The state.
+    pub(crate) state: FlightState,
 }
 
 // A state of the search, and which of its moves were tried: the next event first, then the accesses
 // of the calls, the call whose next answer comes first before the others.
 #[derive(Drop)]
 struct Frame {
-    // The number of events before the state.
+    // The number of events before the state, and that of moves.
     at: usize,
+    moves: usize,
     state: FlightState,
     is_event_tried: bool,
     // The call to try, by its position after those that are over, and the position of its next
@@ -40,7 +68,9 @@ struct Frame {
 // A move, and the state to which it leads after `at` events.
 #[derive(Drop)]
 struct Lead {
-    step: Step,
+    made: Move,
+    // The look that the move calls.
+    look: Option<WaitingLook>,
     at: usize,
     state: FlightState,
 }
@@ -50,10 +80,46 @@ struct Lead {
 #[derive(Drop)]
 struct Search {
     frames: Vec<Frame>,
-    steps: Vec<Step>,
+    moves: Vec<Move>,
     dead: IndexSet<Vec<u64>>,
     // More than the number of events before each of those states.
     dead_until: usize,
+}
+
+/// Returns the first access of a call that is allowed, from a position among those that it may make
+/// next on: of the call that follows those that are over and `j` others.
+pub(crate) fn access_from(
+    log: &JudgedLog<'_>,
+    calls: &[ChainCall<'_>],
+    state: &FlightState,
+    j: usize,
+    first: usize,
+) -> Result<Option<AccessLead>, NoMemory> {
+    let Some(accesses) = accesses_of(log, calls, state, j)? else {
+        return Ok(None);
+    };
+    let call = state.base.saturating_add(j).saturating_add(1);
+    let call = call.min(u32::MAX as usize) as u32;
+    for choice in first..accesses.len() {
+        let access = accesses[choice];
+        let mut answered = Vec::new(log.setting.alloc);
+        let next = allowed_state(log, calls, state, j, &access, &mut answered)?;
+        if let Some(state) = next {
+            let made = Move {
+                call,
+                access: Some(access),
+                answered,
+            };
+            let next = choice.saturating_add(1);
+            return Ok(Some(AccessLead {
+                next,
+                has_more: next < accesses.len(),
+                made,
+                state,
+            }));
+        }
+    }
+    Ok(None)
 }
 
 // Checks whether a call has no request left, by its number from 0.
@@ -104,10 +170,22 @@ fn call_after(
     next
 }
 
+// Returns the look that an event calls.
+fn look_of(event: &LogEvent) -> Option<WaitingLook> {
+    match event {
+        LogEvent::Look { id, slot } => Some(WaitingLook {
+            id: *id,
+            slot: *slot,
+        }),
+        _ => None,
+    }
+}
+
 impl Frame {
-    fn new(at: usize, state: FlightState) -> Frame {
+    fn new(at: usize, moves: usize, state: FlightState) -> Frame {
         Frame {
             at,
+            moves,
             state,
             is_event_tried: false,
             call: None,
@@ -125,14 +203,20 @@ impl Frame {
         let Some(event) = log.events.get(self.at) else {
             return Ok(None);
         };
-        match passage_of(log, calls, self.at, event, &self.state)? {
-            Passage::Leads(state) => Ok(Some(Lead {
-                step: Step { call: 0, choice: 0 },
-                at: self.at.saturating_add(1),
-                state,
-            })),
-            _ => Ok(None),
-        }
+        let Passage::Leads(state) = passage_of(log, calls, self.at, event, &self.state)? else {
+            return Ok(None);
+        };
+        let made = Move {
+            call: 0,
+            access: None,
+            answered: Vec::new(log.setting.alloc),
+        };
+        Ok(Some(Lead {
+            made,
+            look: look_of(event),
+            at: self.at.saturating_add(1),
+            state,
+        }))
     }
 
     // Returns the state after the next access of a call to try that is allowed.
@@ -142,22 +226,18 @@ impl Frame {
         calls: &[ChainCall<'_>],
         j: usize,
     ) -> Result<Option<Lead>, NoMemory> {
-        self.has_more = false;
-        let Some(accesses) = accesses_of(log, calls, &self.state, j)? else {
+        let Some(lead) = access_from(log, calls, &self.state, j, self.choice)? else {
+            self.has_more = false;
             return Ok(None);
         };
-        for choice in self.choice..accesses.len() {
-            let next = allowed_state(log, calls, &self.state, j, &accesses[choice])?;
-            if let Some(state) = next {
-                self.choice = choice.saturating_add(1);
-                self.has_more = self.choice < accesses.len();
-                let call = self.state.base.saturating_add(j).saturating_add(1);
-                let call = call.min(u32::MAX as usize) as u32;
-                let (step, at) = (Step { call, choice }, self.at);
-                return Ok(Some(Lead { step, at, state }));
-            }
-        }
-        Ok(None)
+        self.choice = lead.next;
+        self.has_more = lead.has_more;
+        Ok(Some(Lead {
+            made: lead.made,
+            look: None,
+            at: self.at,
+            state: lead.state,
+        }))
     }
 
     // Returns the state after the next move that wasn't tried, or `None` if all were tried.
@@ -176,11 +256,10 @@ impl Frame {
         }
         for _ in 0..usize::MAX {
             if !self.has_more {
-                let next = call_after(log, calls, self.at, &self.state, self.call);
-                if next.is_none() {
-                    return Ok(None);
-                }
-                (self.call, self.choice) = (next, 0);
+                (self.call, self.choice) = (
+                    call_after(log, calls, self.at, &self.state, self.call),
+                    0,
+                );
             }
             let Some((_, j)) = self.call else {
                 return Ok(None);
@@ -191,6 +270,28 @@ impl Frame {
         }
         Ok(None)
     }
+}
+
+// Appends the access of a look that was made before a state, unless the look waits there. A look
+// past the size of the table makes none.
+fn push_look(
+    alloc: Global,
+    moves: &mut Vec<Move>,
+    state: &FlightState,
+    look: WaitingLook,
+) -> Result<(), NoMemory> {
+    if state.waiting.contains(&look) {
+        return Ok(());
+    }
+    let Some(file) = state.slots.at.get(look.slot as usize) else {
+        return Ok(());
+    };
+    moves.push(Move {
+        call: look.id,
+        access: Some(Access::Looks(look.slot, *file)),
+        answered: Vec::new(alloc),
+    })?;
+    Ok(())
 }
 
 impl Search {
@@ -210,17 +311,37 @@ impl Search {
         Ok(self.dead.contains(&key))
     }
 
+    // Appends the accesses of the looks that wait no more in a state after the last one.
+    fn push_looks(
+        &mut self,
+        alloc: Global,
+        state: &FlightState,
+        called: Option<WaitingLook>,
+    ) -> Result<(), NoMemory> {
+        if let Some(frame) = self.frames.last() {
+            for look in &frame.state.waiting {
+                push_look(alloc, &mut self.moves, state, *look)?;
+            }
+        }
+        if let Some(look) = called {
+            push_look(alloc, &mut self.moves, state, look)?;
+        }
+        Ok(())
+    }
+
     // Goes on to a state, unless it leads nowhere. The first states of many are forgotten.
     fn enter(&mut self, alloc: Global, lead: Lead, most: usize) -> Result<(), NoMemory> {
         if self.is_dead(alloc, &lead)? {
             return Ok(());
         }
+        let moves = self.moves.len();
+        self.moves.push(lead.made)?;
+        self.push_looks(alloc, &lead.state, lead.look)?;
         if self.frames.len() / 2 > most {
             let half = self.frames.len() / 2;
             self.frames = self.frames.split_off(half)?;
         }
-        self.steps.push(lead.step)?;
-        self.frames.push(Frame::new(lead.at, lead.state))?;
+        self.frames.push(Frame::new(lead.at, moves, lead.state))?;
         Ok(())
     }
 
@@ -229,7 +350,7 @@ impl Search {
         let Some(frame) = self.frames.pop() else {
             return Ok(());
         };
-        self.steps.pop();
+        self.moves.truncate(frame.moves);
         if self.dead.len() > most {
             self.dead = IndexSet::new(alloc);
             self.dead_until = 0;
@@ -239,31 +360,45 @@ impl Search {
             .insert(Search::key(alloc, frame.at, &frame.state)?)?;
         Ok(())
     }
+
+    // Returns the flight of the moves.
+    fn found(self) -> Option<FoundFlight> {
+        let Search {
+            mut frames,
+            moves,
+            ..
+        } = self;
+        let frame = frames.pop()?;
+        Some(FoundFlight {
+            moves,
+            state: frame.state,
+        })
+    }
 }
 
-/// Returns the steps of a flight of the log from a state on, or `None` if it found none: it tries
-/// at most `most` moves after each event, and goes back over as many states.
+/// Returns a flight of the log from a state on, or `None` if it found none: it tries at most `most`
+/// moves after each event, and goes back over as many states.
 pub(crate) fn find(
     log: &JudgedLog<'_>,
     calls: &[ChainCall<'_>],
     start: FlightState,
     most: usize,
-) -> Result<Option<Vec<Step>>, NoMemory> {
+) -> Result<Option<FoundFlight>, NoMemory> {
     let alloc = log.setting.alloc;
     let mut search = Search {
         frames: Vec::new(alloc),
-        steps: Vec::new(alloc),
+        moves: Vec::new(alloc),
         dead: IndexSet::new(alloc),
         dead_until: 0,
     };
-    search.frames.push(Frame::new(0, start))?;
+    search.frames.push(Frame::new(0, 0, start))?;
     let (mut furthest, mut tries) = (0, 0);
     for _ in 0..usize::MAX {
         let Some(frame) = search.frames.last_mut() else {
             return Ok(None);
         };
         if frame.at >= log.events.len() {
-            return Ok(Some(search.steps));
+            return Ok(search.found());
         }
         if frame.at > furthest {
             furthest = frame.at;

@@ -139,23 +139,24 @@ pub(crate) fn next_state(
     Ok(Some(moved_state(log, state, j, access, after)?))
 }
 
-/// Returns where an access leads of the call that follows those that are over and `j` others, if
-/// the table permits it, and the log has no other answer than what is answered on the way.
+/// Returns where an access leads of the call that follows those that are over and `j` others, and
+/// appends what is answered on the way. `None` if the table doesn't permit the access, or the log
+/// has another answer.
 pub(crate) fn allowed_state(
     log: &JudgedLog<'_>,
     calls: &[ChainCall<'_>],
     state: &FlightState,
     j: usize,
     access: &Access,
+    answered: &mut Vec<Completion>,
 ) -> Result<Option<FlightState>, NoMemory>
     requires call { state.now.base + j < length calls.now }
+    requires answered { answered.old.items ≡ [] }
 {
-    let mut answered = Vec::new(log.setting.alloc);
-    let after = progress_after(log, calls, state, j, access, &mut answered)?;
-    let Some(after) = after else {
+    let Some(after) = progress_after(log, calls, state, j, access, answered)? else {
         return Ok(None);
     };
-    if log.is_one_denied(&answered) {
+    if log.is_one_denied(answered) {
         return Ok(None);
     }
     Ok(Some(moved_state(log, state, j, access, after)?))
