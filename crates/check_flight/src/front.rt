@@ -1,10 +1,10 @@
 //! The states that a search met: the front of the flights at an event.
-ghost use Rattle.std.specs.Prelude.{◌≡◌, ◌<◌, ◌^◌, [], ◌∷◌, Contains, IfOk, IsTrue, List};
+ghost use Rattle.std.specs.Prelude.{◌≡◌, [], ◌∷◌, Contains, IfOk, IsTrue, List};
 ghost use Rattle.fx_chain.specs.Operation.{Asked};
 ghost use Rattle.check_flight.specs.Judged.{flight_view, flight_views};
 
 use crate::positions::file_number;
-use crate::state::FlightState;
+use crate::state::{FlightState, WaitingLook};
 use check_outcomes::Progress;
 use fx_base::{Closed, NoMemory};
 use indexmap::IndexSet;
@@ -21,56 +21,75 @@ pub(crate) struct Front {
     keys: IndexSet<Vec<u64>>,
 }
 
-// Returns a number below 255 as it is, and 255 for the others.
-fn small(n: usize) -> u64
-    ensures { result < 256 }
-{
-    n.min(255) as u64
-}
-
-// Returns the number of the file at a slot, or 0 for none.
-fn number_at(file: &Option<Closed>) -> u64 {
-    match file {
-        Some(file) => file_number(*file),
-        None => 0,
+// Returns the progress of at most four calls as a number. A call has few members, and each of them
+// makes few accesses.
+fn number_of(some: &[Progress]) -> u64 {
+    let mut number: u64 = 1;
+    for progress in some {
+        for part in [progress.done, progress.made] {
+            number = number.wrapping_mul(256).wrapping_add(part as u64);
+        }
     }
+    number
 }
 
-// Appends the progress of calls, that of four in a number if few members are done and few accesses
-// made.
+// Appends the progress of calls.
 fn push_progress(key: &mut Vec<u64>, chains: &[Progress]) -> Result<(), NoMemory> {
     for some in chains.chunks(4) {
-        let mut number: u64 = 1;
-        for progress in some {
-            let both = small(progress.done) * 256 + small(progress.made);
-            number = number % (1 << 48) * 65_536 + both;
-            if progress.done > 254 || progress.made > 254 {
-                key.extend_from_slice(&[progress.done as u64, progress.made as u64])?;
-            }
-        }
+        key.push(number_of(some))?;
+    }
+    Ok(())
+}
+
+// Appends the files at the slots, 0 for none.
+fn push_slots(key: &mut Vec<u64>, slots: &[Option<Closed>]) -> Result<(), NoMemory> {
+    for file in slots {
+        let number = match file {
+            Some(file) => file_number(*file),
+            None => 0,
+        };
         key.push(number)?;
     }
     Ok(())
 }
 
-/// Returns a state in numbers.
-pub(crate) fn key_of(alloc: Global, state: &FlightState) -> Result<Vec<u64>, NoMemory> {
-    let files = state.slots.at.len().saturating_add(state.removed.len());
-    let calls = state.chains.len().saturating_add(state.waiting.len());
-    let room = files.saturating_add(calls).saturating_add(3);
-    let mut key = Vec::with_capacity(alloc, room)?;
-    key.push(state.base as u64)?;
-    push_progress(&mut key, &state.chains)?;
-    for file in &state.slots.at {
-        key.push(number_at(file))?;
-    }
-    for look in &state.waiting {
-        key.push(look.id as u64)?;
-    }
-    key.push(state.waiting.len() as u64)?;
-    for file in &state.removed {
+// Appends the files that were removed.
+fn push_removed(key: &mut Vec<u64>, removed: &[Closed]) -> Result<(), NoMemory> {
+    for file in removed {
         key.push(file_number(*file))?;
     }
+    Ok(())
+}
+
+// Appends the looks that wait, and how many they are.
+fn push_waiting(key: &mut Vec<u64>, waiting: &[WaitingLook]) -> Result<(), NoMemory> {
+    for look in waiting {
+        key.push(look.id as u64)?;
+    }
+    key.push(waiting.len() as u64)?;
+    Ok(())
+}
+
+// Appends a state in numbers.
+fn push_state(key: &mut Vec<u64>, state: &FlightState) -> Result<(), NoMemory> {
+    key.push(state.base as u64)?;
+    push_progress(key, &state.chains)?;
+    push_slots(key, &state.slots.at)?;
+    push_waiting(key, &state.waiting)?;
+    push_removed(key, &state.removed)
+}
+
+// Returns more than the number of numbers of a state.
+fn room_for(state: &FlightState) -> usize {
+    let files = state.slots.at.len().saturating_add(state.removed.len());
+    let calls = state.chains.len().saturating_add(state.waiting.len());
+    files.saturating_add(calls).saturating_add(3)
+}
+
+/// Returns a state in numbers.
+pub(crate) fn key_of(alloc: Global, state: &FlightState) -> Result<Vec<u64>, NoMemory> {
+    let mut key = Vec::with_capacity(alloc, room_for(state))?;
+    push_state(&mut key, state)?;
     Ok(key)
 }
 

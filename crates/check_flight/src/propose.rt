@@ -8,6 +8,7 @@ use crate::search::{FoundFlight, Move, access_from, find};
 use crate::state::FlightState;
 use check_outcomes::settle;
 use fx_base::NoMemory;
+use fx_chain::Completion;
 
 // More accesses than a call may make.
 const MOST_ACCESSES: usize = 1 << 16;
@@ -30,17 +31,27 @@ fn calls_without_accesses(
     Ok(plans)
 }
 
+// Appends answers.
+fn push_answers(to: &mut Vec<Completion>, answered: Vec<Completion>) -> Result<(), NoMemory> {
+    let mut answered = answered;
+    to.append(&mut answered)?;
+    Ok(())
+}
+
 // Appends an access of a call, and what it answers by it.
 fn push_access(plans: &mut [CallPlan], made: Move) -> Result<(), NoMemory> {
     let i = (made.call as usize).saturating_sub(1);
     let Some(own) = plans.get_mut(i) else {
         return Ok(());
     };
-    if let Some(access) = made.access {
+    let Move {
+        access,
+        answered,
+        ..
+    } = made;
+    push_answers(&mut own.answers, answered)?;
+    if let Some(access) = access {
         own.accesses.push(access)?;
-    }
-    for c in made.answered {
-        own.answers.push(c)?;
     }
     Ok(())
 }
@@ -65,26 +76,35 @@ fn finish_call(
     Ok(state)
 }
 
-// Returns the flight of the moves, with the accesses that are left of each call.
+// Appends the accesses that are left of each call. `state` is that after the moves.
+fn finish(
+    log: &JudgedLog<'_>,
+    calls: &[ChainCall<'_>],
+    plans: &mut [CallPlan],
+    state: FlightState,
+) -> Result<(), NoMemory> {
+    let mut state = state;
+    for j in 0..state.chains.len() {
+        state = finish_call(log, calls, plans, state, j)?;
+    }
+    Ok(())
+}
+
+// Returns the flight of the moves.
 fn plan_of(
     log: &JudgedLog<'_>,
     calls: &[ChainCall<'_>],
-    found: FoundFlight,
+    moves: Vec<Move>,
 ) -> Result<FlightPlan, NoMemory> {
-    let mut plans = calls_without_accesses(log, calls)?;
-    let mut moves = Vec::new(log.setting.alloc);
-    for made in found.moves {
-        moves.push(made.call)?;
-        push_access(&mut plans, made)?;
+    let mut plan = FlightPlan {
+        calls: calls_without_accesses(log, calls)?,
+        moves: Vec::new(log.setting.alloc),
+    };
+    for made in moves {
+        plan.moves.push(made.call)?;
+        push_access(&mut plan.calls, made)?;
     }
-    let mut state = found.state;
-    for j in 0..state.chains.len() {
-        state = finish_call(log, calls, &mut plans, state, j)?;
-    }
-    Ok(FlightPlan {
-        calls: plans,
-        moves,
-    })
+    Ok(plan)
 }
 
 /// Returns a flight of the log from a state without calls on, by a search that goes back over at
@@ -98,5 +118,8 @@ pub(crate) fn propose(
     let Some(found) = find(log, calls, start, most)? else {
         return Ok(None);
     };
-    Ok(Some(plan_of(log, calls, found)?))
+    let FoundFlight { moves, state } = found;
+    let mut plan = plan_of(log, calls, moves)?;
+    finish(log, calls, &mut plan.calls, state)?;
+    Ok(Some(plan))
 }

@@ -329,19 +329,31 @@ impl Search {
         Ok(())
     }
 
-    // Goes on to a state, unless it leads nowhere. The first states of many are forgotten.
+    // Forgets the first half of the states if that half has more than `most`.
+    fn forget(&mut self, most: usize) -> Result<(), NoMemory> {
+        let half = self.frames.len() / 2;
+        if half > most {
+            self.frames = self.frames.split_off(half)?;
+        }
+        Ok(())
+    }
+
+    // Goes on to a state, unless it leads nowhere.
     fn enter(&mut self, alloc: Global, lead: Lead, most: usize) -> Result<(), NoMemory> {
         if self.is_dead(alloc, &lead)? {
             return Ok(());
         }
+        self.forget(most)?;
+        let Lead {
+            made,
+            look,
+            at,
+            state,
+        } = lead;
         let moves = self.moves.len();
-        self.moves.push(lead.made)?;
-        self.push_looks(alloc, &lead.state, lead.look)?;
-        if self.frames.len() / 2 > most {
-            let half = self.frames.len() / 2;
-            self.frames = self.frames.split_off(half)?;
-        }
-        self.frames.push(Frame::new(lead.at, moves, lead.state))?;
+        self.moves.push(made)?;
+        self.push_looks(alloc, &state, look)?;
+        self.frames.push(Frame::new(at, moves, state))?;
         Ok(())
     }
 

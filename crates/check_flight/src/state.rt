@@ -1,26 +1,25 @@
 //! A state of the flights of a log, and where a call, an answer of a look or a close leads from it.
-ghost use Rattle.std.specs.Prelude.{◌≡◌, ◌+◌, ◌++◌, ◌<◌, ◌≤◌, ◌^◌, ℕ, [], ◌∷◌, Contains, IfOk, IfSome, IsPermutation, IsTrue, Option};
+ghost use Rattle.std.specs.Prelude.{◌≡◌, ◌+◌, ◌++◌, ◌<◌, ◌≤◌, ◌^◌, ℕ, [], ◌∷◌, Contains, IfOk, IfSome, IsTrue, Option};
 ghost use Rattle.std.specs.Prelude.{length, slice_index_or};
-ghost use Rattle.std.specs.Option.{option_to_list};
 ghost use Rattle.fx_chain.specs.Completed.{all_completed};
 ghost use Rattle.fx_base.specs.Identity.{Identity};
-ghost use Rattle.fx_order.specs.Access.{Permits, file_removed_by};
+ghost use Rattle.fx_order.specs.Access.{Permits};
 ghost use Rattle.fx_order.specs.declared.access.Access.TheVariants.{Looks};
 ghost use Rattle.fx_order.specs.Slots.{table_of_slots};
 ghost use Rattle.fx_flight.specs.Events.{first_of_call};
-ghost use Rattle.check_outcomes.specs.Rests.{settled_at, step};
+ghost use Rattle.check_outcomes.specs.Rests.{settled_at};
 ghost use Rattle.check_outcomes.specs.Views.{not_begun, run_at};
-ghost use Rattle.check_flight.specs.Judged.{log_in, requests_of, rest_of, rules_of_log, runs_of_calls};
+ghost use Rattle.check_flight.specs.Judged.{log_in, requests_of, rules_of_log, runs_of_calls};
 ghost use Rattle.check_flight.specs.Judged.{flight_view};
 ghost use Rattle.check_flight.specs.States.{AreFewer, AreWithout, IsLookDenied, LeadsByAnswer};
-ghost use Rattle.check_flight.specs.States.{LeadsByCall, StepsByAccess};
+ghost use Rattle.check_flight.specs.States.{LeadsByCall};
 
 use crate::call::{first_place, look_call, members_at};
 use crate::judged::{ChainCall, JudgedLog};
-use check_outcomes::{Progress, settle, step};
+use check_outcomes::{Progress, settle};
 use fx_base::{Closed, NoMemory};
 use fx_chain::Completion;
-use fx_order::{Access, Slots};
+use fx_order::Slots;
 use std::alloc::Global;
 
 /// A look that has made no access and isn't answered.
@@ -189,18 +188,9 @@ pub(crate) fn called_state(
         return Ok(None);
     }
     let done = settle(&log.setting, first_place(i), call.requests, answered)?;
-    let mut chains = Vec::from_slice(alloc, &state.chains)?;
-    chains.push(Progress { done, made: 0 })?;
-    let slots = state.slots.copy(alloc)?;
-    let removed = Vec::from_slice(alloc, &state.removed)?;
-    let waiting = Vec::from_slice(alloc, &state.waiting)?;
-    Ok(Some(FlightState {
-        slots,
-        base: state.base,
-        chains,
-        removed,
-        waiting,
-    }))
+    let mut next = state.copy(alloc)?;
+    next.chains.push(Progress { done, made: 0 })?;
+    Ok(Some(next))
 }
 
 /// Returns where the next call leads if it is a look of a slot. `None` if the state isn't one of
@@ -220,19 +210,14 @@ pub(crate) fn looking_state(
     let alloc = log.setting.alloc;
     let mut answered = Vec::new(alloc);
     let call = look_call();
-    let Some(next) = called_state(log, calls, state, &call, &mut answered)? else {
+    let called = called_state(log, calls, state, &call, &mut answered)?;
+    let Some(mut next) = called else {
         return Ok(None);
     };
-    let mut looks = Vec::from_slice(alloc, &state.waiting)?;
-    looks.push(look)?;
-    let waiting = still_waiting(log, &next.slots, &looks)?;
-    Ok(Some(FlightState {
-        slots: next.slots,
-        base: next.base,
-        chains: next.chains,
-        removed: next.removed,
-        waiting,
-    }))
+    next.waiting.push(look)?;
+    let waiting = still_waiting(log, &next.slots, &next.waiting)?;
+    next.waiting = waiting;
+    Ok(Some(next))
 }
 
 // Returns the number of calls that are over, from the first one in the list on.
@@ -306,15 +291,8 @@ pub(crate) fn closed_state(
         AreWithout state.now.removed.items file next.removed.items) }
     ensures waiting { IfOk result (λ next. next.waiting.items ≡ state.now.waiting.items) }
 {
-    let slots = state.slots.copy(alloc)?;
-    let chains = Vec::from_slice(alloc, &state.chains)?;
     let removed = without(alloc, &state.removed, file)?;
-    let waiting = Vec::from_slice(alloc, &state.waiting)?;
-    Ok(FlightState {
-        slots,
-        base: state.base,
-        chains,
-        removed,
-        waiting,
-    })
+    let mut next = state.copy(alloc)?;
+    next.removed = removed;
+    Ok(next)
 }

@@ -1,5 +1,5 @@
 //! Where an access leads from a state.
-ghost use Rattle.std.specs.Prelude.{◌≡◌, ◌+◌, ◌++◌, ◌<◌, ◌^◌, [], IfOk, IfSome, IsPermutation};
+ghost use Rattle.std.specs.Prelude.{◌≡◌, ◌+◌, ◌++◌, ◌<◌, [], IfOk, IfSome, IsPermutation};
 ghost use Rattle.std.specs.Prelude.{length, slice_index_or, slice_set};
 ghost use Rattle.std.specs.Option.{option_to_list};
 ghost use Rattle.fx_chain.specs.Completed.{all_completed};
@@ -136,7 +136,8 @@ pub(crate) fn next_state(
     let Some(after) = progress_after(log, calls, state, j, access, answered)? else {
         return Ok(None);
     };
-    Ok(Some(moved_state(log, state, j, access, after)?))
+    let next = moved_state(log, state, j, access, after)?;
+    Ok(Some(next))
 }
 
 /// Returns where an access leads of the call that follows those that are over and `j` others, and
