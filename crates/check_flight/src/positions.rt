@@ -126,8 +126,8 @@ impl LogPositions {
         None
     }
 
-    /// Returns the position of an answer, by its call and its member, or a very large number. Member
-    /// 2 of a look is the end of its hold.
+    /// Returns the position of an answer, by its call and its member, or a very large number. The
+    /// end of a look's hold is its member 2.
     pub(crate) fn answer_of(&self, id: u32, member: u32) -> usize {
         let call = (id as usize).saturating_sub(1);
         let Some(own) = self.answers.get(call) else {
