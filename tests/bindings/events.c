@@ -130,6 +130,70 @@ static void verdicts(void) {
     WANT(is(YACHT_NOT_LEGAL, 1, 0));
 }
 
+/* the file is opened and looked at, and the look waits while the file leaves its slot */
+static void looked_at(void) {
+    call(1, OPEN_A, 1);
+    done(1, 1, 0);
+    add(YACHT_EVENT_LOOK, 2);
+    call(3, CLOSE, 1);
+    done(3, 1, 0);
+}
+
+static void looks(void) {
+    looked_at();
+    of_file(YACHT_EVENT_FOUND, 2, 1, 0, 0);
+    add(YACHT_EVENT_FREE, 2);
+    of_file(YACHT_EVENT_CLOSED, 0, 1, 0, 0);
+    add(YACHT_EVENT_SETTLED, 0);
+    WANT(is(YACHT_LEGAL, 0, 0));
+    /* the hold has not begun to end when the file is closed, or when each file is said to be */
+    looked_at();
+    of_file(YACHT_EVENT_FOUND, 2, 1, 0, 0);
+    of_file(YACHT_EVENT_CLOSED, 0, 1, 0, 0);
+    add(YACHT_EVENT_FREE, 2);
+    WANT(is(YACHT_NOT_LEGAL, 6, 0));
+    looked_at();
+    of_file(YACHT_EVENT_FOUND, 2, 1, 0, 0);
+    add(YACHT_EVENT_SETTLED, 0);
+    WANT(is(YACHT_NOT_LEGAL, 6, 0));
+    /* once the file is closed, the look finds nothing */
+    looked_at();
+    of_file(YACHT_EVENT_CLOSED, 0, 1, 0, 0);
+    of_file(YACHT_EVENT_FOUND, 2, 1, 0, 0);
+    WANT(is(YACHT_NOT_LEGAL, 6, 0));
+    looked_at();
+    of_file(YACHT_EVENT_CLOSED, 0, 1, 0, 0);
+    add(YACHT_EVENT_EMPTY, 2);
+    WANT(is(YACHT_LEGAL, 0, 0));
+    /* a look that waits finds the file of a later call, or nothing, but no file before that call */
+    for (int finds = 0; finds < 2; finds++) {
+        add(YACHT_EVENT_LOOK, 1);
+        call(2, OPEN_A, 1);
+        done(2, 1, 0);
+        of_file(finds ? YACHT_EVENT_FOUND : YACHT_EVENT_EMPTY, 1, 2, 0, 0);
+        WANT(is(YACHT_LEGAL, 0, 0));
+    }
+    add(YACHT_EVENT_LOOK, 1);
+    of_file(YACHT_EVENT_FOUND, 1, 2, 0, 0);
+    call(2, OPEN_A, 1);
+    WANT(is(YACHT_NOT_LEGAL, 1, 0));
+    call(1, OPEN_A, 1);
+    done(1, 1, 0);
+    add(YACHT_EVENT_LOOK, 2);
+    add(YACHT_EVENT_EMPTY, 2);
+    WANT(is(YACHT_NOT_LEGAL, 3, 0));
+    /* another slot of the table, and one past its size */
+    for (uint32_t slot = 1; slot < 3; slot++) {
+        call(1, OPEN_A, 1);
+        done(1, 1, 0);
+        add(YACHT_EVENT_LOOK, 2)->slot = slot;
+        add(YACHT_EVENT_EMPTY, 2);
+        add(YACHT_EVENT_LOOK, 3)->slot = slot;
+        of_file(YACHT_EVENT_FOUND, 3, 1, 0, 0);
+        WANT(is(YACHT_NOT_LEGAL, 5, 0));
+    }
+}
+
 static void undecided(void) {
     in_flight(0);
     WANT(judge_at(2, 0, 3, 2) == YACHT_UNDECIDED && judgement.at == 0 && judgement.fault == 0);
@@ -242,6 +306,7 @@ static void refused_allocations(void) {
 
 int main(void) {
     verdicts();
+    looks();
     undecided();
     faults();
     flaws();

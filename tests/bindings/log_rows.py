@@ -68,6 +68,20 @@ verdict("legal", 0, "call 2 update 0 0,0", "done 2.1 2", "call 3 open b any", "d
 
 verdict("legal", 0, "call 2 update 0 0,1", "done 2.1 2", "call 3 read 0 0 1", "done 3.1 1 61", "call 4 read 1 1 1", "done 4.1 1 62")
 
+# a look that waits while the file leaves its slot: it finds the file, which is closed after the
+# hold, or nothing
+looked_at = *opened, "call 3 look 0", "call 4 close 0", "done 4.1 0"
+verdict("legal", 0, *looked_at, "done 3.1 0 2.1.0", "free 3", *closed)
+verdict("not legal", 11, *looked_at, "done 3.1 0 2.1.0", "closed 2.1.0 a", "free 3", "settled")
+verdict("not legal", 11, *looked_at, "done 3.1 0 2.1.0", "settled")
+verdict("not legal", 11, *looked_at, "closed 2.1.0 a", "done 3.1 0 2.1.0", "free 3", "settled")
+verdict("legal", 0, *looked_at, "closed 2.1.0 a", "done 3.1 -9", "settled")
+verdict("legal", 0, "call 2 look 0", "call 3 open a at 0", "done 3.1 0", "done 2.1 0 3.1.0", "free 2")
+verdict("legal", 0, "call 2 look 0", "call 3 open a at 0", "done 3.1 0", "done 2.1 -9")
+verdict("not legal", 8, *opened, "call 3 look 0", "done 3.1 -9")
+verdict("not legal", 10, *opened, "call 3 look 1", "done 3.1 -9", "call 4 look 1", "done 4.1 0 2.1.0")
+verdict("not legal", 10, *opened, "call 3 look 2", "done 3.1 -9", "call 4 look 2", "done 4.1 0 2.1.0")
+
 # limits, and answers that lack memory
 undecided, lacking = LogVerdict("undecided"), log(*opened, "call 3 read 0 0 1", "done 3.1 -12")
 want(outcome(lambda: judge_events(log(*read, "done 3.1 1 61"), states=0)) == undecided, "within no states a log is decided")

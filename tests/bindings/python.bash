@@ -60,7 +60,7 @@ wrong_module() {
 in_python() {
     want 'the judge from Python is wrong over the examples' judges_examples
     want 'the judge from Python is wrong' judges_rows judge_rows 41
-    want 'the judge of logs from Python is wrong' judges_rows log_rows 62
+    want 'the judge of logs from Python is wrong' judges_rows log_rows 82
     want 'the verified judge of yachtlog is wrong' proved_logs
     want 'a missing library is not explained' without_library "$room" 'libyachtjudge.so.4 was not found.'
     echo > "$room/libyachtjudge.so.4"

@@ -6,7 +6,8 @@ use crate::followed::accesses_of;
 use crate::front::Front;
 use crate::judged::{ChainCall, JudgedLog};
 use crate::passage::{Passage, passage_of};
-use crate::state::{FlightState, next_state};
+use crate::state::FlightState;
+use crate::step::allowed_state;
 use fx_base::NoMemory;
 use fx_flight::LogEvent;
 
@@ -18,17 +19,13 @@ fn states_after(
     state: &FlightState,
     j: usize,
 ) -> Result<Vec<FlightState>, NoMemory> {
-    let alloc = log.setting.alloc;
-    let mut states = Vec::new(alloc);
+    let mut states = Vec::new(log.setting.alloc);
     let Some(accesses) = accesses_of(log, calls, state, j)? else {
         return Ok(states);
     };
     for access in &accesses {
-        let mut answered = Vec::new(alloc);
-        let next = next_state(log, calls, state, j, access, &mut answered)?;
-        if let Some(next) = next
-            && !log.is_one_denied(&answered)
-        {
+        let mut answered = Vec::new(log.setting.alloc);
+        if let Some(next) = allowed_state(log, calls, state, j, access, &mut answered)? {
             states.push(next)?;
         }
     }

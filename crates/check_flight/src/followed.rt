@@ -10,7 +10,8 @@ ghost use Rattle.check_flight.specs.States.{AreFollowed, AreWaitsDenied, IsState
 use crate::call::{first_place, members_at};
 use crate::front::Front;
 use crate::judged::{ChainCall, JudgedLog};
-use crate::state::{FlightState, next_state, waits};
+use crate::state::{FlightState, waits};
+use crate::step::next_state;
 use check_outcomes::chain_accesses;
 use fx_base::NoMemory;
 use fx_order::Access;

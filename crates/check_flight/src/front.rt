@@ -3,9 +3,10 @@ ghost use Rattle.std.specs.Prelude.{◌≡◌, [], ◌∷◌, Contains, IfOk, Is
 ghost use Rattle.fx_chain.specs.Operation.{Asked};
 ghost use Rattle.check_flight.specs.Judged.{flight_view, flight_views};
 
-use crate::state::FlightState;
-use check_outcomes::push_file;
-use fx_base::NoMemory;
+use crate::positions::file_number;
+use crate::state::{FlightState, WaitingLook};
+use check_outcomes::Progress;
+use fx_base::{Closed, NoMemory};
 use indexmap::IndexSet;
 use std::alloc::Global;
 
@@ -17,32 +18,78 @@ pub(crate) struct Front {
     /// The states, in the order in which they were met.
     pub(crate) states: Vec<FlightState>,
     /// The states in numbers, for looking them up.
-    keys: IndexSet<Vec<u32>>,
+    keys: IndexSet<Vec<u64>>,
 }
 
-// Returns a number that is small, as it is.
-fn number_of(n: usize) -> u32 {
-    n.min(u32::MAX as usize) as u32
+// Returns the progress of at most four calls as a number. A call has few members, and each of them
+// makes few accesses.
+fn number_of(some: &[Progress]) -> u64 {
+    let mut number: u64 = 1;
+    for progress in some {
+        for part in [progress.done, progress.made] {
+            number = number.wrapping_mul(256).wrapping_add(part as u64);
+        }
+    }
+    number
+}
+
+// Appends the progress of calls.
+fn push_progress(key: &mut Vec<u64>, chains: &[Progress]) -> Result<(), NoMemory> {
+    for some in chains.chunks(4) {
+        key.push(number_of(some))?;
+    }
+    Ok(())
+}
+
+// Appends the files at the slots, 0 for none.
+fn push_slots(key: &mut Vec<u64>, slots: &[Option<Closed>]) -> Result<(), NoMemory> {
+    for file in slots {
+        let number = match file {
+            Some(file) => file_number(*file),
+            None => 0,
+        };
+        key.push(number)?;
+    }
+    Ok(())
+}
+
+// Appends the files that were removed.
+fn push_removed(key: &mut Vec<u64>, removed: &[Closed]) -> Result<(), NoMemory> {
+    for file in removed {
+        key.push(file_number(*file))?;
+    }
+    Ok(())
+}
+
+// Appends the looks that wait, and how many they are.
+fn push_waiting(key: &mut Vec<u64>, waiting: &[WaitingLook]) -> Result<(), NoMemory> {
+    for look in waiting {
+        key.push(look.id as u64)?;
+    }
+    key.push(waiting.len() as u64)?;
+    Ok(())
+}
+
+// Appends a state in numbers.
+fn push_state(key: &mut Vec<u64>, state: &FlightState) -> Result<(), NoMemory> {
+    key.push(state.base as u64)?;
+    push_progress(key, &state.chains)?;
+    push_slots(key, &state.slots.at)?;
+    push_waiting(key, &state.waiting)?;
+    push_removed(key, &state.removed)
+}
+
+// Returns more than the number of numbers of a state.
+fn room_for(state: &FlightState) -> usize {
+    let files = state.slots.at.len().saturating_add(state.removed.len());
+    let calls = state.chains.len().saturating_add(state.waiting.len());
+    files.saturating_add(calls).saturating_add(3)
 }
 
 /// Returns a state in numbers.
-pub(crate) fn key_of(alloc: Global, state: &FlightState) -> Result<Vec<u32>, NoMemory> {
-    let mut key = Vec::new(alloc);
-    key.push(number_of(state.base))?;
-    for progress in &state.chains {
-        key.push(number_of(progress.done))?;
-        key.push(number_of(progress.made))?;
-    }
-    for file in &state.slots.at {
-        push_file(&mut key, file)?;
-    }
-    for look in &state.waiting {
-        key.push(look.id)?;
-    }
-    key.push(number_of(state.waiting.len()))?;
-    for file in &state.removed {
-        push_file(&mut key, &Some(*file))?;
-    }
+pub(crate) fn key_of(alloc: Global, state: &FlightState) -> Result<Vec<u64>, NoMemory> {
+    let mut key = Vec::with_capacity(alloc, room_for(state))?;
+    push_state(&mut key, state)?;
     Ok(key)
 }
 

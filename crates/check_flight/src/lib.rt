@@ -23,6 +23,7 @@ mod propose;
 mod refute;
 mod search;
 mod state;
+mod step;
 mod verdict;
 
 pub use verdict::{FlightVerdict, judge_events};

@@ -81,19 +81,17 @@ impl JudgedLog<'_> {
         ensures { IfSome result (λ c. Contains (log_in self.now)
             (Answered c.now.place.submission (completed_of c.now))) }
     {
-        let call = (place.submission as usize).saturating_sub(1);
-        let member = (place.member as usize).saturating_sub(1);
-        let at = self.positions.answers.get(call)?.get(member)?;
-        match self.events.get(*at) {
+        let at = self.positions.answer_of(place.submission, place.member);
+        match self.events.get(at) {
             Some(LogEvent::Done(c)) => Some(c),
             _ => None,
         }
     }
 
-    // Returns the number of a look and what it found, by the position of its answer. A hint.
-    fn found_at(&self, position: usize) -> Option<(u32, Option<Closed>)> {
+    // Returns what a look found, by the position of its answer. A hint.
+    fn found_at(&self, position: usize) -> Option<Option<Closed>> {
         match self.events.get(position) {
-            Some(LogEvent::Found { id, file }) => Some((*id, *file)),
+            Some(LogEvent::Found { id: _, file }) => Some(*file),
             _ => None,
         }
     }
@@ -102,9 +100,8 @@ impl JudgedLog<'_> {
     fn found_by(&self, look: u32) -> Option<Option<Closed>>
         ensures { IfSome result (λ found. Contains (log_in self.now) (LookAnswered look found)) }
     {
-        let call = (look as usize).saturating_sub(1);
-        let at = *self.positions.answers.get(call)?.get(0)?;
-        let (_, found) = self.found_at(at)?;
+        let at = self.positions.answer_of(look, 1);
+        let found = self.found_at(at)?;
         if !is_found_at(self.events, at, look, found) {
             return None;
         }

@@ -10,6 +10,7 @@ ghost use Rattle.fx_flight.specs.Events.{happening_of};
 ghost use Rattle.fx_flight.specs.Flight.{IsLegalLog};
 ghost use Rattle.fx_order.specs.Access.{file_removed_by};
 ghost use Rattle.fx_order.specs.Slots.{ring_of_slots, table_of_slots};
+ghost use Rattle.indexmap.specs.IndexSet.{IsEmpty};
 ghost use Rattle.check_flight.specs.Judged.{catalogue_in, log_in};
 ghost use Rattle.check_flight.specs.Player.{IsLookAnswered, IsMarked, MovesOn};
 ghost use Rattle.check_flight.specs.declared.judged.JudgedLog.{JudgedLog as TheLog};
@@ -68,6 +69,8 @@ impl<'a> FlightPlayer<'a> {
             table_of_slots player.slots ≡ table_of_slots slots.now) }
         ensures calls { IfOk result (λ player. player.calls.items ≡ []) }
         ensures removed { IfOk result (λ player. player.removed.items ≡ []) }
+        ensures holds { IfOk result (λ player. player.holds.items ≡ []) }
+        ensures closed { IfOk result (λ player. IsEmpty player.closed) }
     {
         Ok(FlightPlayer {
             slots: slots.copy(alloc)?,

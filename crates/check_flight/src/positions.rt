@@ -118,14 +118,25 @@ impl LogPositions {
     /// answer, if there is one.
     pub(crate) fn hold_of(&self, at: usize, file: Closed) -> Option<(u32, usize)> {
         for look in &self.of(file)?.found {
-            let own = self.answers.get((*look as usize).saturating_sub(1))?;
-            let found = *own.get(0)?;
-            let end = own.get(1).copied().unwrap_or(usize::MAX);
-            if found < at && at <= end {
+            let found = self.answer_of(*look, 1);
+            if found < at && at <= self.answer_of(*look, 2) {
                 return Some((*look, found));
             }
         }
         None
+    }
+
+    /// Returns the position of an answer, by its call and its member, or a very large number. The
+    /// end of a look's hold is its member 2.
+    pub(crate) fn answer_of(&self, id: u32, member: u32) -> usize {
+        let call = (id as usize).saturating_sub(1);
+        let Some(own) = self.answers.get(call) else {
+            return usize::MAX;
+        };
+        match own.get((member as usize).saturating_sub(1)) {
+            Some(position) => *position,
+            None => usize::MAX,
+        }
     }
 
     /// Returns the position of the first answer of a call, by its number from 0, from a position

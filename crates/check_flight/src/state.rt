@@ -1,27 +1,25 @@
-//! A state of the flights of a log, and where an access, a call, an answer of a look or a close
-//! leads from it.
-ghost use Rattle.std.specs.Prelude.{◌≡◌, ◌+◌, ◌++◌, ◌<◌, ◌≤◌, ◌^◌, ℕ, [], ◌∷◌, Contains, IfOk, IfSome, IsPermutation, IsTrue, Option};
+//! A state of the flights of a log, and where a call, an answer of a look or a close leads from it.
+ghost use Rattle.std.specs.Prelude.{◌≡◌, ◌+◌, ◌++◌, ◌<◌, ◌≤◌, ◌^◌, ℕ, [], ◌∷◌, Contains, IfOk, IfSome, IsTrue, Option};
 ghost use Rattle.std.specs.Prelude.{length, slice_index_or};
-ghost use Rattle.std.specs.Option.{option_to_list};
 ghost use Rattle.fx_chain.specs.Completed.{all_completed};
 ghost use Rattle.fx_base.specs.Identity.{Identity};
-ghost use Rattle.fx_order.specs.Access.{Permits, file_removed_by};
+ghost use Rattle.fx_order.specs.Access.{Permits};
 ghost use Rattle.fx_order.specs.declared.access.Access.TheVariants.{Looks};
 ghost use Rattle.fx_order.specs.Slots.{table_of_slots};
 ghost use Rattle.fx_flight.specs.Events.{first_of_call};
-ghost use Rattle.check_outcomes.specs.Rests.{settled_at, step};
+ghost use Rattle.check_outcomes.specs.Rests.{settled_at};
 ghost use Rattle.check_outcomes.specs.Views.{not_begun, run_at};
-ghost use Rattle.check_flight.specs.Judged.{log_in, requests_of, rest_of, rules_of_log, runs_of_calls};
+ghost use Rattle.check_flight.specs.Judged.{log_in, requests_of, rules_of_log, runs_of_calls};
 ghost use Rattle.check_flight.specs.Judged.{flight_view};
 ghost use Rattle.check_flight.specs.States.{AreFewer, AreWithout, IsLookDenied, LeadsByAnswer};
-ghost use Rattle.check_flight.specs.States.{LeadsByCall, StepsByAccess};
+ghost use Rattle.check_flight.specs.States.{LeadsByCall};
 
 use crate::call::{first_place, look_call, members_at};
 use crate::judged::{ChainCall, JudgedLog};
-use check_outcomes::{Progress, settle, step};
+use check_outcomes::{Progress, settle};
 use fx_base::{Closed, NoMemory};
 use fx_chain::Completion;
-use fx_order::{Access, Slots};
+use fx_order::Slots;
 use std::alloc::Global;
 
 /// A look that has made no access and isn't answered.
@@ -47,23 +45,6 @@ pub(crate) struct FlightState {
     /// The looks that wait, in the order of their calls. A look makes its access as soon as it
     /// finds its answer.
     pub(crate) waiting: Vec<WaitingLook>,
-}
-
-// Returns the files that were removed after an access, in order of mark.
-fn removed_after(
-    alloc: Global,
-    removed: &[Closed],
-    access: &Access,
-) -> Result<Vec<Closed>, NoMemory>
-    ensures { IfOk result (λ after. IsPermutation
-        (removed.now ++ option_to_list (file_removed_by access.now)) after.items) }
-{
-    let mut after = Vec::from_slice(alloc, removed)?;
-    if let Some(file) = access.removed() {
-        after.push(file)?;
-    }
-    after.sort_unstable_by_key(|file| file.mark);
-    Ok(after)
 }
 
 /// Returns the files without this one.
@@ -97,8 +78,8 @@ pub(crate) fn waits(log: &JudgedLog<'_>, slots: &Slots, look: &WaitingLook) -> b
     }
 }
 
-// Returns the looks that still wait in a table with these slots.
-fn still_waiting(
+/// Returns the looks that still wait in a table with these slots.
+pub(crate) fn still_waiting(
     log: &JudgedLog<'_>,
     slots: &Slots,
     waiting: &[WaitingLook],
@@ -181,61 +162,6 @@ impl FlightState {
     }
 }
 
-/// Returns where an access leads of the call that follows those that are over and `j` others, and
-/// appends what is answered on the way. `None` if the state isn't one of the log, or its table
-/// doesn't permit the access.
-pub(crate) fn next_state(
-    log: &JudgedLog<'_>,
-    calls: &[ChainCall<'_>],
-    state: &FlightState,
-    j: usize,
-    access: &Access,
-    answered: &mut Vec<Completion>,
-) -> Result<Option<FlightState>, NoMemory>
-    requires call { state.now.base + j < length calls.now }
-    requires answered { answered.old.items ≡ [] }
-    ensures answered { IfOk result (λ next. IfSome next (λ next. all_completed answered.new.items
-        ≡ (step (rules_of_log log.now) (rest_of (runs_of_calls calls.now) state.now
-        (state.now.base + j + 1)) access.now).0)) }
-    ensures leads { IfOk result (λ next. IfSome next (λ next. StepsByAccess (rules_of_log log.now)
-        (flight_view (runs_of_calls calls.now) state.now) (state.now.base + j + 1) access.now
-        (flight_view (runs_of_calls calls.now) next))) }
-{
-    let alloc = log.setting.alloc;
-    if state.slots.at.len() != log.setting.size as usize || !state.slots.permits(access) {
-        return Ok(None);
-    }
-    let Some(progress) = state.chains.get(j) else {
-        return Ok(None);
-    };
-    let i = state.base + j;
-    if i >= u32::MAX as usize - 1 || progress.made > u32::MAX as usize {
-        return Ok(None);
-    }
-    let own = members_at(calls, i);
-    let after = step(
-        &log.setting,
-        first_place(i),
-        own,
-        *progress,
-        *access,
-        answered,
-    )?;
-    let mut chains = Vec::from_slice(alloc, &state.chains)?;
-    chains[j] = after;
-    let mut slots = state.slots.copy(alloc)?;
-    slots.make(access);
-    let removed = removed_after(alloc, &state.removed, access)?;
-    let waiting = still_waiting(log, &slots, &state.waiting)?;
-    Ok(Some(FlightState {
-        slots,
-        base: state.base,
-        chains,
-        removed,
-        waiting,
-    }))
-}
-
 /// Returns where the next call leads, and appends what is answered on the way. `None` if the state
 /// isn't one of the log.
 pub(crate) fn called_state(
@@ -262,18 +188,9 @@ pub(crate) fn called_state(
         return Ok(None);
     }
     let done = settle(&log.setting, first_place(i), call.requests, answered)?;
-    let mut chains = Vec::from_slice(alloc, &state.chains)?;
-    chains.push(Progress { done, made: 0 })?;
-    let slots = state.slots.copy(alloc)?;
-    let removed = Vec::from_slice(alloc, &state.removed)?;
-    let waiting = Vec::from_slice(alloc, &state.waiting)?;
-    Ok(Some(FlightState {
-        slots,
-        base: state.base,
-        chains,
-        removed,
-        waiting,
-    }))
+    let mut next = state.copy(alloc)?;
+    next.chains.push(Progress { done, made: 0 })?;
+    Ok(Some(next))
 }
 
 /// Returns where the next call leads if it is a look of a slot. `None` if the state isn't one of
@@ -293,19 +210,14 @@ pub(crate) fn looking_state(
     let alloc = log.setting.alloc;
     let mut answered = Vec::new(alloc);
     let call = look_call();
-    let Some(next) = called_state(log, calls, state, &call, &mut answered)? else {
+    let called = called_state(log, calls, state, &call, &mut answered)?;
+    let Some(mut next) = called else {
         return Ok(None);
     };
-    let mut looks = Vec::from_slice(alloc, &state.waiting)?;
-    looks.push(look)?;
-    let waiting = still_waiting(log, &next.slots, &looks)?;
-    Ok(Some(FlightState {
-        slots: next.slots,
-        base: next.base,
-        chains: next.chains,
-        removed: next.removed,
-        waiting,
-    }))
+    next.waiting.push(look)?;
+    let waiting = still_waiting(log, &next.slots, &next.waiting)?;
+    next.waiting = waiting;
+    Ok(Some(next))
 }
 
 // Returns the number of calls that are over, from the first one in the list on.
@@ -379,15 +291,8 @@ pub(crate) fn closed_state(
         AreWithout state.now.removed.items file next.removed.items) }
     ensures waiting { IfOk result (λ next. next.waiting.items ≡ state.now.waiting.items) }
 {
-    let slots = state.slots.copy(alloc)?;
-    let chains = Vec::from_slice(alloc, &state.chains)?;
     let removed = without(alloc, &state.removed, file)?;
-    let waiting = Vec::from_slice(alloc, &state.waiting)?;
-    Ok(FlightState {
-        slots,
-        base: state.base,
-        chains,
-        removed,
-        waiting,
-    })
+    let mut next = state.copy(alloc)?;
+    next.removed = removed;
+    Ok(next)
 }

@@ -9,6 +9,7 @@ ghost use Rattle.check_flight.specs.States.{HasNoFlight};
 ghost use Rattle.check_flight.specs.declared.verdict.FlightVerdict.TheVariants.{Faulty, Legal, NotLegal};
 
 use crate::judged::JudgedLog;
+use crate::plan::FlightPlan;
 use crate::player::is_flight;
 use crate::positions::positions_in;
 use crate::propose::propose;
@@ -80,6 +81,23 @@ fn refuted_beginning(
     Ok(Some(high))
 }
 
+// Returns a flight that a search proposes, if it found one.
+fn proposed(
+    log: &JudgedLog<'_>,
+    slots: &Slots,
+    most: usize,
+) -> Result<Option<FlightPlan>, NoMemory> {
+    let alloc = log.setting.alloc;
+    let mut calls = Vec::new(alloc);
+    for event in log.events {
+        if !push_call(&mut calls, event)? {
+            return Ok(None);
+        }
+    }
+    let start = first_state(alloc, slots)?;
+    propose(log, &calls, start, most)
+}
+
 // Checks whether the log has a flight, by a search that goes back over at most `most` states.
 fn has_flight(
     alloc: Global,
@@ -103,13 +121,7 @@ fn has_flight(
         events,
         positions: positions_in(alloc, events)?,
     };
-    let mut calls = Vec::new(alloc);
-    for event in events {
-        if !push_call(&mut calls, event)? {
-            return Ok(false);
-        }
-    }
-    let Some(plan) = propose(&log, &calls, first_state(alloc, slots)?, most)? else {
+    let Some(plan) = proposed(&log, slots, most)? else {
         return Ok(false);
     };
     is_flight(&log, slots, &plan)

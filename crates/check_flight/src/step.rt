@@ -1,0 +1,164 @@
+//! Where an access leads from a state.
+ghost use Rattle.std.specs.Prelude.{◌≡◌, ◌+◌, ◌++◌, ◌<◌, [], IfOk, IfSome, IsPermutation};
+ghost use Rattle.std.specs.Prelude.{length, slice_index_or, slice_set};
+ghost use Rattle.std.specs.Option.{option_to_list};
+ghost use Rattle.fx_chain.specs.Completed.{all_completed};
+ghost use Rattle.fx_order.specs.Access.{Permits, file_removed_by, table_with};
+ghost use Rattle.fx_order.specs.Slots.{table_of_slots};
+ghost use Rattle.fx_flight.specs.Events.{first_of_call};
+ghost use Rattle.check_outcomes.specs.Rests.{step};
+ghost use Rattle.check_outcomes.specs.Stands.{StepsChain};
+ghost use Rattle.check_outcomes.specs.Views.{not_begun, run_at};
+ghost use Rattle.check_flight.specs.Judged.{flight_view, rest_of, rules_of_log, runs_of_calls};
+ghost use Rattle.check_flight.specs.States.{AreFewer, StepsByAccess};
+
+use crate::call::{first_place, members_at};
+use crate::judged::{ChainCall, JudgedLog};
+use crate::state::{FlightState, still_waiting};
+use check_outcomes::{Progress, step};
+use fx_base::{Closed, NoMemory};
+use fx_chain::Completion;
+use fx_order::Access;
+use std::alloc::Global;
+
+// Returns the files that were removed after an access, in order of mark.
+fn removed_after(
+    alloc: Global,
+    removed: &[Closed],
+    access: &Access,
+) -> Result<Vec<Closed>, NoMemory>
+    ensures { IfOk result (λ after. IsPermutation
+        (removed.now ++ option_to_list (file_removed_by access.now)) after.items) }
+{
+    let mut after = Vec::from_slice(alloc, removed)?;
+    if let Some(file) = access.removed() {
+        after.push(file)?;
+    }
+    after.sort_unstable_by_key(|file| file.mark);
+    Ok(after)
+}
+
+// Returns the progress of a call after an access, and appends what is answered on the way: of the
+// call that follows those that are over and `j` others. `None` if the state isn't one of the log,
+// or its table doesn't permit the access.
+fn progress_after(
+    log: &JudgedLog<'_>,
+    calls: &[ChainCall<'_>],
+    state: &FlightState,
+    j: usize,
+    access: &Access,
+    answered: &mut Vec<Completion>,
+) -> Result<Option<Progress>, NoMemory>
+    requires call { state.now.base + j < length calls.now }
+    requires answered { answered.old.items ≡ [] }
+    ensures known { IfOk result (λ after. IfSome after (λ _.
+        j < length state.now.chains.items)) }
+    ensures permitted { IfOk result (λ after. IfSome after (λ _.
+        Permits (table_of_slots state.now.slots) access.now)) }
+    ensures steps { IfOk result (λ after. IfSome after (StepsChain (rules_of_log log.now)
+        (first_of_call (state.now.base + j + 1))
+        (run_at (runs_of_calls calls.now) (state.now.base + j + 1))
+        (slice_index_or state.now.chains.items j not_begun) access.now
+        [] (all_completed answered.new.items))) }
+{
+    if state.slots.at.len() != log.setting.size as usize || !state.slots.permits(access) {
+        return Ok(None);
+    }
+    let Some(progress) = state.chains.get(j) else {
+        return Ok(None);
+    };
+    let i = state.base + j;
+    if i >= u32::MAX as usize - 1 || progress.made > u32::MAX as usize {
+        return Ok(None);
+    }
+    let (place, own) = (first_place(i), members_at(calls, i));
+    let after = step(&log.setting, place, own, *progress, *access, answered)?;
+    Ok(Some(after))
+}
+
+// Returns where an access leads if a call then has this progress: the call that follows those that
+// are over and `j` others.
+fn moved_state(
+    log: &JudgedLog<'_>,
+    state: &FlightState,
+    j: usize,
+    access: &Access,
+    after: Progress,
+) -> Result<FlightState, NoMemory>
+    requires known { j < length state.now.chains.items }
+    requires permitted { Permits (table_of_slots state.now.slots) access.now }
+    ensures table { IfOk result (λ next. table_of_slots next.slots
+        ≡ table_with (table_of_slots state.now.slots) access.now) }
+    ensures base { IfOk result (λ next. next.base ≡ state.now.base) }
+    ensures chains { IfOk result (λ next.
+        next.chains.items ≡ slice_set state.now.chains.items j after) }
+    ensures removed { IfOk result (λ next. IsPermutation (state.now.removed.items
+        ++ option_to_list (file_removed_by access.now)) next.removed.items) }
+    ensures waiting { IfOk result (λ next.
+        AreFewer state.now.waiting.items next.waiting.items) }
+{
+    let alloc = log.setting.alloc;
+    let mut chains = Vec::from_slice(alloc, &state.chains)?;
+    chains[j] = after;
+    let mut slots = state.slots.copy(alloc)?;
+    slots.make(access);
+    let removed = removed_after(alloc, &state.removed, access)?;
+    let waiting = still_waiting(log, &slots, &state.waiting)?;
+    Ok(FlightState {
+        slots,
+        base: state.base,
+        chains,
+        removed,
+        waiting,
+    })
+}
+
+/// Returns where an access leads of the call that follows those that are over and `j` others, and
+/// appends what is answered on the way. `None` if the state isn't one of the log, or its table
+/// doesn't permit the access.
+pub(crate) fn next_state(
+    log: &JudgedLog<'_>,
+    calls: &[ChainCall<'_>],
+    state: &FlightState,
+    j: usize,
+    access: &Access,
+    answered: &mut Vec<Completion>,
+) -> Result<Option<FlightState>, NoMemory>
+    requires call { state.now.base + j < length calls.now }
+    requires answered { answered.old.items ≡ [] }
+    ensures answered { IfOk result (λ next. IfSome next (λ next. all_completed answered.new.items
+        ≡ (step (rules_of_log log.now) (rest_of (runs_of_calls calls.now) state.now
+        (state.now.base + j + 1)) access.now).0)) }
+    ensures leads { IfOk result (λ next. IfSome next (λ next. StepsByAccess (rules_of_log log.now)
+        (flight_view (runs_of_calls calls.now) state.now) (state.now.base + j + 1) access.now
+        (flight_view (runs_of_calls calls.now) next))) }
+{
+    let Some(after) = progress_after(log, calls, state, j, access, answered)? else {
+        return Ok(None);
+    };
+    let next = moved_state(log, state, j, access, after)?;
+    Ok(Some(next))
+}
+
+/// Returns where an access leads of the call that follows those that are over and `j` others, and
+/// appends what is answered on the way. `None` if the table doesn't permit the access, or the log
+/// has another answer.
+pub(crate) fn allowed_state(
+    log: &JudgedLog<'_>,
+    calls: &[ChainCall<'_>],
+    state: &FlightState,
+    j: usize,
+    access: &Access,
+    answered: &mut Vec<Completion>,
+) -> Result<Option<FlightState>, NoMemory>
+    requires call { state.now.base + j < length calls.now }
+    requires answered { answered.old.items ≡ [] }
+{
+    let Some(after) = progress_after(log, calls, state, j, access, answered)? else {
+        return Ok(None);
+    };
+    if log.is_one_denied(answered) {
+        return Ok(None);
+    }
+    Ok(Some(moved_state(log, state, j, access, after)?))
+}
