@@ -8,36 +8,32 @@ use fx_script::{Command, PlayFault, Script, ScriptError};
 use std::alloc::{AllocError, Global};
 use std::fs;
 use std::io::{self, ErrorKind, Read};
-use thiserror::Error;
 
 /// The reason for which the program ends without a verdict.
-#[derive(Debug, Drop, Error)]
+#[derive(Drop)]
 pub enum NoVerdict {
     /// The words of the command line are refused.
-    #[error("{0}")]
-    Refused(#[from] Refusal),
-    /// A word is not the place of a request.
-    #[error("{0} is not the place of a request, as 1.1.2")]
-    NoPlace(String),
-    /// No accepted submission of the script has a request at the place.
-    #[error("no accepted submission of the script has a request {0}")]
-    NoRequest(String),
-    /// A script or a text could not be read: its path, and the error.
-    #[error("{0} can't be read: {1}")]
-    Unread(String, io::Error),
-    /// The script is invalid: its path, and its first fault.
-    #[error("{0}: {1}")]
-    NoScript(String, PlayFault),
-    /// The same of a script whose faulty line has a carriage return.
-    #[error("{0}: {1}; the line has a carriage return")]
-    HasReturn(String, PlayFault),
-    /// The first file isn't a script, but the second one is: the first path, its fault, and the
-    /// second path.
-    #[error("{0}: {1}; {2} is a script, and SCRIPT comes before TEXT")]
-    Swapped(String, PlayFault, String),
+    Refused(Refusal),
+    /// Another reason: the exit status, and the words for standard error.
+    Because(u8, String),
     /// The verdict could not be written, or an allocation failed.
-    #[error("{0}")]
     Fault(PlayFault),
+}
+
+/// The exit statuses of wrong arguments, an invalid script, a failed read or write, and a failed
+/// allocation.
+pub const ARGUMENTS: u8 = 2;
+
+const SCRIPT: u8 = 3;
+
+const FILES: u8 = 4;
+
+const MEMORY: u8 = 5;
+
+impl From<Refusal> for NoVerdict {
+    fn from(refusal: Refusal) -> NoVerdict {
+        NoVerdict::Refused(refusal)
+    }
 }
 
 impl From<AllocError> for NoVerdict {
@@ -58,11 +54,9 @@ impl NoVerdict {
     pub fn status(&self) -> u8 {
         match self {
             NoVerdict::Refused(refusal) => refusal.status(),
-            NoVerdict::NoPlace(_) | NoVerdict::NoRequest(_) => 2,
-            NoVerdict::NoScript(..) | NoVerdict::HasReturn(..) | NoVerdict::Swapped(..) => 3,
-            NoVerdict::Fault(PlayFault::Script { .. }) => 3,
-            NoVerdict::Unread(..) | NoVerdict::Fault(PlayFault::Read | PlayFault::Write) => 4,
-            NoVerdict::Fault(PlayFault::NoMemory) => 5,
+            NoVerdict::Because(status, _) => *status,
+            NoVerdict::Fault(PlayFault::NoMemory) => MEMORY,
+            NoVerdict::Fault(_) => FILES,
         }
     }
 
@@ -73,14 +67,15 @@ impl NoVerdict {
     pub fn print(&self, rt: &HostRuntime) -> io::Result<()> {
         match self {
             NoVerdict::Refused(refusal) => refusal.tell(rt, "fixcheck"),
-            other => eprintln!(rt; "fixcheck: {other}"),
+            NoVerdict::Because(_, words) => eprintln!(rt; "fixcheck: {words}"),
+            NoVerdict::Fault(fault) => eprintln!(rt; "fixcheck: {fault}"),
         }
     }
 }
 
 // Returns the name of a path in messages.
-fn name_of(alloc: Global, path: &str) -> Result<String, AllocError> {
-    (if path == "-" { "standard input" } else { path }).to_owned(alloc)
+fn name_of(path: &str) -> &str {
+    if path == "-" { "standard input" } else { path }
 }
 
 // Returns the bytes of a file, or those of standard input for `-`.
@@ -96,45 +91,51 @@ fn bytes_of(rt: &HostRuntime, path: &str) -> io::Result<Vec<u8>> {
 /// Reads the bytes of a file, or those of standard input for `-`.
 ///
 /// # Errors
-/// `Unread` if the read fails, `Fault` if an allocation fails.
+/// Its path and the error if the read fails, `NoMemory` if an allocation fails.
 pub fn read_path(rt: &HostRuntime, path: &str) -> Result<Vec<u8>, NoVerdict> {
-    match bytes_of(rt, path) {
-        Ok(bytes) => Ok(bytes),
-        Err(error) if error.kind() == ErrorKind::OutOfMemory => {
-            Err(NoVerdict::Fault(PlayFault::NoMemory))
-        }
-        Err(error) => Err(NoVerdict::Unread(name_of(rt.alloc(), path)?, error)),
+    let error = match bytes_of(rt, path) {
+        Ok(bytes) => return Ok(bytes),
+        Err(error) => error,
+    };
+    if error.kind() == ErrorKind::OutOfMemory {
+        return Err(NoVerdict::Fault(PlayFault::NoMemory));
     }
+    let words = format!(in rt.alloc(); "{} can't be read: {error}", name_of(path))?;
+    Err(NoVerdict::Because(FILES, words))
 }
 
 // Checks whether bytes are a script that has a file or a submission. A text of calls alone may be
 // one without.
 fn is_script(alloc: Global, source: &[u8]) -> Result<bool, NoVerdict> {
-    match Script::read(alloc, source) {
-        Ok(script) => {
-            let mut commands = script.commands().iter();
-            let submits = commands.any(|it| matches!(it, Command::Submit(_)));
-            Ok(submits || script.catalogue().len() > 0)
+    let script = match Script::read(alloc, source) {
+        Ok(script) => script,
+        Err(ScriptError::Fault { .. }) => return Ok(false),
+        Err(ScriptError::NoMemory) => return Err(NoVerdict::Fault(PlayFault::NoMemory)),
+    };
+    for command in script.commands() {
+        if matches!(command, Command::Submit(_)) {
+            return Ok(true);
         }
-        Err(ScriptError::Fault { .. }) => Ok(false),
-        Err(ScriptError::NoMemory) => Err(NoVerdict::Fault(PlayFault::NoMemory)),
     }
+    Ok(script.catalogue().len() > 0)
 }
 
 // Checks whether a path is seen to lead to such a script.
 fn leads_to_script(rt: &HostRuntime, path: &str) -> bool {
-    let seen = read_path(rt, path).and_then(|bytes| is_script(rt.alloc(), &bytes));
-    matches!(seen, Ok(true))
+    match read_path(rt, path) {
+        Ok(bytes) => matches!(is_script(rt.alloc(), &bytes), Ok(true)),
+        Err(_) => false,
+    }
 }
 
 /// Prints a note on standard error if a text is a script, which only a mistake in the arguments
 /// makes it.
 ///
 /// # Errors
-/// `Fault` if an allocation fails.
+/// `NoMemory` if an allocation fails.
 pub fn note_script(rt: &HostRuntime, path: &str, text: &[u8]) -> Result<(), NoVerdict> {
     if is_script(rt.alloc(), text)? {
-        let name = name_of(rt.alloc(), path)?;
+        let name = name_of(path);
         // The verdict holds whether the note is printed or not.
         let _ = eprintln!(rt; "fixcheck: {name} is a script, and not what a script printed");
     }
@@ -144,28 +145,34 @@ pub fn note_script(rt: &HostRuntime, path: &str, text: &[u8]) -> Result<(), NoVe
 /// Reads the script of a command line from its bytes.
 ///
 /// # Errors
-/// `Fault` if an allocation fails. If they aren't a script: `Swapped` if the text is one, or else
-/// `HasReturn` or `NoScript`.
+/// `NoMemory` if an allocation fails. If they aren't a script, its path and its first fault, and
+/// whether the text is one, or else whether the faulty line has a carriage return.
 pub fn script_of(
     rt: &HostRuntime,
     settings: Settings<'_>,
     source: &[u8],
 ) -> Result<Script, NoVerdict> {
-    let alloc = rt.alloc();
-    let fault = match Script::read(alloc, source) {
+    let fault = match Script::read(rt.alloc(), source) {
         Ok(script) => return Ok(script),
         Err(error) => PlayFault::from(error),
     };
     let PlayFault::Script { line, .. } = fault else {
         return Err(NoVerdict::Fault(fault));
     };
-    let name = name_of(alloc, settings.script)?;
+    let mut words = format!(in rt.alloc(); "{}: {fault}", name_of(settings.script))?;
     let at = line_after(source, 0, line.saturating_sub(1) as usize);
-    Err(match settings.asked {
+    match settings.asked {
         Asked::Verdict(text) if leads_to_script(rt, text) => {
-            NoVerdict::Swapped(name, fault, name_of(alloc, text)?)
+            write!(
+                words,
+                "; {} is a script, and SCRIPT comes before TEXT",
+                name_of(text)
+            )?;
         }
-        _ if line_at(source, at).contains(&b'\r') => NoVerdict::HasReturn(name, fault),
-        _ => NoVerdict::NoScript(name, fault),
-    })
+        _ if line_at(source, at).contains(&b'\r') => {
+            words.push_str("; the line has a carriage return")?;
+        }
+        _ => {}
+    }
+    Err(NoVerdict::Because(SCRIPT, words))
 }

@@ -3,7 +3,9 @@
 ghost use Rattle.std.specs.Prelude.{IfOk};
 ghost use Rattle.check_judge.specs.Judged.{IsJudged};
 
-use check_explain::{AskedLine, Case, after_closes, cut_word, line_number, next_line, slots_after};
+use check_explain::{
+    AskedLine, Case, Words, after_closes, cut_word, line_number, next_line, rest_at, slots_after,
+};
 use check_judge::{Break, Fault, Judgement, judge, judge_from};
 use check_lines::{accepted_in, copy_of};
 use check_search::Limits;
@@ -38,14 +40,6 @@ pub(crate) struct Question<'a> {
 }
 
 impl Question<'_> {
-    /// Returns the rest of the text, from a byte on.
-    pub(crate) fn rest(&self, at: usize) -> &[u8] {
-        match self.text.get(at..) {
-            Some(rest) => rest,
-            None => b"",
-        }
-    }
-
     /// Returns the lines of the script after those of the first `commands` commands.
     pub(crate) fn asked_after(&self, commands: usize) -> &[AskedLine<'_>] {
         let mut lines = 0usize;
@@ -70,7 +64,7 @@ impl Question<'_> {
             submissions,
             asked: self.asked_after(broken.commands),
             requests: accepted_in(command, submissions)?,
-            text: self.rest(broken.at),
+            text: rest_at(self.text, broken.at),
             line: line_number(self.text, broken.at),
         })
     }
@@ -152,13 +146,15 @@ fn after_expected(
 ) -> Result<Option<(RingSlots, usize)>, NoMemory> {
     // nothing prints an empty line, so this text breaks after the call's lines, and the break
     // has the ring
-    let text = format!(in question.alloc; "{expected}\n")?;
+    let mut text = Words::new(question.alloc);
+    text.say(expected);
+    text.say("\n");
     let limits = Limits {
         states: 1,
         bytes: 1,
     };
     let (alloc, commands) = (question.alloc, broken.commands);
-    let text = text.as_bytes();
+    let text = text.text()?.as_bytes();
     match judge_from(alloc, question.script, commands, ring, text, limits)? {
         Some(Judgement::NotLegal(next)) if next.commands > 0 => {
             Ok(Some((next.ring, next.commands)))
@@ -217,12 +213,15 @@ fn shown_after<'a>(
             }));
         }
     }
-    let (line, rest) = next_line(question.rest(broken.at));
-    let shown = after_line(question, broken, line)?;
-    Ok(shown.map(|(ring, commands)| Shown {
+    let (line, rest) = next_line(rest_at(question.text, broken.at));
+    let Some((ring, commands)) = after_line(question, broken, line)? else {
+        return Ok(None);
+    };
+    let rest = after_closes(rest);
+    Ok(Some(Shown {
         ring,
         commands,
-        rest: after_closes(rest),
+        rest,
     }))
 }
 

@@ -3,16 +3,16 @@
 ghost use Rattle.std.specs.Prelude.{◌≡◌};
 ghost use Rattle.check_cli.specs.Status.{all_status, may_status};
 
-use check_explain::{GotWords, PlaceWords, access_places};
+use check_explain::{Words, access_places};
 use check_lines::accepted_in;
 use check_texts::{AllTexts, Past, RequestAnswers, Said};
 use fx_arguments::fixcheck::Settings;
 use fx_base::NoMemory;
-use fx_chain::{Completion, Place, Request};
+use fx_chain::{Place, Request};
 use fx_language::number_up_to;
 use fx_order::AccessPlace;
 use fx_script::Script;
-use std::alloc::{AllocError, Global};
+use std::alloc::Global;
 
 /// Returns the exit status of the program: 0 if all answers are listed, 6 if there may be more.
 pub(crate) fn status_of_answers(may: &RequestAnswers) -> u8
@@ -48,20 +48,20 @@ pub(crate) fn place_of(word: &str) -> Option<Place> {
 }
 
 /// Appends the line of an order: its submission, and the requests of its accesses.
-pub(crate) fn push_order(
-    report: &mut String,
-    submission: u32,
-    places: &[AccessPlace],
-) -> Result<(), AllocError> {
-    write!(report, "order {submission}:")?;
-    for place in places {
-        let (chain, member) = (place.chain, place.member);
-        write!(report, " {submission}.{chain}.{member}")?;
-        if let Some(entry) = place.entry {
-            write!(report, ".{entry}")?;
+pub(crate) fn push_order(report: &mut Words, submission: u32, places: &[AccessPlace]) {
+    report.count("order ", u64::from(submission), ":");
+    for it in places {
+        report.say(" ");
+        report.place(Place {
+            submission,
+            chain: it.chain,
+            member: it.member,
+        });
+        if let Some(entry) = it.entry {
+            report.count(".", entry as u64, "");
         }
     }
-    report.push('\n')
+    report.say("\n");
 }
 
 /// The orders of a list of answers or of texts.
@@ -80,12 +80,12 @@ impl<'a> ListedOrders<'a> {
         alloc: Global,
         script: &'a Script,
         orders: &'a [Past],
-    ) -> Result<ListedOrders<'a>, AllocError> {
-        let mut submissions = Vec::new(alloc);
+    ) -> Result<ListedOrders<'a>, NoMemory> {
+        let (mut submissions, mut count) = (Vec::new(alloc), 0u32);
         for command in script.commands() {
-            let count = u32::try_from(submissions.len()).unwrap_or(u32::MAX);
             if let Some(requests) = accepted_in(command, count) {
                 submissions.push(requests)?;
+                count = count.saturating_add(1);
             }
         }
         Ok(ListedOrders {
@@ -123,75 +123,50 @@ impl<'a> ListedOrders<'a> {
     }
 
     // Appends the line of an order, by its number in the list.
-    fn push(&self, report: &mut String, number: usize) -> Result<(), NoMemory> {
-        let Some(past) = self.orders.get(number) else {
-            return Ok(());
-        };
-        let places = self.places_of(past)?;
-        Ok(push_order(report, past.submission, &places)?)
+    fn push(&self, report: &mut Words, number: usize) -> Result<(), NoMemory> {
+        if let Some(past) = self.orders.get(number) {
+            let places = self.places_of(past)?;
+            push_order(report, past.submission, &places);
+        }
+        Ok(())
     }
 
     // Returns the numbers of the orders that lead to an order, from that one back to the first.
-    fn way_back(&self, last: usize) -> Result<Vec<usize>, AllocError> {
+    fn way_back(&self, last: usize) -> Result<Vec<usize>, NoMemory> {
         let (mut way, mut next) = (Vec::new(self.alloc), Some(last));
         for _ in 0..self.orders.len() {
-            let Some(i) = next else { break };
-            let Some(past) = self.orders.get(i) else {
-                break;
-            };
-            way.push(i)?;
-            next = past.before;
+            if let Some(i) = next
+                && let Some(past) = self.orders.get(i)
+            {
+                way.push(i)?;
+                next = past.before;
+            }
         }
         Ok(way)
     }
 
     // Appends the line of an order, by its number in the list, after those of the orders that lead
     // to it, each after two spaces.
-    fn push_way(&self, report: &mut String, last: usize) -> Result<(), NoMemory> {
-        for i in self.way_back(last)?.iter().rev() {
-            report.push_str("  ")?;
-            self.push(report, *i)?;
+    fn push_way(&self, report: &mut Words, last: usize) -> Result<(), NoMemory> {
+        let mut way = self.way_back(last)?;
+        for _ in 0..way.len() {
+            if let Some(i) = way.pop() {
+                report.say("  ");
+                self.push(report, i)?;
+            }
         }
         Ok(())
     }
 }
 
 // Appends that the list was not shown to be whole, with the limits.
-fn push_limits(report: &mut String, settings: Settings<'_>) -> Result<(), AllocError> {
-    let (states, memory) = (settings.states, settings.memory);
-    write!(
-        report,
-        ": not shown to be all within {states} states and {memory} MiB"
-    )
-}
-
-// Appends the lines of the answers, each with the orders that lead to it.
-fn push_answers(
-    report: &mut String,
-    orders: &ListedOrders<'_>,
-    answers: &[Said],
-) -> Result<(), NoMemory> {
-    for said in answers {
-        let Completion { place, res, got } = &said.completion;
-        let (place, got) = (PlaceWords(*place), GotWords(got.as_slice()));
-        write!(report, "{place} {res}{got}\n")?;
-        orders.push_way(report, said.past)?;
-    }
-    Ok(())
-}
-
-// Appends the line that says whether these are all answers.
-fn push_are_all(
-    report: &mut String,
-    settings: Settings<'_>,
-    are_all: bool,
-) -> Result<(), AllocError> {
-    if are_all {
-        return report.push_str("these are all, if no allocation fails\n");
-    }
-    report.push_str("at least these, if no allocation fails")?;
-    push_limits(report, settings)?;
-    report.push('\n')
+fn push_limits(report: &mut Words, settings: Settings<'_>) {
+    report.count(
+        ": not shown to be all within ",
+        u64::from(settings.states),
+        " states",
+    );
+    report.count(" and ", u64::from(settings.memory), " MiB");
 }
 
 /// Returns the lines of the answers, each with the orders that lead to it, and a last line that
@@ -201,54 +176,47 @@ pub(crate) fn listing_of_answers(
     script: &Script,
     settings: Settings<'_>,
     may: &RequestAnswers,
-) -> Result<String, NoMemory> {
+) -> Result<Words, NoMemory> {
     let orders = ListedOrders::new(alloc, script, &may.orders)?;
-    let mut report = String::new(alloc);
-    push_answers(&mut report, &orders, &may.answers)?;
-    push_are_all(&mut report, settings, may.are_all)?;
+    let mut report = Words::new(alloc);
+    for said in &may.answers {
+        let it = &said.completion;
+        report.place(it.place);
+        report.say(" ");
+        report.result(it.res);
+        report.got(it.got.as_slice());
+        report.say("\n");
+        orders.push_way(&mut report, said.past)?;
+    }
+    if may.are_all {
+        report.say("these are all, if no allocation fails");
+    } else {
+        report.say("at least these, if no allocation fails");
+        push_limits(&mut report, settings);
+    }
+    report.say("\n");
     Ok(report)
 }
 
 // Appends the line of how many texts there are: what that rests on, and how many are listed, if not
 // all are. The number is that of a list of all texts, or else that of the ways. Larger limits don't
 // help where u64 doesn't hold the number.
-fn push_count(
-    report: &mut String,
-    settings: Settings<'_>,
-    all: &AllTexts,
-) -> Result<(), AllocError> {
+fn push_count(report: &mut Words, settings: Settings<'_>, all: &AllTexts) {
     let listed = all.texts.len() as u64;
     let count = if all.are_all { listed } else { all.ways };
     if !all.are_counted {
-        report.push_str("at least ")?;
+        report.say("at least ");
     }
-    let noun = if count == 1 { "text" } else { "texts" };
-    write!(report, "{count} {noun}, if no allocation fails")?;
+    let noun = if count == 1 { " text" } else { " texts" };
+    report.count("", count, noun);
+    report.say(", if no allocation fails");
     if !all.are_counted && all.ways < u64::MAX {
-        push_limits(report, settings)?;
+        push_limits(report, settings);
     }
     if count > listed {
-        write!(report, "; the first {listed}:")?;
+        report.count("; the first ", listed, ":");
     }
-    report.push('\n')
-}
-
-// Appends the number, the lines and the orders of each text.
-fn push_texts(
-    report: &mut String,
-    orders: &ListedOrders<'_>,
-    all: &AllTexts,
-) -> Result<(), NoMemory> {
-    for (i, (text, by)) in all.texts.iter().zip(&all.by).enumerate() {
-        write!(report, "\ntext {}\n", i.saturating_add(1))?;
-        for line in text.as_str().lines() {
-            write!(report, "    {line}\n")?;
-        }
-        for number in by {
-            orders.push(report, *number)?;
-        }
-    }
-    Ok(())
+    report.say("\n");
 }
 
 /// Returns the lines of the list: the number of texts, and of each text that was made the number,
@@ -258,10 +226,22 @@ pub(crate) fn listing_of_texts(
     script: &Script,
     settings: Settings<'_>,
     all: &AllTexts,
-) -> Result<String, NoMemory> {
+) -> Result<Words, NoMemory> {
     let orders = ListedOrders::new(alloc, script, &all.orders)?;
-    let mut report = String::new(alloc);
-    push_count(&mut report, settings, all)?;
-    push_texts(&mut report, &orders, all)?;
+    let mut report = Words::new(alloc);
+    push_count(&mut report, settings, all);
+    for (i, text) in all.texts.iter().enumerate() {
+        report.count("\ntext ", i.saturating_add(1) as u64, "\n");
+        for line in text.as_str().lines() {
+            report.say("    ");
+            report.say(line);
+            report.say("\n");
+        }
+        if let Some(by) = all.by.get(i) {
+            for number in by {
+                orders.push(&mut report, *number)?;
+            }
+        }
+    }
     Ok(report)
 }

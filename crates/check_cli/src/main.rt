@@ -6,7 +6,7 @@ mod judging;
 mod lists;
 mod verdict;
 
-use check_explain::{History, asked_lines};
+use check_explain::{History, Words, asked_lines};
 use check_judge::Judgement;
 use check_search::Limits;
 use check_texts::{may, texts_of};
@@ -14,7 +14,7 @@ use fx_arguments::fixcheck::{Asked, Settings, settings_in};
 use fx_arguments::words;
 use fx_order::Order;
 use fx_script::{PlayFault, Script};
-use input::{NoVerdict, note_script, read_path, script_of};
+use input::{ARGUMENTS, NoVerdict, note_script, read_path, script_of};
 use judging::{Question, judged};
 use lists::{listing_of_answers, listing_of_texts, place_of, status_of_answers, status_of_texts};
 use std::io::{self, Write};
@@ -27,10 +27,12 @@ const KEPT: usize = 65_536;
 /// The number of bytes of a MiB.
 const MIB: usize = 1_048_576;
 
-// Writes a text to standard output.
-fn write(rt: &HostRuntime, text: &str) -> Result<(), NoVerdict> {
-    let written = io::writer(rt).write_all(text.as_bytes());
-    written.map_err(|_| NoVerdict::Fault(PlayFault::Write))
+// Writes words to standard output.
+fn write(rt: &HostRuntime, words: &Words) -> Result<(), NoVerdict> {
+    match io::writer(rt).write_all(words.text()?.as_bytes()) {
+        Ok(()) => Ok(()),
+        Err(_) => Err(NoVerdict::Fault(PlayFault::Write)),
+    }
 }
 
 // Prints a whole history of a legal text, part by part.
@@ -42,7 +44,6 @@ fn print_history(
     let (alloc, script) = (question.alloc, question.script);
     let catalogue = script.catalogue();
     let mut history = History::new(alloc, catalogue, question.asked, question.text, orders);
-    write(rt, "legal\n")?;
     for command in script.commands() {
         history.push(command)?;
         if history.lines().len() >= KEPT {
@@ -50,7 +51,7 @@ fn print_history(
             history.clear();
         }
     }
-    history.push_end()?;
+    history.push_end();
     write(rt, history.lines())
 }
 
@@ -70,14 +71,16 @@ fn list_answers(
 ) -> Result<u8, NoVerdict> {
     let alloc = rt.alloc();
     let Some(place) = place_of(word) else {
-        return Err(NoVerdict::NoPlace(word.to_owned(alloc)?));
+        let words = format!(in alloc; "{word} is not the place of a request, as 1.1.2")?;
+        return Err(NoVerdict::Because(ARGUMENTS, words));
     };
     let answers = may(alloc, script, place, limits_of(settings))?;
     if answers.answers.is_empty() && answers.are_all {
-        return Err(NoVerdict::NoRequest(word.to_owned(alloc)?));
+        let words = format!(in alloc; "no accepted submission of the script has a request {word}")?;
+        return Err(NoVerdict::Because(ARGUMENTS, words));
     }
     let list = listing_of_answers(alloc, script, settings, &answers)?;
-    write(rt, list.as_str())?;
+    write(rt, &list)?;
     Ok(status_of_answers(&answers))
 }
 
@@ -91,7 +94,7 @@ fn list_texts(
     let alloc = rt.alloc();
     let all = texts_of(alloc, script, limits_of(settings), most as usize)?;
     let list = listing_of_texts(alloc, script, settings, &all)?;
-    write(rt, list.as_str())?;
+    write(rt, &list)?;
     Ok(status_of_texts(&all))
 }
 
@@ -107,12 +110,9 @@ fn print_judgement(
             print_history(rt, question, orders.as_slice())
         }
         Judgement::NotLegal(first) if settings.keep_going => {
-            write(
-                rt,
-                breaks_text(question, limits_of(settings), first)?.as_str(),
-            )
+            write(rt, &breaks_text(question, limits_of(settings), first)?)
         }
-        judgement => write(rt, verdict_text(question, &judgement)?.as_str()),
+        judgement => write(rt, &verdict_text(question, &judgement)?),
     }
 }
 

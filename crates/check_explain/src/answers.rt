@@ -1,54 +1,38 @@
 //! The answers that a request may give, whatever the other requests answer (docs/MODEL.md, "What a
 //! request answers").
-use crate::case::Case;
-use crate::kinds::{Act, Effect, acts_of, fixed_result, result_of};
-use crate::words::{GotWords, PlaceWords, name_of, sign_before};
+use crate::case::{Act, Effect, Row, result_of, slots_of};
+use crate::facts::Facts;
+use crate::words::{Words, name_of, sign_before};
 use fx_base::{Errno, NoMemory};
-use fx_chain::{Completion, Place, Request};
-use std::alloc::{AllocError, Global};
-use std::fmt;
-use std::fmt::Display;
+use fx_chain::Completion;
 
 /// The largest number of answers, and of bytes of a file, that are shown.
 const SHOWN: usize = 16;
 
-// A content that requests leave at a slot, and their chain, or `None` if it may be any.
-type Left = (Option<u8>, Option<u32>);
+/// A content that requests leave at a slot, and their chain, or `None` if it may be any.
+pub(crate) type Left = (Option<u8>, Option<u32>);
 
-/// The contents that slots may have before a request: files of catalogue entries, or none. It is
-/// the first request of a submission, and [`Contents::pass`] goes on to the next one.
+/// An answer that a request may give: one of the results from `first` to `last`, with these bytes,
+/// of a file of this name.
 #[derive(Drop)]
-pub(crate) struct Contents<'a> {
-    case: &'a Case<'a>,
-    // For each slot the contents that requests leave there, each once.
-    left: Vec<Vec<Left>>,
-    // The number of the request's chain, from 1, and the slots that its earlier members left known
-    // contents at.
-    chain: u32,
-    own: Vec<(u32, Option<u8>)>,
+struct ValidAnswer<'a> {
+    first: i32,
+    last: i32,
+    bytes: Vec<u8>,
+    name: Option<&'a str>,
 }
+
+/// The answers that a request may give.
+#[derive(Drop)]
+pub(crate) struct Answers<'a>(Vec<ValidAnswer<'a>>);
 
 // Returns the content that an access leaves at its slot, or `None` if it changes nothing.
 fn content_after(effect: Effect) -> Option<Option<u8>> {
     match effect {
         Effect::Looks => None,
         Effect::Takes | Effect::Clears => Some(None),
-        Effect::Installs(entry) => Some(Some(entry)),
+        Effect::Installs(file) => Some(Some(file.entry)),
     }
-}
-
-// Returns the accesses of a request that change a slot, each with what it leaves there.
-fn changes_of(case: &Case<'_>, request: &Request) -> Result<Vec<(Act, Option<u8>)>, NoMemory> {
-    let mut changes = Vec::new(case.alloc);
-    if case.refusal_of(request).is_some() {
-        return Ok(changes);
-    }
-    for act in &acts_of(case.alloc, case.catalogue, request)? {
-        if let Some(content) = content_after(act.effect) {
-            changes.push((*act, content))?;
-        }
-    }
-    Ok(changes)
 }
 
 // Adds a content to those that requests leave at a slot. `by`: the chain of the request, or `None`
@@ -58,10 +42,10 @@ fn add_content(
     content: Option<u8>,
     by: Option<u32>,
 ) -> Result<(), NoMemory> {
-    for it in there.iter_mut() {
-        if it.0 == content {
-            if it.1 != by {
-                it.1 = None;
+    for i in 0..there.len() {
+        if there[i].0 == content {
+            if there[i].1 != by {
+                there[i].1 = None;
             }
             return Ok(());
         }
@@ -69,262 +53,224 @@ fn add_content(
     Ok(there.push((content, by))?)
 }
 
-// Adds the contents that a request of a chain leaves at the slots.
-fn add_changes(
-    case: &Case<'_>,
-    left: &mut [Vec<Left>],
-    request: &Request,
-    chain: u32,
-) -> Result<(), NoMemory> {
-    for (act, content) in changes_of(case, request)? {
-        let by = if act.slot.is_some() {
-            Some(chain)
-        } else {
-            None
+/// Returns for each slot the contents that requests leave there, each once.
+pub(crate) fn left_at_slots(facts: &Facts<'_>) -> Result<Vec<Vec<Left>>, NoMemory> {
+    let mut left: Vec<Vec<Left>> = Vec::new(facts.case.alloc);
+    for _ in 0..facts.case.size() {
+        left.push(Vec::new(facts.case.alloc))?;
+    }
+    for act in &facts.acts {
+        let Some(content) = content_after(act.effect) else {
+            continue;
         };
-        let (first, count) = act.slots(case.slots.range);
-        for there in left.iter_mut().skip(first as usize).take(count as usize) {
-            add_content(there, content, by)?;
+        let mut by = None;
+        if act.asked.is_some() {
+            by = Some(facts.chain_of(act.line));
         }
-    }
-    Ok(())
-}
-
-// Returns for each slot the contents that requests leave there.
-fn left_at_slots(case: &Case<'_>) -> Result<Vec<Vec<Left>>, NoMemory> {
-    let mut left: Vec<Vec<Left>> = Vec::with_capacity(case.alloc, case.size())?;
-    for _ in 0..case.size() {
-        left.push(Vec::new(case.alloc))?;
-    }
-    for (request, place) in case.requests.iter().zip(&case.places()?) {
-        add_changes(case, &mut left, request, place.chain)?;
+        let (first, end) = slots_of(act.asked, facts.case.slots.range);
+        for slot in first..end {
+            if let Some(there) = left.get_mut(slot as usize) {
+                add_content(there, content, by)?;
+            }
+        }
     }
     Ok(left)
 }
 
-impl<'a> Contents<'a> {
-    /// Returns the contents before the first request of a submission.
-    pub(crate) fn new(case: &'a Case<'a>) -> Result<Contents<'a>, NoMemory> {
-        Ok(Contents {
-            case,
-            left: left_at_slots(case)?,
-            chain: 1,
-            own: Vec::new(case.alloc),
-        })
+// Returns the content that a slot has before a request if no other chain changes it.
+fn content_before(facts: &Facts<'_>, row: &Row<'_>, slot: u32) -> Option<u8> {
+    let mut content = match facts.case.slots.at.get(slot as usize) {
+        Some(Some(file)) => Some(file.entry),
+        _ => None,
+    };
+    let (from, to, _) = row.acts;
+    for act in facts.acts_between(from, to) {
+        if act.asked == Some(slot)
+            && let Some(left) = content_after(act.effect)
+        {
+            content = left;
+        }
+    }
+    content
+}
+
+// Returns the contents that a slot may have before a request, each once: that of the last earlier
+// member of its chain, or else that before the submission, and those that other chains leave. A
+// later member of its chain comes too late.
+fn contents_at(
+    facts: &Facts<'_>,
+    left: &[Vec<Left>],
+    row: &Row<'_>,
+    slot: u32,
+) -> Result<Vec<Option<u8>>, NoMemory> {
+    let mut contents = Vec::new(facts.case.alloc);
+    contents.push(content_before(facts, row, slot))?;
+    if let Some(left) = left.get(slot as usize) {
+        for (content, by) in left {
+            if *by != Some(row.place.chain) && !contents.contains(content) {
+                contents.push(*content)?;
+            }
+        }
+    }
+    Ok(contents)
+}
+
+impl<'a> Answers<'a> {
+    // Appends the answer without bytes of one of some results.
+    fn push(&mut self, facts: &Facts<'_>, first: i32, last: i32) -> Result<(), NoMemory> {
+        let bytes = Vec::new(facts.case.alloc);
+        let name = None;
+        Ok(
+            self.0.push(ValidAnswer {
+                first,
+                last,
+                bytes,
+                name,
+            })?,
+        )
     }
 
-    /// Goes on to the request after `request`.
-    pub(crate) fn pass(&mut self, request: &Request) -> Result<(), NoMemory> {
-        if !request.links() {
-            self.chain = self.chain.saturating_add(1);
-            self.own.clear();
-            return Ok(());
+    // Appends the answer of an error.
+    fn push_error(&mut self, facts: &Facts<'_>, errno: Errno) -> Result<(), NoMemory> {
+        self.push(facts, result_of(errno), result_of(errno))
+    }
+
+    // Appends the answer of a read of a file of an entry.
+    fn push_read(&mut self, facts: &Facts<'a>, row: &Row<'_>, entry: u8) -> Result<(), NoMemory> {
+        let catalogue = facts.case.catalogue;
+        let bytes = row.request.bytes_of(facts.case.alloc, catalogue, entry)?;
+        let number = i32::try_from(bytes.len()).unwrap_or(i32::MAX);
+        Ok(
+            self.0.push(ValidAnswer {
+                first: number,
+                last: number,
+                bytes,
+                name: Some(name_of(catalogue, entry)),
+            })?,
+        )
+    }
+
+    // Appends the answers of an open at any slot of the allocation range.
+    fn push_open(&mut self, facts: &Facts<'_>) -> Result<(), NoMemory> {
+        let (first, count) = facts.case.slots.range;
+        if count > 0 {
+            let last = first.saturating_add(count).saturating_sub(1);
+            let first = i32::try_from(first).unwrap_or(i32::MAX);
+            self.push(facts, first, i32::try_from(last).unwrap_or(i32::MAX))?;
         }
-        for (act, content) in changes_of(self.case, request)? {
-            if let Some(slot) = act.slot {
-                self.own.push((slot, content))?;
+        self.push_error(facts, Errno::ENFILE)
+    }
+
+    // Appends the answers of a read or a close of a slot that may have these contents.
+    fn push_slot(
+        &mut self,
+        facts: &Facts<'a>,
+        row: &Row<'_>,
+        act: &Act,
+        contents: &[Option<u8>],
+    ) -> Result<(), NoMemory> {
+        for content in contents {
+            if let Some(entry) = *content {
+                if !matches!(act.effect, Effect::Looks) {
+                    self.push(facts, 0, 0)?;
+                    break;
+                }
+                self.push_read(facts, row, entry)?;
             }
+        }
+        if contents.contains(&None) {
+            self.push_error(facts, Errno::EBADF)?;
         }
         Ok(())
     }
 
-    // Returns the content that a slot has before the request if no other chain changes it.
-    fn before(&self, slot: u32) -> Option<u8> {
-        for (own, content) in self.own.iter().rev() {
-            if *own == slot {
-                return *content;
+    // Appends the answers that a request may give by what its accesses find.
+    fn push_acts(
+        &mut self,
+        facts: &Facts<'a>,
+        left: &[Vec<Left>],
+        row: &Row<'_>,
+    ) -> Result<(), NoMemory> {
+        let (_, from, to) = row.acts;
+        for act in facts.acts_between(from, to) {
+            match act.asked {
+                None => self.push_open(facts)?,
+                Some(slot) => {
+                    let contents = contents_at(facts, left, row, slot)?;
+                    self.push_slot(facts, row, act, &contents)?;
+                }
             }
         }
-        let file = (*self.case.slots.at.get(slot as usize)?)?;
-        Some(file.entry)
-    }
-
-    /// Returns the contents that a slot may have before the request, each once: that of the last
-    /// earlier member of its chain, or else that before the submission, and those that other chains
-    /// leave. A later member of its chain comes too late.
-    pub(crate) fn at(&self, slot: u32) -> Result<Vec<Option<u8>>, NoMemory> {
-        let mut contents = vec![in self.case.alloc; self.before(slot)]?;
-        let Some(left) = self.left.get(slot as usize) else {
-            return Ok(contents);
-        };
-        for (content, by) in left {
-            if *by != Some(self.chain) && !contents.contains(content) {
-                contents.push(*content)?;
-            }
+        if row.request.bytes_asked() > 0 {
+            self.push_error(facts, Errno::ENOMEM)?;
         }
-        Ok(contents)
-    }
-}
-
-/// An answer that a request may give: one of the results from `first` to `last`, with these bytes,
-/// of a file of this name.
-#[derive(Drop)]
-pub(crate) struct ValidAnswer<'a> {
-    first: i32,
-    last: i32,
-    bytes: Vec<u8>,
-    name: Option<&'a str>,
-}
-
-impl<'a> ValidAnswer<'a> {
-    /// Returns the answer without bytes of one of some results.
-    pub(crate) fn among(alloc: Global, first: i32, last: i32) -> ValidAnswer<'a> {
-        ValidAnswer {
-            first,
-            last,
-            bytes: Vec::new(alloc),
-            name: None,
-        }
+        Ok(())
     }
 
-    /// Returns the answer of an error.
-    pub(crate) fn error(alloc: Global, errno: Errno) -> ValidAnswer<'a> {
-        let res = result_of(errno);
-        ValidAnswer::among(alloc, res, res)
-    }
-
-    /// Checks whether it is that of a completion.
-    pub(crate) fn fits(&self, it: &Completion) -> bool {
-        (self.first..=self.last).contains(&it.res) && self.bytes.as_slice() == it.got.as_slice()
-    }
-}
-
-// The results from the first to the last.
-#[derive(Drop)]
-struct ResultWords(i32, i32);
-
-impl Display for ResultWords {
-    fn fmt<W: fmt::Write>(&self, f: &mut fmt::Formatter<W>) -> fmt::Result {
-        let (first, last) = (self.0, self.1);
-        if first < last {
-            write!(f, "{first} to {last}")
+    /// Returns the answers that a request may give. `severed`: whether an earlier member severed
+    /// its chain. `left`: the contents that requests leave at the slots.
+    pub(crate) fn new(
+        facts: &Facts<'a>,
+        left: &[Vec<Left>],
+        severed: bool,
+        row: &Row<'_>,
+    ) -> Result<Answers<'a>, NoMemory> {
+        let mut answers = Answers(Vec::new(facts.case.alloc));
+        if severed {
+            answers.push_error(facts, Errno::ECANCELED)?;
         } else {
-            write!(f, "{first}")
-        }
-    }
-}
-
-/// The result, or the range of results; the first 16 bytes, and the name of the file that has them.
-impl Display for ValidAnswer<'_> {
-    fn fmt<W: fmt::Write>(&self, f: &mut fmt::Formatter<W>) -> fmt::Result {
-        let bytes = self.bytes.as_slice();
-        let shown = GotWords(bytes.get(..SHOWN).unwrap_or(bytes));
-        let more = if bytes.len() > SHOWN { ".." } else { "" };
-        write!(f, "{}{shown}{more}", ResultWords(self.first, self.last))?;
-        match self.name {
-            Some(name) => write!(f, " of {name}"),
-            None => Ok(()),
-        }
-    }
-}
-
-// Returns the answer of a read of a file of an entry.
-fn read_answer<'a>(
-    case: &Case<'a>,
-    request: &Request,
-    entry: u8,
-) -> Result<ValidAnswer<'a>, NoMemory> {
-    let bytes = request.bytes_of(case.alloc, case.catalogue, entry)?;
-    let number = i32::try_from(bytes.len()).unwrap_or(i32::MAX);
-    Ok(ValidAnswer {
-        first: number,
-        last: number,
-        bytes,
-        name: Some(name_of(case.catalogue, entry)),
-    })
-}
-
-// Appends the answers of an open at any slot of the allocation range.
-fn push_open_answers(answers: &mut Vec<ValidAnswer<'_>>, case: &Case<'_>) -> Result<(), NoMemory> {
-    let (first, count) = case.slots.range;
-    if count > 0 {
-        let last = first.saturating_add(count).saturating_sub(1);
-        let first = i32::try_from(first).unwrap_or(i32::MAX);
-        let last = i32::try_from(last).unwrap_or(i32::MAX);
-        answers.push(ValidAnswer::among(case.alloc, first, last))?;
-    }
-    answers.push(ValidAnswer::error(case.alloc, Errno::ENFILE))?;
-    Ok(())
-}
-
-// Appends the answers of a read or a close of a slot that may have these contents.
-fn push_slot_answers<'a>(
-    answers: &mut Vec<ValidAnswer<'a>>,
-    case: &Case<'a>,
-    request: &Request,
-    effect: Effect,
-    contents: &[Option<u8>],
-) -> Result<(), NoMemory> {
-    for content in contents {
-        let Some(entry) = *content else {
-            continue;
-        };
-        if effect != Effect::Looks {
-            answers.push(ValidAnswer::among(case.alloc, 0, 0))?;
-            break;
-        }
-        answers.push(read_answer(case, request, entry)?)?;
-    }
-    if contents.contains(&None) {
-        answers.push(ValidAnswer::error(case.alloc, Errno::EBADF))?;
-    }
-    Ok(())
-}
-
-// Appends the answers that a request may give by what its accesses find, unless it is canceled.
-fn push_answers<'a>(
-    answers: &mut Vec<ValidAnswer<'a>>,
-    case: &Case<'a>,
-    contents: &Contents<'_>,
-    request: &Request,
-) -> Result<(), NoMemory> {
-    for act in &acts_of(case.alloc, case.catalogue, request)? {
-        match act.slot {
-            None => push_open_answers(answers, case)?,
-            Some(slot) => {
-                push_slot_answers(answers, case, request, act.effect, &contents.at(slot)?)?;
+            match row.fixed_result() {
+                Some(res) => answers.push(facts, res, res)?,
+                None => answers.push_acts(facts, left, row)?,
             }
         }
+        Ok(answers)
     }
-    if request.bytes_asked() > 0 {
-        answers.push(ValidAnswer::error(case.alloc, Errno::ENOMEM))?;
+
+    /// Checks whether one of them is that of a completion.
+    pub(crate) fn have(&self, it: &Completion) -> bool {
+        for answer in &self.0 {
+            if answer.first <= it.res && it.res <= answer.last {
+                if answer.bytes.as_slice() == it.got.as_slice() {
+                    return true;
+                }
+            }
+        }
+        false
     }
-    Ok(())
+
+    /// Appends the first 16 of them: each one's result, or its range of results, its first 16
+    /// bytes, and the name of the file that has them.
+    pub(crate) fn say(&self, words: &mut Words) {
+        for (i, answer) in self.0.iter().enumerate() {
+            if i >= SHOWN {
+                words.say(" or others");
+                break;
+            }
+            words.say(sign_before(i, self.0.len(), " or "));
+            answer.say(words);
+        }
+    }
 }
 
-/// Returns the answers that a request may give. `severed`: whether an earlier member severed its
-/// chain.
-pub(crate) fn answers_of<'a>(
-    case: &Case<'a>,
-    contents: &Contents<'_>,
-    severed: bool,
-    request: &Request,
-) -> Result<Vec<ValidAnswer<'a>>, NoMemory> {
-    let fixed = if severed {
-        Some(result_of(Errno::ECANCELED))
-    } else {
-        fixed_result(case, request)
-    };
-    let mut answers = Vec::new(case.alloc);
-    match fixed {
-        Some(res) => answers.push(ValidAnswer::among(case.alloc, res, res))?,
-        None => push_answers(&mut answers, case, contents, request)?,
+impl ValidAnswer<'_> {
+    // Appends the answer.
+    fn say(&self, words: &mut Words) {
+        words.result(self.first);
+        if self.first < self.last {
+            words.say(" to ");
+            words.result(self.last);
+        }
+        match self.bytes.get(..SHOWN) {
+            Some(bytes) => words.got(bytes),
+            None => words.got(self.bytes.as_slice()),
+        }
+        if self.bytes.len() > SHOWN {
+            words.say("..");
+        }
+        if let Some(name) = self.name {
+            words.say(" of ");
+            words.say(name);
+        }
     }
-    Ok(answers)
-}
-
-/// Returns the first 16 of some answers in words, after a place.
-pub(crate) fn answers_words(
-    alloc: Global,
-    place: Place,
-    answers: &[ValidAnswer<'_>],
-) -> Result<String, AllocError> {
-    let mut words = format!(in alloc; "{} with ", PlaceWords(place))?;
-    for (i, answer) in answers.iter().take(SHOWN).enumerate() {
-        write!(words, "{}{answer}", sign_before(i, answers.len(), " or "))?;
-    }
-    if answers.len() > SHOWN {
-        words.push_str(" or others")?;
-    }
-    Ok(words)
 }

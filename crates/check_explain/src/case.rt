@@ -1,12 +1,10 @@
-//! The submission at which a text breaks: its files, and the accesses of its requests, by the lines
-//! of its report.
-use crate::kinds::{Act, Effect, acts_of, result_of};
-use crate::words::{AskedLine, Lines};
-use check_lines::{ClosedLine, read_report};
-use fx_base::{Catalogue, Closed, Errno, Mark, NoMemory};
-use fx_chain::{Completion, Place, Request, refusal_of};
-use fx_order::Slots;
-use std::alloc::{AllocError, Global};
+//! The submission at which a text breaks, and its requests with their accesses and files.
+use crate::lines::AskedLine;
+use bitflags::Flags;
+use fx_base::{Catalogue, Closed, Errno, NoMemory};
+use fx_chain::{Intent, Place, Request, SqeFlags, refusal_of};
+use fx_order::{AccessPlace, Slots};
+use std::alloc::Global;
 
 /// A submission without a faulty request, and a text that doesn't begin with a report of it.
 #[derive(Clone, Copy)]
@@ -29,104 +27,49 @@ pub struct Case<'a> {
     pub line: usize,
 }
 
-impl<'a> Case<'a> {
-    /// Returns its number among the accepted submissions, from 1.
-    pub(crate) fn number(&self) -> u32 {
-        self.submissions.saturating_add(1)
-    }
-
-    /// Returns the places of its requests.
-    pub(crate) fn places(&self) -> Result<Vec<Place>, AllocError> {
-        places_of(self.alloc, self.number(), self.requests)
-    }
-
-    /// Returns the number of slots of the table.
-    pub(crate) fn size(&self) -> usize {
-        self.slots.at.len()
-    }
-
-    /// Returns the error of a request that is refused whatever is at the slots, or `None` if the
-    /// slots decide.
-    pub(crate) fn refusal_of(&self, request: &Request) -> Option<Errno> {
-        let size = u32::try_from(self.size()).unwrap_or(u32::MAX);
-        refusal_of(self.catalogue, size, request)
-    }
-
-    /// Checks whether a slot is in the allocation range.
-    pub(crate) fn is_in_range(&self, slot: u32) -> bool {
-        let (first, count) = self.slots.range;
-        (first..first.saturating_add(count)).contains(&slot)
-    }
-
-    // Returns the files at the slots before it.
-    fn files_before(&self) -> Result<Vec<Installed>, AllocError> {
-        let mut files = Vec::new(self.alloc);
-        for (slot, file) in (0..u32::MAX).zip(&self.slots.at) {
-            if let Some(file) = *file {
-                files.push(Installed {
-                    file,
-                    slot,
-                    line: None,
-                    closed: None,
-                })?;
-            }
-        }
-        Ok(files)
-    }
-
-    /// Reads the completions that its first lines report, up to the first line that isn't the
-    /// completion of its request. Returns them, and the text from that line on.
-    pub(crate) fn read(&self) -> Result<(Vec<Completion>, Lines<'a>), NoMemory> {
-        let (mut completions, mut lines) = (Vec::new(self.alloc), Lines::new(self.text));
-        for place in &self.places()? {
-            let mut after = lines;
-            match self.completion_of(after.take())? {
-                Some(it) if it.place == *place => completions.push(it)?,
-                _ => break,
-            }
-            lines = after;
-        }
-        Ok((completions, lines))
-    }
-
-    // Returns the completion of a line.
-    fn completion_of(&self, line: &[u8]) -> Result<Option<Completion>, NoMemory> {
-        match read_report(self.alloc, line, 1)? {
-            Some((mut lines, _)) => Ok(lines.completions.pop()),
-            None => Ok(None),
-        }
-    }
-
-    /// Returns the closed file of a line.
-    pub(crate) fn closed_of(&self, line: &[u8]) -> Result<Option<ClosedLine>, NoMemory> {
-        match read_report(self.alloc, line, 0)? {
-            Some((mut lines, _)) => Ok(lines.closed.pop()),
-            None => Ok(None),
-        }
-    }
+/// A request, and what is known of it whatever the other requests do.
+#[derive(Clone, Copy)]
+pub(crate) struct Row<'a> {
+    pub request: &'a Request,
+    pub place: Place,
+    /// The error with which it is refused whatever is at the slots, if it is.
+    pub refusal: Option<Errno>,
+    /// The numbers of the first access of its chain, of its own first access, and of the access
+    /// after its last one. A refused request makes none.
+    pub acts: (usize, usize, usize),
 }
 
-/// Returns the places of the requests of a submission, by its number.
-pub(crate) fn places_of(
-    alloc: Global,
-    submission: u32,
-    requests: &[Request],
-) -> Result<Vec<Place>, AllocError> {
-    let mut places = Vec::new(alloc);
-    let (mut chain, mut member) = (1u32, 1u32);
-    for request in requests {
-        places.push(Place {
-            submission,
-            chain,
-            member,
-        })?;
-        if request.links() {
-            member = member.saturating_add(1);
-        } else {
-            (chain, member) = (chain.saturating_add(1), 1);
-        }
-    }
-    Ok(places)
+/// The effect of an access on its slot.
+#[derive(Clone, Copy)]
+pub(crate) enum Effect {
+    /// A read looks for a file, and leaves it.
+    Looks,
+    /// A close takes a file away.
+    Takes,
+    /// An entry of an update empties the slot.
+    Clears,
+    /// A file is installed.
+    Installs(Closed),
+}
+
+/// An access that a request makes unless it is refused or canceled, and the facts that the
+/// request's line shows of it.
+#[derive(Clone, Copy)]
+pub(crate) struct Act {
+    /// The slot that the request names; `None` for an open at any slot.
+    pub asked: Option<u32>,
+    pub effect: Effect,
+    /// The line, from 0.
+    pub line: usize,
+    /// The slot that the request names, or else the one that the line shows.
+    pub slot: Option<u32>,
+    /// True if the access found a file, or `None` if the line doesn't show it. An open that found
+    /// every slot full found files.
+    pub found: Option<bool>,
+    /// True if the request succeeded.
+    pub is_done: bool,
+    /// The number of the file that it installed.
+    pub file: Option<usize>,
 }
 
 /// A file that was at a slot before a submission, or that a request of it installed there.
@@ -142,116 +85,122 @@ pub(crate) struct Installed {
     pub closed: Option<usize>,
 }
 
-/// The completions and files of a submission, as far as its lines were read.
-#[derive(Drop)]
-pub(crate) struct KnownReport {
-    pub completions: Vec<Completion>,
-    /// The files: first those that were at the slots, then the others in order of mark.
-    pub files: Vec<Installed>,
-    /// The numbers, from 0, of the files with a `closed` line, in the order of these lines.
-    pub closes: Vec<usize>,
-    pub acts: Vec<Act>,
+impl Row<'_> {
+    /// Returns the result of the request, unless it is canceled, if that doesn't depend on the
+    /// slots.
+    pub(crate) fn fixed_result(&self) -> Option<i32> {
+        match self.refusal {
+            Some(errno) => Some(result_of(errno)),
+            None => self.request.fixed_result(),
+        }
+    }
+
+    /// Checks whether it depends on the slots whether the request severs its chain.
+    pub(crate) fn may_sever(&self) -> bool {
+        !self.request.flags.contains(SqeFlags::IO_HARDLINK) && self.fixed_result().is_none()
+    }
 }
 
-// Returns whether an access found a file, by the result of its request, or `None` if that doesn't
-// show it.
-fn found_by(act: &Act, res: i32) -> Option<bool> {
-    let (if_done, error) = match (act.effect, act.slot) {
-        (Effect::Looks | Effect::Takes, _) => (true, Errno::EBADF),
-        (Effect::Installs(_), None) => (false, Errno::ENFILE),
-        _ => return None,
+impl Case<'_> {
+    /// Returns the number of slots of the table.
+    pub(crate) fn size(&self) -> usize {
+        self.slots.at.len()
+    }
+}
+
+/// Returns the result of a request that fails with an error.
+pub(crate) fn result_of(errno: Errno) -> i32 {
+    -errno.code()
+}
+
+/// Returns the first of the slots of an access, in this allocation range, and the one after the
+/// last.
+pub(crate) fn slots_of(slot: Option<u32>, range: (u32, u32)) -> (u32, u32) {
+    match slot {
+        Some(slot) => (slot, slot.saturating_add(1)),
+        None => (range.0, range.0.saturating_add(range.1)),
+    }
+}
+
+/// Returns an access of a request, of which no line shows anything.
+pub(crate) fn act_of(intent: Intent, line: usize) -> Act {
+    let (asked, effect) = match intent {
+        Intent::Look(slot) => (Some(slot), Effect::Looks),
+        Intent::Take(slot) => (Some(slot), Effect::Takes),
+        Intent::Clear(slot) => (Some(slot), Effect::Clears),
+        Intent::Put(slot, file) => (Some(slot), Effect::Installs(file)),
+        Intent::Allocate(file) => (None, Effect::Installs(file)),
     };
-    if res >= 0 {
-        Some(if_done)
-    } else if res == result_of(error) {
-        Some(!if_done)
-    } else {
-        None
+    Act {
+        asked,
+        effect,
+        line,
+        slot: asked,
+        found: None,
+        is_done: false,
+        file: None,
     }
 }
 
-impl KnownReport {
-    // Appends an access by the request of a line, and the file that it installed at one of the
-    // `size` slots.
-    fn push(&mut self, mut act: Act, line: usize, size: usize) -> Result<(), AllocError> {
-        let Some(Completion { place, res, .. }) = self.completions.get(line) else {
-            return Ok(());
-        };
-        let res = *res;
-        act.line = line;
-        act.is_done = res >= 0;
-        act.found = found_by(&act, res);
-        act.slot = act.slot.or(u32::try_from(res).ok());
-        let there = act.slot.filter(|slot| (*slot as usize) < size);
-        if let (Effect::Installs(entry), true, Some(slot)) = (act.effect, act.is_done, there) {
-            let in_list = u32::try_from(act.entry.unwrap_or(0)).unwrap_or(u32::MAX);
-            act.file = Some(self.files.len());
-            self.files.push(Installed {
-                file: place.installed(in_list, entry),
-                slot,
-                line: Some(line),
-                closed: None,
-            })?;
+/// Returns the place of the first request of a submission.
+pub(crate) fn first_place(submission: u32) -> Place {
+    Place {
+        submission,
+        chain: 1,
+        member: 1,
+    }
+}
+
+/// Returns the place of the request after one.
+pub(crate) fn place_after(place: Place, request: &Request) -> Place {
+    let mut next = place;
+    if request.links() {
+        next.member = place.member.saturating_add(1);
+    } else {
+        next.chain = place.chain.saturating_add(1);
+        next.member = 1;
+    }
+    next
+}
+
+// Appends the places of the accesses of the request at a place.
+fn push_places(
+    alloc: Global,
+    places: &mut Vec<AccessPlace>,
+    request: &Request,
+    at: Place,
+) -> Result<(), NoMemory> {
+    for entry in request.positions(alloc)? {
+        places.push(AccessPlace {
+            chain: at.chain,
+            member: at.member,
+            entry,
+        })?;
+    }
+    Ok(())
+}
+
+/// Returns for each chain of a submission the places of the accesses that its requests make at a
+/// table of `size` slots, in order, if no request is canceled and no allocation fails.
+///
+/// # Errors
+/// `NoMemory` if an allocation fails.
+pub fn access_places(
+    alloc: Global,
+    catalogue: &Catalogue,
+    size: u32,
+    requests: &[Request],
+) -> Result<Vec<Vec<AccessPlace>>, NoMemory> {
+    let mut chains: Vec<Vec<AccessPlace>> = Vec::new(alloc);
+    let mut at = first_place(0);
+    for request in requests {
+        if at.member == 1 {
+            chains.push(Vec::new(alloc))?;
         }
-        Ok(self.acts.push(act)?)
-    }
-
-    /// Returns the files and accesses of the completions of a case. A request that is refused
-    /// whatever is at the slots makes no access, whatever its completion claims. No file has a
-    /// `closed` line yet.
-    pub fn new(case: &Case<'_>, completions: Vec<Completion>) -> Result<KnownReport, NoMemory> {
-        let mut report = KnownReport {
-            completions,
-            files: case.files_before()?,
-            closes: Vec::new(case.alloc),
-            acts: Vec::new(case.alloc),
-        };
-        for (line, request) in case.requests.iter().enumerate() {
-            if case.refusal_of(request).is_none() {
-                for act in acts_of(case.alloc, case.catalogue, request)? {
-                    report.push(act, line, case.size())?;
-                }
-            }
+        if let (None, Some(places)) = (refusal_of(catalogue, size, request), chains.last_mut()) {
+            push_places(alloc, places, request, at)?;
         }
-        Ok(report)
+        at = place_after(at, request);
     }
-
-    // Returns the number of the file with a mark, of those from one on.
-    fn file_marked_from(&self, from: usize, mark: Mark) -> Option<usize> {
-        for (number, it) in self.files.iter().enumerate().skip(from) {
-            if it.file.mark == mark {
-                return Some(number);
-            }
-        }
-        None
-    }
-
-    /// Returns the number, from 0, of the file with a mark. The files from that of the last
-    /// `closed` line on are tried first.
-    pub fn file_marked(&self, mark: Mark) -> Option<usize> {
-        let from = self.closes.last().copied().unwrap_or(0);
-        match self.file_marked_from(from, mark) {
-            None => self.file_marked_from(0, mark),
-            found => found,
-        }
-    }
-
-    /// Returns the mark of the file of the last `closed` line.
-    pub fn last_closed(&self) -> Option<Mark> {
-        let number = *self.closes.last()?;
-        Some(self.files.get(number)?.file.mark)
-    }
-
-    /// Records that a file, by its number, has the `closed` line `at`.
-    pub fn close(&mut self, number: usize, at: usize) -> Result<(), AllocError> {
-        if let Some(it) = self.files.get_mut(number) {
-            it.closed = Some(at);
-        }
-        Ok(self.closes.push(number)?)
-    }
-
-    /// Returns the chain of the request of a line, or `None` if it isn't that of a request.
-    pub fn chain_of(&self, line: usize) -> Option<u32> {
-        Some(self.completions.get(line)?.place.chain)
-    }
+    Ok(chains)
 }

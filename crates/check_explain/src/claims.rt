@@ -1,9 +1,9 @@
 //! The claims of a submission's lines about some slots, for a search.
-use crate::case::{Case, KnownReport};
-use crate::kinds::{Act, Effect, entries_read};
+use crate::case::{Act, Effect, slots_of};
+use crate::complaint::Complaint;
+use crate::facts::Facts;
 use check_search::{Cell, Claim, Leaves, Resident, Strand, Wants};
 use fx_base::NoMemory;
-use std::alloc::AllocError;
 
 /// The files that stay at their slots. Each other one is closed.
 #[derive(Drop)]
@@ -20,8 +20,7 @@ pub(crate) enum Stays {
 /// A view of a submission's lines.
 #[derive(Drop)]
 pub(crate) struct ClaimsView<'a> {
-    pub case: &'a Case<'a>,
-    pub report: &'a KnownReport,
+    pub facts: &'a Facts<'a>,
     /// For each slot, true if the search looks at it.
     pub slots: Vec<bool>,
     /// For each line, from 0, true if it is left out.
@@ -43,8 +42,9 @@ impl ClaimsView<'_> {
     /// Checks whether an access is at a slot that is looked at. One that has no slot is at each
     /// slot of the allocation range.
     pub(crate) fn has(&self, act: &Act) -> bool {
-        let (first, count) = act.slots(self.case.slots.range);
-        for slot in first..first.saturating_add(count) {
+        let facts = self.facts;
+        let (first, end) = slots_of(act.slot, facts.case.slots.range);
+        for slot in first..end {
             if self.has_slot(slot) {
                 return true;
             }
@@ -52,78 +52,73 @@ impl ClaimsView<'_> {
         false
     }
 
-    // Appends the lines whose accesses depend on the slots, and, unless `depends`, those whose
+    // Adds the lines whose accesses depend on the slots, and, unless `depends`, those whose
     // accesses change them.
-    fn push_lines(&self, lines: &mut Vec<usize>, depends: bool) -> Result<(), AllocError> {
-        for act in &self.report.acts {
+    fn add_lines(&self, depends: bool, said: &mut Complaint) {
+        let mut last = None;
+        for act in &self.facts.acts {
             let is_meant = act.found.is_some() || !depends && act.is_done;
-            let is_new = lines.last().copied() != Some(act.line);
+            let is_new = last != Some(act.line);
             if is_meant && is_new && self.has(act) && !self.is_out(act.line) {
-                lines.push(act.line)?;
+                said.line(act.line);
+                last = Some(act.line);
             }
         }
-        Ok(())
     }
 
-    // Appends the `closed` lines of the slots.
-    fn push_closes(&self, lines: &mut Vec<usize>) -> Result<(), AllocError> {
-        for number in &self.report.closes {
-            if let Some(it) = self.report.files.get(*number) {
-                if self.has_slot(it.slot) {
-                    lines.push(it.closed.unwrap_or(0))?;
-                }
+    // Adds the `closed` lines of the slots.
+    fn add_closes(&self, said: &mut Complaint) {
+        for i in 0..self.facts.closes.len() {
+            if let Some(it) = self.facts.closed_file(i)
+                && self.has_slot(it.slot)
+            {
+                said.line(it.closed.unwrap_or(0));
             }
         }
-        Ok(())
     }
 
-    /// Returns the lines that depend on the slots, with the slots' `closed` lines if `closes`, or
-    /// else the lines that change the slots.
-    pub(crate) fn named(&self, closes: bool) -> Result<Vec<usize>, AllocError> {
-        let mut lines = Vec::new(self.case.alloc);
-        self.push_lines(&mut lines, true)?;
+    /// Adds the lines that depend on the slots, with the slots' `closed` lines if `closes`, or else
+    /// the lines that change the slots.
+    pub(crate) fn add_named(&self, closes: bool, said: &mut Complaint) {
+        self.add_lines(true, said);
         if closes {
-            self.push_closes(&mut lines)?;
+            self.add_closes(said);
         }
-        if lines.is_empty() {
-            self.push_lines(&mut lines, false)?;
+        if said.lines.is_empty() {
+            self.add_lines(false, said);
         }
-        Ok(lines)
     }
 
     // Returns a file of the report, by its number, as a search has it.
     fn resident(&self, number: usize) -> Option<Resident> {
-        let it = self.report.files.get(number)?;
+        let it = self.facts.files.get(number)?;
         let leaves = match &self.stays {
             Stays::AsClosed => it.closed.is_some(),
             Stays::Only(those) => !those.contains(&number),
             Stays::Swept => true,
         };
-        Some(Resident {
-            file: it.file,
-            leaves,
-        })
+        let file = it.file;
+        Some(Resident { file, leaves })
     }
 
     // Returns for each entry whether the read of a line may have found a file of it: the read got
     // the file's bytes.
     fn fits_of(&self, line: usize) -> Result<[bool; 256], NoMemory> {
-        let (case, report) = (self.case, self.report);
-        match (case.requests.get(line), report.completions.get(line)) {
-            (Some(request), Some(it)) => entries_read(case, request, it),
+        match (self.facts.rows.get(line), self.facts.completions.get(line)) {
+            (Some(row), Some(it)) => self.facts.entries_read(row, it),
             _ => Ok([false; 256]),
         }
     }
 
-    // Returns the claim of an access, if it makes one. That of a close that is left out empties the
-    // slot, if anything.
-    fn claim_of(&self, act: &Act) -> Result<Option<Claim>, NoMemory> {
-        let Some(slot) = act.slot else {
-            return Ok(act.found.map(|_| Claim::Full));
-        };
-        let resident = act.file.and_then(|number| self.resident(number));
+    // Returns what an access of a slot claims, if anything. That of a close that is left out
+    // empties the slot, if anything.
+    fn wants_of(&self, act: &Act) -> Result<Option<(Wants, Leaves)>, NoMemory> {
         let is_out = self.is_out(act.line);
-        let (wants, leaves) = match (act.effect, act.found, resident) {
+        let resident = match act.file {
+            Some(number) => self.resident(number),
+            None => None,
+        };
+        Ok(Some(match (act.effect, act.found, resident) {
             (Effect::Looks, Some(_), _) if is_out => return Ok(None),
             (Effect::Takes, Some(_), _) if is_out => (Wants::Anything, Leaves::Empty),
             (Effect::Looks, Some(true), _) => (Wants::Bytes(self.fits_of(act.line)?), Leaves::Same),
@@ -134,8 +129,21 @@ impl ClaimsView<'_> {
             (Effect::Installs(_), None, Some(file)) => (Wants::Anything, Leaves::File(file)),
             (Effect::Installs(_), Some(_), Some(file)) => (Wants::Nothing, Leaves::File(file)),
             _ => return Ok(None),
+        }))
+    }
+
+    // Returns the claim of an access, if it makes one.
+    fn claim_of(&self, act: &Act) -> Result<Option<Claim>, NoMemory> {
+        let Some(slot) = act.slot else {
+            return Ok(match act.found {
+                Some(_) => Some(Claim::Full),
+                None => None,
+            });
         };
-        Ok(Some(Claim::At(slot, wants, leaves)))
+        Ok(match self.wants_of(act)? {
+            Some((wants, leaves)) => Some(Claim::At(slot, wants, leaves)),
+            None => None,
+        })
     }
 
     // Appends a claim of a chain to those of its strand.
@@ -145,53 +153,49 @@ impl ClaimsView<'_> {
         chain: u32,
         claim: Claim,
     ) -> Result<(), NoMemory> {
-        match strands.last_mut() {
-            Some(last) if last.chain == chain => last.claims.push(claim)?,
-            _ => {
-                let claims = vec![in self.case.alloc; claim]?;
-                strands.push(Strand { chain, claims })?;
-            }
+        if let Some(last) = strands.last_mut()
+            && last.chain == chain
+        {
+            return Ok(last.claims.push(claim)?);
         }
-        Ok(())
-    }
-
-    // Appends the claim of an access, if it makes one.
-    fn push_act(&self, strands: &mut Vec<Strand>, act: &Act) -> Result<(), NoMemory> {
-        let chain = self.report.chain_of(act.line).unwrap_or(0);
-        match self.claim_of(act)? {
-            Some(claim) => self.push_claim(strands, chain, claim),
-            None => Ok(()),
-        }
+        let claims = vec![in self.facts.case.alloc; claim]?;
+        Ok(strands.push(Strand { chain, claims })?)
     }
 
     // Returns the claims of each chain about the slots that are looked at.
     fn strands(&self) -> Result<Vec<Strand>, NoMemory> {
-        let mut strands = Vec::new(self.case.alloc);
-        for act in &self.report.acts {
-            if self.has(act) {
-                self.push_act(&mut strands, act)?;
+        let mut strands = Vec::new(self.facts.case.alloc);
+        for act in &self.facts.acts {
+            if self.has(act)
+                && let Some(claim) = self.claim_of(act)?
+            {
+                self.push_claim(&mut strands, self.facts.chain_of(act.line), claim)?;
             }
         }
         Ok(strands)
     }
 
     // Returns the slots that are looked at, as they are before the submission.
-    fn cells(&self) -> Result<Vec<Cell>, AllocError> {
-        let (mut cells, mut number) = (Vec::new(self.case.alloc), 0usize);
-        for (slot, found) in (0..u32::MAX).zip(&self.case.slots.at) {
+    fn cells(&self) -> Result<Vec<Cell>, NoMemory> {
+        let (mut cells, mut number, mut slot) = (Vec::new(self.facts.case.alloc), 0usize, 0u32);
+        let facts = self.facts;
+        let slots = facts.case.slots;
+        let (first, end) = slots_of(None, slots.range);
+        for found in &slots.at {
             let mut file = None;
             if found.is_some() {
                 file = self.resident(number);
                 number = number.saturating_add(1);
             }
             if self.has_slot(slot) {
-                let in_range = self.case.is_in_range(slot);
+                let in_range = first <= slot && slot < end;
                 cells.push(Cell {
                     slot,
                     in_range,
                     file,
                 })?;
             }
+            slot = slot.saturating_add(1);
         }
         Ok(cells)
     }
@@ -203,7 +207,7 @@ impl ClaimsView<'_> {
         if matches!(self.stays, Stays::Swept) {
             for cell in &cells {
                 let sweep = Claim::At(cell.slot, Wants::Anything, Leaves::Empty);
-                let claims = vec![in self.case.alloc; sweep]?;
+                let claims = vec![in self.facts.case.alloc; sweep]?;
                 strands.push(Strand { chain: 0, claims })?;
             }
         }

@@ -1,44 +1,48 @@
 //! Complaints about the lines of a submission, for a person. They are advice, on which no verdict
 //! rests.
-use crate::case::{Case, KnownReport};
+use crate::case::Case;
 use crate::contradiction::no_order;
-use crate::words::Lines;
+use crate::facts::Facts;
+use crate::words::Words;
 use crate::wrong_answer::wrong_answer;
 use crate::wrong_files::{wrong_close, wrong_count};
 use fx_base::NoMemory;
+use std::alloc::Global;
 
-/// Invalid lines of a submission's report, by their numbers, which count from 0 at its first line.
+/// Invalid lines of a submission's report.
 #[derive(Drop)]
-pub enum Complaint {
-    /// One line is wrong: its number, the lines that would be valid there, and the reason, which
-    /// may be empty.
-    Line(usize, String, String),
-    /// Some lines contradict each other: their numbers in order, and the reason.
-    Lines(Vec<usize>, String),
+pub struct Complaint {
+    /// The numbers of the lines in order, which count from 0 at the first line of the report.
+    pub lines: Vec<usize>,
+    /// The lines that would be valid in the place of a wrong line, or no words if the lines
+    /// contradict each other.
+    pub expected: Words,
+    /// The reason. Of a wrong line it may be empty.
+    pub why: Words,
 }
 
-/// The first complaint that a check of the lines finds, or `None`, or an error if an allocation
-/// fails.
-pub(crate) type Checked = Result<Option<Complaint>, NoMemory>;
-
-// Looks for lines that contradict each other, if each line may be so by itself.
-fn contradiction(case: &Case<'_>, report: &KnownReport, slot: Option<u32>) -> Checked {
-    match wrong_count(case, report)? {
-        None => no_order(case, report, slot),
-        complaint => Ok(complaint),
+impl Complaint {
+    // Returns a complaint about no line.
+    fn new(alloc: Global) -> Complaint {
+        Complaint {
+            lines: Vec::new(alloc),
+            expected: Words::new(alloc),
+            why: Words::new(alloc),
+        }
     }
-}
 
-// Looks for invalid lines after the completions, or for lines that contradict each other.
-fn explain_report(
-    case: &Case<'_>,
-    mut report: KnownReport,
-    lines: Lines<'_>,
-    slot: Option<u32>,
-) -> Checked {
-    match wrong_close(case, &mut report, lines)? {
-        None => contradiction(case, &report, slot),
-        complaint => Ok(complaint),
+    /// Adds a line.
+    pub(crate) fn line(&mut self, at: usize) {
+        if self.lines.push(at).is_err() {
+            self.why.lose();
+        }
+    }
+
+    /// Says that a line is wrong, in fixed words.
+    pub(crate) fn wrong(&mut self, at: usize, expected: &str, why: &str) {
+        self.line(at);
+        self.expected.say(expected);
+        self.why.say(why);
     }
 }
 
@@ -48,9 +52,14 @@ fn explain_report(
 /// # Errors
 /// `NoMemory` if an allocation fails.
 pub fn explain(case: &Case<'_>, slot: Option<u32>) -> Result<Option<Complaint>, NoMemory> {
-    let (completions, lines) = case.read()?;
-    match wrong_answer(case, &completions, lines.rest)? {
-        None => explain_report(case, KnownReport::new(case, completions)?, lines, slot),
-        complaint => Ok(complaint),
+    let mut facts = Facts::new(case)?;
+    let mut out = Complaint::new(case.alloc);
+    if wrong_answer(&facts, &mut out)?
+        || wrong_close(&mut facts, &mut out)?
+        || wrong_count(&facts, &mut out)?
+        || no_order(&facts, slot, &mut out)?
+    {
+        return Ok(Some(out));
     }
+    Ok(None)
 }

@@ -1,9 +1,10 @@
 //! Lines of a submission that have no order together. Lines are left out, and the search is
 //! repeated.
-use crate::case::{Case, KnownReport};
+use crate::case::Effect;
 use crate::claims::{ClaimsView, Stays};
-use crate::complaint::{Checked, Complaint};
-use crate::kinds::{Effect, may_sever};
+use crate::complaint::Complaint;
+use crate::facts::Facts;
+use crate::words::Words;
 use check_search::{Claim, Found, Limits, Steps, components, explore};
 use fx_base::NoMemory;
 use std::alloc::{AllocError, Global};
@@ -59,13 +60,13 @@ fn choice_of(alloc: Global, slots: &[Vec<usize>], choice: usize) -> Result<Vec<u
 
 impl<'a> Contradiction<'a> {
     // Returns the search before any slot is looked at.
-    fn new(case: &'a Case<'a>, report: &'a KnownReport) -> Result<Contradiction<'a>, AllocError> {
+    fn new(facts: &'a Facts<'a>) -> Result<Contradiction<'a>, NoMemory> {
+        let alloc = facts.case.alloc;
         Ok(Contradiction {
             view: ClaimsView {
-                case,
-                report,
-                slots: vec![in case.alloc; true; case.size()]?,
-                out: vec![in case.alloc; false; report.completions.len()]?,
+                facts,
+                slots: vec![in alloc; true; facts.case.size()]?,
+                out: vec![in alloc; false; facts.rows.len()]?,
                 stays: Stays::AsClosed,
             },
             rests_on_closes: false,
@@ -77,7 +78,7 @@ impl<'a> Contradiction<'a> {
     // Searches for an order of the lines that aren't left out. Returns the number of states that it
     // met, and what it found.
     fn explored(&self) -> Result<(usize, Found), NoMemory> {
-        let alloc = self.view.case.alloc;
+        let alloc = self.view.facts.case.alloc;
         let (cells, strands) = self.view.question()?;
         let steps = Steps::new(alloc, &strands, &cells)?;
         let limits = Limits {
@@ -104,31 +105,42 @@ impl<'a> Contradiction<'a> {
 
     // Returns for each slot the numbers of its files, or none if it isn't looked at.
     fn files_at_slots(&self) -> Result<Vec<Vec<usize>>, NoMemory> {
-        let ClaimsView { case, report, .. } = &self.view;
-        let mut slots: Vec<Vec<usize>> = Vec::with_capacity(case.alloc, case.size())?;
-        for _ in 0..case.size() {
-            slots.push(Vec::new(case.alloc))?;
+        let facts = self.view.facts;
+        let mut slots: Vec<Vec<usize>> = Vec::new(facts.case.alloc);
+        for _ in 0..facts.case.size() {
+            slots.push(Vec::new(facts.case.alloc))?;
         }
-        for (number, it) in report.files.iter().enumerate() {
-            if self.view.has_slot(it.slot) {
-                if let Some(files) = slots.get_mut(it.slot as usize) {
-                    files.push(number)?;
-                }
+        for (number, it) in facts.files.iter().enumerate() {
+            if self.view.has_slot(it.slot)
+                && let Some(files) = slots.get_mut(it.slot as usize)
+            {
+                files.push(number)?;
             }
         }
         Ok(slots)
+    }
+
+    // Checks whether several slots are looked at.
+    fn are_many(&self) -> bool {
+        let mut has_one = false;
+        for has in &self.view.slots {
+            if *has && has_one {
+                return true;
+            }
+            has_one = has_one || *has;
+        }
+        false
     }
 
     // Checks whether the lines that aren't left out have no order by each choice of one file, or
     // none, that stays at each slot. Returns `None` if that isn't seen.
     fn has_no_order_by_files(&mut self, slots: &[Vec<usize>]) -> Result<Option<bool>, NoMemory> {
         let choices = choices_of(slots);
-        let are_many = self.view.slots.iter().filter(|has| **has).count() > 1;
-        if are_many && choices > MOST_CHOICES {
+        if choices > MOST_CHOICES && self.are_many() {
             return Ok(None);
         }
         for choice in 0..choices {
-            let those = choice_of(self.view.case.alloc, slots, choice)?;
+            let those = choice_of(self.view.facts.case.alloc, slots, choice)?;
             let seen = self.search(Stays::Only(those))?;
             if seen != Some(true) {
                 return Ok(seen);
@@ -171,12 +183,21 @@ impl<'a> Contradiction<'a> {
         Ok(true)
     }
 
+    // Returns the claims of each chain.
+    fn chains(&self) -> Result<Vec<Vec<Claim>>, NoMemory> {
+        let (_, strands) = self.view.question()?;
+        let mut chains: Vec<Vec<Claim>> = Vec::new(self.view.facts.case.alloc);
+        for it in strands {
+            chains.push(it.claims)?;
+        }
+        Ok(chains)
+    }
+
     // Looks at the first slots that chains join and at which the lines have no order. Returns
     // whether there are such slots.
     fn look_at_parts(&mut self) -> Result<bool, NoMemory> {
-        let case = self.view.case;
-        let (_, strands) = self.view.question()?;
-        let chains: Vec<Vec<Claim>> = strands.into_iter().map(|it| it.claims).collect(case.alloc)?;
+        let case = self.view.facts.case;
+        let chains = self.chains()?;
         for part in &components(case.alloc, case.size(), case.slots.range, &chains)? {
             if part.len() > 1 && self.look_at(part)? {
                 return Ok(true);
@@ -194,8 +215,8 @@ impl<'a> Contradiction<'a> {
 
     // Leaves out each read and each close that isn't needed.
     fn leave_out(&mut self) -> Result<(), NoMemory> {
-        let report = self.view.report;
-        for act in &report.acts {
+        let facts = self.view.facts;
+        for act in &facts.acts {
             let is_optional = act.found.is_some() && act.file.is_none() && act.slot.is_some();
             if is_optional && self.view.has(act) {
                 self.set_out(act.line, true);
@@ -208,21 +229,25 @@ impl<'a> Contradiction<'a> {
     }
 
     // Checks whether an access of a chain after a line may change the slots.
-    fn changes_later(&self, chain: Option<u32>, line: usize) -> bool {
-        for act in &self.view.report.acts {
-            if act.line > line && act.effect != Effect::Looks && self.view.has(act) {
-                if self.view.report.chain_of(act.line) == chain {
-                    return true;
-                }
+    fn changes_later(&self, chain: u32, line: usize) -> bool {
+        let facts = self.view.facts;
+        for act in &facts.acts {
+            let changes = !matches!(act.effect, Effect::Looks);
+            if act.line > line
+                && changes
+                && facts.chain_of(act.line) == chain
+                && self.view.has(act)
+            {
+                return true;
             }
         }
         false
     }
 
     // Checks whether a line is named, or a later one of its chain.
-    fn is_named(&self, named: &[usize], chain: Option<u32>, line: usize) -> bool {
+    fn is_named(&self, named: &[usize], chain: u32, line: usize) -> bool {
         for other in named {
-            if *other >= line && self.view.report.chain_of(*other) == chain {
+            if *other >= line && self.view.facts.chain_of(*other) == chain {
                 return true;
             }
         }
@@ -232,11 +257,10 @@ impl<'a> Contradiction<'a> {
     // Checks whether a request may sever its chain before one that may change the slots, unless a
     // later line of the chain is named.
     fn rests_on_others(&self, named: &[usize]) -> bool {
-        let case = self.view.case;
-        for (line, request) in case.requests.iter().enumerate() {
-            let chain = self.view.report.chain_of(line);
-            if request.links()
-                && may_sever(case, request)
+        for (line, row) in self.view.facts.rows.iter().enumerate() {
+            let chain = row.place.chain;
+            if row.request.links()
+                && row.may_sever()
                 && !self.is_named(named, chain, line)
                 && self.changes_later(chain, line)
             {
@@ -260,62 +284,48 @@ impl<'a> Contradiction<'a> {
         Ok(is_found || slot.is_some())
     }
 
-    // Returns the end of the reason that some lines have no order together: whether fewer lines may
-    // have none.
-    fn fewer(&self, count: usize) -> &'static str {
-        match (self.is_sure, count) {
-            (true, _) => "",
-            (false, 1) => "; there may be none without it",
-            (false, _) => "; fewer of them may contradict each other",
+    // Appends the reason that some lines have no order together.
+    fn why(&self, lines: &[usize], slot: Option<u32>, why: &mut Words) {
+        let is_one = lines.len() == 1;
+        why.say("no order of the requests gives ");
+        why.say(if is_one { "this one" } else { "all of these" });
+        if let Some(slot) = slot {
+            why.say(if is_one {
+                ", which concerns"
+            } else {
+                ", which concern"
+            });
+            why.count(" slot ", u64::from(slot), "");
         }
-    }
-
-    // Returns the reason that some lines have no order together, in words.
-    fn why(&self, lines: &[usize], slot: Option<u32>) -> Result<String, AllocError> {
-        let mut words = beginning(self.view.case.alloc, lines.len(), slot)?;
         if self.rests_on_closes {
-            words.push_str(", and closes no other file")?;
+            why.say(", and closes no other file");
         }
         if self.rests_on_others(lines) {
-            words.push_str(", and cancels the same requests")?;
+            why.say(", and cancels the same requests");
         }
-        words.push_str(self.fewer(lines.len()))?;
-        Ok(words)
-    }
-
-    // Returns the complaint about the lines at the slots that are looked at, unless they are too
-    // many.
-    fn complaint(&self, slot: Option<u32>) -> Checked {
-        let lines = self.view.named(self.rests_on_closes)?;
-        if lines.is_empty() || lines.len() > MOST_LINES {
-            return Ok(None);
-        }
-        let why = self.why(&lines, slot)?;
-        Ok(Some(Complaint::Lines(lines, why)))
+        why.say(match (self.is_sure, is_one) {
+            (true, _) => "",
+            (false, true) => "; there may be none without it",
+            (false, false) => "; fewer of them may contradict each other",
+        });
     }
 }
 
-// Returns the beginning of the reason that a number of lines have no order together.
-fn beginning(alloc: Global, count: usize, slot: Option<u32>) -> Result<String, AllocError> {
-    let (these, concern) = match count {
-        1 => ("this one", "concerns"),
-        _ => ("all of these", "concern"),
-    };
-    match slot {
-        Some(slot) => format!(in alloc;
-            "no order of the requests gives {these}, which {concern} slot {slot}"
-        ),
-        None => format!(in alloc; "no order of the requests gives {these}"),
+/// Looks for at most 16 lines that have no order together, at the blamed slot or at slots that a
+/// search finds. Returns whether there are such lines.
+pub(crate) fn no_order(
+    facts: &Facts<'_>,
+    slot: Option<u32>,
+    out: &mut Complaint,
+) -> Result<bool, NoMemory> {
+    let mut those = Contradiction::new(facts)?;
+    if !those.look(slot)? {
+        return Ok(false);
     }
-}
-
-/// Returns a complaint about at most 16 lines that have no order together, at the blamed slot or at
-/// slots that a search finds.
-pub(crate) fn no_order(case: &Case<'_>, report: &KnownReport, slot: Option<u32>) -> Checked {
-    let mut those = Contradiction::new(case, report)?;
-    if those.look(slot)? {
-        those.complaint(slot)
-    } else {
-        Ok(None)
+    those.view.add_named(those.rests_on_closes, out);
+    if out.lines.is_empty() || out.lines.len() > MOST_LINES {
+        return Ok(false);
     }
+    those.why(&out.lines, slot, &mut out.why);
+    Ok(true)
 }

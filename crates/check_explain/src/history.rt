@@ -1,9 +1,8 @@
 //! Prints one whole history of a script and a legal text: an event or an answer on each line, with
 //! the state of the table after it.
-use crate::kinds::result_of;
-use crate::words::{
-    AskedLine, ByteWords, FileWords, MarkWords, PlaceWords, after_closes, cut_word, next_line,
-};
+use crate::case::result_of;
+use crate::lines::{AskedLine, after_closes, cut_word, next_line};
+use crate::words::Words;
 use check_lines::read_report;
 use fx_base::{Catalogue, Closed, Errno, Mark, NoMemory};
 use fx_chain::{Completion, Place};
@@ -11,58 +10,16 @@ use fx_order::{Access, AccessPlace, Order};
 use fx_ring::tag_at;
 use fx_script::Command;
 use std::alloc::{AllocError, Global};
-use std::fmt;
-use std::fmt::Display;
-
-// The mark of a file that an access found, or `none`.
-#[derive(Drop)]
-struct FoundWords(Option<Closed>);
-
-impl Display for FoundWords {
-    fn fmt<W: fmt::Write>(&self, f: &mut fmt::Formatter<W>) -> fmt::Result {
-        match self.0 {
-            Some(file) => write!(f, "{}", MarkWords(file.mark)),
-            None => f.write_str("none"),
-        }
-    }
-}
-
-// Writes an event that installs no file: its name, its slot, and the file found.
-fn write_found<W: fmt::Write>(
-    f: &mut fmt::Formatter<W>,
-    name: &str,
-    slot: u32,
-    found: Option<Closed>,
-) -> fmt::Result {
-    write!(f, "{name}({slot}, {})", FoundWords(found))
-}
-
-// The first event of an access (docs/MODEL.md, "Steps"): the slot, the file installed, and the file
-// found.
-#[derive(Drop)]
-struct EventWords<'a>(&'a Catalogue, Access);
-
-impl Display for EventWords<'_> {
-    fn fmt<W: fmt::Write>(&self, f: &mut fmt::Formatter<W>) -> fmt::Result {
-        match self.1 {
-            Access::Looks(slot, found) => write_found(f, "Look", slot, found),
-            Access::Clears(slot, found) => write_found(f, "Clear", slot, found),
-            Access::Takes(slot, found) => write_found(f, "Take", slot, found),
-            Access::Puts(slot, it, found) => {
-                let (file, found) = (FileWords(self.0, it), FoundWords(found));
-                write!(f, "Put({slot}, {file}, {found})")
-            }
-            Access::Allocates(slot, it) => write!(f, "Allocate({slot}, {})", FileWords(self.0, it)),
-            Access::FindsFull => f.write_str("Full"),
-        }
-    }
-}
-
-/// The column of the state, unless the text before it is longer.
-const COLUMN: usize = 44;
 
 // The line of a request without its end, and its completion.
 type Answer<'a> = (&'a [u8], Completion);
+
+// Who makes an access: a request, or the command with this word.
+#[derive(Clone, Copy)]
+enum Who<'a> {
+    At(Place),
+    Command(&'a [u8]),
+}
 
 /// A history that is printed command by command, in the order of the script: the rest of the
 /// script's lines, of the text and of the orders. At most one file is held or removed at a time,
@@ -82,12 +39,14 @@ pub struct History<'a> {
     // The file that a request holds, and the one that was removed and isn't closed yet.
     held: Option<Mark>,
     removed: Option<Mark>,
-    // The lines that aren't printed yet. The last one may be unfinished.
-    lines: String,
+    // The lines that aren't printed yet, and the place at which the last one begins, which may be
+    // unfinished.
+    lines: Words,
+    last: usize,
 }
 
 // Returns the number of each chain, and its first request.
-fn chains_of(alloc: Global, answers: &[Answer<'_>]) -> Result<Vec<(u32, usize)>, AllocError> {
+fn chains_of(alloc: Global, answers: &[Answer<'_>]) -> Result<Vec<(u32, usize)>, NoMemory> {
     let mut chains = Vec::new(alloc);
     for (at, (_, it)) in answers.iter().enumerate() {
         if it.place.member == 1 {
@@ -99,7 +58,11 @@ fn chains_of(alloc: Global, answers: &[Answer<'_>]) -> Result<Vec<(u32, usize)>,
 
 // Checks whether no access from one on is of a request.
 fn is_last(places: &[AccessPlace], from: usize, at: &AccessPlace) -> bool {
-    for it in places.iter().skip(from) {
+    let places = match places.get(from..) {
+        Some(places) => places,
+        None => &[],
+    };
+    for it in places {
         if it.chain == at.chain {
             return it.member != at.member;
         }
@@ -109,7 +72,8 @@ fn is_last(places: &[AccessPlace], from: usize, at: &AccessPlace) -> bool {
 
 impl<'a> History<'a> {
     /// Returns the history of a legal text before the first command of a script, with the orders of
-    /// its submissions. `asked`: the lines of the script's commands and requests.
+    /// its submissions: a line that says that the text is legal. `asked`: the lines of the script's
+    /// commands and requests.
     pub fn new(
         alloc: Global,
         catalogue: &'a Catalogue,
@@ -117,6 +81,8 @@ impl<'a> History<'a> {
         text: &'a [u8],
         orders: &'a [Order],
     ) -> History<'a> {
+        let mut lines = Words::new(alloc);
+        lines.say("legal\n");
         History {
             alloc,
             catalogue,
@@ -127,18 +93,20 @@ impl<'a> History<'a> {
             at: Vec::new(alloc),
             held: None,
             removed: None,
-            lines: String::new(alloc),
+            last: lines.len(),
+            lines,
         }
     }
 
     /// Returns the lines that aren't printed yet.
-    pub fn lines(&self) -> &str {
-        self.lines.as_str()
+    pub fn lines(&self) -> &Words {
+        &self.lines
     }
 
     /// Discards the lines, once they are printed.
     pub fn clear(&mut self) {
         self.lines.clear();
+        self.last = 0;
     }
 
     // Returns the next line of the script that is a command or a request.
@@ -160,44 +128,37 @@ impl<'a> History<'a> {
         cut_word(line).1
     }
 
-    // Appends each slot that has a file, with the file's mark. Returns whether there is one.
-    fn push_slots(&mut self) -> Result<bool, AllocError> {
-        let (lines, mut sign) = (&mut self.lines, "");
-        for (slot, file) in self.at.iter().enumerate() {
+    // Appends the state: each slot that has a file, with the file's mark, and the file that was
+    // removed.
+    fn push_state(&mut self) {
+        let (lines, mut slot, mut sign) = (&mut self.lines, 0u64, "");
+        for file in &self.at {
             if let Some(Closed { mark, .. }) = *file {
-                let held = if self.held == Some(mark) { " held" } else { "" };
-                write!(lines, "{sign}{slot} {}{held}", MarkWords(mark))?;
+                lines.count(sign, slot, " ");
+                lines.mark(mark);
+                if self.held == Some(mark) {
+                    lines.say(" held");
+                }
                 sign = ", ";
             }
+            slot = slot.saturating_add(1);
         }
-        Ok(!sign.is_empty())
-    }
-
-    // Appends the state: the slots, and the file that was removed.
-    fn push_state(&mut self) -> Result<(), AllocError> {
-        let none = if self.at.is_empty() {
-            "no table"
-        } else {
-            "empty"
-        };
-        if !self.push_slots()? {
-            self.lines.push_str(none)?;
+        if sign.is_empty() {
+            lines.say(if slot == 0 { "no table" } else { "empty" });
         }
-        match self.removed {
-            Some(mark) => write!(self.lines, ", removed {}", MarkWords(mark)),
-            None => Ok(()),
+        if let Some(mark) = self.removed {
+            lines.say(", removed ");
+            lines.mark(mark);
         }
     }
 
     // Ends the unfinished line with the state.
-    fn end_line(&mut self) -> Result<(), AllocError> {
-        let line = self.lines.rfind('\n').map_or(0, |at| at.saturating_add(1));
-        for _ in self.lines.len().saturating_sub(line)..COLUMN {
-            self.lines.push(' ')?;
-        }
-        self.lines.push_str(" | ")?;
-        self.push_state()?;
-        self.lines.push('\n')
+    fn end_line(&mut self) {
+        self.lines.column(self.last);
+        self.lines.say(" | ");
+        self.push_state();
+        self.lines.say("\n");
+        self.last = self.lines.len();
     }
 
     // Sets the file at a slot.
@@ -222,39 +183,77 @@ impl<'a> History<'a> {
         };
     }
 
-    // Appends the release of the file that is held, if there is one.
-    fn push_release(&mut self, who: &impl Display) -> Result<(), AllocError> {
-        match self.held.take() {
-            Some(mark) => {
-                write!(self.lines, "{who} Release({})", MarkWords(mark))?;
-                self.end_line()
-            }
-            None => Ok(()),
+    // Appends the beginning of an event: who makes it, and its name.
+    fn push_name(&mut self, who: Who<'_>, name: &str) {
+        match who {
+            Who::At(place) => self.lines.place(place),
+            Who::Command(word) => self.lines.bytes(word),
         }
+        self.lines.say(" ");
+        self.lines.say(name);
     }
 
-    // Appends the close of a file.
-    fn push_close(&mut self, who: &impl Display, file: Closed) -> Result<(), AllocError> {
-        write!(self.lines, "{who} Close({})", MarkWords(file.mark))?;
-        if file.tag != 0 {
-            write!(self.lines, " tag {}", file.tag)?;
+    // Appends an event of a file.
+    fn push_event(&mut self, who: Who<'_>, name: &str, file: Mark) {
+        self.push_name(who, name);
+        self.lines.mark(file);
+        self.lines.say(")");
+    }
+
+    // Appends the mark of a file that an access found, or `none`, after the access's slot and the
+    // file that it installed.
+    fn push_found(&mut self, slot: u32, put: Option<Closed>, found: Option<Closed>) {
+        self.lines.count("", u64::from(slot), ", ");
+        if let Some(file) = put {
+            self.lines.file(self.catalogue, file);
+            self.lines.say(", ");
         }
-        self.end_line()
+        match found {
+            Some(file) => self.lines.mark(file.mark),
+            None => self.lines.say("none"),
+        }
+        self.lines.say(")");
+    }
+
+    // Appends the first event of an access (docs/MODEL.md, "Steps"): the slot, the file installed,
+    // and the file found.
+    fn push_first(&mut self, who: Who<'_>, access: Access) {
+        let (name, slot, put, found) = match access {
+            Access::Looks(slot, found) => ("Look(", slot, None, found),
+            Access::Clears(slot, found) => ("Clear(", slot, None, found),
+            Access::Takes(slot, found) => ("Take(", slot, None, found),
+            Access::Puts(slot, file, found) => ("Put(", slot, Some(file), found),
+            Access::Allocates(slot, file) => {
+                self.push_name(who, "Allocate(");
+                self.lines.count("", u64::from(slot), ", ");
+                self.lines.file(self.catalogue, file);
+                return self.lines.say(")");
+            }
+            Access::FindsFull => return self.push_name(who, "Full"),
+        };
+        self.push_name(who, name);
+        self.push_found(slot, put, found);
     }
 
     // Appends the events of an access, and the request or the command that makes it.
-    fn push_access(&mut self, who: &impl Display, access: Access) -> Result<(), AllocError> {
+    fn push_access(&mut self, who: Who<'_>, access: Access) {
         if let Access::Looks(_, Some(file)) = access {
             self.held = Some(file.mark);
         }
-        write!(self.lines, "{who} {}", EventWords(self.catalogue, access))?;
+        self.push_first(who, access);
         self.apply(access);
-        self.end_line()?;
+        self.end_line();
         self.removed = None;
-        self.push_release(who)?;
-        match access.removed() {
-            Some(file) => self.push_close(who, file),
-            None => Ok(()),
+        if let Some(mark) = self.held.take() {
+            self.push_event(who, "Release(", mark);
+            self.end_line();
+        }
+        if let Some(file) = access.removed() {
+            self.push_event(who, "Close(", file.mark);
+            if file.tag != 0 {
+                self.lines.count(" tag ", file.tag, "");
+            }
+            self.end_line();
         }
     }
 
@@ -267,7 +266,10 @@ impl<'a> History<'a> {
         number: i32,
         tag: u64,
     ) -> Option<Access> {
-        let found = self.at.get(slot as usize).copied().flatten();
+        let found = match self.at.get(slot as usize) {
+            Some(found) => *found,
+            None => None,
+        };
         let mark = Mark::Registered { k: self.lists, i };
         match u8::try_from(number) {
             Ok(entry) => Some(Access::Puts(slot, Closed { mark, entry, tag }, found)),
@@ -277,33 +279,28 @@ impl<'a> History<'a> {
     }
 
     // Appends the effect of each number of a list on its slot, from one on.
-    fn push_list(
-        &mut self,
-        who: &[u8],
-        off: u32,
-        list: &[i32],
-        tags: Option<&[u64]>,
-    ) -> Result<(), AllocError> {
+    fn push_list(&mut self, who: &[u8], off: u32, list: &[i32], tags: Option<&[u64]>) {
         self.lists = self.lists.saturating_add(1);
-        let is_update = who == b"regupdate".as_slice();
-        for (i, number) in (0..u32::MAX).zip(list) {
+        let (is_update, mut i) = (who == b"regupdate".as_slice(), 0u32);
+        for number in list {
             let (slot, tag) = (off.saturating_add(i), tag_at(tags, i as usize));
             if let Some(access) = self.access_of(is_update, (slot, i), *number, tag) {
-                self.push_access(&ByteWords(who), access)?;
+                self.push_access(Who::Command(who), access);
             }
+            i = i.saturating_add(1);
         }
-        Ok(())
     }
 
     // Appends the closes of all files.
-    fn push_closes(&mut self, who: &[u8]) -> Result<(), AllocError> {
+    fn push_closes(&mut self, who: &[u8]) {
+        let mut slot = 0u32;
         for at in 0..self.at.len() {
-            if let Some(Some(file)) = self.at.get(at).copied() {
-                let slot = u32::try_from(at).unwrap_or(u32::MAX);
-                self.push_access(&ByteWords(who), Access::Clears(slot, Some(file)))?;
+            if let Some(Some(file)) = self.at.get(at) {
+                let access = Access::Clears(slot, Some(*file));
+                self.push_access(Who::Command(who), access);
             }
+            slot = slot.saturating_add(1);
         }
-        Ok(())
     }
 
     // Appends the events of a call between submissions that was accepted.
@@ -312,13 +309,13 @@ impl<'a> History<'a> {
             Command::Sparse(slots) => self.at = vec![in self.alloc; None; *slots as usize]?,
             Command::Register(list, tags) => {
                 self.at = vec![in self.alloc; None; list.len()]?;
-                self.push_list(who, 0, list, tags.as_deref())?;
+                self.push_list(who, 0, list, tags.as_deref());
             }
             Command::Unregister => {
-                self.push_closes(who)?;
+                self.push_closes(who);
                 self.at.clear();
             }
-            Command::Update(off, list, tags) => self.push_list(who, *off, list, tags.as_deref())?,
+            Command::Update(off, list, tags) => self.push_list(who, *off, list, tags.as_deref()),
             Command::Range(_, _) | Command::Submit(_) => {}
         }
         Ok(())
@@ -330,9 +327,11 @@ impl<'a> History<'a> {
         if !answer.starts_with(b"-") && !answer.starts_with(b"refused") {
             self.push_events(cut_word(line).0, command)?;
         }
-        let (line, answer) = (ByteWords(line), ByteWords(answer));
-        write!(self.lines, "{line} answers {answer}")?;
-        Ok(self.end_line()?)
+        self.lines.bytes(line);
+        self.lines.say(" answers ");
+        self.lines.bytes(answer);
+        self.end_line();
+        Ok(())
     }
 
     // Appends answers from one on up to a member of a chain, and, if `canceled`, those of the
@@ -343,17 +342,21 @@ impl<'a> History<'a> {
         from: usize,
         (chain, member): (u32, u32),
         canceled: bool,
-    ) -> Result<usize, NoMemory> {
-        for (at, (request, it)) in answers.iter().enumerate().skip(from) {
+    ) -> usize {
+        for at in from..answers.len() {
+            let (request, it) = &answers[at];
             let is_canceled = canceled && it.res == result_of(Errno::ECANCELED);
             if it.place.chain != chain || it.place.member > member && !is_canceled {
-                return Ok(at);
+                return at;
             }
-            let (place, request) = (PlaceWords(it.place), ByteWords(request));
-            write!(self.lines, "{place} {request} answers {}", it.res)?;
-            self.end_line()?;
+            self.lines.place(it.place);
+            self.lines.say(" ");
+            self.lines.bytes(request);
+            self.lines.say(" answers ");
+            self.lines.result(it.res);
+            self.end_line();
         }
-        Ok(answers.len())
+        answers.len()
     }
 
     // Appends the events of an access of a chain, and the answers that come with it. `next`: the
@@ -366,64 +369,59 @@ impl<'a> History<'a> {
         (access, place): (Access, Place),
         next: usize,
         ends: bool,
-    ) -> Result<usize, NoMemory> {
+    ) -> usize {
         let (chain, member) = (place.chain, place.member);
         let before = (chain, member.saturating_sub(1));
-        let next = self.push_answers(answers, next, before, false)?;
-        self.push_access(&PlaceWords(place), access)?;
+        let next = self.push_answers(answers, next, before, false);
+        self.push_access(Who::At(place), access);
         if ends {
             return self.push_answers(answers, next, (chain, member), true);
         }
-        Ok(next)
+        next
     }
 
     // Appends the lines of a submission, by the answers of its requests and their order. `chains`:
     // the number of each chain, and its first request that hasn't answered yet.
-    fn push_turns(
-        &mut self,
-        answers: &[Answer<'a>],
-        order: &Order,
-        chains: &mut [(u32, usize)],
-    ) -> Result<(), NoMemory> {
-        for (i, (made, at)) in order.accesses.iter().zip(&order.places).enumerate() {
-            let Some(turn) = chains.get_mut((at.chain as usize).saturating_sub(1)) else {
-                continue;
-            };
-            let place = Place {
-                submission: order.submission,
-                chain: at.chain,
-                member: at.member,
-            };
-            let ends = is_last(&order.places, i.saturating_add(1), at);
-            turn.1 = self.push_turn(answers, (made.access, place), turn.1, ends)?;
+    fn push_turns(&mut self, answers: &[Answer<'a>], order: &Order, chains: &mut [(u32, usize)]) {
+        for (i, at) in order.places.iter().enumerate() {
+            let turn = chains.get_mut((at.chain as usize).saturating_sub(1));
+            if let (Some(turn), Some(made)) = (turn, order.accesses.get(i)) {
+                let place = Place {
+                    submission: order.submission,
+                    chain: at.chain,
+                    member: at.member,
+                };
+                let ends = is_last(&order.places, i.saturating_add(1), at);
+                turn.1 = self.push_turn(answers, (made.access, place), turn.1, ends);
+            }
         }
         for (chain, from) in chains.iter() {
-            self.push_answers(answers, *from, (*chain, u32::MAX), false)?;
+            self.push_answers(answers, *from, (*chain, u32::MAX), false);
         }
-        Ok(())
     }
 
-    // Takes the next lines of the script, those of a submission's requests.
-    fn requests_asked(&mut self, count: usize) -> Result<Vec<&'a [u8]>, AllocError> {
-        let mut asked = Vec::new(self.alloc);
-        for _ in 0..count {
-            asked.push(self.next_asked())?;
+    // Takes the lines of the script of a submission's requests, each with its completion.
+    fn answers(&mut self, completions: Vec<Completion>) -> Result<Vec<Answer<'a>>, NoMemory> {
+        let mut answers = Vec::new(self.alloc);
+        for it in completions {
+            answers.push((self.next_asked(), it))?;
         }
-        Ok(asked)
+        Ok(answers)
     }
 
-    // Appends the lines of an accepted submission with an order of its requests, and takes its
-    // lines of the text.
-    fn push_submission(&mut self, asked: Vec<&'a [u8]>, order: &Order) -> Result<(), NoMemory> {
-        let Some((report, rest)) = read_report(self.alloc, self.text, asked.len())? else {
+    // Appends the lines of an accepted submission of a number of requests with an order of these,
+    // and takes its lines of the script and of the text. The script has the submission's own line
+    // after those of the requests.
+    fn push_submission(&mut self, count: usize, order: &Order) -> Result<(), NoMemory> {
+        let Some((report, rest)) = read_report(self.alloc, self.text, count)? else {
             return Ok(());
         };
-        self.next_asked();
         self.text = rest;
-        let answers = asked.into_iter().zip(report.completions);
-        let answers: Vec<Answer<'a>> = answers.collect(self.alloc)?;
+        let answers = self.answers(report.completions)?;
+        self.next_asked();
         let mut chains = chains_of(self.alloc, &answers)?;
-        self.push_turns(&answers, order, &mut chains)
+        self.push_turns(&answers, order, &mut chains);
+        Ok(())
     }
 
     /// Appends the lines of the next command. A submission without requests prints no line, so that
@@ -436,20 +434,19 @@ impl<'a> History<'a> {
         let Command::Submit(requests) = command else {
             return self.push_call(command);
         };
-        let asked = self.requests_asked(requests.len())?;
         let is_refused = !requests.is_empty() && self.text.starts_with(b"submit ");
         let [order, others @ ..] = (if is_refused { &[] } else { self.orders }) else {
+            for _ in 0..requests.len() {
+                self.next_asked();
+            }
             return self.push_call(command);
         };
         self.orders = others;
-        self.push_submission(asked, order)
+        self.push_submission(requests.len(), order)
     }
 
     /// Appends the lines of the end of the script, where the remaining files are closed.
-    ///
-    /// # Errors
-    /// `NoMemory` if an allocation fails.
-    pub fn push_end(&mut self) -> Result<(), NoMemory> {
-        Ok(self.push_closes(b"teardown")?)
+    pub fn push_end(&mut self) {
+        self.push_closes(b"teardown");
     }
 }

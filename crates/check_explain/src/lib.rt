@@ -8,19 +8,19 @@ mod case;
 mod claims;
 mod complaint;
 mod contradiction;
+mod facts;
 mod history;
-mod kinds;
-mod shown;
+mod lines;
 mod words;
 mod wrong_answer;
 mod wrong_files;
 
-pub use case::Case;
+pub use case::{Case, access_places};
 pub use complaint::{Complaint, explain};
+pub use facts::slots_after;
 pub use history::History;
-pub use kinds::access_places;
-pub use shown::slots_after;
-pub use words::{
-    AskedLine, GotWords, MarkWords, PlaceWords, after_closes, asked_lines, cut_word,
-    first_difference, line_after, line_at, line_number, next_line, shown_line, sign_before,
+pub use lines::{
+    AskedLine, after_closes, asked_lines, cut_word, first_difference, line_after, line_at,
+    line_number, next_line, rest_at,
 };
+pub use words::{Words, sign_before};

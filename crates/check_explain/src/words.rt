@@ -1,245 +1,193 @@
-//! Lines of scripts and texts, by their bytes or their numbers, and the words for places, marks and
-//! files.
-ghost use Rattle.std.specs.Prelude.{◌≤◌, length};
-
-use fx_base::{Catalogue, Closed, Mark};
+//! Words for a person: of places, marks, files, bytes and lines.
+use crate::lines::{line_at, without_end};
+use fx_base::{Catalogue, Closed, Mark, NoMemory};
 use fx_chain::Place;
-use std::alloc::{AllocError, Global};
-use std::fmt;
-use std::fmt::Display;
+use std::alloc::Global;
 
 /// The largest number of bytes of a line that are shown.
 const SHOWN: usize = 100;
 
-// Returns the number of bytes of the first line, its end included.
-fn line_length(text: &[u8]) -> usize
-    ensures { result ≤ length text.now }
-{
-    match text.iter().position(|byte| *byte == b'\n') {
-        Some(at) => at + 1,
-        None => text.len(),
-    }
-}
+/// The column of [`Words::column`].
+const COLUMN: usize = 44;
 
-/// Returns the first line of a text, its end included, and the rest of the text.
-pub fn next_line(text: &[u8]) -> (&[u8], &[u8]) {
-    text.split_at(line_length(text))
-}
-
-/// The rest of a text, of which lines are taken.
-#[derive(Clone, Copy)]
-pub struct Lines<'a> {
-    /// The rest of the text.
-    pub rest: &'a [u8],
-    /// The number of lines that were taken.
-    pub taken: usize,
-}
-
-impl<'a> Lines<'a> {
-    /// Returns a whole text.
-    pub fn new(text: &'a [u8]) -> Lines<'a> {
-        Lines {
-            rest: text,
-            taken: 0,
-        }
-    }
-
-    /// Takes the next line, its end included. It is empty at the end of the text.
-    pub fn take(&mut self) -> &'a [u8] {
-        let (line, rest) = next_line(self.rest);
-        self.rest = rest;
-        self.taken = self.taken.saturating_add(1);
-        line
-    }
-}
-
-/// Returns the line that begins at a byte, its end included. It is empty at the end of the text.
-pub fn line_at(text: &[u8], from: usize) -> &[u8] {
-    next_line(text.get(from..).unwrap_or(b"")).0
-}
-
-/// Returns a line without its end.
-pub(crate) fn without_end(line: &[u8]) -> &[u8] {
-    line.strip_suffix(b"\n").unwrap_or(line)
-}
-
-/// Returns the first word of a line, and its other words.
-pub fn cut_word(line: &[u8]) -> (&[u8], &[u8]) {
-    let mut words = without_end(line).splitn(2, |byte| *byte == b' ');
-    (words.next().unwrap_or(b""), words.next().unwrap_or(b""))
-}
-
-/// A line of a script that is a command or a request.
-#[derive(Clone, Copy)]
-pub struct AskedLine<'a> {
-    /// Its bytes without its end.
-    pub bytes: &'a [u8],
-    /// Its number in the script, from 1.
-    pub number: usize,
-}
-
-/// Returns the lines of a script that are commands or requests, in order.
-///
-/// # Errors
-/// `AllocError` if an allocation fails.
-pub fn asked_lines(alloc: Global, script: &[u8]) -> Result<Vec<AskedLine<'_>>, AllocError> {
-    let (mut asked, mut lines) = (Vec::new(alloc), Lines::new(script));
-    for _ in 0..script.len() {
-        if lines.rest.is_empty() {
-            break;
-        }
-        let line = lines.take();
-        if !line.starts_with(b"\n") && !line.starts_with(b"#") && !line.starts_with(b"file ") {
-            asked.push(AskedLine {
-                bytes: without_end(line),
-                number: lines.taken,
-            })?;
-        }
-    }
-    Ok(asked)
-}
-
-/// Returns the rest of a text after the lines of closed files and of tags that it begins with,
-/// whatever they say.
-pub fn after_closes(text: &[u8]) -> &[u8] {
-    let mut rest = text;
-    for _ in 0..text.len() {
-        if !rest.starts_with(b"closed ") && !rest.starts_with(b"tag ") {
-            break;
-        }
-        (_, rest) = next_line(rest);
-    }
-    rest
-}
-
-/// Returns the number, from 1, of the line that has the byte at a place.
-pub fn line_number(text: &[u8], at: usize) -> usize {
-    let ends = text.iter().take(at).filter(|byte| **byte == b'\n');
-    ends.count().saturating_add(1)
-}
-
-/// Returns the place at which a line begins: `lines` lines after the one that begins at `from`.
-pub fn line_after(text: &[u8], from: usize, lines: usize) -> usize {
-    let mut at = from;
-    for _ in 0..lines {
-        at = at.saturating_add(line_at(text, at).len());
-    }
-    at
-}
-
-/// Returns the places of the first line in which two texts differ: in the first text, read from a
-/// place on, and in the second.
-pub fn first_difference(text: &[u8], from: usize, expected: &[u8]) -> (usize, usize) {
-    let (mut at, mut there) = (from, 0usize);
-    for _ in 0..expected.len() {
-        let line = line_at(expected, there);
-        if line.is_empty() || line_at(text, at) != line {
-            break;
-        }
-        at = at.saturating_add(line.len());
-        there = there.saturating_add(line.len());
-    }
-    (at, there)
-}
-
-/// The first 100 bytes of a line, as a person is shown them: as `\xNN` each that isn't printable,
-/// and a space at the end of the line.
+/// Words for a person, appended one after another. If an allocation fails, some are missing, and
+/// [`Words::text`] returns the error.
 #[derive(Drop)]
-struct ShownBytes<'a>(&'a [u8]);
+pub struct Words {
+    words: String,
+    is_whole: bool,
+}
 
-impl Display for ShownBytes<'_> {
-    fn fmt<W: fmt::Write>(&self, f: &mut fmt::Formatter<W>) -> fmt::Result {
-        let words = self.0.strip_suffix(b" ").unwrap_or(self.0).len();
-        for (i, byte) in self.0.iter().enumerate().take(SHOWN) {
-            match *byte {
-                32..=126 if i < words => write!(f, "{}", char::from(*byte))?,
-                other => write!(f, "\\x{other:02x}")?,
+impl Words {
+    /// Returns no words.
+    pub fn new(alloc: Global) -> Words {
+        let words = String::new(alloc);
+        let is_whole = true;
+        Words { words, is_whole }
+    }
+
+    /// Returns the words.
+    ///
+    /// # Errors
+    /// `NoMemory` if an allocation failed.
+    pub fn text(&self) -> Result<&str, NoMemory> {
+        if self.is_whole {
+            Ok(self.words.as_str())
+        } else {
+            Err(NoMemory)
+        }
+    }
+
+    /// Returns the number of their bytes.
+    pub fn len(&self) -> usize {
+        self.words.len()
+    }
+
+    /// Discards the words.
+    pub fn clear(&mut self) {
+        self.words.clear();
+    }
+
+    /// Records that an allocation failed.
+    pub(crate) fn lose(&mut self) {
+        self.is_whole = false;
+    }
+
+    /// Appends a text.
+    pub fn say(&mut self, text: &str) {
+        if self.words.push_str(text).is_err() {
+            self.lose();
+        }
+    }
+
+    /// Appends a character of one byte.
+    pub fn byte(&mut self, byte: u8) {
+        if self.words.push(char::from(byte)).is_err() {
+            self.lose();
+        }
+    }
+
+    /// Appends a number.
+    pub fn number(&mut self, number: u64) {
+        if write!(self.words, "{number}").is_err() {
+            self.lose();
+        }
+    }
+
+    /// Appends a number between two texts.
+    pub fn count(&mut self, before: &str, number: u64, after: &str) {
+        self.say(before);
+        self.number(number);
+        self.say(after);
+    }
+
+    /// Appends a result.
+    pub fn result(&mut self, res: i32) {
+        if res < 0 {
+            self.say("-");
+        }
+        self.number(u64::from(res.unsigned_abs()));
+    }
+
+    // Appends a byte in lower case hexadecimal.
+    fn hex(&mut self, byte: u8) {
+        if write!(self.words, "{byte:02x}").is_err() {
+            self.lose();
+        }
+    }
+
+    /// Appends a place: `S.C.M`.
+    pub fn place(&mut self, place: Place) {
+        self.number(u64::from(place.submission));
+        self.count(".", u64::from(place.chain), ".");
+        self.number(u64::from(place.member));
+    }
+
+    /// Appends a mark: `rK.I` or `S.C.M.E`.
+    pub fn mark(&mut self, mark: Mark) {
+        match mark {
+            Mark::Registered { k, i } => {
+                self.count("r", u64::from(k), ".");
+                self.number(u64::from(i));
             }
-        }
-        Ok(())
-    }
-}
-
-/// Returns the line that begins at a place, as a person is shown it: at most 100 bytes, and as
-/// `\xNN` each that isn't printable, and a space at the end of the line. For an empty or missing
-/// line it returns `none`.
-///
-/// # Errors
-/// `AllocError` if an allocation fails.
-pub fn shown_line(
-    alloc: Global,
-    text: &[u8],
-    from: usize,
-    none: &str,
-) -> Result<String, AllocError> {
-    let line = line_at(text, from);
-    let bytes = without_end(line);
-    if bytes.is_empty() {
-        return none.to_owned(alloc);
-    }
-    let end = if bytes.len() > SHOWN {
-        ".."
-    } else if bytes.len() == line.len() {
-        " without a line end"
-    } else {
-        ""
-    };
-    format!(in alloc; "{}{end}", ShownBytes(bytes))
-}
-
-/// A place: `S.C.M`.
-#[derive(Drop)]
-pub struct PlaceWords(pub Place);
-
-impl Display for PlaceWords {
-    fn fmt<W: fmt::Write>(&self, f: &mut fmt::Formatter<W>) -> fmt::Result {
-        let (place, submission) = (self.0, self.0.submission);
-        write!(f, "{submission}.{}.{}", place.chain, place.member)
-    }
-}
-
-/// A mark: `rK.I` or `S.C.M.E`.
-#[derive(Drop)]
-pub struct MarkWords(pub Mark);
-
-impl Display for MarkWords {
-    fn fmt<W: fmt::Write>(&self, f: &mut fmt::Formatter<W>) -> fmt::Result {
-        match self.0 {
-            Mark::Registered { k, i } => write!(f, "r{k}.{i}"),
             Mark::Submitted {
                 submission,
                 chain,
                 member,
                 entry,
-            } => write!(f, "{submission}.{chain}.{member}.{entry}"),
+            } => {
+                self.place(Place {
+                    submission,
+                    chain,
+                    member,
+                });
+                self.count(".", u64::from(entry), "");
+            }
         }
     }
-}
 
-/// Bytes of a line of a script or a text, which are printable.
-#[derive(Drop)]
-pub(crate) struct ByteWords<'a>(pub &'a [u8]);
-
-impl Display for ByteWords<'_> {
-    fn fmt<W: fmt::Write>(&self, f: &mut fmt::Formatter<W>) -> fmt::Result {
-        for byte in self.0 {
-            write!(f, "{}", char::from(*byte))?;
-        }
-        Ok(())
+    /// Appends a file: its mark and its name.
+    pub(crate) fn file(&mut self, catalogue: &Catalogue, file: Closed) {
+        self.mark(file.mark);
+        self.say(" ");
+        self.say(name_of(catalogue, file.entry));
     }
-}
 
-/// The bytes of a read after a space, in hexadecimal, or nothing if there are none.
-#[derive(Drop)]
-pub struct GotWords<'a>(pub &'a [u8]);
-
-impl Display for GotWords<'_> {
-    fn fmt<W: fmt::Write>(&self, f: &mut fmt::Formatter<W>) -> fmt::Result {
-        for (i, byte) in self.0.iter().enumerate() {
-            f.write_str(if i == 0 { " " } else { "" })?;
-            write!(f, "{byte:02x}")?;
+    /// Appends bytes of a line of a script or a text, which are printable.
+    pub(crate) fn bytes(&mut self, bytes: &[u8]) {
+        for byte in bytes {
+            self.byte(*byte);
         }
-        Ok(())
+    }
+
+    /// Appends the bytes of a read after a space, in hexadecimal, or nothing if there are none.
+    pub fn got(&mut self, bytes: &[u8]) {
+        if !bytes.is_empty() {
+            self.say(" ");
+        }
+        for byte in bytes {
+            self.hex(*byte);
+        }
+    }
+
+    // Appends at most 100 bytes: as `\xNN` each that isn't printable, and a space at the end.
+    fn shown(&mut self, bytes: &[u8]) {
+        let is_open = bytes.ends_with(b" ");
+        for (i, byte) in bytes.iter().enumerate() {
+            if i >= SHOWN {
+                break;
+            }
+            let is_last = i.saturating_add(1) == bytes.len();
+            if *byte < 32 || *byte > 126 || is_open && is_last {
+                self.say("\\x");
+                self.hex(*byte);
+            } else {
+                self.byte(*byte);
+            }
+        }
+    }
+
+    /// Appends the line that begins at a place, as a person is shown it: at most 100 bytes, and as
+    /// `\xNN` each that isn't printable, and a space at the end of the line. For an empty or
+    /// missing line it appends `none`.
+    pub fn line(&mut self, text: &[u8], from: usize, none: &str) {
+        let line = line_at(text, from);
+        let bytes = without_end(line);
+        self.shown(bytes);
+        if bytes.is_empty() {
+            self.say(none);
+        } else if bytes.len() > SHOWN {
+            self.say("..");
+        } else if bytes.len() == line.len() {
+            self.say(" without a line end");
+        }
+    }
+
+    /// Appends spaces to the last line up to a column, unless it is longer.
+    pub(crate) fn column(&mut self, from: usize) {
+        for _ in self.words.len().saturating_sub(from)..COLUMN {
+            self.say(" ");
+        }
     }
 }
 
@@ -259,16 +207,5 @@ pub(crate) fn name_of(catalogue: &Catalogue, entry: u8) -> &str {
         catalogue.name_of(entry)
     } else {
         ""
-    }
-}
-
-/// A file: its mark and its name.
-#[derive(Drop)]
-pub(crate) struct FileWords<'a>(pub &'a Catalogue, pub Closed);
-
-impl Display for FileWords<'_> {
-    fn fmt<W: fmt::Write>(&self, f: &mut fmt::Formatter<W>) -> fmt::Result {
-        let Closed { mark, entry, .. } = self.1;
-        write!(f, "{} {}", MarkWords(mark), name_of(self.0, entry))
     }
 }

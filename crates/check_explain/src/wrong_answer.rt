@@ -1,280 +1,248 @@
 //! Lines that aren't the completions of their requests, and completions that no request there may
 //! have, or that contradict their chain.
-use crate::answers::{Contents, ValidAnswer, answers_of, answers_words};
-use crate::case::Case;
-use crate::complaint::{Checked, Complaint};
-use crate::kinds::{
-    Act, Effect, acts_of, entries_read, fixed_result, may_sever, result_of, why_refused,
-};
-use crate::words::{ByteWords, Lines, PlaceWords, name_of, next_line};
+use crate::answers::{Answers, Left, left_at_slots};
+use crate::case::{Act, Effect, Row, result_of};
+use crate::complaint::Complaint;
+use crate::facts::Facts;
+use crate::lines::{Lines, next_line};
+use crate::words::{Words, name_of};
 use fx_base::{Errno, NoMemory};
-use fx_chain::{Completion, Place, Request};
-use std::alloc::AllocError;
+use fx_chain::{Completion, refusal_of};
 
 // The reason why a completion without a file has no bytes.
 const ONLY_READS: &str = "only a read that finds a file has bytes";
 
-// Returns the reason why no file has the bytes of a read, or why the file that has them can't be at
-// the slot.
-fn why_no_entry(
-    case: &Case<'_>,
-    request: &Request,
-    slot: u32,
-    it: &Completion,
-) -> Result<String, NoMemory> {
-    let fits = entries_read(case, request, it)?;
-    let Some(entry) = (0..=u8::MAX).find(|entry| fits[*entry as usize]) else {
-        return Ok("no file gives this read these bytes".to_owned(case.alloc)?);
-    };
-    let name = name_of(case.catalogue, entry);
-    Ok(format!(in case.alloc; "these are the bytes of {name}, which can't be at slot {slot} then")?)
+// Appends the reason why a request is refused with an error whatever is at the slots.
+fn why_refused(facts: &Facts<'_>, row: &Row<'_>, errno: Errno, why: &mut Words) {
+    let size = facts.case.size() as u64;
+    let has_bad_entry = refusal_of(facts.case.catalogue, u32::MAX, row.request).is_some();
+    match errno {
+        Errno::ENOENT => why.say("no file of the script has that name"),
+        Errno::EBADF if has_bad_entry => why.say("an entry of the list names no file"),
+        _ if size == 0 => why.say("there is no table"),
+        _ => why.count("the table has the slots 0 to ", size - 1, ""),
+    }
 }
 
-// Returns the reason why a read can't have its number or its bytes.
+// Appends the reason why a read can't have its number or its bytes.
 fn why_not_read(
-    case: &Case<'_>,
-    request: &Request,
+    facts: &Facts<'_>,
+    row: &Row<'_>,
     slot: u32,
     it: &Completion,
-) -> Result<String, NoMemory> {
-    let (res, count) = (it.res, it.got.len());
-    if usize::try_from(res).ok() == Some(count) {
-        return why_no_entry(case, request, slot, it);
+    why: &mut Words,
+) -> Result<(), NoMemory> {
+    let count = it.got.len();
+    if usize::try_from(it.res).ok() != Some(count) {
+        why.say("the number is ");
+        why.result(it.res);
+        why.count(", and ", count as u64, " bytes follow");
+        return Ok(());
     }
-    Ok(format!(in case.alloc; "the number is {res}, and {count} bytes follow")?)
+    let fits = facts.entries_read(row, it)?;
+    for entry in 0..=u8::MAX {
+        if fits[entry as usize] {
+            why.say("these are the bytes of ");
+            why.say(name_of(facts.case.catalogue, entry));
+            why.count(", which can't be at slot ", u64::from(slot), " then");
+            return Ok(());
+        }
+    }
+    why.say("no file gives this read these bytes");
+    Ok(())
 }
 
-// Returns the reason why an access of a slot can't have an answer without bytes, which may be
-// empty.
-fn why_not_at(
-    case: &Case<'_>,
-    request: &Request,
-    slot: u32,
-    effect: Effect,
-    res: i32,
-) -> Result<String, AllocError> {
-    if effect == Effect::Takes && res == 0 {
-        format!(in case.alloc; "slot {slot} can't have a file then")
-    } else if res == result_of(Errno::EBADF) && fixed_result(case, request).is_none() {
-        format!(in case.alloc; "slot {slot} can't be empty then")
-    } else {
-        Ok(String::new(case.alloc))
+// Appends the reason why an access of a slot can't have an answer without bytes, if one is known.
+fn why_not_at(row: &Row<'_>, act: &Act, slot: u32, res: i32, why: &mut Words) {
+    if matches!(act.effect, Effect::Takes) && res == 0 {
+        why.count("slot ", u64::from(slot), " can't have a file then");
+    } else if res == result_of(Errno::EBADF) && row.fixed_result().is_none() {
+        why.count("slot ", u64::from(slot), " can't be empty then");
     }
 }
 
-// Returns the reason why the first access of a request can't have a completion, which may be empty.
+// Appends the reason why the first access of a request can't have a completion, if one is known.
 fn why_not_by(
-    case: &Case<'_>,
-    request: &Request,
+    facts: &Facts<'_>,
+    row: &Row<'_>,
     act: &Act,
     it: &Completion,
-) -> Result<String, NoMemory> {
-    let is_read = act.effect == Effect::Looks;
-    let words = match act.slot {
-        _ if !is_read && !it.got.is_empty() => ONLY_READS,
-        Some(slot) if is_read && it.res >= 0 => return why_not_read(case, request, slot, it),
-        Some(slot) => return Ok(why_not_at(case, request, slot, act.effect, it.res)?),
-        None if case.slots.range.1 == 0 => "the range has no slot",
-        None => "",
-    };
-    Ok(words.to_owned(case.alloc)?)
+    why: &mut Words,
+) -> Result<(), NoMemory> {
+    let is_read = matches!(act.effect, Effect::Looks);
+    match act.asked {
+        _ if !is_read && !it.got.is_empty() => why.say(ONLY_READS),
+        Some(slot) if is_read && it.res >= 0 => why_not_read(facts, row, slot, it, why)?,
+        Some(slot) => why_not_at(row, act, slot, it.res, why),
+        None if facts.case.slots.range.1 == 0 => why.say("the range has no slot"),
+        None => {}
+    }
+    Ok(())
 }
 
-// Returns the reason why a request can't have a completion, which may be empty.
-fn why_not(case: &Case<'_>, request: &Request, it: &Completion) -> Result<String, NoMemory> {
+// Appends the reason why a request can't have a completion, if one is known.
+fn why_not(
+    facts: &Facts<'_>,
+    row: &Row<'_>,
+    it: &Completion,
+    why: &mut Words,
+) -> Result<(), NoMemory> {
+    let (_, from, to) = row.acts;
     if it.res < 0 && !it.got.is_empty() {
-        return Ok(ONLY_READS.to_owned(case.alloc)?);
+        why.say(ONLY_READS);
+    } else if let Some(errno) = row.refusal {
+        why_refused(facts, row, errno, why);
+    } else if let Some(act) = facts.acts_between(from, to).first() {
+        why_not_by(facts, row, act, it, why)?;
     }
-    if let Some(errno) = case.refusal_of(request) {
-        return Ok(why_refused(case, request, errno)?);
-    }
-    let first = acts_of(case.alloc, case.catalogue, request)?
-        .first()
-        .copied();
-    match first {
-        Some(act) => why_not_by(case, request, &act, it),
-        None => Ok(String::new(case.alloc)),
-    }
+    Ok(())
 }
 
-// Returns the lines, from `first` up to `at`, of requests that may sever their chain, and `at`.
-fn severing_lines(case: &Case<'_>, first: usize, at: usize) -> Result<Vec<usize>, AllocError> {
-    let mut lines = Vec::new(case.alloc);
-    for (i, request) in case.requests.iter().enumerate().take(at).skip(first) {
-        if may_sever(case, request) {
-            lines.push(i)?;
+// Says that a member is canceled, though no earlier one severs its chain: the lines of those that
+// could.
+fn not_severed(facts: &Facts<'_>, at: usize, row: &Row<'_>, out: &mut Complaint) {
+    let first = at
+        .saturating_add(1)
+        .saturating_sub(row.place.member as usize);
+    for line in first..at {
+        if let Some(row) = facts.rows.get(line)
+            && row.may_sever()
+        {
+            out.line(line);
         }
     }
-    lines.push(at)?;
-    Ok(lines)
+    out.line(at);
+    out.why.say(
+        "-125 follows a request that severs its chain, and no earlier request severs this chain",
+    );
 }
 
-// Returns the complaint that a member is canceled, though no earlier one severs its chain: the
-// lines of those that could.
-fn not_severed(case: &Case<'_>, at: usize, member: u32) -> Checked {
-    let first = at.saturating_add(1).saturating_sub(member as usize);
-    let lines = severing_lines(case, first, at)?;
-    let why =
-        "-125 follows a request that severs its chain, and no earlier request severs this chain";
-    Ok(Some(Complaint::Lines(lines, why.to_owned(case.alloc)?)))
-}
-
-// Returns the complaint that a member isn't canceled, though an earlier one severed its chain, if
-// it isn't.
-fn not_canceled(case: &Case<'_>, by: (usize, Place), at: (usize, &Completion)) -> Checked {
-    if at.1.is_refusal(at.1.place, Errno::ECANCELED) {
-        return Ok(None);
+// Says that a member isn't canceled, though the one at `by` severed its chain.
+fn not_canceled(facts: &Facts<'_>, by: usize, at: usize, row: &Row<'_>, out: &mut Complaint) {
+    out.line(by);
+    out.line(at);
+    if let Some(first) = facts.rows.get(by) {
+        out.why.place(first.place);
     }
-    let (first, second) = (PlaceWords(by.1), PlaceWords(at.1.place));
-    let why = format!(in case.alloc;
-        "{first} fails and severs its chain, so {second} should be -125"
-    )?;
-    Ok(Some(Complaint::Lines(vec![in case.alloc; by.0, at.0]?, why)))
+    out.why.say(" fails and severs its chain, so ");
+    out.why.place(row.place);
+    out.why.say(" should be -125");
 }
 
-// Returns the reason why the line of a request doesn't begin with the request's place and a space:
-// another line does, or no line does.
-fn why_misplaced(case: &Case<'_>, at: usize, front: &str) -> Result<String, AllocError> {
-    let mut lines = Lines::new(case.text);
-    for _ in 0..case.text.len() {
-        let number = case.line.saturating_add(lines.taken);
+// Says that the line of a request doesn't begin with `front`, its place and a space: another line
+// does, or no line does.
+fn misplaced(facts: &Facts<'_>, at: usize, front: &str, out: &mut Complaint) {
+    out.line(at);
+    out.expected.say(front);
+    out.expected.say("and its result");
+    let (text, mut taken) = (facts.case.text, 0usize);
+    let mut lines = Lines { rest: text, taken };
+    for _ in 0..text.len() {
         if lines.take().starts_with(front.as_bytes()) {
-            return format!(in case.alloc; "line {number} has that place");
+            let number = facts.case.line.saturating_add(taken);
+            return out.why.count("line ", number as u64, " has that place");
         }
+        taken = lines.taken;
     }
-    let asked = case.asked.get(at).map_or(b"".as_slice(), |line| line.bytes);
-    format!(in case.alloc; "no line answers {}", ByteWords(asked))
+    out.why.say("no line answers ");
+    if let Some(line) = facts.case.asked.get(at) {
+        out.why.bytes(line.bytes);
+    }
 }
 
 // Returns the reason why a line that begins with its request's place can't be read.
 fn why_unread(line: &[u8]) -> &'static str {
     if !line.ends_with(b"\n") {
-        "the text ends within this line"
-    } else if line.iter().any(|byte| byte.is_ascii_uppercase()) {
-        "bytes are printed in lower case"
-    } else {
-        "its result can't be read"
+        return "the text ends within this line";
     }
+    for byte in line {
+        if byte.is_ascii_uppercase() {
+            return "bytes are printed in lower case";
+        }
+    }
+    "its result can't be read"
 }
 
-// Returns the complaint that the line of a request doesn't begin with `front`, its place and a
-// space.
-fn misplaced(case: &Case<'_>, at: usize, front: &str) -> Checked {
-    let expected = format!(in case.alloc; "{front}and its result")?;
-    let why = why_misplaced(case, at, front)?;
-    Ok(Some(Complaint::Line(at, expected, why)))
+// Says which answers a request may give.
+fn expect(row: &Row<'_>, answers: &Answers<'_>, at: usize, out: &mut Complaint) {
+    out.line(at);
+    out.expected.place(row.place);
+    out.expected.say(" with ");
+    answers.say(&mut out.expected);
 }
 
-// Returns the complaint about the first line of `rest`, which isn't the completion of its request.
+// Says why the first line after those of the completions isn't the completion of its request.
 fn unread(
-    case: &Case<'_>,
-    (at, place): (usize, Place),
-    answers: &[ValidAnswer<'_>],
-    rest: &[u8],
-) -> Checked {
-    let line = next_line(rest).0;
-    let front = format!(in case.alloc; "{} ", PlaceWords(place))?;
-    if !line.starts_with(front.as_bytes()) {
-        return misplaced(case, at, front.as_str());
+    facts: &Facts<'_>,
+    row: &Row<'_>,
+    answers: &Answers<'_>,
+    at: usize,
+    out: &mut Complaint,
+) -> Result<(), NoMemory> {
+    let line = next_line(facts.rest.rest).0;
+    let mut front = Words::new(facts.case.alloc);
+    front.place(row.place);
+    front.say(" ");
+    let front = front.text()?;
+    if line.starts_with(front.as_bytes()) {
+        expect(row, answers, at, out);
+        out.why.say(why_unread(line));
+    } else {
+        misplaced(facts, at, front, out);
     }
-    let expected = answers_words(case.alloc, place, answers)?;
-    let why = why_unread(line).to_owned(case.alloc)?;
-    Ok(Some(Complaint::Line(at, expected, why)))
+    Ok(())
 }
 
-// Returns the complaint that a request can't have its completion.
-fn not_valid(
-    case: &Case<'_>,
-    (at, place): (usize, Place),
-    answers: &[ValidAnswer<'_>],
-    request: &Request,
-    it: &Completion,
-) -> Checked {
-    let expected = answers_words(case.alloc, place, answers)?;
-    let why = why_not(case, request, it)?;
-    Ok(Some(Complaint::Line(at, expected, why)))
-}
-
-// The requests of a submission, whose completions are looked at in turn.
-#[derive(Drop)]
-struct AnswerCheck<'a> {
-    case: &'a Case<'a>,
-    contents: Contents<'a>,
-    // The line and the place of the member that severed the request's chain.
-    severed: Option<(usize, Place)>,
-}
-
-impl AnswerCheck<'_> {
-    // Returns the complaint about the completion of a request, if there is one.
-    fn complaint_of(
-        &self,
-        answers: &[ValidAnswer<'_>],
-        (at, place): (usize, Place),
-        request: &Request,
-        it: &Completion,
-    ) -> Checked {
-        if let Some(by) = self.severed {
-            return not_canceled(self.case, by, (at, it));
-        }
-        if place.member > 1 && it.is_refusal(place, Errno::ECANCELED) {
-            return not_severed(self.case, at, place.member);
-        }
-        if answers.iter().any(|answer| answer.fits(it)) {
-            return Ok(None);
-        }
-        not_valid(self.case, (at, place), answers, request, it)
-    }
-
-    // Returns the complaint about the line of a request, if there is one. `rest`: the text after
-    // the lines of the completions.
-    fn check(
-        &self,
-        (at, place): (usize, Place),
-        request: &Request,
-        found: Option<&Completion>,
-        rest: &[u8],
-    ) -> Checked {
-        let answers = answers_of(self.case, &self.contents, self.severed.is_some(), request)?;
-        match found {
-            Some(it) => self.complaint_of(&answers, (at, place), request, it),
-            None => unread(self.case, (at, place), &answers, rest),
-        }
-    }
-
-    // Goes on to the next request.
-    fn pass(
-        &mut self,
-        (at, place): (usize, Place),
-        request: &Request,
-        found: Option<&Completion>,
-    ) -> Result<(), NoMemory> {
-        if self.severed.is_none() && found.is_some_and(|it| request.severs(it)) {
-            self.severed = Some((at, place));
-        }
-        if !request.links() {
-            self.severed = None;
-        }
-        self.contents.pass(request)
-    }
-}
-
-/// Returns a complaint about the first line that isn't the completion of its request, or has one
-/// that the request can't have or that contradicts an earlier one of its chain. `rest`: the text
-/// after the lines of the completions.
-pub(crate) fn wrong_answer(case: &Case<'_>, completions: &[Completion], rest: &[u8]) -> Checked {
-    let (contents, severed) = (Contents::new(case)?, None);
-    let mut check = AnswerCheck {
-        case,
-        contents,
-        severed,
+// Looks whether the line of a request is wrong. `severed`: the line of the member that severed its
+// chain.
+fn is_wrong(
+    facts: &Facts<'_>,
+    left: &[Vec<Left>],
+    severed: Option<usize>,
+    (at, row): (usize, &Row<'_>),
+    out: &mut Complaint,
+) -> Result<bool, NoMemory> {
+    let answers = Answers::new(facts, left, severed.is_some(), row)?;
+    let Some(it) = facts.completions.get(at) else {
+        unread(facts, row, &answers, at, out)?;
+        return Ok(true);
     };
-    for (at, (request, place)) in case.requests.iter().zip(&case.places()?).enumerate() {
-        let (at, found) = ((at, *place), completions.get(at));
-        let complaint = check.check(at, request, found, rest)?;
-        if complaint.is_some() {
-            return Ok(complaint);
+    let is_canceled = it.is_refusal(row.place, Errno::ECANCELED);
+    if let Some(by) = severed {
+        if !is_canceled {
+            not_canceled(facts, by, at, row, out);
         }
-        check.pass(at, request, found)?;
+        return Ok(!is_canceled);
     }
-    Ok(None)
+    if row.place.member > 1 && is_canceled {
+        not_severed(facts, at, row, out);
+        return Ok(true);
+    }
+    if answers.have(it) {
+        return Ok(false);
+    }
+    expect(row, &answers, at, out);
+    why_not(facts, row, it, &mut out.why)?;
+    Ok(true)
+}
+
+/// Looks for the first line that isn't the completion of its request, or has one that the request
+/// can't have or that contradicts an earlier one of its chain. Returns whether there is one.
+pub(crate) fn wrong_answer(facts: &Facts<'_>, out: &mut Complaint) -> Result<bool, NoMemory> {
+    let left = left_at_slots(facts)?;
+    let mut severed = None;
+    for (at, row) in facts.rows.iter().enumerate() {
+        if is_wrong(facts, &left, severed, (at, row), out)? {
+            return Ok(true);
+        }
+        if !row.request.links() {
+            severed = None;
+        } else if severed.is_none()
+            && let Some(it) = facts.completions.get(at)
+            && row.request.severs(it)
+        {
+            severed = Some(at);
+        }
+    }
+    Ok(false)
 }

@@ -1,256 +1,234 @@
 //! Invalid lines of closed files and of tags after a submission's completions, and lines that
 //! contradict each other by the files at one slot.
-use crate::case::{Case, Installed, KnownReport};
-use crate::complaint::{Checked, Complaint};
-use crate::kinds::{Act, Effect};
-use crate::words::{FileWords, Lines, MarkWords, PlaceWords, name_of};
+use crate::case::{Act, Effect, Installed};
+use crate::complaint::Complaint;
+use crate::facts::Facts;
+use crate::words::{Words, name_of};
 use check_lines::ClosedLine;
-use fx_base::Mark;
-use fx_chain::Place;
-use std::alloc::{AllocError, Global};
+use fx_base::{Mark, NoMemory};
 
-// Returns the complaint that a line is wrong, in fixed words.
-fn wrong(case: &Case<'_>, at: usize, expected: &str, why: &str) -> Checked {
-    let (expected, why) = (expected.to_owned(case.alloc)?, why.to_owned(case.alloc)?);
-    Ok(Some(Complaint::Line(at, expected, why)))
+// Says that a mark has another file's name.
+fn wrong_name(at: usize, mark: Mark, name: &str, out: &mut Complaint) {
+    out.line(at);
+    out.expected.say("closed ");
+    out.expected.mark(mark);
+    out.expected.say(" ");
+    out.expected.say(name);
+    out.why.mark(mark);
+    out.why.say(" is ");
+    out.why.say(name);
 }
 
-// Returns the complaint that two lines contradict each other.
-fn conflict(case: &Case<'_>, one: usize, other: usize, why: &str) -> Checked {
-    let lines = vec![in case.alloc; one, other]?;
-    Ok(Some(Complaint::Lines(lines, why.to_owned(case.alloc)?)))
-}
-
-// Returns the complaint that no known file has a mark.
-fn unknown_mark(case: &Case<'_>, at: usize, mark: Mark) -> Checked {
+// Says that no known file has a mark.
+fn unknown_mark(at: usize, mark: Mark, out: &mut Complaint) {
     let expected = "a file that was at a slot, or that a request installed";
-    let why = format!(in case.alloc; "no such file has the mark {}", MarkWords(mark))?;
-    wrong(case, at, expected, why.as_str())
+    out.wrong(at, expected, "no such file has the mark ");
+    out.why.mark(mark);
 }
 
-// Returns the complaint that a mark has another file's name.
-fn wrong_name(case: &Case<'_>, at: usize, mark: Mark, name: &str) -> Checked {
-    let mark = MarkWords(mark);
-    let expected = format!(in case.alloc; "closed {mark} {name}")?;
-    let why = format!(in case.alloc; "{mark} is {name}")?;
-    Ok(Some(Complaint::Line(at, expected, why)))
-}
-
-// Returns the complaint about a line of a closed file, if there is one. Else the file is recorded
-// as closed.
-fn complaint_of(
-    case: &Case<'_>,
-    report: &mut KnownReport,
+// Looks whether the line of a closed file is wrong. Else the file is recorded as closed.
+fn is_wrong(
+    facts: &mut Facts<'_>,
     at: usize,
     line: &ClosedLine,
-) -> Checked {
-    let before = report.last_closed();
-    let i = report.file_marked(line.mark).unwrap_or(usize::MAX);
-    let Some(known) = report.files.get(i) else {
-        return unknown_mark(case, at, line.mark);
+    out: &mut Complaint,
+) -> Result<bool, NoMemory> {
+    let i = facts.file_marked(line.mark).unwrap_or(usize::MAX);
+    let Some(known) = facts.files.get(i) else {
+        unknown_mark(at, line.mark, out);
+        return Ok(true);
     };
-    let name = name_of(case.catalogue, known.file.entry);
+    let name = name_of(facts.case.catalogue, known.file.entry);
     if name.as_bytes() != line.name.as_slice() {
-        return wrong_name(case, at, line.mark, name);
+        wrong_name(at, line.mark, name, out);
+        return Ok(true);
     }
     if let Some(earlier) = known.closed {
-        return conflict(case, earlier, at, "a file is closed once");
+        out.line(earlier);
+        out.wrong(at, "", "a file is closed once");
+        return Ok(true);
     }
-    if matches!(before, Some(before) if before > line.mark) {
-        let why = "closed files are in order of their marks";
-        return conflict(case, at.saturating_sub(1), at, why);
+    if let Some(before) = facts.last_closed()
+        && before > line.mark
+    {
+        out.line(at.saturating_sub(1));
+        out.wrong(at, "", "closed files are in order of their marks");
+        return Ok(true);
     }
-    report.close(i, at)?;
-    Ok(None)
+    facts.close(i, at)?;
+    Ok(false)
 }
 
-// Returns the complaint that a submission has one completion too many.
-fn one_more(case: &Case<'_>, at: usize) -> Checked {
-    let count = case.requests.len();
-    let why = format!(in case.alloc; "the submission has {count} requests, and this is one more")?;
-    wrong(
-        case,
-        at,
-        "a closed file, or the next command's line",
-        why.as_str(),
-    )
-}
-
-// Returns the complaint about the line of a closed file's tag, if there is one.
-fn wrong_tag(case: &Case<'_>, at: usize, it: &Installed, line: &[u8]) -> Checked {
-    let expected = format!(in case.alloc; "tag {}", it.file.tag)?;
-    if line.strip_suffix(b"\n") == Some(expected.as_bytes()) {
-        return Ok(None);
-    }
-    let number = case.line.saturating_add(it.closed.unwrap_or(0));
-    let why = format!(in case.alloc; "{expected} is that of the file of line {number}")?;
-    Ok(Some(Complaint::Line(at, expected, why)))
-}
-
-// Returns the complaint about the first line of a closed file's tag that is wrong, if there is one,
-// and takes the right ones.
-fn wrong_tags(case: &Case<'_>, report: &KnownReport, lines: &mut Lines<'_>) -> Checked {
-    for number in &report.closes {
-        let Some(it) = report.files.get(*number) else {
-            continue;
-        };
-        if it.file.tag != 0 {
-            let at = lines.taken;
-            let complaint = wrong_tag(case, at, it, lines.take())?;
-            if complaint.is_some() {
-                return Ok(complaint);
-            }
+// Looks whether the next line is that of a closed file, and wrong.
+fn is_wrong_line(facts: &mut Facts<'_>, out: &mut Complaint) -> Result<bool, NoMemory> {
+    let at = facts.rest.taken;
+    let line = facts.rest.take();
+    match facts.closed_of(line)? {
+        Some(closed) => is_wrong(facts, at, &closed, out),
+        None => {
+            out.wrong(at, "closed, a mark and a name", "");
+            Ok(true)
         }
     }
-    Ok(None)
 }
 
-// Returns the complaint that the first of the lines isn't the next command's, if it isn't.
-fn one_more_close(case: &Case<'_>, lines: &Lines<'_>) -> Checked {
-    if lines.rest.starts_with(b"tag ") || lines.rest.starts_with(b"closed ") {
-        let why = "the closed files come first, and have no further tag";
-        return wrong(case, lines.taken, "the next command's line", why);
+// Looks whether the next line isn't that of a closed file's tag.
+fn is_wrong_tag(
+    facts: &mut Facts<'_>,
+    it: &Installed,
+    out: &mut Complaint,
+) -> Result<bool, NoMemory> {
+    let at = facts.rest.taken;
+    let line = facts.rest.take();
+    let mut words = Words::new(facts.case.alloc);
+    words.count("tag ", it.file.tag, "");
+    let expected = words.text()?;
+    if line.strip_suffix(b"\n") == Some(expected.as_bytes()) {
+        return Ok(false);
     }
-    Ok(None)
+    out.wrong(at, expected, expected);
+    let number = facts.case.line.saturating_add(it.closed.unwrap_or(0));
+    out.why
+        .count(" is that of the file of line ", number as u64, "");
+    Ok(true)
 }
 
-// Returns the complaint about the lines after the last closed file, if there is one: a completion
-// too many, or a wrong tag.
-fn complaint_after(case: &Case<'_>, report: &KnownReport, mut lines: Lines<'_>) -> Checked {
-    let front = format!(in case.alloc; "{}.", case.number())?;
-    if lines.rest.starts_with(front.as_bytes()) {
-        return one_more(case, lines.taken);
+// Takes the lines of the closed files' tags, up to the first wrong one. Returns whether one is
+// wrong.
+fn wrong_tags(facts: &mut Facts<'_>, out: &mut Complaint) -> Result<bool, NoMemory> {
+    for i in 0..facts.closes.len() {
+        let it = facts.closed_file(i);
+        if let Some(it) = it
+            && it.file.tag != 0
+            && is_wrong_tag(facts, &it, out)?
+        {
+            return Ok(true);
+        }
     }
-    match wrong_tags(case, report, &mut lines)? {
-        None => one_more_close(case, &lines),
-        complaint => Ok(complaint),
-    }
+    Ok(false)
 }
 
-// Returns the complaint about a line that begins as that of a closed file, if there is one.
-fn wrong_line(case: &Case<'_>, report: &mut KnownReport, at: usize, line: &[u8]) -> Checked {
-    match case.closed_of(line)? {
-        Some(closed) => complaint_of(case, report, at, &closed),
-        None => wrong(case, at, "closed, a mark and a name", ""),
-    }
-}
-
-/// Returns a complaint about the first wrong line after a submission's completions, which are taken
-/// of `lines`. It records the closed files in the report.
-pub(crate) fn wrong_close(
-    case: &Case<'_>,
-    report: &mut KnownReport,
-    mut lines: Lines<'_>,
-) -> Checked {
-    for _ in 0..lines.rest.len() {
-        if !lines.rest.starts_with(b"closed ") {
+/// Looks for the first wrong line after a submission's completions. It records the closed files in
+/// the facts. Returns whether a line is wrong.
+pub(crate) fn wrong_close(facts: &mut Facts<'_>, out: &mut Complaint) -> Result<bool, NoMemory> {
+    for _ in 0..facts.rest.rest.len() {
+        if !facts.rest.rest.starts_with(b"closed ") {
             break;
         }
-        let at = lines.taken;
-        let complaint = wrong_line(case, report, at, lines.take())?;
-        if complaint.is_some() {
-            return Ok(complaint);
+        if is_wrong_line(facts, out)? {
+            return Ok(true);
         }
     }
-    complaint_after(case, report, lines)
-}
-
-// Returns one or two lines.
-fn both_lines(
-    alloc: Global,
-    one: Option<usize>,
-    other: Option<usize>,
-) -> Result<Vec<usize>, AllocError> {
-    let mut lines = Vec::new(alloc);
-    if let Some(line) = one {
-        lines.push(line)?;
+    let mut front = Words::new(facts.case.alloc);
+    front.count("", u64::from(facts.case.submissions.saturating_add(1)), ".");
+    if facts.rest.rest.starts_with(front.text()?.as_bytes()) {
+        let count = facts.rows.len() as u64;
+        out.wrong(
+            facts.rest.taken,
+            "a closed file, or the next command's line",
+            "",
+        );
+        out.why.count(
+            "the submission has ",
+            count,
+            " requests, and this is one more",
+        );
+        return Ok(true);
     }
-    if let Some(line) = other {
-        lines.push(line)?;
+    if wrong_tags(facts, out)? {
+        return Ok(true);
     }
-    Ok(lines)
-}
-
-// Returns the complaint that two files are left at one slot.
-fn two_left(case: &Case<'_>, one: &Installed, other: &Installed) -> Checked {
-    let lines = both_lines(case.alloc, one.line, other.line)?;
-    let (first, slot) = (FileWords(case.catalogue, one.file), one.slot);
-    let second = FileWords(case.catalogue, other.file);
-    let why = format!(in case.alloc;
-        "{first} and {second} are both left at slot {slot}: neither has a `closed` line"
-    )?;
-    Ok(Some(Complaint::Lines(lines, why)))
-}
-
-// Returns the complaint that a file has no `closed` line, though the access of a later request
-// `does` what shows that it was removed.
-fn not_closed(
-    case: &Case<'_>,
-    it: &Installed,
-    (line, place): (usize, Place),
-    does: &str,
-) -> Checked {
-    let lines = both_lines(case.alloc, it.line, Some(line))?;
-    let (file, slot) = (FileWords(case.catalogue, it.file), it.slot);
-    let place = PlaceWords(place);
-    let why = format!(in case.alloc;
-        "{file} is at slot {slot} before {place}, which {does}, and has no `closed` line"
-    )?;
-    Ok(Some(Complaint::Lines(lines, why)))
-}
-
-// Returns the complaint that a file has no `closed` line, if it was at a slot before an access that
-// removed it or found the slot empty.
-fn removed(case: &Case<'_>, report: &KnownReport, act: &Act, it: &Installed) -> Checked {
-    let does = match act.found {
-        Some(false) => "finds the slot empty",
-        _ if act.is_done && act.effect != Effect::Looks => "removes what is there",
-        _ => return Ok(None),
-    };
-    let Some(later) = report.completions.get(act.line) else {
-        return Ok(None);
-    };
-    if let Some(line) = it.line
-        && (line >= act.line || report.chain_of(line) != Some(later.place.chain))
-    {
-        return Ok(None);
+    let rest = facts.rest.rest;
+    let is_more = rest.starts_with(b"tag ") || rest.starts_with(b"closed ");
+    if is_more {
+        let why = "the closed files come first, and have no further tag";
+        out.wrong(facts.rest.taken, "the next command's line", why);
     }
-    not_closed(case, it, (act.line, later.place), does)
+    Ok(is_more)
 }
 
-// Returns a complaint about the first slot at which two files are left. Sets the file that is left
-// at each slot.
-fn two_at_a_slot(case: &Case<'_>, report: &KnownReport, left: &mut [Option<Installed>]) -> Checked {
-    for it in &report.files {
+// Adds the line of the request that installed a file, if it wasn't there before.
+fn add_line(it: &Installed, out: &mut Complaint) {
+    if let Some(line) = it.line {
+        out.line(line);
+    }
+}
+
+// Says that two files are left at one slot.
+fn two_left(facts: &Facts<'_>, one: &Installed, other: &Installed, out: &mut Complaint) {
+    add_line(one, out);
+    add_line(other, out);
+    out.why.file(facts.case.catalogue, one.file);
+    out.why.say(" and ");
+    out.why.file(facts.case.catalogue, other.file);
+    let slot = u64::from(one.slot);
+    out.why.count(
+        " are both left at slot ",
+        slot,
+        ": neither has a `closed` line",
+    );
+}
+
+// Looks for the first slot at which two files are left. Sets the file that is left at each slot.
+fn are_two(facts: &Facts<'_>, left: &mut [Option<Installed>], out: &mut Complaint) -> bool {
+    for it in &facts.files {
         if it.closed.is_some() {
             continue;
         }
-        match left.get_mut(it.slot as usize) {
-            Some(Some(one)) => return two_left(case, one, it),
-            Some(at) => *at = Some(*it),
-            None => {}
+        if let Some(at) = left.get_mut(it.slot as usize) {
+            if let Some(one) = at {
+                two_left(facts, one, it, out);
+                return true;
+            }
+            *at = Some(*it);
         }
     }
-    Ok(None)
+    false
 }
 
-/// Returns a complaint about the first slot at which two files are left, or about the first access
-/// that shows that a file without a `closed` line was removed.
-pub(crate) fn wrong_count(case: &Case<'_>, report: &KnownReport) -> Checked {
-    let mut left: Vec<Option<Installed>> = vec![in case.alloc; None; case.size()]?;
-    let complaint = two_at_a_slot(case, report, &mut left)?;
-    if complaint.is_some() {
-        return Ok(complaint);
+// Looks whether a file has no `closed` line, though it was at a slot before an access that removed
+// it or found the slot empty.
+fn is_removed(facts: &Facts<'_>, act: &Act, it: &Installed, out: &mut Complaint) -> bool {
+    let does = match (act.found, act.effect) {
+        (Some(false), _) => "finds the slot empty",
+        (_, Effect::Looks) => return false,
+        _ if act.is_done => "removes what is there",
+        _ => return false,
+    };
+    let Some(later) = facts.rows.get(act.line) else {
+        return false;
+    };
+    if let Some(line) = it.line
+        && (line >= act.line || facts.chain_of(line) != later.place.chain)
+    {
+        return false;
     }
-    for act in &report.acts {
-        let at = act.slot.and_then(|slot| left.get(slot as usize));
-        let complaint = match at {
-            Some(Some(it)) => removed(case, report, act, it)?,
-            _ => None,
-        };
-        if complaint.is_some() {
-            return Ok(complaint);
+    add_line(it, out);
+    out.line(act.line);
+    out.why.file(facts.case.catalogue, it.file);
+    out.why
+        .count(" is at slot ", u64::from(it.slot), " before ");
+    out.why.place(later.place);
+    out.why.say(", which ");
+    out.why.say(does);
+    out.why.say(", and has no `closed` line");
+    true
+}
+
+/// Looks for the first slot at which two files are left, or for the first access that shows that a
+/// file without a `closed` line was removed. Returns whether there is one.
+pub(crate) fn wrong_count(facts: &Facts<'_>, out: &mut Complaint) -> Result<bool, NoMemory> {
+    let mut left: Vec<Option<Installed>> = vec![in facts.case.alloc; None; facts.case.size()]?;
+    if are_two(facts, &mut left, out) {
+        return Ok(true);
+    }
+    for act in &facts.acts {
+        if let Some(slot) = act.slot
+            && let Some(Some(it)) = left.get(slot as usize)
+            && is_removed(facts, act, it, out)
+        {
+            return Ok(true);
         }
     }
-    Ok(None)
+    Ok(false)
 }
