@@ -12,7 +12,9 @@ typedef struct yacht_core yacht_core;
 
 /* the tag and the number of the value that a look-up found, and the tag of one that it dropped */
 typedef struct yacht_label {
-    uint64_t tag, number, freed;
+    uint64_t tag;
+    uint64_t number;
+    uint64_t freed;
 } yacht_label;
 
 int64_t yacht_core_open(uint32_t slots, uint32_t installing, yacht_core **workers, size_t count);
