@@ -9,16 +9,32 @@ pub struct Worker {
     _private: [u8; 0],
 }
 
+/// The tag and the number of the file that a look-up found, and the tag of one that it closed.
+#[allow(dead_code)]
+#[repr(C)]
+#[derive(Default)]
+pub(crate) struct Label {
+    pub(crate) tag: u64,
+    pub(crate) number: u64,
+    pub(crate) freed: u64,
+}
+
 const AGAIN: i64 = -7;
 
 extern "C" {
     fn yacht_core_open(slots: u32, installing: u32, workers: *mut *mut Worker, count: usize)
         -> i64;
     fn yacht_core_close(worker: *mut Worker);
-    fn yacht_core_look(worker: *mut Worker, slot: u32, freed: *mut u64) -> i64;
+    fn yacht_core_look(worker: *mut Worker, slot: u32, label: *mut Label) -> i64;
     fn yacht_core_release(worker: *mut Worker, closed: *mut u64) -> i64;
-    fn yacht_core_put(worker: *mut Worker, slot: u32, tag: u64, closed: *mut u64) -> i64;
-    fn yacht_core_put_any(worker: *mut Worker, tag: u64) -> i64;
+    fn yacht_core_put(
+        worker: *mut Worker,
+        slot: u32,
+        tag: u64,
+        number: u64,
+        closed: *mut u64,
+    ) -> i64;
+    fn yacht_core_put_any(worker: *mut Worker, tag: u64, number: u64) -> i64;
     fn yacht_core_take(worker: *mut Worker, slot: u32, closed: *mut u64) -> i64;
 }
 
@@ -32,9 +48,9 @@ fn tag_of(file: File) -> u64 {
 impl Core {
     // Looks a slot up and releases its file. Returns the node of the file, if there is one.
     fn see(&self, worker: *mut Worker, slot: usize) -> Option<u64> {
-        let mut closed = 0;
+        let (mut label, mut closed) = (Label::default(), 0);
         // SAFETY: one thread uses this worker.
-        let node = unsafe { yacht_core_look(worker, slot as u32, &mut closed) };
+        let node = unsafe { yacht_core_look(worker, slot as u32, &mut label) };
         (node >= 0).then(|| {
             // SAFETY: as above.
             unsafe { yacht_core_release(worker, &mut closed) };
@@ -82,14 +98,14 @@ impl Table for Core {
     fn put(&self, worker: &mut *mut Worker, slot: usize, file: File) {
         let mut closed = 0;
         // SAFETY: one thread uses this worker.
-        unsafe { yacht_core_put(*worker, slot as u32, tag_of(file), &mut closed) };
+        unsafe { yacht_core_put(*worker, slot as u32, tag_of(file), 0, &mut closed) };
     }
 
     fn put_any(&self, worker: &mut *mut Worker, file: File) -> Option<usize> {
         let tag = tag_of(file);
         loop {
             // SAFETY: one thread uses this worker.
-            let slot = unsafe { yacht_core_put_any(*worker, tag) };
+            let slot = unsafe { yacht_core_put_any(*worker, tag, 0) };
             if slot != AGAIN {
                 return usize::try_from(slot).ok();
             }
