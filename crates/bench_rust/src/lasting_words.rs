@@ -377,7 +377,12 @@ impl Table for LastingWords {
         let slot = |n| line((n as u64 + 1) << 40 | if n < full { FULL } else { 0 });
         let node = |n| AtomicU64::new(if n < full { BORN } else { FREE });
         let place = |n| UnsafeCell::new((n < full).then_some(File { entry: 0, mark: 0 }));
-        let group_size = if slots > 256 { 64 } else { 4 };
+        let group_size = match slots {
+            0..=256 => 4,
+            257..=4_096 => 64,
+            4_097..=65_536 => 1_024,
+            _ => 16_384,
+        };
         let counted = |first| match full.saturating_sub(first) {
             rest if in_range => line(rest.min(group_size) as u64),
             _ => line(0),
