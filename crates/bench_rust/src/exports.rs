@@ -21,6 +21,10 @@ pub(crate) struct Label {
 
 const AGAIN: i64 = -7;
 
+/// The fewest workers of a table. A stock has a node for each worker, and the nodes of small stocks
+/// would share cache lines.
+const WORKERS: usize = 16;
+
 extern "C" {
     fn yacht_core_open(slots: u32, installing: u32, workers: *mut *mut Worker, count: usize)
         -> i64;
@@ -38,7 +42,8 @@ extern "C" {
     fn yacht_core_take(worker: *mut Worker, slot: u32, closed: *mut u64) -> i64;
 }
 
-/// A table with a worker for each thread. Its allocation range is all its slots.
+/// A table with a worker for each thread, and as many more as it takes to have 16. Its allocation
+/// range is all its slots.
 pub struct Core(Vec<AtomicPtr<Worker>>);
 
 fn tag_of(file: File) -> u64 {
@@ -63,10 +68,11 @@ impl Table for Core {
     type Pass = *mut Worker;
 
     fn open(shape: Shape) -> Core {
-        let mut workers = vec![std::ptr::null_mut(); shape.threads];
+        let mut workers = vec![std::ptr::null_mut(); shape.threads.max(WORKERS)];
         let (slots, count) = (shape.slots as u32, workers.len());
         // SAFETY: there are `count` places.
-        let answer = unsafe { yacht_core_open(slots, count as u32, workers.as_mut_ptr(), count) };
+        let installing = shape.threads as u32;
+        let answer = unsafe { yacht_core_open(slots, installing, workers.as_mut_ptr(), count) };
         assert_eq!(answer, 0, "memory");
         let table = Core(workers.into_iter().map(AtomicPtr::new).collect());
         for slot in 0..shape.full {

@@ -22,6 +22,9 @@ const FULL: u64 = 1 << 20;
 const TAKES: u64 = FULL - 1;
 const COLD_TAKES: u64 = 16;
 
+// The nodes of a pass's stock: those of a table with 16 passes.
+const STOCK: usize = 16;
+
 // A marked hold word.
 const MARK: u64 = 1 << 32;
 
@@ -373,7 +376,7 @@ impl Table for LastingWords {
             threads,
             ..
         } = shape;
-        let nodes = slots + threads * threads;
+        let nodes = slots + threads * STOCK;
         let slot = |n| line((n as u64 + 1) << 40 | if n < full { FULL } else { 0 });
         let node = |n| AtomicU64::new(if n < full { BORN } else { FREE });
         let place = |n| UnsafeCell::new((n < full).then_some(File { entry: 0, mark: 0 }));
@@ -402,12 +405,10 @@ impl Table for LastingWords {
     }
 
     fn pass(&self, thread: usize) -> Pass {
-        let (slots, threads) = (self.slots.len(), self.holds.len());
+        let first = self.slots.len() + thread * STOCK;
         Pass {
             number: thread,
-            stock: (0..threads)
-                .map(|it| slots + thread * threads + it)
-                .collect(),
+            stock: (first..first + STOCK).collect(),
             next: 0,
             listed: false,
             sure: false,
