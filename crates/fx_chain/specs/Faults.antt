@@ -2,9 +2,10 @@
 use Rattle.std.specs.Prelude.{◌≡◌, ℕ, ◌+◌, ◌==◌, nat_lt, Bool, false, not, ◌&&◌, List, [], ◌∷◌}
 use Rattle.std.specs.Prelude.{◌++◌, length, Option, Some, None, if◌then◌else◌}
 use Rattle.fx_table.specs.declared.limits.TheConstants.{MAX_CHAINS, CHAIN_NUMBERS}
+use Rattle.fx_chain.specs.Intents.{installs_of}
 use Rattle.fx_chain.specs.Operation.{Operation, Reads, Updates, Asked, is_fixed}
 use Rattle.fx_chain.specs.Runs.{runs_of, open_run}
-use Rattle.fx_chain.specs.Weights.{installs_of, all_installs}
+use Rattle.fx_chain.specs.Weights.{all_installs}
 use Rattle.fx_chain.specs.declared.fault.CutKind.{CutKind}
 use Rattle.fx_chain.specs.declared.fault.CutKind.TheVariants.{BadFlags, LongRead, LongUpdate}
 use Rattle.fx_chain.specs.declared.fault.CutKind.TheVariants.{ChainTooLong, TooManyFiles}

@@ -5,8 +5,8 @@ use Rattle.fx_plain.specs.declared.event.File.{File}
 use Rattle.fx_plain.specs.declared.event.Action.{Action}
 use Rattle.fx_plain.specs.declared.event.Action.TheVariants.{Look}
 use Rattle.fx_plain.specs.History.{◌▷◌, ◌▷▷◌, close_of}
-use Rattle.fx_chain.specs.Operation.{Operation, Reads, Asked}
-use Rattle.fx_chain.specs.Weights.{weight_of}
+use Rattle.fx_chain.specs.Intents.{weight_of, look_ups_of}
+use Rattle.fx_chain.specs.Operation.{Operation, Asked}
 
 -- the actions of one step in a table that lasts: before a look-up, the close of the file that it
 -- freed, if any
@@ -29,11 +29,6 @@ pub record MayFree (lasts : Bool) (Says : List Action → Type 0) (actions : Lis
     pub steps : List Action
     pub frees : Frees lasts steps actions
     pub says : Says steps
-
--- the number of slots that a request looks up
-abbrev pub look_ups_of : Operation → ℕ
-look_ups_of (Reads slot off len) = 1
-look_ups_of _ = 0
 
 -- the room that a request needs in a list of closes: its weight, and in a table that lasts one
 -- place more for each slot that it looks up

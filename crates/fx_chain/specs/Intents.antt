@@ -1,8 +1,9 @@
 -- The accesses that each kind of request intends at the table, in order, each before it is known
--- what it finds, and the answer of the request by what they found.
+-- what it finds: their slots, the numbers and the room in a list of closes that they need, and the
+-- answer of the request by what they found.
 use Rattle.std.specs.Prelude.{◌≡◌, ℕ, zero, suc, ◌+◌, ◌<◌, ◌≤◌, Bool, true, false, ℤ, pos}
-use Rattle.std.specs.Prelude.{negsuc, int_le, List, [], ◌∷◌, ◌++◌, length, slice_get, Option, Some}
-use Rattle.std.specs.Prelude.{None, MatchOption, if◌then◌else◌}
+use Rattle.std.specs.Prelude.{negsuc, int_le, List, [], ◌∷◌, ◌++◌, length, filter, slice_get}
+use Rattle.std.specs.Prelude.{Option, Some, None, MatchOption, if◌then◌else◌}
 use Rattle.fx_base.specs.declared.errno.Errno.{Errno}
 use Rattle.fx_base.specs.declared.errno.Errno.TheVariants.{EBADF, ENFILE}
 use Rattle.fx_base.specs.Identity.{Identity}
@@ -96,6 +97,31 @@ abbrev pub InstallsAt : Operation → ℕ → Type 0
 InstallsAt (Opens name target) entry = entry ≡ 0
 InstallsAt (Updates off list) entry = (file : ℕ) × (slice_get list entry ≡ Some (pos file))
 InstallsAt _ entry = ⊥
+
+-- the number of files that an entry of an update installs: 1 if it is 0 or more
+abbrev pub entry_installs : ℤ → ℕ
+entry_installs (pos entry) = 1
+entry_installs (negsuc n) = 0
+
+-- the number of files that the entries of an update install
+abbrev pub list_installs : List ℤ → ℕ
+list_installs list = length (filter (λ entry. int_le (pos 0) entry) list)
+
+-- the number of files that a request installs
+abbrev pub installs_of : Operation → ℕ
+installs_of (Opens name target) = 1
+installs_of (Updates off list) = list_installs list
+installs_of _ = 0
+
+-- the greatest number of files that a request may close
+abbrev pub weight_of : Operation → ℕ
+weight_of (Updates off list) = length list
+weight_of _ = 1
+
+-- the number of slots that a request looks up
+abbrev pub look_ups_of : Operation → ℕ
+look_ups_of (Reads slot off len) = 1
+look_ups_of _ = 0
 
 -- the slots that a request may reach, by the allocation range
 abbrev pub MayReach : ℕ × ℕ → Operation → ℕ → Type 0

@@ -13,8 +13,9 @@ use Rattle.fx_chain.specs.Answers.{Answers}
 use Rattle.fx_chain.specs.Completed.{Completed}
 use Rattle.fx_chain.specs.Explains.{Explains, AnswersBehind, first_member}
 use Rattle.fx_chain.specs.Freed.{MayFree, all_room, room_of}
+use Rattle.fx_chain.specs.Intents.{installs_of}
 use Rattle.fx_chain.specs.Operation.{Asked}
-use Rattle.fx_chain.specs.Weights.{installs_of, all_installs, all_weights}
+use Rattle.fx_chain.specs.Weights.{all_installs, all_weights}
 use Rattle.fx_chain.specs.declared.completion.Place.{Place}
 
 -- the pass and the list of a player, at a moment

@@ -2,9 +2,9 @@
 ghost use Rattle.std.specs.Prelude.{◌≡◌, ◌+◌, ◌*◌, ◌<◌, ◌≤◌, length, IfSome, IfNone, IfOk, IfErr, Ok, Err, if◌then◌else◌, ◌==◌};
 ghost use Rattle.fx_chain.specs.Accepted.{IsAccepted};
 ghost use Rattle.fx_chain.specs.Faults.{fault_after, fault_of};
+ghost use Rattle.fx_chain.specs.Intents.{installs_of};
 ghost use Rattle.fx_chain.specs.Operation.{all_asked, asked_of, is_link};
 ghost use Rattle.fx_chain.specs.Runs.{runs_of};
-ghost use Rattle.fx_chain.specs.Weights.{installs_of};
 
 use crate::request::Request;
 use fx_table::{CHAIN_NUMBERS, MAX_CHAINS};

@@ -1,23 +1,21 @@
 //! The accesses that each kind of request intends at the table, each before it is known what it
-//! finds: how many, in what order, at which slots. [`crate::answer_of`] returns the answer by what
-//! they found. With the refusals, the player and the limits, no other code has to distinguish the
-//! kinds of requests.
-ghost use Rattle.std.specs.Prelude.{◌≡◌, ◌+◌, ◌<◌, ◌≤◌, ◌^◌, ◌↔◌, ℕ, IfNone, IfOk, IfSome, IsTrue, List, None, OnOk, Option, Some, false};
-ghost use Rattle.std.specs.Prelude.{filter, int_le, length, negsuc, slice_get};
-ghost use Rattle.std.specs.List.{list_any};
+//! finds: how many, in what order, at which slots; and the answers by what they found, if no
+//! allocation fails.
+ghost use Rattle.std.specs.Prelude.{◌≡◌, ◌<◌, ◌^◌, None, length, ◌+◌, ◌≤◌, false, ℕ, IfOk, Some, ◌↔◌, IfSome, IsTrue, List, OnOk, Option, slice_get};
 ghost use Rattle.fx_base.specs.Catalogue.{FileEntry};
-ghost use Rattle.fx_base.specs.declared.errno.Errno.TheVariants.{ENOENT};
-ghost use Rattle.fx_chain.specs.Intents.{InstallsAt, IsIntent, IsOpened, MayReach, answer_at_table, bytes_asked, bytes_read};
-ghost use Rattle.fx_chain.specs.Intents.{count_of, intent_by, intents_of, is_read, list_intents, open_intent, positions_from, positions_of};
-ghost use Rattle.fx_chain.specs.Operation.{operation_of};
-ghost use Rattle.fx_chain.specs.Refusal.{is_bad_entry, refusal_of};
+ghost use Rattle.fx_chain.specs.Accepted.{IsWithinLimits};
+ghost use Rattle.fx_chain.specs.Completed.{completed_of};
+ghost use Rattle.fx_chain.specs.Intents.{answer_of, close_answer, open_answer, read_answer, InstallsAt, IsIntent, MayReach, answer_at_table, bytes_asked, bytes_read, count_of, intent_by, intents_of, is_read, open_intent, positions_of};
+ghost use Rattle.fx_chain.specs.Operation.{asked_of, operation_of};
+ghost use Rattle.fx_chain.specs.Refusal.{refusal_of};
 ghost use Rattle.fx_chain.specs.declared.completion.Place.{Place as In};
 ghost use Rattle.fx_chain.specs.declared.intent.Finding.{Finding as What};
+ghost use Rattle.fx_chain.specs.declared.intent.Finding.TheVariants.{Free};
 
-use crate::completion::Place;
-use crate::refusal::{refusal_of, refusal_of_opened};
-use crate::request::{Op, Request, Target};
-use fx_base::{Catalogue, Closed, MOST_ENTRIES, NoMemory};
+use crate::completion::{Completion, Place};
+use crate::entries::{entries_done, list_intent, positions_in};
+use crate::request::{Op, Request, Target, refusal_of, refusal_of_opened};
+use fx_base::{Catalogue, Closed, Errno, NoMemory};
 use std::alloc::Global;
 
 /// An access that a request intends, before it is known what it finds.
@@ -44,33 +42,6 @@ pub enum Finding {
     Free(u32),
     /// A file at every slot of the allocation range.
     Full,
-}
-
-// Checks whether an entry of a list isn't a skip.
-fn is_done(entry: i32) -> bool
-    ensures { result ≡ int_le (negsuc 0) entry }
-{
-    entry >= -1
-}
-
-// Returns the number of entries of a list that aren't skips.
-fn entries_done(list: &[i32]) -> usize
-    ensures { result ≡ length (filter (λ entry. int_le (negsuc 0) entry) list.now) }
-{
-    list.iter().filter(|entry| **entry >= -1).count()
-}
-
-// Returns the position, from 0, of each entry of a list that isn't a skip.
-fn positions_in(alloc: Global, list: &[i32]) -> Result<Vec<Option<usize>>, NoMemory>
-    ensures { IfOk result (λ positions. positions.items ≡ positions_from 0 list.now) }
-{
-    let mut positions = Vec::new(alloc);
-    for (i, entry) in list.iter().enumerate() {
-        if *entry >= -1 {
-            positions.push(Some(i))?;
-        }
-    }
-    Ok(positions)
 }
 
 impl Request {
@@ -144,31 +115,6 @@ impl Request {
             }
             | Op::Close { slot } => (*slot as usize, *slot as usize + 1),
             Op::Update { off, list } => (*off as usize, *off as usize + list.len()),
-        }
-    }
-
-    /// Returns the catalogue entry that the request opens, 0 unless it is an open, or `None` if no
-    /// entry has the name.
-    pub fn opened(&self, catalogue: &Catalogue) -> Option<u8>
-        ensures some { IfSome result (IsOpened catalogue.now (operation_of self.now.op)) }
-        ensures none { IfNone result ((size : ℕ)
-            → refusal_of catalogue.now size (operation_of self.now.op) ≡ Some ENOENT) }
-    {
-        match &self.op {
-            Op::Open { name, target: _ } => catalogue.find(name),
-            _ => Some(0),
-        }
-    }
-
-    /// Checks whether this is a catalogue entry that the request opens, or 0 unless it is an open.
-    pub fn is_opened(&self, catalogue: &Catalogue, entry: u8) -> bool
-        ensures { IsTrue result ↔ IsOpened catalogue.now (operation_of self.now.op) entry }
-    {
-        match &self.op {
-            Op::Open { name, target: _ } => {
-                u32::from(entry) < catalogue.len() && catalogue.name_of(entry) == name.as_str()
-            }
-            _ => entry == 0,
         }
     }
 
@@ -280,38 +226,6 @@ fn open_intent(target: Target, file: Closed) -> Intent
     }
 }
 
-// Returns what the entries of an update intend after `made` accesses, or `None` if they intend no
-// other. `at` is the first entry's position in the whole list, and its slot.
-fn list_intent(
-    place: Place,
-    entries: u32,
-    at: (u32, u32),
-    list: &[i32],
-    made: usize,
-) -> Option<Intent>
-    requires few { entries ≤ MOST_ENTRIES }
-    requires in_list { at.0 + length list.now < 2 ^ 32 }
-    requires slot { at.1 + length list.now < 2 ^ 32 }
-    requires good { list_any (is_bad_entry entries) list.now ≡ false }
-    ensures { result ≡ slice_get (list_intents place at.0 at.1 list.now) made }
-{
-    let [entry, others @ ..] = list else {
-        return None;
-    };
-    let (in_list, slot) = at;
-    let next = (in_list + 1, slot + 1);
-    if !is_done(*entry) {
-        return list_intent(place, entries, next, others, made);
-    }
-    if made > 0 {
-        return list_intent(place, entries, next, others, made - 1);
-    }
-    if *entry >= 0 {
-        return Some(Intent::Put(slot, place.installed(in_list, *entry as u8)));
-    }
-    Some(Intent::Clear(slot))
-}
-
 // Returns what a request that isn't refused intends after `made` accesses. An open opens this
 // catalogue entry.
 fn intent_at(
@@ -374,4 +288,83 @@ pub fn intent_of(
         return None;
     }
     intent_at(catalogue, place, entry, request, made)
+}
+
+// Returns the answer of an open.
+fn open_answer(alloc: Global, place: Place, target: Target, found: Option<Finding>) -> Completion
+    requires { (slot : ℕ) → found ≡ Some (Free slot) → slot < 2 ^ 31 }
+    ensures { completed_of result ≡ open_answer place target found }
+{
+    match target {
+        Target::Slot(_) => Completion::number(alloc, place, 0),
+        Target::Any => match found {
+            Some(Finding::Free(slot)) => Completion::number(alloc, place, slot),
+            _ => Completion::refusal(alloc, place, Errno::ENFILE),
+        },
+    }
+}
+
+// Returns the answer of a read.
+fn read_answer(
+    alloc: Global,
+    catalogue: &Catalogue,
+    place: Place,
+    off: u32,
+    len: u32,
+    found: Option<Finding>,
+) -> Result<Completion, NoMemory>
+    ensures { IfOk result (λ c. completed_of c ≡ read_answer catalogue.now place off len found) }
+{
+    match found {
+        Some(Finding::At(Some(file))) => {
+            let mut got = Vec::new(alloc);
+            got.reserve_exact(len as usize)?;
+            let res = catalogue.read_into(file.entry, off, len, &mut got);
+            Ok(Completion {
+                place,
+                res: res as i32,
+                got,
+            })
+        }
+        _ => Ok(Completion::refusal(alloc, place, Errno::EBADF)),
+    }
+}
+
+// Returns the answer of a close.
+fn close_answer(alloc: Global, place: Place, found: Option<Finding>) -> Completion
+    ensures { completed_of result ≡ close_answer place found }
+{
+    match found {
+        Some(Finding::At(Some(_))) => Completion::number(alloc, place, 0),
+        _ => Completion::refusal(alloc, place, Errno::EBADF),
+    }
+}
+
+/// Returns the completion of a request at a table of `size` slots if no allocation fails, by what
+/// the last one of its accesses found, `None` if it makes none.
+///
+/// # Errors
+/// `NoMemory` if the bytes of a read can't be allocated here.
+pub fn answer_of(
+    alloc: Global,
+    catalogue: &Catalogue,
+    size: u32,
+    place: Place,
+    request: &Request,
+    found: Option<Finding>,
+) -> Result<Completion, NoMemory>
+    requires slot { (slot : ℕ) → found ≡ Some (Free slot) → slot < 2 ^ 31 }
+    requires limits { IsWithinLimits (asked_of request.now) }
+    ensures { IfOk result (λ c. completed_of c
+        ≡ answer_of catalogue.now size place (operation_of request.now.op) found) }
+{
+    if let Some(errno) = refusal_of(catalogue, size, request) {
+        return Ok(Completion::refusal(alloc, place, errno));
+    }
+    match &request.op {
+        Op::Open { name: _, target } => Ok(open_answer(alloc, place, *target, found)),
+        Op::Read { slot: _, off, len } => read_answer(alloc, catalogue, place, *off, *len, found),
+        Op::Close { slot: _ } => Ok(close_answer(alloc, place, found)),
+        Op::Update { off: _, list } => Ok(Completion::number(alloc, place, list.len() as u32)),
+    }
 }

@@ -1,71 +1,23 @@
 //! The player of requests, on any table that threads share.
-ghost use Rattle.std.specs.Prelude.{◌≡◌, ◌+◌, ◌<◌, ◌≤◌, length, vec_len, vec_capacity};
-ghost use Rattle.fx_table.specs.Pass.{IsIdle};
-ghost use Rattle.fx_table.specs.Opening.{size_of};
-ghost use Rattle.fx_chain.specs.Answers.{TakesAt};
+ghost use Rattle.std.specs.Prelude.{◌≡◌, ◌<◌, length, ◌+◌, ◌≤◌, false, vec_len, vec_capacity};
 ghost use Rattle.fx_chain.specs.Completed.{completed_of, all_completed};
-ghost use Rattle.fx_chain.specs.Contexts.{PlayerActs, IsSamePlayer, IsReady, player_view};
-ghost use Rattle.fx_chain.specs.Freed.{all_room, room_of};
-ghost use Rattle.fx_chain.specs.Operation.{operation_of, asked_of, all_asked};
+ghost use Rattle.fx_chain.specs.Contexts.{IsSamePlayer, IsReady, player_view};
+ghost use Rattle.fx_chain.specs.Freed.{room_of, all_room};
+ghost use Rattle.fx_chain.specs.Intents.{installs_of};
+ghost use Rattle.fx_chain.specs.Operation.{asked_of, operation_of, all_asked};
 ghost use Rattle.fx_chain.specs.Performs.{AnswersNext, Performs, PlaysChain, player};
-ghost use Rattle.fx_chain.specs.Weights.{installs_of, all_installs};
+ghost use Rattle.fx_chain.specs.Weights.{all_installs};
+ghost use Rattle.fx_table.specs.Pass.{IsIdle};
 
 use crate::completion::{Completion, Place};
 use crate::context::{Context, Player};
 use crate::gate::Gate;
-use crate::open::open;
-use crate::read::read;
-use crate::refusal::refusal_of;
-use crate::removal::take;
-use crate::request::{Op, Request};
-use crate::update::update;
+use crate::request::Request;
+use crate::steps::answer;
 use fx_base::{Catalogue, CloseList, Errno};
 use fx_table::SharedTable;
 use std::alloc::Global;
 use std::sync::Wait;
-
-// Empties a slot.
-fn close<T: SharedTable, R: Wait>(
-    context: &Context<'_, T, R>,
-    player: &mut Player<'_, T::Pass>,
-    slot: u32,
-) -> Completion
-    requires slot { slot < size_of (T.opening context.now.table.now) }
-    requires ready { IsReady T.view (T.fits context.now.table.now) player.old 0 0 1 }
-    ensures kept { IsSamePlayer (T.fits context.now.table.now) player.old player.new }
-    ensures emptied { PlayerActs (T.opening context.now.table.now) T.view player.old 0 0 1
-        (λ actions. TakesAt context.now.place slot actions (completed_of result)) player.new }
-{
-    if !take(context, player, slot) {
-        return context.refusal(Errno::EBADF);
-    }
-    context.number(0)
-}
-
-// Performs a request at the context's place.
-fn answer<T: SharedTable, R: Wait>(
-    context: &Context<'_, T, R>,
-    player: &mut Player<'_, T::Pass>,
-    request: &Request,
-) -> Completion
-    requires ready { IsReady T.view (T.fits context.now.table.now) player.old 1
-        (installs_of (operation_of request.now.op))
-        (room_of (T.opening context.now.table.now).lasts (operation_of request.now.op)) }
-    ensures kept { IsSamePlayer (T.fits context.now.table.now) player.old player.new }
-    ensures performed { Performs (T.opening context.now.table.now) context.now.catalogue.now
-        context.now.place (asked_of request.now) (player_view T.view player.old)
-        (completed_of result) (player_view T.view player.new) }
-{
-    if let Some(errno) = refusal_of(context.catalogue, context.table.size(), request) {
-        return context.refusal(errno);
-    }
-    match &request.op {
-        Op::Open { name, target } => open(context, player, name.as_str(), *target),
-        Op::Read { slot, off, len } => read(context, player, *slot, *off, *len),
-        Op::Close { slot } => close(context, player, *slot),
-        Op::Update { off, list } => update(context, player, *off, list.as_slice()),
-    }
-}
 
 /// Performs a request at its place, and returns its completion. The pass looks its file up,
 /// installs it or removes it, and each file that it closes is appended to the list of closes.

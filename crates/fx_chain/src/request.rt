@@ -1,15 +1,21 @@
-//! Requests, as io_uring_enter(2) describes them.
-ghost use Rattle.std.specs.Prelude.{◌≡◌, ◌+◌, ◌≤◌, Bool, length, filter, pos, int_le};
+//! Requests, as io_uring_enter(2) describes them: their kinds, the files that each kind may install
+//! and close, and the errors of requests that are refused before they reach the table.
+ghost use Rattle.std.specs.Prelude.{◌≡◌, ◌<◌, None, length, true, ◌+◌, ◌≤◌, false, ℕ, Some, ◌↔◌, IfNone, IfSome, IsTrue, List, Option, Bool};
+ghost use Rattle.fx_base.specs.Catalogue.{FileEntry};
+ghost use Rattle.fx_base.specs.declared.errno.Errno.TheVariants.{ENOENT};
 ghost use Rattle.fx_chain.specs.Completed.{completed_of};
 ghost use Rattle.fx_chain.specs.Explains.{has_failed, severs};
 ghost use Rattle.fx_chain.specs.Faults.{has_bad_flags, is_long_read, is_long_update};
-ghost use Rattle.fx_chain.specs.Freed.{look_ups_of, room_of};
-ghost use Rattle.fx_chain.specs.Operation.{asked_of, operation_of, is_fixed, is_link};
-ghost use Rattle.fx_chain.specs.Weights.{installs_of, weight_of};
+ghost use Rattle.fx_chain.specs.Freed.{room_of};
+ghost use Rattle.fx_chain.specs.Intents.{IsOpened, installs_of, look_ups_of, weight_of};
+ghost use Rattle.fx_chain.specs.Operation.{asked_of, is_fixed, is_link, operation_of};
+ghost use Rattle.fx_chain.specs.Refusal.{refusal_of, slot_refusal, target_refusal, list_refusal};
 
 use crate::completion::Completion;
+use crate::entries::{has_bad_entry, installing};
 use crate::flags::SqeFlags;
 use bitflags::Flags;
+use fx_base::{Catalogue, Errno, MOST_ENTRIES};
 
 /// The greatest number of bytes of a read.
 pub const LONGEST_READ: u32 = 4096;
@@ -186,11 +192,106 @@ impl Request {
             _ => false,
         }
     }
+
+    /// Returns the catalogue entry that the request opens, 0 unless it is an open, or `None` if no
+    /// entry has the name.
+    pub fn opened(&self, catalogue: &Catalogue) -> Option<u8>
+        ensures some { IfSome result (IsOpened catalogue.now (operation_of self.now.op)) }
+        ensures none { IfNone result ((size : ℕ)
+            → refusal_of catalogue.now size (operation_of self.now.op) ≡ Some ENOENT) }
+    {
+        match &self.op {
+            Op::Open { name, target: _ } => catalogue.find(name),
+            _ => Some(0),
+        }
+    }
+
+    /// Checks whether this is a catalogue entry that the request opens, or 0 unless it is an open.
+    pub fn is_opened(&self, catalogue: &Catalogue, entry: u8) -> bool
+        ensures { IsTrue result ↔ IsOpened catalogue.now (operation_of self.now.op) entry }
+    {
+        match &self.op {
+            Op::Open { name, target: _ } => {
+                u32::from(entry) < catalogue.len() && catalogue.name_of(entry) == name.as_str()
+            }
+            _ => entry == 0,
+        }
+    }
 }
 
-// Returns the number of entries that install a file.
-fn installing(list: &[i32]) -> usize
-    ensures { result ≡ length (filter (λ entry. int_le (pos 0) entry) list.now) }
+// Returns the error of an open at a slot, or of a close.
+fn slot_refusal(size: u32, slot: u32) -> Option<Errno>
+    ensures { result ≡ slot_refusal size slot }
 {
-    list.iter().filter(|entry| **entry >= 0).count()
+    if size == 0 {
+        return Some(Errno::ENXIO);
+    }
+    if slot >= size {
+        return Some(Errno::EINVAL);
+    }
+    None
+}
+
+// Returns the error of an open of a catalogue entry.
+fn target_refusal(size: u32, target: Target) -> Option<Errno>
+    ensures { result ≡ target_refusal size target }
+{
+    match target {
+        Target::Slot(slot) => slot_refusal(size, slot),
+        Target::Any => (size == 0).then_some(Errno::ENFILE),
+    }
+}
+
+// Returns the error of an update.
+fn list_refusal(entries: u32, size: u32, off: u32, list: &[i32]) -> Option<Errno>
+    ensures { result ≡ list_refusal entries size off list.now }
+{
+    if size == 0 {
+        return Some(Errno::ENXIO);
+    }
+    if list.is_empty() || off as u64 + list.len() as u64 > size as u64 {
+        return Some(Errno::EINVAL);
+    }
+    if has_bad_entry(entries, list) {
+        return Some(Errno::EBADF);
+    }
+    None
+}
+
+// Returns the error of a request at a catalogue of `entries` entries. If it is an open, an entry
+// has its name.
+#[tactic(auto, using(crate::proofs::Intents::has_its_name))]
+pub(crate) fn refusal_of_opened(entries: u32, size: u32, request: &Request) -> Option<Errno>
+    ensures { (catalogue : List FileEntry) (entry : ℕ) → length catalogue ≡ entries
+        → IsOpened catalogue (operation_of request.now.op) entry
+        → result ≡ refusal_of catalogue size (operation_of request.now.op) }
+{
+    match &request.op {
+        Op::Open { name: _, target } => target_refusal(size, *target),
+        Op::Read {
+            slot,
+            off: _,
+            len: _,
+        } => (*slot >= size).then_some(Errno::EBADF),
+        Op::Close { slot } => slot_refusal(size, *slot),
+        Op::Update { off, list } => list_refusal(entries, size, *off, list),
+    }
+}
+
+/// Returns the error of a request that a table of `size` slots refuses whatever is at its slots, or
+/// `None` if it doesn't (a read may still fail with ENOMEM). The first error that applies counts
+/// (io_uring_prep_openat(3), io_uring_enter(2), io_uring_prep_close(3),
+/// io_uring_register_files(3)): ENOENT for an open of a name that no entry has; ENFILE for an open
+/// at any slot, and ENXIO for another open, a close or an update, if there are no slots; EINVAL for
+/// a slot past the end of the table, or an update whose list is empty or passes the end; EBADF for
+/// a read past the end, or an update with a bad entry ([`has_bad_entry`]).
+pub fn refusal_of(catalogue: &Catalogue, size: u32, request: &Request) -> Option<Errno>
+    ensures refusal { result ≡ refusal_of catalogue.now size (operation_of request.now.op) }
+    ensures entries { length catalogue.now ≤ MOST_ENTRIES }
+{
+    let entries = catalogue.len();
+    if request.opened(catalogue).is_none() {
+        return Some(Errno::ENOENT);
+    }
+    refusal_of_opened(entries, size, request)
 }

@@ -2,6 +2,5 @@ pub mod Words
 pub mod Beginnings
 pub mod Chains
 pub mod Numbers
-pub mod Faults
 pub mod InTime
 pub mod Submission

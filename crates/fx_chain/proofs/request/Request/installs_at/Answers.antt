@@ -1,4 +1,4 @@
-use Rattle.std.proofs.Common.{◌≡◌, ◌↔◌, ℕ, ℤ, pos, negsuc, int_le, sym, ap, ◌∙◌, rules, refl, List, Some, None, IsTrue, to_z, of_z, w32, slice_get, arith}
+use Rattle.std.proofs.Common.{◌≡◌, ◌↔◌, ℕ, ℤ, pos, negsuc, int_le, sym, ap, ◌∙◌, rules, refl, List, Some, IsTrue, to_z, of_z, w32, slice_get, arith}
 use Rattle.std.proofs.lemmas.Option.{slice_get_read, slice_get_past}
 use Rattle.fx_chain.specs.Intents.{InstallsAt}
 use Rattle.fx_chain.specs.Operation.{Updates, operation_of}
@@ -8,9 +8,6 @@ use Rattle.fx_chain.proofs.request.Request.installs_at.Goals as goal
 at_number : (off : ℕ) (list : List ℤ) (i : ℕ) (z : ℤ) → slice_get list i ≡ Some z → IsTrue (int_le (pos 0) z) ↔ InstallsAt (Updates off list) i
 at_number off list i (pos n) is = (λ _. (n, is), λ _. search rules)
 at_number off list i (negsuc n) is = (λ no. absurd (search rules), λ x. let bad : Some (negsuc n) ≡ Some (pos x.0) = sym is ∙ x.1 in absurd (cc))
-
-at_none : (off : ℕ) (list : List ℤ) (i : ℕ) → slice_get list i ≡ None → InstallsAt (Updates off list) i → ⊥
-at_none off list i is x = let bad : None ≡ Some (pos x.0) = sym is ∙ x.1 in cc
 
 pub returns-in-Some : goal.returns-in-Some
 returns-in-Some c =

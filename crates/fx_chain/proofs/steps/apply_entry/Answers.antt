@@ -1,7 +1,7 @@
 use Rattle.fx_chain.proofs.Words.{length, to_z-of_z, w32}
 use Rattle.fx_chain.proofs.ActsInTurn.{so_nothing}
 use Rattle.fx_chain.proofs.EntryKinds.{leaves_slot}
-use Rattle.fx_chain.proofs.update.apply_entry.Goals as goal
+use Rattle.fx_chain.proofs.steps.apply_entry.Goals as goal
 
 pub returns-else-entry-gtminus2-clause-applied : goal.returns-else-entry-gtminus2-clause-applied
 returns-else-entry-gtminus2-clause-applied g c =

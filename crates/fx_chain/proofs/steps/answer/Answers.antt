@@ -1,6 +1,6 @@
 use Rattle.fx_chain.proofs.Words.{◌≡◌, Some, rules, size_of, operation_of, refusal_of}
 use Rattle.fx_chain.proofs.ActsInTurn.{so_nothing, may_free, so_performed}
-use Rattle.fx_chain.proofs.player.answer.Goals as goal
+use Rattle.fx_chain.proofs.steps.answer.Goals as goal
 
 pub returns-in-Some-clause-performed : goal.returns-in-Some-clause-performed
 returns-in-Some-clause-performed g c =

@@ -1,5 +1,5 @@
 use Rattle.fx_chain.proofs.Words.{◌≤◌, ◌+◌, take, drop, length, IsIdle, AppliesList, PlayerActs, IsSamePlayer, list_installs}
-use Rattle.fx_chain.proofs.update.apply_list.Given as goal
+use Rattle.fx_chain.proofs.steps.apply_list.Given as goal
 
 abbrev pub invariant-loop-i : goal.invariant-loop-i
 invariant-loop-i g l = record {

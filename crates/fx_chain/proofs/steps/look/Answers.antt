@@ -3,8 +3,8 @@ use Rattle.fx_chain.proofs.Words.{arith, append-nil, close_of, closes_in, IsLook
 use Rattle.fx_chain.proofs.Words.{result_ok, File, LookedAfter, Doing, Hold}
 use Rattle.fx_table.specs.declared.values.LookFault.{LookFault}
 use Rattle.fx_table.specs.declared.values.LookFault.TheVariants.{Spent, Empty as EmptySlot}
-use Rattle.fx_chain.proofs.read.look.Goals as goal
-use Rattle.fx_chain.proofs.read.look.Goals.{in-Some, in_default}
+use Rattle.fx_chain.proofs.steps.look.Goals as goal
+use Rattle.fx_chain.proofs.steps.look.Goals.{in-Some, in_default}
 
 -- a look-up, where the file that it freed, if any, was appended to the list
 module _ (o : Opening) (p q : PlayerView) (slot : ℕ) (freed : Option File) (none : o.lasts ≡ false → freed ≡ None)

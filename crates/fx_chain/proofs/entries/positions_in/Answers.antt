@@ -2,8 +2,8 @@ use Rattle.std.proofs.Common.{◌≡◌, ℕ, ℤ, pos, negsuc, int_le, sym, ap,
 use Rattle.std.proofs.lemmas.List.{append-nil}
 use Rattle.std.specs.Global.{Vec}
 use Rattle.fx_chain.proofs.Intents.{positions_more}
-use Rattle.fx_chain.proofs.intent.positions_in.Goals.{then-entry-geminus1+in_ok-push, else-entry-geminus1}
-use Rattle.fx_chain.proofs.intent.positions_in.Goals as goal
+use Rattle.fx_chain.proofs.entries.positions_in.Goals.{then-entry-geminus1+in_ok-push, else-entry-geminus1}
+use Rattle.fx_chain.proofs.entries.positions_in.Goals as goal
 
 pub loop-i-preserved : goal.loop-i-preserved
 loop-i-preserved c =

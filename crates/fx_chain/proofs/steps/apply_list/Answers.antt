@@ -1,7 +1,7 @@
 use Rattle.fx_chain.proofs.Words.{rules, ◌≡◌, ◌<◌, ◌∙◌, length, pos, to_z, of_z, w32, slice_index_or, refl, arith, numbers_least}
 use Rattle.fx_chain.proofs.ActsInTurn.{so_nothing}
 use Rattle.fx_chain.proofs.EntryKinds.{applies_next, installs_left}
-use Rattle.fx_chain.proofs.update.apply_list.Goals as goal
+use Rattle.fx_chain.proofs.steps.apply_list.Goals as goal
 
 pub loop-i-init : goal.loop-i-init
 loop-i-init g c =

@@ -1,6 +1,6 @@
 use Rattle.fx_chain.proofs.Words.{rules, ◌≡◌, length, pos, to_z, w32, ap, ◌∙◌, inr, arith, to_z_pos, bytes_at}
 use Rattle.fx_chain.proofs.ActsInTurn.{so_nothing, looks_at_none, looks_and_releases, may_free}
-use Rattle.fx_chain.proofs.read.read.Goals as goal
+use Rattle.fx_chain.proofs.steps.read.Goals as goal
 
 pub returns-then-is_err-clause-read : goal.returns-then-is_err-clause-read
 returns-then-is_err-clause-read g c =
