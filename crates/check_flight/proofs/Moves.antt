@@ -441,12 +441,6 @@ module _ (old : RingState) (log : JudgedLog) (plans : List CallPlan) (ring : IsR
 
 -- The accesses of a call, as those of chain 1.
 
-pub order_more : (order : List ChainAccess) (a : Access)
-    → accesses_of_chain 1 (order ++ record { chain = 1; access = a } ∷ []) ≡ accesses_of_chain 1 order ++ a ∷ []
-order_more order a =
-    rw (filter-append (λ (x : ChainAccess). x.chain == 1) order (record { chain = 1; access = a } ∷ []))
-    (map-append access_of (filter (λ (x : ChainAccess). x.chain == 1) order) (record { chain = 1; access = a } ∷ []))
-
 -- one chain is done
 pub one_done : (catalogue : List FileEntry) (size id : ℕ) (run : List Asked) (order : List ChainAccess) (answers : List Completed)
     → AreChainsDone catalogue size id 1 (run ∷ []) order answers
