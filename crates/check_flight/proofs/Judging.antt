@@ -1,14 +1,14 @@
 -- The states of the judge, call by call, and where an access, a call or a close leads.
 use Rattle.check_flight.proofs.Words.{◌≡◌, ℕ, ◌+◌, ◌-◌, ◌<◌, ◌≤◌, List, [], ◌∷◌, ◌++◌, length, refl, sym, ap, ◌∙◌, arith, ⊎_elim}
 use Rattle.check_flight.proofs.Words.{Access, Asked, Completed, Contains, Option, None, Some, Place, Rest, Rules, false, over, subst}
-use Rattle.check_flight.proofs.Words.{file_removed_by, get_or_append_left, get_or_at, run_at, settled_at, slice_index_or, step}
+use Rattle.check_flight.proofs.Words.{file_removed_by, run_at, settled_at, slice_index_or, step}
 use Rattle.check_flight.proofs.Words.{Contains-append_cases, Contains-append_left, Contains-append_right, contains_head, option_to_list, table_with}
 use Rattle.check_flight.proofs.Words.{if◌then◌else◌, Identity, inl, inr}
 use Rattle.check_flight.proofs.Steps.{only_one}
 use Rattle.std.specs.Prelude.{nat_le, slice_set, IsPermutation}
 use Rattle.std.proofs.lemmas.Bool.{cases_Bool, cases_lt, le-leb, lt-leb, leb-false}
 use Rattle.std.proofs.lemmas.List.{drop_all, get_or-set_other, get_or-set_same, length-drop}
-use Rattle.check_outcomes.proofs.Words.{IsPermutation-sym, Settles, StepsChain, not_begun, rest_in, table_of_slots, drop}
+use Rattle.check_outcomes.proofs.Words.{IsPermutation-sym, StepsChain, not_begun, rest_in, table_of_slots, drop}
 use Rattle.check_outcomes.specs.declared.submission.Progress.{Progress}
 use Rattle.check_outcomes.proofs.Words.{moved, rest_for}
 use Rattle.std.proofs.lemmas.List.{get_or-drop}
@@ -29,7 +29,7 @@ use Rattle.fx_chain.specs.declared.request.Request.{Request}
 use Rattle.std.specs.Prelude.{All, map}
 use Rattle.std.proofs.lemmas.List.Elements.{All-contains}
 use Rattle.check_outcomes.proofs.Words.{get_or-map, length-map}
-use Rattle.check_flight.specs.States.{AreFewer, AreWith, AreWithout, FlightView, LeadsByCall, LeadsByClose, StepsByAccess}
+use Rattle.check_flight.specs.States.{AreFewer, AreWith, AreWithout, FlightView, LeadsByCall, StepsByAccess}
 use Rattle.check_flight.specs.declared.state.WaitingLook.{WaitingLook}
 use Rattle.check_flight.specs.declared.hold.HeldFile.{HeldFile}
 use Rattle.check_flight.specs.Player.{IsMarked, file_number}
