@@ -4,7 +4,7 @@ use Rattle.check_flight.proofs.Words.{◌-◌, subst, Contains-append_cases, get
 use Rattle.check_flight.proofs.Words.{Completed, Contains, RingState, length-append, rules_of}
 use Rattle.check_flight.proofs.Steps.{answered_in, event_leads, followed_on, looks_on, looks_seen, not_stopped, only_one, seen_before, was_logged}
 use Rattle.check_flight.specs.States.{AreLooksSeen}
-use Rattle.check_flight.proofs.Words.{◌+◌, ◌≤◌, ◌⊎◌, inl, inr}
+use Rattle.check_flight.proofs.Words.{◌≤◌, ◌⊎◌, inl, inr}
 use Rattle.check_flight.specs.States.{IsNumbered, runs_with}
 use Rattle.check_flight.specs.States.{AreReached, AreAnswers, AreCalls, AreFollowed, ArePassed, HasNoFlight, IsStopped, GoesOnTo, FlightView}
 use Rattle.check_flight.specs.States.{setting_of}

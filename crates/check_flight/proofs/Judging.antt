@@ -1,14 +1,14 @@
 -- The states of the judge, call by call, and where an access, a call or a close leads.
 use Rattle.check_flight.proofs.Words.{◌≡◌, ℕ, ◌+◌, ◌-◌, ◌<◌, ◌≤◌, List, [], ◌∷◌, ◌++◌, length, refl, sym, ap, ◌∙◌, arith, ⊎_elim}
 use Rattle.check_flight.proofs.Words.{Access, Asked, Completed, Contains, Option, None, Some, Place, Rest, Rules, false, over, subst}
-use Rattle.check_flight.proofs.Words.{file_removed_by, get_or_append_left, get_or_at, run_at, settled_at, slice_index_or, step}
+use Rattle.check_flight.proofs.Words.{file_removed_by, run_at, settled_at, slice_index_or, step}
 use Rattle.check_flight.proofs.Words.{Contains-append_cases, Contains-append_left, Contains-append_right, contains_head, option_to_list, table_with}
 use Rattle.check_flight.proofs.Words.{if◌then◌else◌, Identity, inl, inr}
 use Rattle.check_flight.proofs.Steps.{only_one}
 use Rattle.std.specs.Prelude.{nat_le, slice_set, IsPermutation}
 use Rattle.std.proofs.lemmas.Bool.{cases_Bool, cases_lt, le-leb, lt-leb, leb-false}
 use Rattle.std.proofs.lemmas.List.{drop_all, get_or-set_other, get_or-set_same, length-drop}
-use Rattle.check_outcomes.proofs.Words.{IsPermutation-sym, Settles, StepsChain, not_begun, rest_in, table_of_slots, drop}
+use Rattle.check_outcomes.proofs.Words.{IsPermutation-sym, StepsChain, not_begun, rest_in, table_of_slots, drop}
 use Rattle.check_outcomes.specs.declared.submission.Progress.{Progress}
 use Rattle.check_outcomes.proofs.Words.{moved, rest_for}
 use Rattle.std.proofs.lemmas.List.{get_or-drop}
@@ -29,7 +29,7 @@ use Rattle.fx_chain.specs.declared.request.Request.{Request}
 use Rattle.std.specs.Prelude.{All, map}
 use Rattle.std.proofs.lemmas.List.Elements.{All-contains}
 use Rattle.check_outcomes.proofs.Words.{get_or-map, length-map}
-use Rattle.check_flight.specs.States.{AreFewer, AreWith, AreWithout, FlightView, LeadsByCall, LeadsByClose, StepsByAccess}
+use Rattle.check_flight.specs.States.{AreFewer, AreWith, AreWithout, FlightView, LeadsByCall, StepsByAccess}
 use Rattle.check_flight.specs.declared.state.WaitingLook.{WaitingLook}
 use Rattle.check_flight.specs.declared.hold.HeldFile.{HeldFile}
 use Rattle.check_flight.specs.Player.{IsMarked, file_number}
@@ -83,21 +83,7 @@ without_it files after file more without same other = (
       (λ new. absurd (differs (sym (only_one more other new) ∙ same))) (Contains-append_cases files (more ∷ []) other inside),
 )
 
-pub without_none : (file : Identity) → AreWithout [] file []
-without_none file other = (λ inside. inside, λ differs inside. inside)
-
 -- The calls.
-
-pub same_view : (runs : List (List Asked)) (one other : FlightState) → table_of_slots one.slots ≡ table_of_slots other.slots
-    → one.base ≡ other.base → one.chains.items ≡ other.chains.items → one.removed.items ≡ other.removed.items
-    → one.waiting.items ≡ other.waiting.items → flight_view runs one ≡ flight_view runs other
-same_view runs one other table base chains removed waiting = λ i. record {
-  table = table i;
-  rests = λ id. if nat_le id (base i) then over
-      else rest_in (first_of_call id) (run_at runs id) (slice_index_or (chains i) (id - 1 - base i) not_begun);
-  removed = removed i;
-  waiting = waiting i;
-}
 
 -- a later call is where the list has it
 pub open_rest : (runs : List (List Asked)) (state : FlightState) (id j : ℕ) → id ≡ state.base + j + 1
@@ -145,49 +131,6 @@ stepped runs {rules} state next {j} {id} {a} {own} {progress} {after} is base fe
       removed = removed;
       waiting = waiting;
     }
-
--- a call
-pub called : (runs : List (List Asked)) {rules : Rules} (state next : FlightState) {requests : List Asked} {done : ℕ}
-    {before after : List Completed} {own : Progress}
-    → length runs ≡ state.base + length state.chains.items → next.base ≡ state.base
-    → own ≡ record { done = done; made = 0 } → next.chains.items ≡ state.chains.items ++ own ∷ []
-    → Settles (settled_at rules (first_of_call (length runs + 1)) requests) (first_of_call (length runs + 1)) requests before after done
-    → table_of_slots next.slots ≡ table_of_slots state.slots → next.removed.items ≡ state.removed.items
-    → LeadsByCall rules (flight_view runs state) (length runs + 1) requests (flight_view (runs ++ requests ∷ []) next)
-called runs {rules} state next {requests} {done} {own = own} many base is chains settles table removed =
-    let id : ℕ = length runs + 1 in
-    let n : ℕ = length state.chains.items in
-    let there : slice_index_or next.chains.items n not_begun ≡ own = rw chains (get_or_at state.chains.items own [] not_begun n refl) in
-    let run : run_at (runs ++ requests ∷ []) id ≡ requests = get_or_at runs requests [] [] (id - 1) (omega arith) in
-    let now : rest_of (runs ++ requests ∷ []) next id ≡ rest_in (first_of_call id) requests own =
-    open_rest (runs ++ requests ∷ []) next id n (omega arith)
-    ∙ (λ i. rest_in (first_of_call id) (run i) (there i)) in
-    record {
-      table = table;
-      own = now ∙ (ap (rest_in (first_of_call id) requests) is ∙ sym settles.rest);
-      others = λ other low few.
-          let before : run_at (runs ++ requests ∷ []) other ≡ run_at runs other =
-          get_or_append_left runs (requests ∷ []) [] (other - 1) (omega arith) in
-          rw (base, chains, before) (⊎_elim
-          (λ early. rw early refl)
-          (λ late.
-          let high : state.base < other = leb-false other state.base late in
-          rw (late, get_or_append_left state.chains.items (own ∷ []) not_begun (other - 1 - state.base) (omega arith)) refl)
-          (cases_Bool (nat_le other state.base)));
-      removed = removed;
-    }
-
--- a close
-pub closed : (runs : List (List Asked)) (state next : FlightState) {file : Identity} → table_of_slots next.slots ≡ table_of_slots state.slots
-    → next.base ≡ state.base → next.chains.items ≡ state.chains.items → AreWithout state.removed.items file next.removed.items
-    → next.waiting.items ≡ state.waiting.items → LeadsByClose (flight_view runs state) file (flight_view runs next)
-closed runs state next table base chains removed waiting = record {
-  table = table;
-  rests = λ i id. if nat_le id (base i) then over
-      else rest_in (first_of_call id) (run_at runs id) (slice_index_or (chains i) (id - 1 - base i) not_begun);
-  removed = removed;
-  waiting = waiting;
-}
 
 -- The answer of a member that isn't done yet.
 

@@ -2,7 +2,7 @@
 use Rattle.check_flight.proofs.Words.{◌≡◌, ◌⊎◌, ℕ, ◌+◌, ◌-◌, ◌<◌, ◌≤◌, List, [], ◌∷◌, ◌++◌, length, take, refl, sym, ap, ◌∙◌, arith, inl, inr, ⊎_elim}
 use Rattle.check_flight.proofs.Words.{Access, Asked, ChainAccess, Completed, Contains, IsChainDone, Option, Some, Table}
 use Rattle.check_flight.proofs.Words.{cases_eq, file_removed_by, get_or_append_left, get_or_at, length-append, ne_eqb, option_to_list, slice_index_or}
-use Rattle.check_flight.proofs.Words.{suc, zero, table_with, Contains-append_cases, Contains-append_left, Contains-append_right, Contains-push}
+use Rattle.check_flight.proofs.Words.{suc, zero, table_with, Contains-append_cases, Contains-append_left, Contains-append_right}
 use Rattle.check_flight.proofs.Words.{contains_head, Identity, RingState}
 use Rattle.check_flight.proofs.Steps.{shifted}
 use Rattle.check_outcomes.proofs.Words.{Permits, all_asked, drop, get_or-map, get_or-set_other, get_or-set_same, map, slice_set, table_of}
@@ -12,8 +12,8 @@ use Rattle.fx_order.proofs.Apart.{same_file}
 use Rattle.std.proofs.Math.Seq.{drop-cons}
 use Rattle.std.proofs.lemmas.List.{length-set, length-take-le, take-take, take_more}
 use Rattle.check_flight.proofs.Judging.{taken_one}
-use Rattle.check_flight.proofs.Words.{FileEntry, append-nil, ◌==◌}
-use Rattle.check_outcomes.proofs.Words.{AreChainsDone, accesses_of_chain, filter, map-append}
+use Rattle.check_flight.proofs.Words.{FileEntry, append-nil}
+use Rattle.check_outcomes.proofs.Words.{AreChainsDone, accesses_of_chain}
 use Rattle.check_outcomes.proofs.Words.{take_all}
 use Rattle.fx_chain.specs.Accepted.{members_of}
 use Rattle.fx_chain.specs.declared.chain.Chain.{Chain}
@@ -21,8 +21,6 @@ use Rattle.fx_chain.specs.Completed.{all_completed, completed_of}
 use Rattle.fx_chain.specs.Operation.{asked_of}
 use Rattle.fx_chain.specs.declared.completion.Completion.{Completion}
 use Rattle.std.proofs.lemmas.List.{take-map}
-use Rattle.fx_order.specs.Access.{access_of}
-use Rattle.std.proofs.lemmas.List.Elements.{filter-append}
 use Rattle.check_outcomes.proofs.Words.{length-map}
 use Rattle.fx_flight.specs.Events.{Happening, Called, Answered, LookCalled, LookAnswered, Freed, FileClosed, AllSettled, all_happenings, first_of_call}
 use Rattle.fx_flight.specs.Events.{happening_of}
@@ -440,12 +438,6 @@ module _ (old : RingState) (log : JudgedLog) (plans : List CallPlan) (ring : IsR
   }
 
 -- The accesses of a call, as those of chain 1.
-
-pub order_more : (order : List ChainAccess) (a : Access)
-    → accesses_of_chain 1 (order ++ record { chain = 1; access = a } ∷ []) ≡ accesses_of_chain 1 order ++ a ∷ []
-order_more order a =
-    rw (filter-append (λ (x : ChainAccess). x.chain == 1) order (record { chain = 1; access = a } ∷ []))
-    (map-append access_of (filter (λ (x : ChainAccess). x.chain == 1) order) (record { chain = 1; access = a } ∷ []))
 
 -- one chain is done
 pub one_done : (catalogue : List FileEntry) (size id : ℕ) (run : List Asked) (order : List ChainAccess) (answers : List Completed)

@@ -24,9 +24,10 @@ pub(crate) fn has_file(files: &[Closed], file: Closed) -> bool
 fn accesses_made(log: &JudgedLog<'_>, requests: &[Request], answers: &[Completion]) -> usize {
     let setting = &log.setting;
     let mut count: usize = 0;
-    for (request, c) in requests.iter().zip(answers) {
-        if c.res != -Errno::ECANCELED.code() {
-            count = count.saturating_add(count_of(setting.catalogue, setting.size, request));
+    for i in 0..requests.len().min(answers.len()) {
+        if answers[i].res != -Errno::ECANCELED.code() {
+            let own = count_of(setting.catalogue, setting.size, &requests[i]);
+            count = count.saturating_add(own);
         }
     }
     count

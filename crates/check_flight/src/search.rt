@@ -1,5 +1,6 @@
 //! A search for one flight of a log, depth first. Nothing is proved of it: the player makes the
 //! flight (`crate::player`).
+ghost use Rattle.std.specs.Prelude.{◌+◌, ◌<◌, length};
 
 use crate::followed::accesses_of;
 use crate::front::key_of;
@@ -101,15 +102,7 @@ pub(crate) fn access_from(
     let call = state.base.saturating_add(j).saturating_add(1);
     let call = call.min(u32::MAX as usize) as u32;
     for choice in first..accesses.len() {
-        let access = accesses[choice];
-        let mut answered = Vec::new(log.setting.alloc);
-        let next = allowed_state(log, calls, state, j, &access, &mut answered)?;
-        if let Some(state) = next {
-            let made = Move {
-                call,
-                access: Some(access),
-                answered,
-            };
+        if let Some((made, state)) = made_by(log, calls, state, j, call, &accesses[choice])? {
             let next = choice.saturating_add(1);
             return Ok(Some(AccessLead {
                 next,
@@ -120,6 +113,29 @@ pub(crate) fn access_from(
         }
     }
     Ok(None)
+}
+
+// Returns an access as a move, and the state to which it leads, if it is allowed.
+fn made_by(
+    log: &JudgedLog<'_>,
+    calls: &[ChainCall<'_>],
+    state: &FlightState,
+    j: usize,
+    call: u32,
+    access: &Access,
+) -> Result<Option<(Move, FlightState)>, NoMemory>
+    requires { state.now.base + j < length calls.now }
+{
+    let mut answered = Vec::new(log.setting.alloc);
+    let Some(state) = allowed_state(log, calls, state, j, access, &mut answered)? else {
+        return Ok(None);
+    };
+    let made = Move {
+        call,
+        access: Some(*access),
+        answered,
+    };
+    Ok(Some((made, state)))
 }
 
 // Checks whether a call has no request left, by its number from 0.
@@ -373,6 +389,38 @@ impl Search {
         Ok(())
     }
 
+    // Goes on until the search ends. Returns true if the moves are a flight.
+    fn run(
+        &mut self,
+        log: &JudgedLog<'_>,
+        calls: &[ChainCall<'_>],
+        most: usize,
+    ) -> Result<bool, NoMemory> {
+        let alloc = log.setting.alloc;
+        let (mut furthest, mut tries) = (0, 0);
+        for _ in 0..usize::MAX {
+            let Some(frame) = self.frames.last_mut() else {
+                return Ok(false);
+            };
+            if frame.at >= log.events.len() {
+                return Ok(true);
+            }
+            if frame.at > furthest {
+                furthest = frame.at;
+                tries = 0;
+            }
+            if tries >= most {
+                return Ok(false);
+            }
+            tries += 1;
+            match frame.next(log, calls)? {
+                Some(lead) => self.enter(alloc, lead, most)?,
+                None => self.leave(alloc, most)?,
+            }
+        }
+        Ok(false)
+    }
+
     // Returns the flight of the moves.
     fn found(self) -> Option<FoundFlight> {
         let Search {
@@ -404,26 +452,8 @@ pub(crate) fn find(
         dead_until: 0,
     };
     search.frames.push(Frame::new(0, 0, start))?;
-    let (mut furthest, mut tries) = (0, 0);
-    for _ in 0..usize::MAX {
-        let Some(frame) = search.frames.last_mut() else {
-            return Ok(None);
-        };
-        if frame.at >= log.events.len() {
-            return Ok(search.found());
-        }
-        if frame.at > furthest {
-            furthest = frame.at;
-            tries = 0;
-        }
-        if tries >= most {
-            return Ok(None);
-        }
-        tries += 1;
-        match frame.next(log, calls)? {
-            Some(lead) => search.enter(alloc, lead, most)?,
-            None => search.leave(alloc, most)?,
-        }
+    if !search.run(log, calls, most)? {
+        return Ok(None);
     }
-    Ok(None)
+    Ok(search.found())
 }

@@ -1,6 +1,6 @@
 //! A state of the flights of a log, and where a call, an answer of a look or a close leads from it.
 ghost use Rattle.std.specs.Prelude.{◌≡◌, ◌+◌, ◌++◌, ◌<◌, ◌≤◌, ◌^◌, ℕ, [], ◌∷◌, Contains, IfOk, IfSome, IsTrue, Option};
-ghost use Rattle.std.specs.Prelude.{length, slice_index_or};
+ghost use Rattle.std.specs.Prelude.{drop, length, slice_index_or};
 ghost use Rattle.fx_chain.specs.Completed.{all_completed};
 ghost use Rattle.fx_base.specs.Identity.{Identity};
 ghost use Rattle.fx_order.specs.Access.{Permits};
@@ -131,6 +131,30 @@ impl FlightState {
         self.base == other.base && self.removed == other.removed
     }
 
+    // Returns a copy without the first `count` calls of the list, after `base` calls that are over.
+    fn copy_from(&self, alloc: Global, base: usize, count: usize) -> Result<FlightState, NoMemory>
+        requires { count ≤ length self.now.chains.items }
+        ensures table { IfOk result (λ copy.
+            table_of_slots copy.slots ≡ table_of_slots self.now.slots) }
+        ensures base { IfOk result (λ copy. copy.base ≡ base) }
+        ensures chains { IfOk result (λ copy.
+            copy.chains.items ≡ drop count self.now.chains.items) }
+        ensures removed { IfOk result (λ copy. copy.removed.items ≡ self.now.removed.items) }
+        ensures waiting { IfOk result (λ copy. copy.waiting.items ≡ self.now.waiting.items) }
+    {
+        let slots = self.slots.copy(alloc)?;
+        let chains = Vec::from_slice(alloc, &self.chains[count..])?;
+        let removed = Vec::from_slice(alloc, &self.removed)?;
+        let waiting = Vec::from_slice(alloc, &self.waiting)?;
+        Ok(FlightState {
+            slots,
+            base,
+            chains,
+            removed,
+            waiting,
+        })
+    }
+
     /// Returns a copy.
     pub(crate) fn copy(&self, alloc: Global) -> Result<FlightState, NoMemory>
         ensures table { IfOk result (λ copy.
@@ -140,17 +164,7 @@ impl FlightState {
         ensures removed { IfOk result (λ copy. copy.removed.items ≡ self.now.removed.items) }
         ensures waiting { IfOk result (λ copy. copy.waiting.items ≡ self.now.waiting.items) }
     {
-        let slots = self.slots.copy(alloc)?;
-        let chains = Vec::from_slice(alloc, &self.chains)?;
-        let removed = Vec::from_slice(alloc, &self.removed)?;
-        let waiting = Vec::from_slice(alloc, &self.waiting)?;
-        Ok(FlightState {
-            slots,
-            base: self.base,
-            chains,
-            removed,
-            waiting,
-        })
+        self.copy_from(alloc, self.base, 0)
     }
 
     /// Returns the progress of the call that follows those that are over and `j` others.
@@ -248,17 +262,8 @@ pub(crate) fn trimmed(
         ≡ flight_view (runs_of_calls calls.now) state.now) }
 {
     let count = count_over(calls, state);
-    let slots = state.slots.copy(alloc)?;
-    let chains = Vec::from_slice(alloc, &state.chains[count..])?;
-    let removed = Vec::from_slice(alloc, &state.removed)?;
-    let waiting = Vec::from_slice(alloc, &state.waiting)?;
-    Ok(FlightState {
-        slots,
-        base: state.base + count,
-        chains,
-        removed,
-        waiting,
-    })
+    let same = state.copy_from(alloc, state.base + count, count)?;
+    Ok(same)
 }
 
 /// Returns where the answer of a look leads: it waits no more.

@@ -21,7 +21,7 @@ use fx_order::{OrderSetting, Slots};
 use std::alloc::Global;
 
 /// The verdict on a list of events.
-#[derive(Clone, Copy, Debug)]
+#[derive(Clone, Copy)]
 pub enum FlightVerdict {
     /// The events aren't a log.
     Faulty(LogFault),

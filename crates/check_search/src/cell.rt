@@ -6,7 +6,7 @@ ghost use Rattle.check_search.specs.Machine.{allows, cell_at, cells_after, is_st
 use crate::claim::{Claim, Leaves, Resident, Wants};
 
 /// A slot, and what is there.
-#[derive(Clone, Copy, Debug, PartialEq, Eq)]
+#[derive(Clone, Copy, PartialEq, Eq)]
 pub struct Cell {
     /// The slot.
     pub slot: u32,
@@ -36,7 +36,10 @@ fn suits(wants: &Wants, found: Option<Resident>) -> bool
         Wants::Anything => true,
         Wants::Nothing | Wants::NothingToTake => found.is_none(),
         Wants::Something => found.is_some(),
-        Wants::Bytes(fits) => found.is_some_and(|resident| fits[resident.file.entry as usize]),
+        Wants::Bytes(fits) => match found {
+            Some(resident) => fits[resident.file.entry as usize],
+            None => false,
+        },
     }
 }
 
@@ -44,14 +47,20 @@ fn suits(wants: &Wants, found: Option<Resident>) -> bool
 pub(crate) fn may_leave(found: Option<Resident>) -> bool
     ensures { result ≡ may_leave found }
 {
-    found.is_none_or(|resident| resident.leaves)
+    match found {
+        Some(resident) => resident.leaves,
+        None => true,
+    }
 }
 
 /// Checks whether what was found may stay: nothing, or a file that the closes don't have.
 pub(crate) fn may_stay(found: Option<Resident>) -> bool
     ensures { result ≡ may_stay found }
 {
-    found.is_none_or(|resident| !resident.leaves)
+    match found {
+        Some(resident) => !resident.leaves,
+        None => true,
+    }
 }
 
 /// Checks whether a claim may be made if `found` is at its slot.
@@ -70,16 +79,24 @@ pub(crate) fn may_find(claim: &Claim, found: Option<Resident>) -> bool
 fn are_taken(cells: &[Cell]) -> bool
     ensures { result ≡ list_all is_taken cells.now }
 {
-    cells
-        .iter()
-        .all(|cell| !cell.in_range || cell.file.is_some())
+    for cell in cells {
+        if cell.in_range && cell.file.is_none() {
+            return false;
+        }
+    }
+    true
 }
 
 /// Checks whether no slot has a file that the closes have.
 pub(crate) fn are_staying(cells: &[Cell]) -> bool
     ensures { result ≡ list_all is_staying cells.now }
 {
-    cells.iter().all(|cell| may_stay(cell.file))
+    for cell in cells {
+        if !may_stay(cell.file) {
+            return false;
+        }
+    }
+    true
 }
 
 /// Checks whether the access of a claim may be made if the slots have these files.

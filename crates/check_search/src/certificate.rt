@@ -23,17 +23,12 @@ pub struct Web<'a> {
     pub rows: Rows,
 }
 
-// Checks whether a state has this number among the states.
-fn is_at(
-    alloc: Global,
-    web: &Web<'_>,
-    number: Option<usize>,
-    node: &SearchNode,
-) -> Result<bool, NoMemory>
+// Checks whether a state is the one that the rows have where they have this row.
+fn is_at(alloc: Global, web: &Web<'_>, row: &Vec<u16>, node: &SearchNode) -> Result<bool, NoMemory>
     ensures { IfOk result (λ yes. IsTrue yes
         → Contains (all_unpacked web.now.steps.packing web.now.rows.keys) (view node.now)) }
 {
-    let Some(number) = number else {
+    let Some(number) = web.rows.get_index_of(row) else {
         return Ok(false);
     };
     let Some(row) = web.rows.get_index(number) else {
@@ -41,13 +36,6 @@ fn is_at(
     };
     let there = web.steps.packing.unpack(alloc, row)?;
     Ok(there.is_same(node))
-}
-
-/// A state, as it is and packed.
-#[derive(Clone, Copy)]
-struct Here<'a> {
-    node: &'a SearchNode,
-    row: &'a [u16],
 }
 
 // Checks whether the files at the slot of a chain's next claim don't balance in the state after
@@ -67,21 +55,22 @@ fn step_leads_inside(
     alloc: Global,
     strands: &[Strand],
     web: &Web<'_>,
-    here: &Here<'_>,
+    node: &SearchNode,
+    row: &[u16],
     chain: usize,
 ) -> Result<bool, NoMemory>
     ensures { IfOk result (λ yes. IsTrue yes → StepLeadsInside strands.now
-        (all_unpacked web.now.steps.packing web.now.rows.keys) (view here.now.node.now) chain) }
+        (all_unpacked web.now.steps.packing web.now.rows.keys) (view node.now) chain) }
 {
-    let Some(next) = here.node.next(alloc, strands, chain)? else {
+    let Some(next) = node.next(alloc, strands, chain)? else {
         return Ok(true);
     };
-    let row = web.steps.row_after(alloc, here.row, chain)?;
-    if is_at(alloc, web, web.rows.get_index_of(&row), &next)? {
+    let after = web.steps.row_after(alloc, row, chain)?;
+    if is_at(alloc, web, &after, &next)? {
         return Ok(true);
     }
-    let waits = web.steps.hopeless_behind(here.row, &row, chain);
-    Ok(is_dead_by(strands, &next, waits) || is_uneven_behind(strands, here.node, &next, chain))
+    let waits = web.steps.hopeless_behind(row, &after, chain);
+    Ok(is_dead_by(strands, &next, waits) || is_uneven_behind(strands, node, &next, chain))
 }
 
 // Checks whether each step from a state leads to one of the states.
@@ -90,13 +79,14 @@ fn leads_inside(
     alloc: Global,
     strands: &[Strand],
     web: &Web<'_>,
-    here: &Here<'_>,
+    node: &SearchNode,
+    row: &[u16],
 ) -> Result<bool, NoMemory>
     ensures { IfOk result (λ yes. IsTrue yes → LeadsInside strands.now
-        (all_unpacked web.now.steps.packing web.now.rows.keys) (view here.now.node.now)) }
+        (all_unpacked web.now.steps.packing web.now.rows.keys) (view node.now)) }
 {
     for chain in 0..strands.len() {
-        if !step_leads_inside(alloc, strands, web, here, chain)? {
+        if !step_leads_inside(alloc, strands, web, node, row, chain)? {
             return Ok(false);
         }
     }
@@ -108,20 +98,21 @@ fn test_leads_inside(
     alloc: Global,
     strands: &[Strand],
     web: &Web<'_>,
-    here: &Here<'_>,
+    node: &SearchNode,
+    row: &[u16],
     chain: usize,
 ) -> Result<bool, NoMemory>
     ensures { IfOk result (λ yes. IsTrue yes → TestLeadsInside strands.now
-        (all_unpacked web.now.steps.packing web.now.rows.keys) (view here.now.node.now) chain) }
+        (all_unpacked web.now.steps.packing web.now.rows.keys) (view node.now) chain) }
 {
-    if !claim_of(strands, &here.node.places, chain).is_some_and(is_test) {
+    if !claim_of(strands, &node.places, chain).is_some_and(is_test) {
         return Ok(false);
     }
-    let Some(next) = here.node.next(alloc, strands, chain)? else {
+    let Some(next) = node.next(alloc, strands, chain)? else {
         return Ok(false);
     };
-    let row = web.steps.row_after(alloc, here.row, chain)?;
-    is_at(alloc, web, web.rows.get_index_of(&row), &next)
+    let after = web.steps.row_after(alloc, row, chain)?;
+    is_at(alloc, web, &after, &next)
 }
 
 // Checks whether a state was explored: by one step that only tests, if there is one, or else by all
@@ -131,14 +122,15 @@ fn is_explored(
     alloc: Global,
     strands: &[Strand],
     web: &Web<'_>,
-    here: &Here<'_>,
+    node: &SearchNode,
+    row: &[u16],
 ) -> Result<bool, NoMemory>
     ensures { IfOk result (λ yes. IsTrue yes → IsExplored strands.now
-        (all_unpacked web.now.steps.packing web.now.rows.keys) (view here.now.node.now)) }
+        (all_unpacked web.now.steps.packing web.now.rows.keys) (view node.now)) }
 {
-    match web.steps.test_of(here.row, web.steps.empty(here.row)) {
-        Some(chain) => test_leads_inside(alloc, strands, web, here, chain),
-        None => leads_inside(alloc, strands, web, here),
+    match web.steps.test_of(row, web.steps.empty(row)) {
+        Some(chain) => test_leads_inside(alloc, strands, web, node, row, chain),
+        None => leads_inside(alloc, strands, web, node, row),
     }
 }
 
@@ -156,7 +148,7 @@ fn is_looked_through(
     if node.is_end(strands) {
         return Ok(false);
     }
-    is_explored(alloc, strands, web, &Here { node: &node, row })
+    is_explored(alloc, strands, web, &node, row)
 }
 
 // Checks whether no state is an end, and each was explored.

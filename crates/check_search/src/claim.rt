@@ -7,7 +7,7 @@ use crate::cell::Cell;
 use fx_base::Closed;
 
 /// A file at a slot, and whether it is in the list of closes.
-#[derive(Clone, Copy, Debug, PartialEq, Eq)]
+#[derive(Clone, Copy, PartialEq, Eq)]
 pub struct Resident {
     /// The file.
     pub file: Closed,
@@ -16,7 +16,7 @@ pub struct Resident {
 }
 
 /// The condition on what an access found at its slot.
-#[derive(Clone, Copy, Debug, PartialEq)]
+#[derive(Clone, Copy, PartialEq)]
 pub enum Wants {
     /// A file or no file.
     Anything,
@@ -32,7 +32,7 @@ pub enum Wants {
 }
 
 /// The content of the slot after an access.
-#[derive(Clone, Copy, Debug)]
+#[derive(Clone, Copy)]
 pub enum Leaves {
     /// The file that was there before, or no file.
     Same,
@@ -43,7 +43,7 @@ pub enum Leaves {
 }
 
 /// A claim: an access that a completion reports.
-#[derive(Clone, Copy, Debug)]
+#[derive(Clone, Copy)]
 pub enum Claim {
     /// An access of a slot.
     At(u32, Wants, Leaves),
@@ -66,7 +66,7 @@ fn is_in_order_there(files: &[Closed], file: Closed) -> bool
     ensures { IsTrue result → Contains files.now file }
 {
     match files.binary_search_by_key(&file.mark, |other| other.mark) {
-        Ok(i) => files.get(i).is_some_and(|other| *other == file),
+        Ok(i) => files[i] == file,
         Err(_) => false,
     }
 }
@@ -76,11 +76,11 @@ fn is_in_order_there(files: &[Closed], file: Closed) -> bool
 fn has(files: &[Closed], file: Closed) -> bool
     ensures { IsTrue result ↔ Contains files.now file }
 {
-    is_in_order_there(files, file) || files.iter().any(|other| *other == file)
+    is_in_order_there(files, file) || files.contains(&file)
 }
 
 /// A chain, by its number from 1, and its claims at some slots.
-#[derive(Debug, Drop)]
+#[derive(Drop)]
 pub struct Strand {
     /// The number of the chain.
     pub chain: u32,
@@ -92,5 +92,10 @@ pub struct Strand {
 pub fn has_slot(cells: &[Cell], slot: u32) -> bool
     ensures { result ≡ list_any (λ cell. cell.slot == slot) cells.now }
 {
-    cells.iter().any(|cell| cell.slot == slot)
+    for cell in cells {
+        if cell.slot == slot {
+            return true;
+        }
+    }
+    false
 }

@@ -11,7 +11,7 @@ use crate::claim::{Claim, Leaves, Resident, Strand, Wants, has_slot};
 use crate::node::{SearchNode, place_of};
 
 /// A change that a claim makes to its slot.
-#[derive(Clone, Copy, Debug, PartialEq, Eq)]
+#[derive(Clone, Copy)]
 pub enum SlotChange {
     /// The file that is there is taken.
     Takes,
@@ -82,14 +82,20 @@ fn to_come(change: SlotChange, slot: u32, strands: &[Strand], places: &[usize]) 
 fn leaving(found: Option<Resident>) -> usize
     ensures { result ≡ leaving_files found }
 {
-    found.map_or(0, |resident| one_if(resident.leaves))
+    match found {
+        Some(resident) => one_if(resident.leaves),
+        None => 0,
+    }
 }
 
 // Returns the number of files at a slot that stay there: 0 or 1.
 fn staying(found: Option<Resident>) -> usize
     ensures { result ≡ staying found }
 {
-    found.map_or(0, |resident| one_if(!resident.leaves))
+    match found {
+        Some(resident) => one_if(!resident.leaves),
+        None => 0,
+    }
 }
 
 // Checks whether two files stay at a slot.
@@ -97,8 +103,10 @@ fn two_stay(strands: &[Strand], node: &SearchNode, slot: u32) -> bool
     ensures { IsTrue result → TwoStay strands.now (view node.now) slot }
 {
     let here = staying(cell_at(&node.cells, slot));
-    let count = to_come(SlotChange::Staying, slot, strands, &node.places);
-    count.is_some_and(|count| here.saturating_add(count) >= 2)
+    let Some(count) = to_come(SlotChange::Staying, slot, strands, &node.places) else {
+        return false;
+    };
+    here.saturating_add(count) >= 2
 }
 
 // Checks whether more files are taken from a slot than leave it.
@@ -109,8 +117,10 @@ fn too_few_leave(strands: &[Strand], node: &SearchNode, slot: u32) -> bool
     let Some(takes) = to_come(SlotChange::Takes, slot, strands, &node.places) else {
         return false;
     };
-    let count = to_come(SlotChange::Leaving, slot, strands, &node.places);
-    count.is_some_and(|count| here.saturating_add(count) < takes)
+    let Some(count) = to_come(SlotChange::Leaving, slot, strands, &node.places) else {
+        return false;
+    };
+    here.saturating_add(count) < takes
 }
 
 // Checks whether each file must leave a slot, and no claim is left that removes the last one.

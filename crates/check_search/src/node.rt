@@ -11,7 +11,7 @@ use std::alloc::Global;
 
 /// A state of a search: the number of claims of each chain that were made, and the files at the
 /// slots.
-#[derive(Debug, Drop)]
+#[derive(Drop)]
 pub struct SearchNode {
     /// The number of claims of each chain that were made.
     pub places: Vec<usize>,
@@ -97,7 +97,12 @@ impl SearchNode {
     fn is_over(&self, strands: &[Strand]) -> bool
         ensures { ((c : ℕ) → claim_at strands.now self.now.places.items c ≡ None) → IsTrue result }
     {
-        (0..strands.len()).all(|chain| claim_of(strands, &self.places, chain).is_none())
+        for chain in 0..strands.len() {
+            if claim_of(strands, &self.places, chain).is_some() {
+                return false;
+            }
+        }
+        true
     }
 
     /// Checks whether no claim is left, and no file that the closes have.
@@ -110,7 +115,7 @@ impl SearchNode {
 
 /// The meaning of the numbers of packed states. A packed state is a list of numbers: the place of
 /// each chain, and for each slot the number of its file.
-#[derive(Debug, Drop)]
+#[derive(Drop)]
 pub struct Packing {
     /// The number of chains.
     pub chains: usize,
@@ -133,6 +138,16 @@ impl Packing {
         ensures { result ≡ packed_file self.now.files.items cell number }
     {
         *self.files.get(cell)?.get(number)?
+    }
+
+    /// Returns the place of a slot.
+    pub(crate) fn place_of(&self, slot: u32) -> Option<usize> {
+        for i in 0..self.cells.len() {
+            if self.cells[i].slot == slot {
+                return Some(i);
+            }
+        }
+        None
     }
 
     // Returns the slots with the files of these numbers.

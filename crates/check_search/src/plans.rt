@@ -1,10 +1,10 @@
 //! Searches that leave chains and orders out, by what workers do: they find what some workers
 //! played. Nothing is proved of them.
 
-use crate::search::{Found, SearchRoom, search};
+use crate::search::{Found, SearchRoom};
 use crate::steps::Steps;
 use crate::tracks::Tracks;
-use crate::walk::Walk;
+use crate::walk::{Searched, search_by};
 use fx_base::NoMemory;
 use std::alloc::Global;
 
@@ -74,8 +74,32 @@ fn taken(
     })
 }
 
-// Looks for an end by orders in which chains reach each slot nearly in turn. If none is found, the
-// tracks of the slots that blocked the longest way are widened, and the search is repeated.
+// Looks for an end along tracks. If none is found, the tracks of the slots that blocked the longest
+// way are widened, and the search is repeated.
+fn along(
+    alloc: Global,
+    steps: &Steps<'_>,
+    tracks: &mut Tracks,
+    plan: Plan,
+    room: SearchRoom,
+    left: &mut usize,
+) -> Result<Option<Vec<usize>>, NoMemory> {
+    for _ in 0..ROUNDS {
+        let Some(room) = taken(left, steps, NEAR_STATES, room) else {
+            return Ok(None);
+        };
+        let Searched { found, blocked, .. } = search_by(alloc, steps, Some(&*tracks), plan, room)?;
+        if let Found::Order(order) = found {
+            return Ok(Some(order));
+        }
+        if !tracks.widen_all(steps, &blocked)? {
+            return Ok(None);
+        }
+    }
+    Ok(None)
+}
+
+// Looks for an end by orders in which chains reach each slot nearly in turn.
 fn near(
     alloc: Global,
     steps: &Steps<'_>,
@@ -88,27 +112,8 @@ fn near(
     if tracks.are_none() {
         return Ok(None);
     }
-    for _ in 0..ROUNDS {
-        let Some(room) = taken(left, steps, NEAR_STATES, room) else {
-            return Ok(None);
-        };
-        let plan = Plan { open, seed: 0 };
-        let blocked = {
-            let mut walk = Walk::new(alloc, steps, Some(&tracks), plan, room)?;
-            if let Found::Order(order) = walk.run()? {
-                return Ok(Some(order));
-            }
-            walk.blocked
-        };
-        let mut is_wider = false;
-        for cell in &blocked {
-            is_wider |= tracks.widen(steps, *cell)?;
-        }
-        if !is_wider {
-            return Ok(None);
-        }
-    }
-    Ok(None)
+    let plan = Plan { open, seed: 0 };
+    along(alloc, steps, &mut tracks, plan, room, left)
 }
 
 /// Looks for an end by plans that leave chains and orders out, through at most `room.states` states
@@ -129,7 +134,8 @@ pub(crate) fn played(
             let Some(room) = taken(&mut left, steps, states, room) else {
                 return Ok(None);
             };
-            let (_, found) = search(alloc, steps, Plan { open, seed }, room)?;
+            let plan = Plan { open, seed };
+            let Searched { found, .. } = search_by(alloc, steps, None, plan, room)?;
             if let Found::Order(order) = found {
                 return Ok(Some(order));
             }

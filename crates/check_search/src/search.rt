@@ -1,16 +1,16 @@
 //! The search for an order. Nothing is proved of what it finds: its result is checked
 //! (`crate::certificate`).
 
-use crate::plans::{EACH, Plan, played};
+use crate::plans::{EACH, played};
 use crate::steps::Steps;
-use crate::walk::Walk;
+use crate::walk::{Searched, search_by};
 use fx_base::NoMemory;
 use indexmap::IndexSet;
 use std::alloc::Global;
 
 /// The reason for which a search leaves a submission undecided. It is advice: no contract says that
 /// the search would have decided it within larger limits.
-#[derive(Clone, Copy, Debug, PartialEq, Eq)]
+#[derive(Clone, Copy)]
 pub enum Doubt {
     /// The search stopped at its limit of states.
     TooManyStates,
@@ -21,7 +21,7 @@ pub enum Doubt {
 }
 
 /// The limits of a search for the states of a submission, or of a part of one.
-#[derive(Clone, Copy, Debug, PartialEq, Eq)]
+#[derive(Clone, Copy)]
 pub struct Limits {
     /// The largest number of states.
     pub states: usize,
@@ -30,7 +30,7 @@ pub struct Limits {
 }
 
 /// The result of a search.
-#[derive(Debug, Drop)]
+#[derive(Drop)]
 pub enum Found {
     /// The chains whose claims, made in this order, lead to an end, by their places in the list.
     Order(Vec<usize>),
@@ -76,16 +76,36 @@ fn room_for(row: &[u16], limits: Limits) -> SearchRoom {
     }
 }
 
-/// Looks for an end by a plan, in all orders.
-pub(crate) fn search(
+// Looks for an end in all orders.
+fn search(alloc: Global, steps: &Steps<'_>, room: SearchRoom) -> Result<(Rows, Found), NoMemory> {
+    let Searched { found, rows, .. } = search_by(alloc, steps, None, EACH, room)?;
+    Ok((rows, found))
+}
+
+// Looks for an end in all orders through `first` states, and then by plans that leave chains and
+// orders out.
+fn search_first(
     alloc: Global,
     steps: &Steps<'_>,
-    plan: Plan,
+    first: usize,
     room: SearchRoom,
 ) -> Result<(Rows, Found), NoMemory> {
-    let mut walk = Walk::new(alloc, steps, None, plan, room)?;
-    let found = walk.run()?;
-    Ok((walk.rows, found))
+    let few = SearchRoom {
+        states: first,
+        ..room
+    };
+    let (rows, found) = search(alloc, steps, few)?;
+    if !matches!(found, Found::Stopped(_)) {
+        return Ok((rows, found));
+    }
+    let rest = SearchRoom {
+        states: room.states.saturating_sub(first),
+        ..room
+    };
+    match played(alloc, steps, rest)? {
+        Some(order) => Ok((rows, Found::Order(order))),
+        None => Ok((rows, found)),
+    }
 }
 
 // The number of states of the first search, of all orders. Measured with `plans::PLANS`, and not by
@@ -109,21 +129,10 @@ pub fn explore(
     let room = room_for(&steps.start(alloc)?, limits);
     let first = FIRST_STATES.max(steps.count().saturating_add(FEW_STATES));
     if room.states > first {
-        let few = SearchRoom {
-            states: first,
-            ..room
-        };
-        let (rows, found) = search(alloc, steps, EACH, few)?;
+        let (rows, found) = search_first(alloc, steps, first, room)?;
         if !matches!(found, Found::Stopped(_)) {
             return Ok((rows, found));
         }
-        let rest = SearchRoom {
-            states: room.states.saturating_sub(first),
-            ..room
-        };
-        if let Some(order) = played(alloc, steps, rest)? {
-            return Ok((rows, Found::Order(order)));
-        }
     }
-    search(alloc, steps, EACH, room)
+    search(alloc, steps, room)
 }

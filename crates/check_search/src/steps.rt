@@ -52,6 +52,16 @@ struct SlotClaims<'a> {
     classes: Tally<'a>,
 }
 
+impl<'a> SlotClaims<'a> {
+    // Adds a claim, and returns its class and its bit.
+    fn add(&mut self, claim: &'a Claim, at: ClaimAt) -> Result<(usize, u64), NoMemory> {
+        let class = self.classes.class_of(claim)?;
+        let bit = bit_behind(self.places.len());
+        self.places.push(at)?;
+        Ok((class, bit))
+    }
+}
+
 /// The claims of chains at some slots.
 #[derive(Drop)]
 pub struct Steps<'a> {
@@ -78,6 +88,41 @@ fn number_for(
     Ok(u16::try_from(number).unwrap_or(u16::MAX))
 }
 
+// Returns the files of a slot before the first claim, "no file" first.
+fn files_of(alloc: Global, cell: &Cell) -> Result<Vec<Option<Resident>>, NoMemory> {
+    let mut files = vec![in alloc; None]?;
+    if cell.file.is_some() {
+        files.push(cell.file)?;
+    }
+    Ok(files)
+}
+
+// Returns the meaning of the numbers of packed states before the first claim.
+fn packing_of(alloc: Global, chains: usize, cells: &[Cell]) -> Result<Packing, NoMemory> {
+    let mut files = Vec::new(alloc);
+    for cell in cells {
+        files.push(files_of(alloc, cell)?)?;
+    }
+    let cells = Vec::from_slice(alloc, cells)?;
+    Ok(Packing {
+        chains,
+        cells,
+        files,
+    })
+}
+
+// Returns slots without claims.
+fn slots_without_claims<'a>(alloc: Global, count: usize) -> Result<Vec<SlotClaims<'a>>, NoMemory> {
+    let mut slots = Vec::new(alloc);
+    for _ in 0..count {
+        slots.push(SlotClaims {
+            places: Vec::new(alloc),
+            classes: Tally::new(alloc),
+        })?;
+    }
+    Ok(slots)
+}
+
 impl<'a> Steps<'a> {
     /// Returns the claims of `strands` at `cells` by numbers.
     ///
@@ -88,25 +133,9 @@ impl<'a> Steps<'a> {
         strands: &'a [Strand],
         cells: &[Cell],
     ) -> Result<Steps<'a>, NoMemory> {
-        let mut files = Vec::new(alloc);
-        let mut slots = Vec::new(alloc);
-        for cell in cells {
-            let mut own = vec![in alloc; None]?;
-            if cell.file.is_some() {
-                own.push(cell.file)?;
-            }
-            files.push(own)?;
-            slots.push(SlotClaims {
-                places: Vec::new(alloc),
-                classes: Tally::new(alloc),
-            })?;
-        }
+        let slots = slots_without_claims(alloc, cells.len())?;
         let mut steps = Steps {
-            packing: Packing {
-                chains: strands.len(),
-                cells: Vec::from_slice(alloc, cells)?,
-                files,
-            },
+            packing: packing_of(alloc, strands.len(), cells)?,
             chains: Vec::new(alloc),
             slots,
             count: 0,
@@ -129,32 +158,43 @@ impl<'a> Steps<'a> {
     }
 
     fn step_of(&mut self, claim: &'a Claim, at: ClaimAt) -> Result<ClaimStep<'a>, NoMemory> {
-        let mut step = ClaimStep {
+        let cell = match claim {
+            Claim::At(slot, _, _) => self.packing.place_of(*slot),
+            Claim::Full => None,
+        };
+        let Some(cell) = cell else {
+            return Ok(ClaimStep {
+                claim,
+                cell,
+                left: None,
+                class: 0,
+                bit: 0,
+            });
+        };
+        let left = self.left_by(claim, cell)?;
+        let (class, bit) = match self.slots.get_mut(cell) {
+            Some(own) => own.add(claim, at)?,
+            None => (0, 0),
+        };
+        Ok(ClaimStep {
             claim,
-            cell: None,
-            left: None,
-            class: 0,
-            bit: 0,
-        };
-        let Claim::At(slot, _, leaves) = claim else {
-            return Ok(step);
-        };
-        let cells = &self.packing.cells;
-        let Some(cell) = cells.iter().position(|cell| cell.slot == *slot) else {
-            return Ok(step);
-        };
-        step.cell = Some(cell);
-        step.left = match leaves {
-            Leaves::Same => None,
-            Leaves::Empty => Some(0),
-            Leaves::File(file) => Some(number_for(&mut self.packing.files, cell, *file)?),
-        };
-        if let Some(own) = self.slots.get_mut(cell) {
-            step.class = own.classes.class_of(claim)?;
-            step.bit = bit_behind(own.places.len());
-            own.places.push(at)?;
+            cell: Some(cell),
+            left,
+            class,
+            bit,
+        })
+    }
+
+    // Returns the number of the file that a claim leaves at its slot, or `None` if it leaves what
+    // is there.
+    fn left_by(&mut self, claim: &Claim, cell: usize) -> Result<Option<u16>, NoMemory> {
+        match claim {
+            Claim::At(_, _, Leaves::File(file)) => {
+                Ok(Some(number_for(&mut self.packing.files, cell, *file)?))
+            }
+            Claim::At(_, _, Leaves::Empty) => Ok(Some(0)),
+            Claim::At(_, _, Leaves::Same) | Claim::Full => Ok(None),
         }
-        Ok(step)
     }
 
     /// Returns the state before the first claim.
@@ -178,8 +218,12 @@ impl<'a> Steps<'a> {
 
     /// Returns the claim that a chain makes next.
     pub(crate) fn next_of(&self, row: &[u16], chain: usize) -> Option<ClaimStep<'a>> {
-        let steps = self.chains.get(chain)?;
-        steps.get(number_at(row, chain) as usize).copied()
+        self.step_at(chain, number_at(row, chain) as usize)
+    }
+
+    // Returns the claim of a chain at a place.
+    fn step_at(&self, chain: usize, place: usize) -> Option<ClaimStep<'a>> {
+        self.chains.get(chain)?.get(place).copied()
     }
 
     /// Returns the claims of a slot, each with its chain, those of the first chain first.
@@ -190,17 +234,18 @@ impl<'a> Steps<'a> {
     ) -> Result<Vec<(usize, ClaimStep<'a>)>, NoMemory> {
         let mut claims = Vec::new(alloc);
         for (chain, k) in self.places_at(cell) {
-            if let Some(step) = self.chains.get(*chain).and_then(|own| own.get(*k)) {
-                claims.push((*chain, *step))?;
+            if let Some(step) = self.step_at(*chain, *k) {
+                claims.push((*chain, step))?;
             }
         }
         Ok(claims)
     }
 
     fn places_at(&self, cell: usize) -> &[ClaimAt] {
-        self.slots
-            .get(cell)
-            .map_or(&[][..], |own| own.places.as_slice())
+        match self.slots.get(cell) {
+            Some(own) => &own.places,
+            None => &[],
+        }
     }
 
     // Returns the claim of a chain at a place, if it is still to be made.
@@ -209,8 +254,7 @@ impl<'a> Steps<'a> {
         if k < number_at(row, chain) as usize {
             return None;
         }
-        let step = self.chains.get(chain)?.get(k)?;
-        Some(step.claim)
+        Some(self.step_at(chain, k)?.claim)
     }
 
     /// Returns the file number at a slot.
@@ -239,36 +283,57 @@ impl<'a> Steps<'a> {
 
     /// Returns the number of empty slots of the allocation range.
     pub(crate) fn empty(&self, row: &[u16]) -> usize {
-        (0..self.packing.cells.len())
-            .filter(|cell| self.is_in_range(*cell) && self.file_number(row, *cell) == 0)
-            .count()
+        let mut count = 0usize;
+        for cell in 0..self.packing.cells.len() {
+            if self.is_in_range(cell) && self.file_number(row, cell) == 0 {
+                count = count.saturating_add(1);
+            }
+        }
+        count
     }
 
     /// Returns the claims of each slot, all of them still to be made.
     pub fn tallies(&self, alloc: Global) -> Result<Vec<Tally<'a>>, NoMemory> {
         let mut tallies = Vec::with_capacity(alloc, self.slots.len())?;
-        for cell in 0..self.slots.len() {
-            let mut tally = self.slots[cell].classes.copy(alloc)?;
-            for (_, step) in self.claims_at(alloc, cell)? {
-                tally.count_claim(step.class, step.claim, true);
-            }
+        for (cell, slot) in self.slots.iter().enumerate() {
+            let mut tally = slot.classes.copy(alloc)?;
+            self.count_claims(cell, &mut tally);
             tallies.push(tally)?;
         }
         Ok(tallies)
     }
 
+    // Counts the claims of a slot as still to be made.
+    fn count_claims(&self, cell: usize, tally: &mut Tally<'a>) {
+        for (chain, k) in self.places_at(cell) {
+            if let Some(step) = self.step_at(*chain, *k) {
+                tally.count_claim(step.class, step.claim, true);
+            }
+        }
+    }
+
     /// Checks whether no slot has a file that the closes have.
     pub(crate) fn is_staying(&self, row: &[u16]) -> bool {
-        (0..self.packing.cells.len()).all(|cell| may_stay(self.file(row, cell)))
+        for cell in 0..self.packing.cells.len() {
+            if !may_stay(self.file(row, cell)) {
+                return false;
+            }
+        }
+        true
     }
 
     /// Returns a chain whose next claim only tests and may be made, if `empty` slots of the
     /// allocation range are empty.
     pub(crate) fn test_of(&self, row: &[u16], empty: usize) -> Option<usize> {
-        (0..self.chains.len()).find(|chain| {
-            self.next_of(row, *chain).is_some_and(|step| is_test(step.claim)
-                && self.allows(row, &step, empty))
-        })
+        for chain in 0..self.chains.len() {
+            if let Some(step) = self.next_of(row, chain)
+                && is_test(step.claim)
+                && self.allows(row, &step, empty)
+            {
+                return Some(chain);
+            }
+        }
+        None
     }
 
     /// Makes the next claim of a chain, and returns the number of the file that was at its slot.
@@ -311,11 +376,26 @@ impl<'a> Steps<'a> {
         claim: &Claim,
     ) -> bool {
         let (front, behind) = claims.split_at(at.min(claims.len()));
-        let helps = |other: &ClaimAt| {
-            let other = self.left_at(row, *other);
-            other.is_some_and(|other| !is_no_help(slot, claim, other))
-        };
-        front.iter().rev().any(helps) || behind.iter().any(helps)
+        for other in front.iter().rev() {
+            if self.helps(row, *other, slot, claim) {
+                return true;
+            }
+        }
+        for other in behind {
+            if self.helps(row, *other, slot, claim) {
+                return true;
+            }
+        }
+        false
+    }
+
+    // Checks whether the claim at `other` is still to be made, and leaves a file at the slot that
+    // `claim` may find.
+    fn helps(&self, row: &[u16], other: ClaimAt, slot: u32, claim: &Claim) -> bool {
+        match self.left_at(row, other) {
+            Some(other) => !is_no_help(slot, claim, other),
+            None => false,
+        }
     }
 
     /// Returns the state after the next claim of a chain.

@@ -74,16 +74,18 @@ impl<'a> Tally<'a> {
 
     /// Returns the number of the class of a claim, which it doesn't count.
     pub(crate) fn class_of(&mut self, claim: &'a Claim) -> Result<usize, NoMemory> {
-        let mut own = self.classes.iter();
-        if let Some(class) = own.position(|own| is_alike(own.claim, claim)) {
-            return Ok(class);
+        let count = self.classes.len();
+        for class in 0..count {
+            if is_alike(self.classes[class].claim, claim) {
+                return Ok(class);
+            }
         }
         self.classes.push(Class {
             claim,
             left: 0,
             helpers: 0,
         })?;
-        Ok(self.classes.len().saturating_sub(1))
+        Ok(count)
     }
 
     // Counts the classes that a claim helps by what it leaves at the slot.
@@ -127,9 +129,12 @@ impl<'a> Tally<'a> {
     // ([`crate::dead`]).
     fn is_hopeless(&self, found: Option<Resident>) -> bool {
         let stays = !may_leave(found);
-        self.classes.iter().any(|class| {
-            class.left > 0 && (stays || class.helpers == 0) && !may_find(class.claim, found)
-        })
+        for class in &self.classes {
+            if class.left > 0 && (stays || class.helpers == 0) && !may_find(class.claim, found) {
+                return true;
+            }
+        }
+        false
     }
 
     // Checks whether the files don't balance, if `found` is at the slot ([`crate::dead`]).

@@ -65,20 +65,34 @@ fn file_in(moment: u64) -> u16 {
 impl Slot<'_> {
     // Returns the first chain with a claim that is still to be made.
     fn first(&self, made: u64) -> usize {
-        let left = self.claims.iter().find(|claim| made & claim.1.bit == 0);
-        left.map_or(usize::MAX, |claim| claim.0)
+        for (chain, step) in &self.claims {
+            if made & step.bit == 0 {
+                return *chain;
+            }
+        }
+        usize::MAX
+    }
+
+    // Checks whether the claim of a chain before the one at a place was made.
+    fn is_first(&self, made: u64, chain: usize, at: usize) -> bool {
+        if at == 0 {
+            return true;
+        }
+        match self.claims.get(at - 1) {
+            Some((other, before)) => *other != chain || made & before.bit != 0,
+            None => true,
+        }
     }
 
     // Returns the moment after the claim at a place, if that claim may be made.
     fn behind(&self, moment: u64, at: usize) -> Option<u64> {
         let (chain, step) = self.claims.get(at).copied()?;
         let (made, file) = (moment & MADE, file_in(moment));
-        let is_first = match at.checked_sub(1).and_then(|it| self.claims.get(it)) {
-            Some((other, before)) => *other != chain || made & before.bit != 0,
-            None => true,
-        };
+        if made & step.bit != 0 || !self.is_first(made, chain, at) {
+            return None;
+        }
         let found = self.steps.packing.file_at(self.cell, file as usize);
-        if made & step.bit != 0 || !is_first || !may_find(step.claim, found) {
+        if !may_find(step.claim, found) {
             return None;
         }
         Some(moment_of(made ^ step.bit, step.left.unwrap_or(file)))
@@ -99,19 +113,23 @@ impl Slot<'_> {
         Ok(moments)
     }
 
-    // Returns the moments that are reached from the first one, or `None` if they are too many.
-    fn reached(&self, first: u64) -> Result<Option<IndexSet<u64>>, NoMemory> {
-        let mut reached = IndexSet::new(self.alloc);
-        reached.insert(first)?;
+    // Adds the moments that are reached from those in the set. Returns false if they are too many.
+    fn reach(&self, reached: &mut IndexSet<u64>) -> Result<bool, NoMemory> {
         for at in 0..MOST_MOMENTS {
             let Some(moment) = reached.get_index(at).copied() else {
-                return Ok(Some(reached));
+                return Ok(true);
             };
-            for other in &self.all_behind(moment)? {
-                reached.insert(*other)?;
-            }
+            self.add_behind(moment, reached)?;
         }
-        Ok(None)
+        Ok(false)
+    }
+
+    // Adds the moments after each claim that may be made next.
+    fn add_behind(&self, moment: u64, reached: &mut IndexSet<u64>) -> Result<(), NoMemory> {
+        for other in &self.all_behind(moment)? {
+            reached.insert(*other)?;
+        }
+        Ok(())
     }
 
     // Checks whether a moment is an end, or a claim leads from it to one of some moments.
@@ -121,23 +139,34 @@ impl Slot<'_> {
             let found = self.steps.packing.file_at(self.cell, file);
             return Ok(!matches!(found, Some(file) if file.leaves));
         }
-        let behind = self.all_behind(moment)?;
-        Ok(behind.iter().any(|other| others.contains(other)))
+        for other in &self.all_behind(moment)? {
+            if others.contains(other) {
+                return Ok(true);
+            }
+        }
+        Ok(false)
     }
 
     // Returns the moments from which all other claims can be made, or `None` if too many are
     // reached.
     fn moments(&self, first: u64) -> Result<Option<IndexSet<u64>>, NoMemory> {
-        let Some(reached) = self.reached(first)? else {
+        let mut reached = IndexSet::new(self.alloc);
+        reached.insert(first)?;
+        if !self.reach(&mut reached)? {
             return Ok(None);
-        };
+        }
+        Ok(Some(self.leading_on(reached.as_slice())?))
+    }
+
+    // Returns those moments from which all other claims can be made, of all that are reached.
+    fn leading_on(&self, reached: &[u64]) -> Result<IndexSet<u64>, NoMemory> {
         let mut moments = IndexSet::new(self.alloc);
-        for moment in reached.as_slice().iter().rev() {
+        for moment in reached.iter().rev() {
             if self.leads_on(*moment, &moments)? {
                 moments.insert(*moment)?;
             }
         }
-        Ok(Some(moments))
+        Ok(moments)
     }
 
     // Returns the track from the first moment on, widened until it leads to an end.
@@ -201,19 +230,38 @@ impl Tracks {
 
     /// Checks whether no slot has a track.
     pub fn are_none(&self) -> bool {
-        self.tracks.iter().all(|track| track.moments.is_none())
+        for track in &self.tracks {
+            if track.moments.is_some() {
+                return false;
+            }
+        }
+        true
     }
 
     /// Checks whether all claims of a slot can be made from a moment on.
     pub fn allows(&self, cell: usize, moment: u64) -> bool {
-        match self.tracks.get(cell).map(|track| &track.moments) {
-            Some(Some(moments)) => moments.contains(&moment),
+        match self.tracks.get(cell) {
+            Some(
+                Track {
+                    moments: Some(moments),
+                    ..
+                },
+            ) => moments.contains(&moment),
             _ => true,
         }
     }
 
-    /// Widens the track of a slot. Returns true unless it was as wide as it can be.
-    pub fn widen(&mut self, steps: &Steps<'_>, cell: usize) -> Result<bool, NoMemory> {
+    /// Widens the tracks of some slots. Returns true unless each was as wide as it can be.
+    pub fn widen_all(&mut self, steps: &Steps<'_>, cells: &[usize]) -> Result<bool, NoMemory> {
+        let mut is_wider = false;
+        for cell in cells {
+            is_wider |= self.widen(steps, *cell)?;
+        }
+        Ok(is_wider)
+    }
+
+    // Widens the track of a slot. Returns true unless it was as wide as it can be.
+    fn widen(&mut self, steps: &Steps<'_>, cell: usize) -> Result<bool, NoMemory> {
         if cell >= self.tracks.len() || self.tracks[cell].near >= steps.chains() {
             return Ok(false);
         }

@@ -13,7 +13,7 @@ use std::alloc::Global;
 // A state on the way from the start to the current state: the chain of the step that led to it, the
 // number of the file that was at the slot of that step, the last chain on the way that did more
 // than test, and the number of steps that were tried from the state.
-#[derive(Clone, Copy, Default)]
+#[derive(Clone, Copy)]
 struct Stage {
     by: usize,
     before: u16,
@@ -27,15 +27,43 @@ const _: () = prove!(size_of::<Stage>() == 32);
 // All steps were tried.
 const ALL: usize = usize::MAX;
 
-/// A search: its current state, and the way there.
+/// The result of a search.
 #[derive(Drop)]
-pub(crate) struct Walk<'a> {
+pub(crate) struct Searched {
+    pub found: Found,
+    /// The states that were met, if they are kept.
+    pub rows: Rows,
+    /// The slots that blocked the longest way ([`Walk::note`]).
+    pub blocked: Vec<usize>,
+}
+
+/// Looks for an end by a plan, along tracks if there are any, or else in all orders.
+pub(crate) fn search_by(
+    alloc: Global,
+    steps: &Steps<'_>,
+    tracks: Option<&Tracks>,
+    plan: Plan,
+    room: SearchRoom,
+) -> Result<Searched, NoMemory> {
+    let mut walk = Walk::new(alloc, steps, tracks, plan, room)?;
+    let found = walk.run()?;
+    let Walk { rows, blocked, .. } = walk;
+    Ok(Searched {
+        found,
+        rows,
+        blocked,
+    })
+}
+
+// A search: its current state, and the way there.
+#[derive(Drop)]
+struct Walk<'a> {
     alloc: Global,
     steps: &'a Steps<'a>,
     // The tracks that a step must keep to, or `None` to allow each step.
     tracks: Option<&'a Tracks>,
-    /// The states that were met, if they are kept.
-    pub rows: Rows,
+    // The states that were met, if they are kept.
+    rows: Rows,
     // The states that were met, by their sums. If two states have the same sum, the second one is
     // skipped, and a result that needs it isn't confirmed.
     met: IndexSet<u64>,
@@ -43,15 +71,15 @@ pub(crate) struct Walk<'a> {
     way: Vec<Stage>,
     // The length of the longest way from which no step led on.
     longest: usize,
-    /// The slots of the steps that the chains at the end of that way would have made.
-    pub blocked: Vec<usize>,
+    // The slots of the steps that the chains at the end of that way would have made.
+    blocked: Vec<usize>,
     plan: Plan,
     room: SearchRoom,
 }
 
 impl<'a> Walk<'a> {
-    /// Returns a search at its start.
-    pub(crate) fn new(
+    // Returns a search at its start.
+    fn new(
         alloc: Global,
         steps: &'a Steps<'a>,
         tracks: Option<&'a Tracks>,
@@ -73,21 +101,34 @@ impl<'a> Walk<'a> {
         })
     }
 
-    /// Continues until the search ends.
-    pub(crate) fn run(&mut self) -> Result<Found, NoMemory> {
+    // Continues until the search ends.
+    fn run(&mut self) -> Result<Found, NoMemory> {
         if self.room.states == 0 {
             return Ok(Found::Stopped(self.room.doubt));
         }
-        self.rows
-            .insert(Vec::from_slice(self.alloc, &self.here.row)?)?;
-        self.met.insert(self.here.sum)?;
-        self.way.push(Stage::default())?;
+        self.enter(Stage {
+            by: 0,
+            before: 0,
+            last: 0,
+            tried: 0,
+        })?;
         for _ in 0..usize::MAX {
             if let Some(found) = self.advance()? {
                 return Ok(found);
             }
         }
         Ok(Found::Stopped(self.room.doubt))
+    }
+
+    // Records the current state, and that this stage led there.
+    fn enter(&mut self, stage: Stage) -> Result<(), NoMemory> {
+        if self.room.keeps {
+            let row = Vec::from_slice(self.alloc, &self.here.row)?;
+            self.rows.insert(row)?;
+        }
+        self.met.insert(self.here.sum)?;
+        self.way.push(stage)?;
+        Ok(())
     }
 
     // Returns the chain of the next step to be tried, and the number of tried steps after it. If a
@@ -106,12 +147,12 @@ impl<'a> Walk<'a> {
         if self.plan.seed > 0 {
             return self.choice_drawn(stage, low, high);
         }
-        if stage.tried == 0 && stage.last < high && self.may_make(stage.last) {
+        if stage.tried == 0 && stage.last < high && self.may_continue(stage.last) {
             return Some((stage.last, 1));
         }
         for tried in stage.tried.max(1)..=high {
             let chain = tried.saturating_sub(1);
-            if chain != stage.last && self.may_make(chain) {
+            if chain != stage.last && self.may_continue(chain) {
                 return Some((chain, tried.saturating_add(1)));
             }
         }
@@ -127,7 +168,7 @@ impl<'a> Walk<'a> {
         for tried in stage.tried.max(1)..=count {
             let behind = first.saturating_add(tried).checked_rem(count).unwrap_or(0);
             let chain = low.saturating_add(behind);
-            if self.may_make(chain) {
+            if self.may_continue(chain) {
                 return Some((chain, tried.saturating_add(1)));
             }
         }
@@ -160,15 +201,27 @@ impl<'a> Walk<'a> {
             return self.steps.test_of(&self.here.row, self.here.empty);
         }
         let (_, high) = self.window();
-        (0..high).find(|chain| {
-            let step = self.here.next_of(*chain);
-            step.is_some_and(|step| is_test(step.claim) && self.may_make(*chain))
-        })
+        for chain in 0..high {
+            if let Some(step) = self.here.next_of(chain)
+                && is_test(step.claim)
+                && self.may_make(&step)
+            {
+                return Some(chain);
+            }
+        }
+        None
     }
 
-    fn may_make(&self, chain: usize) -> bool {
-        let step = self.here.next_of(chain);
-        step.is_some_and(|step| self.here.allows(&step) && self.keeps_track(&step))
+    fn may_make(&self, step: &ClaimStep<'_>) -> bool {
+        self.here.allows(step) && self.keeps_track(step)
+    }
+
+    // Checks whether a chain may make its next step.
+    fn may_continue(&self, chain: usize) -> bool {
+        match self.here.next_of(chain) {
+            Some(step) => self.may_make(&step),
+            None => false,
+        }
     }
 
     // Checks whether a step leads to a moment of the track of its slot.
@@ -238,13 +291,8 @@ impl<'a> Walk<'a> {
         if self.met.len() >= self.room.states {
             return Ok(false);
         }
-        if self.room.keeps {
-            self.rows
-                .insert(Vec::from_slice(self.alloc, &self.here.row)?)?;
-        }
-        self.met.insert(self.here.sum)?;
         let last = if is_test(step.claim) { last } else { chain };
-        self.way.push(Stage {
+        self.enter(Stage {
             by: chain,
             before,
             last,
@@ -267,8 +315,11 @@ impl<'a> Walk<'a> {
 
     // Returns the steps of the way.
     fn order(&self) -> Result<Vec<usize>, NoMemory> {
-        let steps = self.way.iter().skip(1);
-        Ok(steps.map(|stage| stage.by).collect(self.alloc)?)
+        let mut order = Vec::new(self.alloc);
+        for stage in self.way.iter().skip(1) {
+            order.push(stage.by)?;
+        }
+        Ok(order)
     }
 
     // Tries one step, or goes back by one if none is left. Returns the result once the search ends.

@@ -1,4 +1,4 @@
-use Rattle.check_flight.proofs.Words.{◌≡◌, ℕ, ◌<◌, Option, slice_index_or}
+use Rattle.check_flight.proofs.Words.{ℕ, ◌<◌, Option, slice_index_or}
 use Rattle.check_flight.specs.Judged.{log_in}
 use Rattle.check_flight.specs.States.{IsLookDenied}
 use Rattle.check_flight.specs.declared.state.WaitingLook.{WaitingLook}

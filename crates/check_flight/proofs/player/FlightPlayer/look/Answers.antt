@@ -1,4 +1,4 @@
-use Rattle.check_flight.proofs.Words.{◌≡◌, arith, contains_head, refl, sym, ◌∙◌}
+use Rattle.check_flight.proofs.Words.{arith, contains_head, refl}
 use Rattle.check_flight.proofs.Moves.{look_planned, moves_look}
 use Rattle.check_flight.specs.declared.player.CallKind.TheVariants.{Look}
 use Rattle.check_flight.specs.declared.player.FlightPlayer.{FlightPlayer}
