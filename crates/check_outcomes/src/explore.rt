@@ -26,11 +26,11 @@ fn weight_recorded(submission: &PlayedSubmission<'_>) -> usize {
     if !submission.tells {
         return 0;
     }
-    let lists = submission.chains.len().saturating_mul(32);
-    submission.requests.iter().fold(
-        lists,
-        |weight, request| weight.saturating_add(weight_of(request)),
-    )
+    let mut weight = submission.chains.len().saturating_mul(32);
+    for request in submission.requests {
+        weight = weight.saturating_add(weight_of(request));
+    }
+    weight
 }
 
 // The sizes that `room_for` counts. With another one it must be counted again.
@@ -58,7 +58,7 @@ fn room_for(submission: &PlayedSubmission<'_>, limits: Limits) -> usize {
 
 /// A search: what it found, the numbers of the states that it has still to look at, and how many
 /// states it may meet.
-#[derive(Debug, Drop)]
+#[derive(Drop)]
 struct Search {
     found: FoundStates,
     open: Vec<usize>,
@@ -73,13 +73,14 @@ impl Search {
         if found.keys.contains(&key) {
             return Ok(true);
         }
-        if found.states.len() >= self.most {
+        let number = found.states.len();
+        if number >= self.most {
             return Ok(false);
         }
-        self.open.push(found.states.len())?;
         found.keys.insert(key)?;
         found.states.push(state)?;
         found.from.push(from)?;
+        self.open.push(number)?;
         Ok(true)
     }
 
@@ -100,6 +101,25 @@ impl Search {
         Ok(())
     }
 
+    // Follows an access of a chain in a state, if it may be made. Whether there was room for the
+    // state to which it leads.
+    fn follow_step(
+        &mut self,
+        submission: &PlayedSubmission<'_>,
+        step: FoundStep,
+    ) -> Result<bool, NoMemory> {
+        let Some(here) = self.found.states.get(step.state) else {
+            return Ok(true);
+        };
+        let mut recorded = Vec::new(submission.alloc);
+        let next = next_state(submission, here, step.chain, &step.access, &mut recorded)?;
+        let Some(next) = next else {
+            return Ok(true);
+        };
+        self.note(submission.asked, recorded, Some(step))?;
+        self.add(next, Some(step))
+    }
+
     // Follows each access that a chain may make next in a state. Whether there was room for the
     // states.
     fn follow(
@@ -115,20 +135,12 @@ impl Search {
             return Ok(true);
         };
         for access in accesses {
-            let Some(here) = self.found.states.get(state) else {
-                return Ok(true);
-            };
-            let mut recorded = Vec::new(submission.alloc);
-            let Some(next) = next_state(submission, here, chain, &access, &mut recorded)? else {
-                continue;
-            };
             let step = FoundStep {
                 state,
                 chain,
                 access,
             };
-            self.note(submission.asked, recorded, Some(step))?;
-            if !self.add(next, Some(step))? {
+            if !self.follow_step(submission, step)? {
                 return Ok(false);
             }
         }

@@ -16,7 +16,7 @@ use std::alloc::Global;
 use std::hash::{FoldHasher, Hasher};
 
 /// An access of a chain, by the chain's number from 0, in a state, by the state's number.
-#[derive(Clone, Copy, Debug)]
+#[derive(Clone, Copy)]
 pub struct FoundStep {
     /// The state.
     pub state: usize,
@@ -28,7 +28,7 @@ pub struct FoundStep {
 
 /// The states that a search met, in the order in which it met them, and what was answered on the
 /// way at the place that is asked for. Each is a hint, and nothing is proved of it.
-#[derive(Debug, Drop)]
+#[derive(Drop)]
 pub struct FoundStates {
     /// The allocator.
     pub alloc: Global,
@@ -134,9 +134,9 @@ impl FoundStates {
         submission: &PlayedSubmission<'_>,
     ) -> Result<Vec<Option<FoundStep>>, NoMemory> {
         let mut steps = Vec::new(self.alloc);
-        for (state, by) in self.states.iter().zip(&self.from) {
-            if state.is_over(submission) {
-                steps.push(*by)?;
+        for number in 0..self.states.len().min(self.from.len()) {
+            if self.states[number].is_over(submission) {
+                steps.push(self.from[number])?;
             }
         }
         Ok(steps)

@@ -30,7 +30,7 @@ use std::alloc::Global;
 
 /// A report that a submission can produce, an order of its accesses that yields it, and the slots
 /// that this order leaves.
-#[derive(Debug, Drop)]
+#[derive(Drop)]
 pub struct PossibleReport {
     /// The report.
     pub report: Report,
@@ -41,7 +41,7 @@ pub struct PossibleReport {
 }
 
 /// The reports that a submission can produce.
-#[derive(Debug, Drop)]
+#[derive(Drop)]
 pub struct PossibleReports {
     /// The reports.
     pub reports: Vec<PossibleReport>,
@@ -261,7 +261,7 @@ pub fn may_report(
 
 /// An answer of a request, an order of the submission's accesses that yields it, and the slots that
 /// this order leaves.
-#[derive(Debug, Drop)]
+#[derive(Drop)]
 pub struct PossibleAnswer {
     /// The answer.
     pub completion: Completion,
@@ -272,7 +272,7 @@ pub struct PossibleAnswer {
 }
 
 /// The answers that a request can give.
-#[derive(Debug, Drop)]
+#[derive(Drop)]
 pub struct PossibleAnswers {
     /// The answers.
     pub answers: Vec<PossibleAnswer>,

@@ -13,7 +13,7 @@ use fx_order::Slots;
 
 /// The number of the part that each chain is in, the first one first, and of the part that each
 /// slot belongs to. Each is a hint, which [`are_parts`] looks at.
-#[derive(Debug, Drop)]
+#[derive(Drop)]
 pub struct PartNumbers {
     /// The parts of the chains.
     pub of_chain: Vec<usize>,
@@ -77,6 +77,15 @@ pub(crate) fn are_parts(
 // The part of a slot that no request was seen to access.
 const NO_PART: usize = usize::MAX;
 
+// Renumbers the part `other` as `part`.
+fn rename(numbers: &mut [usize], part: usize, other: usize) {
+    for number in numbers {
+        if *number == other {
+            *number = part;
+        }
+    }
+}
+
 impl PartNumbers {
     /// Returns the part of a chain, by its number from 0.
     pub(crate) fn part_of(&self, i: usize) -> usize
@@ -87,16 +96,8 @@ impl PartNumbers {
 
     // Makes one part of two.
     fn join(&mut self, part: usize, other: usize) {
-        for number in &mut self.of_chain {
-            if *number == other {
-                *number = part;
-            }
-        }
-        for number in &mut self.of_slot {
-            if *number == other {
-                *number = part;
-            }
-        }
+        rename(&mut self.of_chain, part, other);
+        rename(&mut self.of_slot, part, other);
     }
 
     // Notes that a chain may access a slot.

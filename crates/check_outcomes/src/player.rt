@@ -8,15 +8,17 @@ ghost use Rattle.check_outcomes.specs.Listed.{IsPlayIn};
 use crate::found::{FoundStates, FoundStep};
 use crate::state::{PlayState, accesses_of, next_state, start};
 use crate::submission::PlayedSubmission;
+use crate::telling::sort_by_mark;
 use fx_base::{Closed, Errno, NoMemory};
 use fx_chain::Completion;
 use fx_order::{Access, ChainAccess, Slots, SubmissionReport, slots_left};
+use std::alloc::Global;
 
 // More accesses than a chain may make.
 const MOST_ACCESSES: usize = 1 << 16;
 
 /// An order of a submission, and its results.
-#[derive(Debug, Drop)]
+#[derive(Drop)]
 pub(crate) struct OrderPlay {
     /// The order.
     pub(crate) order: Vec<ChainAccess>,
@@ -46,7 +48,7 @@ fn steps_to(
 }
 
 /// A play of a submission, access by access.
-#[derive(Debug, Drop)]
+#[derive(Drop)]
 struct Player {
     state: PlayState,
     order: Vec<ChainAccess>,
@@ -96,6 +98,39 @@ impl Player {
         }
         Ok(false)
     }
+
+    // Makes the accesses of these steps.
+    fn play_steps(
+        &mut self,
+        submission: &PlayedSubmission<'_>,
+        steps: &[FoundStep],
+    ) -> Result<(), NoMemory> {
+        for step in steps {
+            self.play(submission, step.chain, step.access)?;
+        }
+        Ok(())
+    }
+
+    // Goes on to the end of each chain, one chain after another.
+    fn play_on(&mut self, submission: &PlayedSubmission<'_>) -> Result<(), NoMemory> {
+        for chain in 0..submission.chains.len() {
+            for _ in 0..MOST_ACCESSES {
+                if !self.play_first(submission, chain)? {
+                    break;
+                }
+            }
+        }
+        Ok(())
+    }
+}
+
+// Returns the completions of all chains, one chain after another.
+fn joined(alloc: Global, lists: Vec<Vec<Completion>>) -> Result<Vec<Completion>, NoMemory> {
+    let mut completions = Vec::new(alloc);
+    for mut own in lists {
+        completions.append(&mut own)?;
+    }
+    Ok(completions)
 }
 
 /// Returns a play of a submission at these slots that begins with the steps up to this one, and
@@ -116,26 +151,15 @@ pub(crate) fn play_to(
         closes: Vec::new(alloc),
     };
     if let Some(last) = last {
-        for step in steps_to(submission, found, last)? {
-            player.play(submission, step.chain, step.access)?;
-        }
+        player.play_steps(submission, &steps_to(submission, found, last)?)?;
     }
-    for chain in 0..submission.chains.len() {
-        for _ in 0..MOST_ACCESSES {
-            if !player.play_first(submission, chain)? {
-                break;
-            }
-        }
-    }
-    player.closes.sort_unstable_by_key(|file| file.mark);
-    let mut completions = Vec::new(alloc);
-    for mut own in player.recorded {
-        completions.append(&mut own)?;
-    }
+    player.play_on(submission)?;
+    let mut closes = player.closes;
+    sort_by_mark(&mut closes);
     Ok(OrderPlay {
         order: player.order,
-        completions,
-        closes: player.closes,
+        completions: joined(alloc, player.recorded)?,
+        closes,
     })
 }
 

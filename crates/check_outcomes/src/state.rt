@@ -17,7 +17,7 @@ use fx_chain::{Completion, Request};
 use fx_order::{Access, OrderSetting, Slots};
 
 /// The files at the slots, and how far each chain has come, the first one first.
-#[derive(Debug, Drop)]
+#[derive(Drop)]
 pub struct PlayState {
     /// The slots.
     pub slots: Slots,

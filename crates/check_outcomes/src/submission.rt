@@ -91,7 +91,7 @@ impl PlayedSubmission<'_> {
 }
 
 /// The progress of a chain.
-#[derive(Clone, Copy, Debug, PartialEq, Eq)]
+#[derive(Clone, Copy, PartialEq)]
 pub struct Progress {
     /// The number of its members that are done: all of them if no access is left.
     pub done: usize,

@@ -11,7 +11,7 @@ use fx_order::Access;
 use std::alloc::Global;
 
 /// The answers and the removed files on the way to a state.
-#[derive(Debug, Drop)]
+#[derive(Drop)]
 pub struct WayReport {
     /// The answers of each chain, in order of chains.
     pub answers: Vec<Vec<Completion>>,
@@ -67,6 +67,13 @@ pub(crate) fn push_lists(
     push_lists(alloc, all, more)
 }
 
+/// Puts files in order of mark.
+pub(crate) fn sort_by_mark(files: &mut [Closed])
+    ensures { IsPermutation files.old files.new }
+{
+    files.sort_unstable_by_key(|file| file.mark);
+}
+
 // Returns the files that were taken after an access, in order of mark.
 fn removed_after(
     alloc: Global,
@@ -80,7 +87,7 @@ fn removed_after(
     if let Some(file) = access.removed() {
         after.push(file)?;
     }
-    after.sort_unstable_by_key(|file| file.mark);
+    sort_by_mark(&mut after);
     Ok(after)
 }
 

@@ -19,7 +19,11 @@ fn part_at(
     let mut turn: Option<usize> = None;
     for i in 0..submission.chains.len() {
         let own = numbers.part_of(i);
-        if state.is_idle(submission, i) || turn.is_some_and(|part| part <= own) {
+        let is_later = match turn {
+            Some(part) => part <= own,
+            None => false,
+        };
+        if state.is_idle(submission, i) || is_later {
             continue;
         }
         turn = Some(own);
@@ -66,7 +70,7 @@ fn reader_at(
 }
 
 /// The part whose turn it is in a state, and the chain if nothing but reads is left of the part.
-#[derive(Clone, Copy, Debug)]
+#[derive(Clone, Copy)]
 pub(crate) struct ChainTurn {
     /// The part.
     pub(crate) part: usize,
