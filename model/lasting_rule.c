@@ -98,7 +98,7 @@ static void check_node(const struct state *s, int node) {
     switch (s->file[node]) {
     case NO_FILE:
         want(is_vacant, "a take or a mark of a closed file is left");
-        want((word == FREE && s->place[node] == NOTHING) || (word == CLOSED && worker_of(s, node, false) != NULL),
+        want((word == FREE && s->place[node] == NOTHING) || (word != FREE && worker_of(s, node, false) != NULL),
              "a node without a file has a wrong word or place");
         break;
     case PLACED:
@@ -123,7 +123,7 @@ static void check_pass(const struct state *s, int who) {
     bool is_keyed = it->call == TAKE_IF || it->call == PUT_IF;
     int words = (family->passes + PER_WORD - 1) / PER_WORD;
     int most = is_look ? 8 : it->call == RELEASE ? 3 : it->call == REMOVE ? 5 : is_put ? 3 : is_keyed ? 5 + TRIES
-        : 2 * family->passes + words;
+        : 2 * family->passes + words + 1;
     want(it->call == PUT_ANY || it->step == SEEK || it->steps + (is_look ? 1 : 0) < most || it->step == IDLE, "a call has too many steps");
     int hold = s->hold[who] & ~MARK;
     bool has_bit = s->list[who / PER_WORD] >> who % PER_WORD & 1;

@@ -10,8 +10,8 @@ const struct family *family;
 enum wrong wrong;
 int stock;
 
-/* Nodes. A node is told by where it is: at a slot, or in the stock of a pass. So an installation
- * gives two nodes each other's numbers, wherever one is named. */
+/* Nodes. A node is told by where it is: at a slot, or in the stock of a pass. So an installation or a
+ * removal gives two nodes each other's numbers, wherever one is named. */
 
 int node_in_stock(int who, int nth) {
     return family->slots + who * stock + nth + 1;
@@ -274,7 +274,7 @@ static void go_on(struct pass *it, int who) {
         }
     }
     it->next = it->words = it->last = 0;
-    it->step = it->call == RETIREMENT ? RETIRE : SWAP;
+    it->step = it->call == RETIREMENT ? FINISH : SWAP;
 }
 
 static void skim(struct state *s, struct pass *it, int who) {
@@ -318,6 +318,11 @@ static void swap(struct state *s, struct pass *it, int who) {
         found = install(s, it);
     } else {
         empty_slot(s, it->slot);
+        if (stock) {
+            exchange_nodes(s, found, node_in_stock(who, 0));
+            exchanged = found;
+            found = node_in_stock(who, 0);
+        }
     }
     it->node = removes ? found : 0;
     it->takes = removes ? takes : UINT8_MAX;
@@ -344,6 +349,15 @@ static void visit(struct state *s, struct pass *it, int who) {
     } else {
         visit_next(it, who);
     }
+}
+
+/* A load of the node's word: all takes and marks may have been dropped. */
+static void finish(struct state *s, struct pass *it) {
+    bool is_dropped = s->word[it->node] == BORN - it->takes - (wrong == finish_ignores_marks ? 0 : it->marks);
+    if (is_dropped) {
+        close_file(s, it->node);
+    }
+    it->step = is_dropped ? REST : RETIRE;
 }
 
 static void retire(struct state *s, struct pass *it) {
@@ -591,6 +605,7 @@ bool take_step(void *state, int who, int nth) {
     case SKIM: skim(s, it, who); break;
     case VISIT: visit(s, it, who); break;
     case MARK_HOLD: mark_hold(s, it, who); break;
+    case FINISH: finish(s, it); break;
     case RETIRE: retire(s, it); break;
     case PEEK: peek(s, it, who); break;
     case EXCHANGE: exchange_empty(s, it, who); break;

@@ -22,7 +22,7 @@ enum { TRIES = 2 };
 /* The next step of a pass. */
 enum step {
     IDLE, LIST, ANNOUNCE, CONFIRM, WITHDRAW, DROP_OWED, REST_OF_LOOK, TAKE, HEAT, GUARDED, COUNTED, DROP_YIELDED, REST,
-    SEEK, BIRTH, LOWER, CHECK, BREAK, SWAP, RAISE, SKIM, VISIT, MARK_HOLD, RETIRE, PEEK, EXCHANGE, PEEK_GROUP, REST_UNUSED,
+    SEEK, BIRTH, LOWER, CHECK, BREAK, SWAP, RAISE, SKIM, VISIT, MARK_HOLD, FINISH, RETIRE, PEEK, EXCHANGE, PEEK_GROUP, REST_UNUSED,
     DECIDE_FIRST, BEGIN, ASK, COUNT, DECIDE, RAISE_EARLY, LOWER_LATE
 };
 
@@ -33,7 +33,7 @@ enum step {
     X(scan_before_the_swap) X(mark_by_a_store) X(no_second_look) \
     X(announced_after_the_second_look) X(withdrawal_by_a_store) X(release_by_a_store) X(failed_marks_counted) \
     X(hot_not_asked_at_the_second_look) X(takes_left_out_of_a_retirement) X(last_pass_not_visited) X(no_visits) \
-    X(closed_one_too_early) X(closed_one_too_late) X(slot_never_heated) X(listed_after_the_second_look) \
+    X(closed_one_too_early) X(closed_one_too_late) X(finish_ignores_marks) X(slot_never_heated) X(listed_after_the_second_look) \
     X(skimmed_before_the_swap) X(listed_by_a_store) X(listed_at_each_look) X(heat_counts_two) \
     X(question_is_loaded_once) X(question_is_loaded_before_the_lower) X(question_is_not_cleared) \
     X(question_is_cleared_after_the_swap) X(cleared_only_at_a_full_group) X(cleared_by_one_exchange) \
