@@ -28,9 +28,7 @@ static void fresh(int slots) {
 	}
 }
 
-static void end(void) {
-	io_uring_queue_exit(&ring);
-}
+static void end(void) { io_uring_queue_exit(&ring); }
 
 static struct io_uring_sqe *next(int member, unsigned flags) {
 	struct io_uring_sqe *sqe = io_uring_get_sqe(&ring);

@@ -39,9 +39,7 @@ void name_of_link(size_t installation, char name[NAME_BYTES]) {
 	snprintf(name, NAME_BYTES, "%zu", installation);
 }
 
-int links_folder(void) {
-	return links;
-}
+int links_folder(void) { return links; }
 
 static void remove_links(void) {
 	char name[NAME_BYTES];
@@ -171,9 +169,7 @@ static int read_table(int ring) {
 	return is_listed;
 }
 
-static int is_open(const struct installation *it) {
-	return it->was_opened && !it->was_closed;
-}
+static int is_open(const struct installation *it) { return it->was_opened && !it->was_closed; }
 
 int is_any_open(void) {
 	for (size_t at = first; at < count; at++)

@@ -95,9 +95,7 @@ static void open_ring(struct play *play) {
 	}
 }
 
-static void write_answer(const char *word, int answer) {
-	printf("%s %d\n", word, answer);
-}
+static void write_answer(const char *word, int answer) { printf("%s %d\n", word, answer); }
 
 static int play_call(struct play *play, const struct command *command, const int *list) {
 	const __u64 *tags = (const __u64 *)command->tags;

@@ -49,9 +49,7 @@ void close_list(struct descriptors *list, unsigned taken) {
 
 static unsigned more_flags;
 
-void start_in_threads(void) {
-	more_flags = IOSQE_ASYNC;
-}
+void start_in_threads(void) { more_flags = IOSQE_ASYNC; }
 
 static void prepare_open(struct io_uring_sqe *sqe, const struct script *script, struct member *it, unsigned submission) {
 	struct mark mark = { .numbers = { submission, it->chain, it->place, 0 } };

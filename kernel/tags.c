@@ -8,9 +8,7 @@ static unsigned long long *told;
 static size_t count, room;
 static int mistakes_next;
 
-void mistake_first_tag(void) {
-	mistakes_next = 1;
-}
+void mistake_first_tag(void) { mistakes_next = 1; }
 
 void keep_tag(const struct io_uring_cqe *cqe) {
 	if (cqe->res || cqe->flags)

@@ -36,9 +36,7 @@ static const struct family families[] = {
 /* The family with which the search for a wrong table begins. */
 enum { FIRST_OF_KEYS = sizeof families / sizeof families[0] - 3 };
 
-static int first_family(int table) {
-    return table < WRONG_KEYS ? 0 : FIRST_OF_KEYS;
-}
+static int first_family(int table) { return table < WRONG_KEYS ? 0 : FIRST_OF_KEYS; }
 
 static const char *const wrong_names[] = { TABLES(AS_NAME) };
 

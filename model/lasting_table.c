@@ -13,13 +13,9 @@ int stock;
 /* Nodes. A node is told by where it is: at a slot, or in the stock of a pass. So an installation
  * gives two nodes each other's numbers, wherever one is named. */
 
-int node_in_stock(int who, int nth) {
-    return family->slots + who * stock + nth + 1;
-}
+int node_in_stock(int who, int nth) { return family->slots + who * stock + nth + 1; }
 
-int node_at(int slot) {
-    return slot + 1;
-}
+int node_at(int slot) { return slot + 1; }
 
 bool names(const struct state *s, int slot, int node) {
     return s->is_full[slot] && node_at(slot) == node;
@@ -390,13 +386,9 @@ static void birth(struct state *s, struct pass *it) {
     it->step = after_birth(it);
 }
 
-void begin_installation(struct pass *it) {
-    it->step = stock ? SEEK : after_birth(it);
-}
+void begin_installation(struct pass *it) { it->step = stock ? SEEK : after_birth(it); }
 
-enum step after_scan(void) {
-    return stock ? REST_UNUSED : BEGIN;
-}
+enum step after_scan(void) { return stock ? REST_UNUSED : BEGIN; }
 
 static void peek(struct state *s, struct pass *it, int who) {
     if (s->is_full[it->slot]) {

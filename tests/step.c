@@ -57,9 +57,7 @@ static void take_lock(void) {
         syscall(SYS_sched_yield);
 }
 
-static void let_lock_go(void) {
-    atomic_store(&lock, 0);
-}
+static void let_lock_go(void) { atomic_store(&lock, 0); }
 
 /* A number below the bound (xorshift). */
 static uint64_t draw(uint64_t bound) {
@@ -88,9 +86,7 @@ static void wait_for_turn(void) {
     left = 1 + draw(longest);
 }
 
-static int is_member(int which) {
-    return members >> which & 1;
-}
+static int is_member(int which) { return members >> which & 1; }
 
 static void join_in(void) {
     take_lock();

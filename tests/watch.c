@@ -80,17 +80,13 @@ static bool fails(size_t size) {
     return true;
 }
 
-void *malloc(size_t size) {
-    return fails(size) ? NULL : __libc_malloc(size);
-}
+void *malloc(size_t size) { return fails(size) ? NULL : __libc_malloc(size); }
 
 void *calloc(size_t count, size_t size) {
     return fails(count * size) ? NULL : __libc_calloc(count, size);
 }
 
-void *realloc(void *old, size_t size) {
-    return fails(size) ? NULL : __libc_realloc(old, size);
-}
+void *realloc(void *old, size_t size) { return fails(size) ? NULL : __libc_realloc(old, size); }
 
 void *aligned_alloc(size_t alignment, size_t size) {
     return fails(size) ? NULL : __libc_memalign(alignment, size);

@@ -27,9 +27,7 @@ static size_t seen_count, seen_room;
 static const char *contents[FILES] = { "a", "bb", "ccc", "dddd" };
 static _Thread_local unsigned long long state;
 
-void seed_random(unsigned long long seed) {
-	state = seed * 2654435761u + 1;
-}
+void seed_random(unsigned long long seed) { state = seed * 2654435761u + 1; }
 
 unsigned below(unsigned most) {
 	state = state * 6364136223846793005u + 1442695040888963407u;
@@ -98,9 +96,7 @@ int pick_entry(void) {
 	return entry;
 }
 
-int links_folder(void) {
-	return links;
-}
+int links_folder(void) { return links; }
 
 void make_link(char path[PATH_BYTES], struct member_name of, int in_list, int entry) {
 	snprintf(path, PATH_BYTES, "%d.%d.%d_%s", of.call, of.member, in_list, name_of(entry));
@@ -134,9 +130,7 @@ void read_closes(void (*reap)(void)) {
 	seen_count = 0;
 }
 
-int open_count(void) {
-	return opened - closed;
-}
+int open_count(void) { return opened - closed; }
 
 void feed_a_pipe(void) {
 	pthread_mutex_lock(&lock);

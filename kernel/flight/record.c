@@ -38,9 +38,7 @@ static struct chain **chains;
 static int in_flight;
 static volatile int updater_waits, updater_has_ended;
 
-static int next_call(void) {
-	return __atomic_add_fetch(&last_call, 1, __ATOMIC_SEQ_CST);
-}
+static int next_call(void) { return __atomic_add_fetch(&last_call, 1, __ATOMIC_SEQ_CST); }
 
 static void start_chain(void) {
 	int call = next_call();
