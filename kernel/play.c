@@ -137,18 +137,12 @@ static void play_command(struct play *play, const struct command *command) {
 	const unsigned *numbers = command->numbers;
 	struct io_uring *ring = &play->ring;
 	switch (command->kind) {
-	case SPARSE:
-		return write_answer("sparse", io_uring_register_files_sparse(ring, numbers[0]));
-	case UNREGISTER:
-		return write_answer("unregister", io_uring_unregister_files(ring));
-	case RANGE:
-		return write_answer("range", io_uring_register_file_alloc_range(ring, numbers[0], numbers[1]));
-	case REGISTER:
-		return play_list(play, command, "register");
-	case REGUPDATE:
-		return play_list(play, command, "regupdate");
-	default:
-		play_requests(play);
+	case SPARSE: return write_answer("sparse", io_uring_register_files_sparse(ring, numbers[0]));
+	case UNREGISTER: return write_answer("unregister", io_uring_unregister_files(ring));
+	case RANGE: return write_answer("range", io_uring_register_file_alloc_range(ring, numbers[0], numbers[1]));
+	case REGISTER: return play_list(play, command, "register");
+	case REGUPDATE: return play_list(play, command, "regupdate");
+	default: play_requests(play);
 	}
 }
 

@@ -132,19 +132,12 @@ static const struct form {
 
 static int take_word(struct command *command, char kind, char *word, unsigned *numbers) {
 	switch (kind) {
-	case 'n':
-		return number_of(word, &command->numbers[(*numbers)++]);
-	case 'l':
-		return list_of(word, command);
-	case 't':
-		return tags_of(word, command);
-	case 'f':
-		command->name = word;
-		return is_name(word);
-	case 'a':
-		return !strcmp(word, "at");
-	default:
-		return !strcmp(word, "any");
+	case 'n': return number_of(word, &command->numbers[(*numbers)++]);
+	case 'l': return list_of(word, command);
+	case 't': return tags_of(word, command);
+	case 'f': command->name = word; return is_name(word);
+	case 'a': return !strcmp(word, "at");
+	default: return !strcmp(word, "any");
 	}
 }
 

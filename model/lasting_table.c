@@ -228,6 +228,14 @@ static bool empty_hold(struct state *s, const struct pass *it, int who, enum wro
     return found & MARK;
 }
 
+static void end_take(struct pass *it) {
+    if (it->holds) {
+        hold_until_release(it, COUNTED);
+    } else {
+        begin_call(it, 0, IDLE);
+    }
+}
+
 static void take(struct state *s, struct pass *it) {
     bool heats = s->takes[it->slot] >= family->cold_takes && wrong != slot_never_heated;
     s->takes[it->slot]++;
@@ -237,20 +245,14 @@ static void take(struct state *s, struct pass *it) {
     }
     if (heats) {
         it->step = HEAT;
-    } else if (it->holds) {
-        hold_until_release(it, COUNTED);
     } else {
-        begin_call(it, 0, IDLE);
+        end_take(it);
     }
 }
 
 static void heat(struct state *s, struct pass *it) {
     s->heat[it->slot] += wrong == heat_counts_two ? 2 : 1;
-    if (it->holds) {
-        hold_until_release(it, COUNTED);
-    } else {
-        begin_call(it, 0, IDLE);
-    }
+    end_take(it);
 }
 
 /* A removal, and the retirement of what it removed */
