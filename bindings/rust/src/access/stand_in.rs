@@ -75,9 +75,14 @@ impl Table {
         (left == 1).then(|| self.close(node))
     }
 
+    // Retires the file that a word named. If each of its users has ended, a load closes it.
     fn retire(&self, word: u64) -> Option<u64> {
+        let (node, takes) = (node_of(word), word & TAKES);
         self.changes.fetch_add(1, SeqCst);
-        self.subtract(node_of(word), (1 << 32) - (word & TAKES))
+        if self.nodes[node].load(SeqCst) + takes == BORN {
+            return Some(self.close(node));
+        }
+        self.subtract(node, (1 << 32) - takes)
     }
 
     // Checks whether every slot has a file.
@@ -338,7 +343,14 @@ pub(crate) unsafe fn yacht_core_take(handle: *mut Core, slot: u32, closed: *mut 
     let Some(word) = it.table.slots.get(slot as usize) else {
         return NO_SLOT;
     };
-    let old = word.fetch_and(NAME, SeqCst);
+    let old = match it.stock.get_mut(it.free) {
+        None => word.fetch_and(NAME, SeqCst),
+        Some(node) => {
+            let old = word.swap((*node as u64) << 32, SeqCst);
+            *node = node_of(old);
+            old
+        }
+    };
     if !has_file(old) {
         return EMPTY;
     }
