@@ -1,8 +1,6 @@
-/*
- * Asks the running kernel the questions of docs/LINUX.md that no script can, and prints a line for
+/* Asks the running kernel the questions of docs/LINUX.md that no script can, and prints a line for
  * each. kernel/conform asks the others, by scripts. It needs io_uring and liburing 2.3; it proves
- * nothing, and no other test relies on it.
- */
+ * nothing, and no other test relies on it. */
 #define _GNU_SOURCE
 #include <errno.h>
 #include <fcntl.h>
@@ -22,8 +20,7 @@ static char path[] = "/tmp/measure-linux-XXXXXX";
 static char buffer[64];
 static int results[MEMBERS];
 
-static void fresh(int slots)
-{
+static void fresh(int slots) {
 	/* without this flag a submission ends at the first request that can't be submitted */
 	if (io_uring_queue_init(64, &ring, IORING_SETUP_SUBMIT_ALL) || (slots && io_uring_register_files_sparse(&ring, slots))) {
 		puts("no io_uring here");
@@ -31,13 +28,9 @@ static void fresh(int slots)
 	}
 }
 
-static void end(void)
-{
-	io_uring_queue_exit(&ring);
-}
+static void end(void) { io_uring_queue_exit(&ring); }
 
-static struct io_uring_sqe *next(int member, unsigned flags)
-{
+static struct io_uring_sqe *next(int member, unsigned flags) {
 	struct io_uring_sqe *sqe = io_uring_get_sqe(&ring);
 	memset(sqe, 0, sizeof *sqe);
 	sqe->user_data = member;
@@ -45,37 +38,32 @@ static struct io_uring_sqe *next(int member, unsigned flags)
 	return sqe;
 }
 
-static void with(struct io_uring_sqe *sqe, int member, unsigned flags)
-{
+static void with(struct io_uring_sqe *sqe, int member, unsigned flags) {
 	sqe->user_data = member;
 	sqe->flags |= flags;
 }
 
-static void opens(int member, unsigned slot, unsigned flags)
-{
+static void opens(int member, unsigned slot, unsigned flags) {
 	struct io_uring_sqe *sqe = next(member, 0);
 	io_uring_prep_openat_direct(sqe, AT_FDCWD, path, O_RDONLY, 0, slot);
 	with(sqe, member, flags);
 }
 
-static void opens_any(int member, unsigned flags)
-{
+static void opens_any(int member, unsigned flags) {
 	struct io_uring_sqe *sqe = next(member, 0);
 	io_uring_prep_openat(sqe, AT_FDCWD, path, O_RDONLY, 0);
 	sqe->file_index = IORING_FILE_INDEX_ALLOC;
 	with(sqe, member, flags);
 }
 
-static void closes(int member, unsigned slot, unsigned flags)
-{
+static void closes(int member, unsigned slot, unsigned flags) {
 	struct io_uring_sqe *sqe = next(member, 0);
 	io_uring_prep_close_direct(sqe, slot);
 	with(sqe, member, flags);
 }
 
 /* Submits, and keeps the result of each member. */
-static void play(int count)
-{
+static void play(int count) {
 	struct io_uring_cqe *cqe;
 	io_uring_submit(&ring);
 	for (int i = 0; i < count; i++) {
@@ -85,15 +73,13 @@ static void play(int count)
 	}
 }
 
-static void large_range(void)
-{
+static void large_range(void) {
 	fresh(4);
 	printf("range 4294967295 1: %d\n", io_uring_register_file_alloc_range(&ring, UINT_MAX, 1));
 	end();
 }
 
-static void empty_lists(void)
-{
+static void empty_lists(void) {
 	int list[] = { -1 };
 	for (int slots = 0; slots < 2; slots++) {
 		fresh(slots);
@@ -104,8 +90,7 @@ static void empty_lists(void)
 	}
 }
 
-static void allocation(void)
-{
+static void allocation(void) {
 	fresh(4);
 	opens_any(0, IOSQE_IO_LINK), opens_any(1, IOSQE_IO_LINK), opens_any(2, IOSQE_IO_LINK);
 	closes(3, 0, IOSQE_IO_LINK), closes(4, 2, IOSQE_IO_LINK), opens_any(5, 0);
@@ -121,8 +106,7 @@ static void allocation(void)
 }
 
 /* A member that can't be submitted, in a chain by a kind of link. */
-static void unsubmitted(const char *kind, unsigned link)
-{
+static void unsubmitted(const char *kind, unsigned link) {
 	fresh(2);
 	opens(0, 0, link);
 	struct io_uring_sqe *sqe = next(1, link);
@@ -133,8 +117,7 @@ static void unsubmitted(const char *kind, unsigned link)
 	end();
 }
 
-static void both_links(void)
-{
+static void both_links(void) {
 	fresh(1);
 	closes(0, 0, IOSQE_IO_LINK | IOSQE_IO_HARDLINK), closes(1, 0, 0);
 	play(2);
@@ -143,8 +126,7 @@ static void both_links(void)
 }
 
 /* Whether a file that is in use stays open when its slot is emptied. */
-static void removal_in_use(void)
-{
+static void removal_in_use(void) {
 	int ends[2], none[] = { -1 };
 	if (pipe(ends))
 		return;
@@ -166,8 +148,7 @@ static void removal_in_use(void)
 	close(ends[1]);
 }
 
-static void tags(void)
-{
+static void tags(void) {
 	int file = open(path, O_RDONLY);
 	int files[] = { file, file, file };
 	__u64 each[] = { 7, 8, 9 };
@@ -186,8 +167,7 @@ static void tags(void)
 	close(file);
 }
 
-int main(void)
-{
+int main(void) {
 	struct utsname system;
 	uname(&system);
 	signal(SIGPIPE, SIG_IGN);

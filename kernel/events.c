@@ -7,8 +7,7 @@
 
 #include "script.h"
 
-int make_folder(const char *path)
-{
+int make_folder(const char *path) {
 	if (mkdir(path, 0700))
 		die(path);
 	int opened = open(path, O_PATH | O_DIRECTORY);
@@ -17,21 +16,18 @@ int make_folder(const char *path)
 	return opened;
 }
 
-void make_file(int folder, const char *name, const void *bytes, size_t size)
-{
+void make_file(int folder, const char *name, const void *bytes, size_t size) {
 	int made = openat(folder, name, O_WRONLY | O_CREAT | O_EXCL, 0600);
 	if (made < 0 || write(made, bytes, size) != (ssize_t)size || close(made))
 		die("a file of the catalogue");
 }
 
-void watch_folder(int events, const char *path)
-{
+void watch_folder(int events, const char *path) {
 	if (inotify_add_watch(events, path, IN_OPEN | IN_CLOSE | IN_ONLYDIR) < 0)
 		die("no watch on the folder");
 }
 
-void read_events(int events, void (*note)(const struct inotify_event *event))
-{
+void read_events(int events, void (*note)(const struct inotify_event *event)) {
 	char buffer[16384] __attribute__((aligned(__alignof__(struct inotify_event))));
 	ssize_t size;
 	while ((size = read(events, buffer, sizeof buffer)) > 0) {

@@ -31,23 +31,17 @@ static struct installation *installations;
 static size_t count, room;
 static size_t first;		/* all before it are finished */
 
-static void name_of_entry(unsigned entry, char name[NAME_BYTES])
-{
+static void name_of_entry(unsigned entry, char name[NAME_BYTES]) {
 	snprintf(name, NAME_BYTES, "%u", entry);
 }
 
-void name_of_link(size_t installation, char name[NAME_BYTES])
-{
+void name_of_link(size_t installation, char name[NAME_BYTES]) {
 	snprintf(name, NAME_BYTES, "%zu", installation);
 }
 
-int links_folder(void)
-{
-	return links;
-}
+int links_folder(void) { return links; }
 
-static void remove_links(void)
-{
+static void remove_links(void) {
 	char name[NAME_BYTES];
 	for (size_t at = first; at < count; at++) {
 		name_of_link(at, name);
@@ -55,8 +49,7 @@ static void remove_links(void)
 	}
 }
 
-static void remove_folder(void)
-{
+static void remove_folder(void) {
 	char name[NAME_BYTES];
 	if (links >= 0)
 		remove_links();
@@ -71,8 +64,7 @@ static void remove_folder(void)
 	rmdir(folder);
 }
 
-static int fresh_folder(const char *name)
-{
+static int fresh_folder(const char *name) {
 	char path[PATH_MAX + 16];
 	snprintf(path, sizeof path, "%s/%s", folder, name);
 	int opened = make_folder(path);
@@ -81,15 +73,13 @@ static int fresh_folder(const char *name)
 	return opened;
 }
 
-static void write_entry(unsigned entry, const struct entry *file)
-{
+static void write_entry(unsigned entry, const struct entry *file) {
 	char name[NAME_BYTES];
 	name_of_entry(entry, name);
 	make_file(catalogue, name, file->bytes, file->size);
 }
 
-int open_files(const struct script *script)
-{
+int open_files(const struct script *script) {
 	const char *where = getenv("TMPDIR");
 	events = inotify_init1(IN_NONBLOCK | IN_CLOEXEC);
 	if (events < 0)
@@ -105,8 +95,7 @@ int open_files(const struct script *script)
 	return 1;
 }
 
-size_t add_installation(struct mark mark, int entry, unsigned long long tag)
-{
+size_t add_installation(struct mark mark, int entry, unsigned long long tag) {
 	char file[NAME_BYTES], link[NAME_BYTES];
 	installations = with_room(installations, count, &room, sizeof *installations);
 	installations[count] = (struct installation){ .mark = mark, .entry = entry, .tag = tag, .descriptor = -1,
@@ -120,8 +109,7 @@ size_t add_installation(struct mark mark, int entry, unsigned long long tag)
 	return count++;
 }
 
-int open_descriptor(size_t installation)
-{
+int open_descriptor(size_t installation) {
 	char name[NAME_BYTES];
 	struct installation *it = &installations[installation];
 	name_of_link(installation, name);
@@ -132,16 +120,14 @@ int open_descriptor(size_t installation)
 	return it->descriptor;
 }
 
-void close_descriptor(size_t installation, int is_installed)
-{
+void close_descriptor(size_t installation, int is_installed) {
 	struct installation *it = &installations[installation];
 	close(it->descriptor);
 	it->descriptor = -1;
 	it->is_installed = is_installed;
 }
 
-static void note_event(const struct inotify_event *event)
-{
+static void note_event(const struct inotify_event *event) {
 	size_t installation = strtoul(event->name, NULL, 10);
 	if (installation >= count)
 		return;
@@ -149,8 +135,7 @@ static void note_event(const struct inotify_event *event)
 	installations[installation].was_closed |= (event->mask & IN_CLOSE) != 0;
 }
 
-static FILE *ring_information(int ring)
-{
+static FILE *ring_information(int ring) {
 	char path[64];
 	snprintf(path, sizeof path, "/proc/self/fdinfo/%d", ring);
 	FILE *information = fopen(path, "r");
@@ -159,13 +144,10 @@ static FILE *ring_information(int ring)
 	return information;
 }
 
-/*
- * Notes which files are in the table, by the kernel's list in /proc/self/fdinfo. Returns whether
+/* Notes which files are in the table, by the kernel's list in /proc/self/fdinfo. Returns whether
  * there is such a list: it is between the lines `UserFiles:` and `UserBufs:`, which are missing
- * while the kernel works on the ring. Each of its lines has a slot and a path.
- */
-static int read_table(int ring)
-{
+ * while the kernel works on the ring. Each of its lines has a slot and a path. */
+static int read_table(int ring) {
 	char line[2 * PATH_MAX];
 	int is_listed = 0;
 	for (size_t at = first; at < count; at++)
@@ -187,21 +169,16 @@ static int read_table(int ring)
 	return is_listed;
 }
 
-static int is_open(const struct installation *it)
-{
-	return it->was_opened && !it->was_closed;
-}
+static int is_open(const struct installation *it) { return it->was_opened && !it->was_closed; }
 
-int is_any_open(void)
-{
+int is_any_open(void) {
 	for (size_t at = first; at < count; at++)
 		if (is_open(&installations[at]))
 			return 1;
 	return 0;
 }
 
-static int is_settled(int ring)
-{
+static int is_settled(int ring) {
 	read_events(events, note_event);
 	if (!is_any_open())
 		return 1;
@@ -213,8 +190,7 @@ static int is_settled(int ring)
 	return 1;
 }
 
-void settle(int ring)
-{
+void settle(int ring) {
 	for (int turn = 0; turn < TURNS; turn++) {
 		if (is_settled(ring))
 			return;
@@ -223,8 +199,7 @@ void settle(int ring)
 	die_of("a file that isn't in the table stays open");
 }
 
-static void write_close(const struct script *script, struct installation *it)
-{
+static void write_close(const struct script *script, struct installation *it) {
 	const unsigned *n = it->mark.numbers;
 	const char *name = script->files[it->entry].name;
 	if (it->mark.is_registered)
@@ -233,8 +208,7 @@ static void write_close(const struct script *script, struct installation *it)
 		printf("closed %u.%u.%u.%u %s\n", n[0], n[1], n[2], n[3], name);
 }
 
-static void finish(size_t installation)
-{
+static void finish(size_t installation) {
 	char name[NAME_BYTES];
 	struct installation *it = &installations[installation];
 	name_of_link(installation, name);
@@ -243,13 +217,11 @@ static void finish(size_t installation)
 	it->is_finished = 1;
 }
 
-static int is_close_to_tell(const struct installation *it)
-{
+static int is_close_to_tell(const struct installation *it) {
 	return !it->is_finished && it->was_closed && it->is_installed;
 }
 
-unsigned tags_to_come(void)
-{
+unsigned tags_to_come(void) {
 	unsigned tags = 0;
 	for (size_t at = first; at < count; at++)
 		tags += is_close_to_tell(&installations[at]) && installations[at].tag;
@@ -258,16 +230,14 @@ unsigned tags_to_come(void)
 
 /* Writes the tags in the order of installations. That is the order of marks, since only
  * registrations give tags. */
-static void write_tags(void)
-{
+static void write_tags(void) {
 	for (size_t at = first; at < count; at++)
 		if (is_close_to_tell(&installations[at]) && installations[at].tag && take_tag(installations[at].tag))
 			printf("tag %llu\n", installations[at].tag);
 	write_other_tags();
 }
 
-void write_closes(const struct script *script)
-{
+void write_closes(const struct script *script) {
 	for (int is_registered = 1; is_registered >= 0; is_registered--)
 		for (size_t at = first; at < count; at++)
 			if (is_close_to_tell(&installations[at]) && installations[at].mark.is_registered == is_registered)

@@ -1,10 +1,8 @@
-/*
- * The catalogue as real files in a new folder, and the installations that a script makes or tries
+/* The catalogue as real files in a new folder, and the installations that a script makes or tries
  * to make.
  *
  * Each installation has a hard link of its own to its catalogue file, in a folder that inotify(7)
- * watches. So the events IN_OPEN and IN_CLOSE have the name of a single installation.
- */
+ * watches. So the events IN_OPEN and IN_CLOSE have the name of a single installation. */
 #ifndef FILES_H
 #define FILES_H
 
@@ -25,10 +23,8 @@ int open_files(const struct script *script);
 int links_folder(void);
 void name_of_link(size_t installation, char name[NAME_BYTES]);
 
-/*
- * Adds an installation of an entry with its tag, or 0 for none, and returns its number. The entry
- * is -1 for a name that is not in the catalogue; then there is no link.
- */
+/* Adds an installation of an entry with its tag, or 0 for none, and returns its number. The entry
+ * is -1 for a name that is not in the catalogue; then there is no link. */
 size_t add_installation(struct mark mark, int entry, unsigned long long tag);
 
 /* Opens an installation's file as a descriptor of this process, for a list. */
@@ -48,10 +44,8 @@ int is_any_open(void);
 /* Returns how many installed files with a tag were closed since the last closed lines. */
 unsigned tags_to_come(void);
 
-/*
- * Writes a line for each installed file that was closed since the last time, in the order of marks,
- * and then one for each of their tags that the kernel has posted (`tags.h`).
- */
+/* Writes a line for each installed file that was closed since the last time, in the order of marks,
+ * and then one for each of their tags that the kernel has posted (`tags.h`). */
 void write_closes(const struct script *script);
 
 #endif

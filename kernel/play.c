@@ -1,5 +1,4 @@
-/*
- * Plays a script of docs/SCRIPT.md on the io_uring of the running kernel, and writes the text that
+/* Plays a script of docs/SCRIPT.md on the io_uring of the running kernel, and writes the text that
  * fixfiles writes.
  *
  * Each line is the real call or request with its real flags: `sparse`, `register`, `unregister`,
@@ -39,8 +38,7 @@
  * What can't be observed: when within a command a file was closed, in which order, and by whom; who
  * holds it meanwhile; and whether an open was started that failed before it opened its file. A file
  * that is opened and closed without having been in the table has a closed line like any other,
- * since the kernel did close it.
- */
+ * since the kernel did close it. */
 #include <errno.h>
 #include <signal.h>
 #include <stdio.h>
@@ -62,8 +60,7 @@ struct play {
 	unsigned submissions, registrations;	/* the accepted ones */
 };
 
-static unsigned largest_submission(const struct script *script)
-{
+static unsigned largest_submission(const struct script *script) {
 	unsigned largest = 1, requests = 0;
 	for (size_t at = 0; at < script->command_count; at++) {
 		enum kind kind = script->commands[at].kind;
@@ -75,8 +72,7 @@ static unsigned largest_submission(const struct script *script)
 
 /* Raises the limit of open files as far as it goes, since the kernel compares the size of a table
  * with it. */
-static void raise_limit(void)
-{
+static void raise_limit(void) {
 	struct rlimit limit;
 	if (getrlimit(RLIMIT_NOFILE, &limit))
 		die("the limit of open files");
@@ -85,8 +81,7 @@ static void raise_limit(void)
 		die("the limit of open files");
 }
 
-static void open_ring(struct play *play)
-{
+static void open_ring(struct play *play) {
 	unsigned entries = largest_submission(&play->script);
 	if (entries > MOST_REQUESTS)
 		die_of("a ring has at most 32,768 requests");
@@ -100,13 +95,9 @@ static void open_ring(struct play *play)
 	}
 }
 
-static void write_answer(const char *word, int answer)
-{
-	printf("%s %d\n", word, answer);
-}
+static void write_answer(const char *word, int answer) { printf("%s %d\n", word, answer); }
 
-static int play_call(struct play *play, const struct command *command, const int *list)
-{
+static int play_call(struct play *play, const struct command *command, const int *list) {
 	const __u64 *tags = (const __u64 *)command->tags;
 	if (command->kind == REGISTER && tags)
 		return io_uring_register_files_tags(&play->ring, list, tags, command->length);
@@ -119,15 +110,13 @@ static int play_call(struct play *play, const struct command *command, const int
 
 /* Ends a play whose list and tags have different lengths: the kernel's call has one length for
  * both. */
-static void end_unsaid(void)
-{
+static void end_unsaid(void) {
 	fprintf(stderr, "play-on-kernel: the tags and the list have different lengths, and the kernel's call has one\n");
 	exit(UNSAID);
 }
 
 /* Plays `register` or `regupdate`. */
-static void play_list(struct play *play, const struct command *command, const char *word)
-{
+static void play_list(struct play *play, const struct command *command, const char *word) {
 	if (command->tags && command->tag_count != command->length)
 		end_unsaid();
 	struct mark mark = { .is_registered = 1, .numbers = { play->registrations + 1 } };
@@ -139,34 +128,25 @@ static void play_list(struct play *play, const struct command *command, const ch
 	write_answer(word, answer);
 }
 
-static void play_requests(struct play *play)
-{
+static void play_requests(struct play *play) {
 	play_submission(&play->ring, &play->script, play->requests, play->request_count, ++play->submissions);
 	play->request_count = 0;
 }
 
-static void play_command(struct play *play, const struct command *command)
-{
+static void play_command(struct play *play, const struct command *command) {
 	const unsigned *numbers = command->numbers;
 	struct io_uring *ring = &play->ring;
 	switch (command->kind) {
-	case SPARSE:
-		return write_answer("sparse", io_uring_register_files_sparse(ring, numbers[0]));
-	case UNREGISTER:
-		return write_answer("unregister", io_uring_unregister_files(ring));
-	case RANGE:
-		return write_answer("range", io_uring_register_file_alloc_range(ring, numbers[0], numbers[1]));
-	case REGISTER:
-		return play_list(play, command, "register");
-	case REGUPDATE:
-		return play_list(play, command, "regupdate");
-	default:
-		play_requests(play);
+	case SPARSE: return write_answer("sparse", io_uring_register_files_sparse(ring, numbers[0]));
+	case UNREGISTER: return write_answer("unregister", io_uring_unregister_files(ring));
+	case RANGE: return write_answer("range", io_uring_register_file_alloc_range(ring, numbers[0], numbers[1]));
+	case REGISTER: return play_list(play, command, "register");
+	case REGUPDATE: return play_list(play, command, "regupdate");
+	default: play_requests(play);
 	}
 }
 
-static void play_script(struct play *play)
-{
+static void play_script(struct play *play) {
 	play->requests = memory_of(largest_submission(&play->script) * sizeof *play->requests);
 	for (size_t at = 0; at < play->script.command_count; at++) {
 		const struct command *command = &play->script.commands[at];
@@ -182,8 +162,7 @@ static void play_script(struct play *play)
 	free(play->requests);
 }
 
-int main(int count, char **words)
-{
+int main(int count, char **words) {
 	static struct play play;
 	for (int at = 1; at < count; at++) {
 		if (!strcmp(words[at], "--async"))

@@ -11,28 +11,24 @@
 
 enum { LONGEST_SCRIPT = 4194304, LONGEST_LINE = 10000, LONGEST_NAME = 32, MOST_WORDS = 6 };
 
-void die(const char *what)
-{
+void die(const char *what) {
 	fprintf(stderr, "%s: %s: %s\n", program_invocation_short_name, what, strerror(errno));
 	exit(4);
 }
 
-void die_of(const char *what)
-{
+void die_of(const char *what) {
 	fprintf(stderr, "%s: %s\n", program_invocation_short_name, what);
 	exit(4);
 }
 
-void *memory_of(size_t size)
-{
+void *memory_of(size_t size) {
 	void *memory = calloc(1, size ? size : 1);
 	if (!memory)
 		die_of("out of memory");
 	return memory;
 }
 
-void *with_room(void *items, size_t count, size_t *room, size_t size_of_one)
-{
+void *with_room(void *items, size_t count, size_t *room, size_t size_of_one) {
 	if (count < *room)
 		return items;
 	*room = *room ? 2 * *room : 256;
@@ -42,8 +38,7 @@ void *with_room(void *items, size_t count, size_t *room, size_t size_of_one)
 	return items;
 }
 
-int entry_of(const struct script *script, const char *name)
-{
+int entry_of(const struct script *script, const char *name) {
 	for (unsigned at = 0; at < script->file_count; at++)
 		if (!strcmp(script->files[at].name, name))
 			return at;
@@ -51,8 +46,7 @@ int entry_of(const struct script *script, const char *name)
 }
 
 /* Reads a number from 0 to 18,446,744,073,709,551,615 without a leading zero. */
-static int tag_of(const char *word, unsigned long long *tag)
-{
+static int tag_of(const char *word, unsigned long long *tag) {
 	size_t digits = strspn(word, "0123456789");
 	if (!digits || word[digits] || digits > 20 || (word[0] == '0' && digits > 1))
 		return 0;
@@ -62,16 +56,14 @@ static int tag_of(const char *word, unsigned long long *tag)
 }
 
 /* Reads one from 0 to 2,147,483,647. */
-static int number_of(const char *word, unsigned *number)
-{
+static int number_of(const char *word, unsigned *number) {
 	unsigned long long value = 0;
 	int is_number = tag_of(word, &value) && value <= 2147483647;
 	*number = value;
 	return is_number;
 }
 
-static int list_of(char *word, struct command *command)
-{
+static int list_of(char *word, struct command *command) {
 	command->list = memory_of((strlen(word) + 1) * sizeof(int));
 	for (char *entry; (entry = strsep(&word, ","));) {
 		int is_negative = entry[0] == '-';
@@ -83,8 +75,7 @@ static int list_of(char *word, struct command *command)
 	return 1;
 }
 
-static int tags_of(char *word, struct command *command)
-{
+static int tags_of(char *word, struct command *command) {
 	command->tags = memory_of((strlen(word) + 1) * sizeof *command->tags);
 	for (char *tag; (tag = strsep(&word, ","));)
 		if (!tag_of(tag, &command->tags[command->tag_count++]))
@@ -92,8 +83,7 @@ static int tags_of(char *word, struct command *command)
 	return 1;
 }
 
-static int is_name(const char *word)
-{
+static int is_name(const char *word) {
 	size_t size = strlen(word);
 	for (size_t at = 0; at < size; at++)
 		if (!isalnum((unsigned char)word[at]) && !strchr("._-", word[at]))
@@ -101,8 +91,7 @@ static int is_name(const char *word)
 	return size >= 1 && size <= LONGEST_NAME;
 }
 
-static int bytes_of(const char *word, struct entry *file)
-{
+static int bytes_of(const char *word, struct entry *file) {
 	size_t digits = strlen(word);
 	if (!strcmp(word, "-"))
 		digits = 0;
@@ -117,8 +106,7 @@ static int bytes_of(const char *word, struct entry *file)
 	return file->size <= MOST_BYTES;
 }
 
-static int take_file(struct script *script, char **words, int count)
-{
+static int take_file(struct script *script, char **words, int count) {
 	struct entry file = { .name = words[1] };
 	if (count != 3 || script->command_count || script->file_count == MOST_FILES || !bytes_of(words[2], &file))
 		return 0;
@@ -128,10 +116,8 @@ static int take_file(struct script *script, char **words, int count)
 	return 1;
 }
 
-/*
- * The forms of lines, with a letter for each word: n is a number, l a list, t tags, f a name, a the
- * word `at`, y the word `any`. A request may also end in `link` or `hardlink`.
- */
+/* The forms of lines, with a letter for each word: n is a number, l a list, t tags, f a name, a the
+ * word `at`, y the word `any`. A request may also end in `link` or `hardlink`. */
 static const struct form {
 	const char *word, *kinds;
 	enum kind kind;
@@ -144,32 +130,22 @@ static const struct form {
 	{ "close", "n", CLOSE, 1 }, { "update", "nl", UPDATE, 1 },
 };
 
-static int take_word(struct command *command, char kind, char *word, unsigned *numbers)
-{
+static int take_word(struct command *command, char kind, char *word, unsigned *numbers) {
 	switch (kind) {
-	case 'n':
-		return number_of(word, &command->numbers[(*numbers)++]);
-	case 'l':
-		return list_of(word, command);
-	case 't':
-		return tags_of(word, command);
-	case 'f':
-		command->name = word;
-		return is_name(word);
-	case 'a':
-		return !strcmp(word, "at");
-	default:
-		return !strcmp(word, "any");
+	case 'n': return number_of(word, &command->numbers[(*numbers)++]);
+	case 'l': return list_of(word, command);
+	case 't': return tags_of(word, command);
+	case 'f': command->name = word; return is_name(word);
+	case 'a': return !strcmp(word, "at");
+	default: return !strcmp(word, "any");
 	}
 }
 
-static enum link link_of(const char *word)
-{
+static enum link link_of(const char *word) {
 	return !strcmp(word, "link") ? SOFT_LINK : !strcmp(word, "hardlink") ? HARD_LINK : NO_LINK;
 }
 
-static int take_form(struct command *command, const struct form *form, char **words, int count)
-{
+static int take_form(struct command *command, const struct form *form, char **words, int count) {
 	int wanted = strlen(form->kinds) + 1;
 	unsigned numbers = 0;
 	*command = (struct command){ .kind = form->kind };
@@ -183,8 +159,7 @@ static int take_form(struct command *command, const struct form *form, char **wo
 	return 1;
 }
 
-static int take_command(struct script *script, char **words, int count, long line)
-{
+static int take_command(struct script *script, char **words, int count, long line) {
 	script->commands = with_room(script->commands, script->command_count, &script->room, sizeof(struct command));
 	struct command *command = &script->commands[script->command_count];
 	for (size_t at = 0; at < sizeof forms / sizeof forms[0]; at++) {
@@ -201,8 +176,7 @@ static int take_command(struct script *script, char **words, int count, long lin
 }
 
 /* Splits a line at single spaces into words, which may be empty. Returns their number. */
-static int words_of(char *line, char **words)
-{
+static int words_of(char *line, char **words) {
 	int count = 0;
 	for (char *word; (word = strsep(&line, " ")); count++)
 		if (count < MOST_WORDS)
@@ -210,8 +184,7 @@ static int words_of(char *line, char **words)
 	return count;
 }
 
-static int take_line(struct script *script, char *line, size_t size, long number)
-{
+static int take_line(struct script *script, char *line, size_t size, long number) {
 	char *words[MOST_WORDS] = { "", "", "", "", "", "" };
 	if (size > LONGEST_LINE)
 		return 0;
@@ -227,8 +200,7 @@ static int take_line(struct script *script, char *line, size_t size, long number
 	return count <= MOST_WORDS && take_command(script, words, count, number);
 }
 
-static int has_tag_from(const struct script *script, unsigned long long first)
-{
+static int has_tag_from(const struct script *script, unsigned long long first) {
 	for (size_t at = 0; at < script->command_count; at++)
 		for (unsigned nth = 0; nth < script->commands[at].tag_count; nth++)
 			if (script->commands[at].tags[nth] - first < MOST_REQUESTS)
@@ -236,8 +208,7 @@ static int has_tag_from(const struct script *script, unsigned long long first)
 	return 0;
 }
 
-int read_script(struct script *script)
-{
+int read_script(struct script *script) {
 	char *text = memory_of(LONGEST_SCRIPT + 2), *end;
 	size_t size = fread(text, 1, LONGEST_SCRIPT + 1, stdin);
 	if (ferror(stdin))

@@ -19,13 +19,10 @@ struct member {
 	struct descriptors list;	/* of an update */
 };
 
-/*
- * -1 and -2 mean the same to the kernel as in a script, and entries below them are invalid in both.
+/* -1 and -2 mean the same to the kernel as in a script, and entries below them are invalid in both.
  * A file of the catalogue is opened. A number past the catalogue is replaced by one that is not a
- * descriptor of this process.
- */
-struct descriptors open_list(const struct script *script, const struct command *command, struct mark mark)
-{
+ * descriptor of this process. */
+struct descriptors open_list(const struct script *script, const struct command *command, struct mark mark) {
 	struct descriptors list = { .command = command };
 	unsigned *place = &mark.numbers[mark.is_registered ? 1 : 3];
 	list.numbers = memory_of(command->length * sizeof(int));
@@ -42,8 +39,7 @@ struct descriptors open_list(const struct script *script, const struct command *
 	return list;
 }
 
-void close_list(struct descriptors *list, unsigned taken)
-{
+void close_list(struct descriptors *list, unsigned taken) {
 	for (unsigned at = 0; at < list->command->length; at++)
 		if (list->numbers[at] >= 0 && list->numbers[at] != INT_MAX)
 			close_descriptor(list->installations[at], at < taken);
@@ -53,21 +49,16 @@ void close_list(struct descriptors *list, unsigned taken)
 
 static unsigned more_flags;
 
-void start_in_threads(void)
-{
-	more_flags = IOSQE_ASYNC;
-}
+void start_in_threads(void) { more_flags = IOSQE_ASYNC; }
 
-static void prepare_open(struct io_uring_sqe *sqe, const struct script *script, struct member *it, unsigned submission)
-{
+static void prepare_open(struct io_uring_sqe *sqe, const struct script *script, struct member *it, unsigned submission) {
 	struct mark mark = { .numbers = { submission, it->chain, it->place, 0 } };
 	name_of_link(add_installation(mark, entry_of(script, it->request->name), 0), it->path);
 	io_uring_prep_openat(sqe, links_folder(), it->path, O_RDONLY, 0);
 	sqe->file_index = it->request->kind == OPEN ? it->request->numbers[0] + 1 : IORING_FILE_INDEX_ALLOC;
 }
 
-static void prepare_read(struct io_uring_sqe *sqe, struct member *it)
-{
+static void prepare_read(struct io_uring_sqe *sqe, struct member *it) {
 	const unsigned *numbers = it->request->numbers;
 	it->buffer = memory_of(numbers[2]);
 	io_uring_prep_read(sqe, numbers[0], it->buffer, numbers[2], numbers[1]);
@@ -75,8 +66,7 @@ static void prepare_read(struct io_uring_sqe *sqe, struct member *it)
 }
 
 static void prepare(struct io_uring *ring, const struct script *script, struct member *it, unsigned submission,
-		    unsigned long long data)
-{
+		    unsigned long long data) {
 	struct io_uring_sqe *sqe = io_uring_get_sqe(ring);
 	const struct command *request = it->request;
 	if (request->kind == READ) {
@@ -99,8 +89,7 @@ static void prepare(struct io_uring *ring, const struct script *script, struct m
 	sqe->user_data = data;
 }
 
-static void submit(struct io_uring *ring, unsigned count)
-{
+static void submit(struct io_uring *ring, unsigned count) {
 	int submitted = count ? io_uring_submit(ring) : 0;
 	errno = submitted < 0 ? -submitted : 0;
 	if (errno)
@@ -110,8 +99,7 @@ static void submit(struct io_uring *ring, unsigned count)
 }
 
 /* Waits for the completions of all requests. A completion with other user data has a tag. */
-static void wait_for_all(struct io_uring *ring, struct member *members, unsigned count, unsigned long long first_data)
-{
+static void wait_for_all(struct io_uring *ring, struct member *members, unsigned count, unsigned long long first_data) {
 	struct io_uring_cqe *cqe;
 	for (unsigned left = count; left;) {
 		errno = -io_uring_wait_cqe(ring, &cqe);
@@ -127,8 +115,7 @@ static void wait_for_all(struct io_uring *ring, struct member *members, unsigned
 	}
 }
 
-static void write_member(struct member *it, unsigned submission)
-{
+static void write_member(struct member *it, unsigned submission) {
 	printf("%u.%u.%u %d", submission, it->chain, it->place, it->res);
 	if (it->request->kind == READ && it->res > 0) {
 		putchar(' ');
@@ -142,8 +129,7 @@ static void write_member(struct member *it, unsigned submission)
 }
 
 void play_submission(struct io_uring *ring, const struct script *script, const struct command **requests,
-		     unsigned count, unsigned number)
-{
+		     unsigned count, unsigned number) {
 	struct member *members = memory_of(count * sizeof *members);
 	unsigned chain = 1, place = 1;
 	for (unsigned at = 0; at < count; at++) {

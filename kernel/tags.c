@@ -8,13 +8,9 @@ static unsigned long long *told;
 static size_t count, room;
 static int mistakes_next;
 
-void mistake_first_tag(void)
-{
-	mistakes_next = 1;
-}
+void mistake_first_tag(void) { mistakes_next = 1; }
 
-void keep_tag(const struct io_uring_cqe *cqe)
-{
+void keep_tag(const struct io_uring_cqe *cqe) {
 	if (cqe->res || cqe->flags)
 		die_of("the completion of a tag has a result or flags");
 	told = with_room(told, count, &room, sizeof *told);
@@ -22,8 +18,7 @@ void keep_tag(const struct io_uring_cqe *cqe)
 	mistakes_next = 0;
 }
 
-void wait_for_tags(struct io_uring *ring, unsigned wanted)
-{
+void wait_for_tags(struct io_uring *ring, unsigned wanted) {
 	struct __kernel_timespec second = { .tv_sec = 1 };
 	struct io_uring_cqe *cqe;
 	while (count < wanted && !io_uring_wait_cqe_timeout(ring, &cqe, &second)) {
@@ -36,8 +31,7 @@ void wait_for_tags(struct io_uring *ring, unsigned wanted)
 	}
 }
 
-int take_tag(unsigned long long tag)
-{
+int take_tag(unsigned long long tag) {
 	for (size_t at = 0; at < count; at++) {
 		if (told[at] == tag) {
 			told[at] = told[--count];
@@ -47,8 +41,7 @@ int take_tag(unsigned long long tag)
 	return 0;
 }
 
-void write_other_tags(void)
-{
+void write_other_tags(void) {
 	while (count)
 		printf("tag %llu\n", told[--count]);
 }

@@ -13,9 +13,7 @@ const struct family *family;
 enum wrong wrong;
 int events;
 
-bool is_in_range(int slot) {
-    return slot >= family->first && slot < family->end;
-}
+bool is_in_range(int slot) { return slot >= family->first && slot < family->end; }
 
 /* The history */
 

@@ -6,23 +6,17 @@
  * at which a pass finds its bit there, if it found each group full after it had set the bit. */
 #include "lasting_table.h"
 
-int group_of(int slot) {
-    return slot / family->group_len;
-}
+int group_of(int slot) { return slot / family->group_len; }
 
 /* The number of groups; the last one may have fewer slots than the others. */
-static int groups(void) {
-    return group_of(family->slots - 1) + 1;
-}
+static int groups(void) { return group_of(family->slots - 1) + 1; }
 
 static bool is_full(const struct state *s, int group) {
     int left = family->slots - group * family->group_len;
     return s->count[group] == (left < family->group_len ? left : family->group_len);
 }
 
-int bit_of(int who) {
-    return wrong == one_bit_for_all_askers ? 1 : 1 << who;
-}
+int bit_of(int who) { return wrong == one_bit_for_all_askers ? 1 : 1 << who; }
 
 bool is_uncounted(const struct pass *it) {
     bool is_lowered = it->step == CHECK || it->step == BREAK || it->step == SWAP;

@@ -21,7 +21,9 @@ static const struct family families[] = {
     {"two passes, two slots in the range, one allocates", 2, 2, 1, 1, {PUT_ANY, PUT | REMOVE}, false},
     {"three passes, one slot in the range, that allocate and remove", 3, 1, 1, 1, {PUT_ANY, PUT_ANY, REMOVE}, false},
     {"three passes, one slot, hot after 1 take", 3, 1, 1, 0, {LOOK | PUT, REMOVE, LOOK}, false},
-    {"two passes, two slots, hot after 1 take", 2, 2, 1, 0, {REQUESTS, REQUESTS}, false},
+    {"three passes, one slot, hot after 2 takes", 3, 1, 2, 0, {LOOK | PUT, REMOVE, LOOK}, false},
+    {"three passes, one slot, hot after 1 take, of which two install", 3, 1, 1, 0, {LOOK | PUT | REMOVE, PUT, LOOK}, false},
+    {"two passes, two slots, hot after 2 takes", 2, 2, 2, 0, {REQUESTS, REQUESTS}, false},
     {"two passes, two slots in the range", 2, 2, 1, 1, {REQUESTS | PUT_ANY, REQUESTS}, false},
     {"three passes, one slot in the range, of which one makes all calls", 3, 1, 1, 1, {REQUESTS | PUT_ANY, REMOVE, LOOK}, false},
     {"two passes, files without nodes, a group of two slots and one of one", 2, 3, 1, 2, {CHANGES, CHANGES}, true},
@@ -36,9 +38,7 @@ static const struct family families[] = {
 /* The family with which the search for a wrong table begins. */
 enum { FIRST_OF_KEYS = sizeof families / sizeof families[0] - 3 };
 
-static int first_family(int table) {
-    return table < WRONG_KEYS ? 0 : FIRST_OF_KEYS;
-}
+static int first_family(int table) { return table < WRONG_KEYS ? 0 : FIRST_OF_KEYS; }
 
 static const char *const wrong_names[] = { TABLES(AS_NAME) };
 
@@ -81,6 +81,13 @@ static const struct pass *worker_of(const struct state *s, int node, bool retire
     return NULL;
 }
 
+/* Returns whether a pass is about to rest the node of a closed file. */
+static bool is_to_rest(const struct state *s, int node) {
+    const struct pass *it = worker_of(s, node, false);
+    bool was_finished = it != NULL && it->call == RETIREMENT && s->word[node] + it->takes + it->marks == BORN;
+    return was_finished || (it != NULL && s->word[node] == CLOSED);
+}
+
 static int slot_of(const struct state *s, int node) {
     for (int slot = 0; slot < family->slots; slot++) {
         if (names(s, slot, node)) {
@@ -98,7 +105,7 @@ static void check_node(const struct state *s, int node) {
     switch (s->file[node]) {
     case NO_FILE:
         want(is_vacant, "a take or a mark of a closed file is left");
-        want((word == FREE && s->place[node] == NOTHING) || (word == CLOSED && worker_of(s, node, false) != NULL),
+        want(s->place[node] == WITH_PASS ? is_to_rest(s, node) : word == FREE && s->place[node] == NOTHING,
              "a node without a file has a wrong word or place");
         break;
     case PLACED:
@@ -123,7 +130,7 @@ static void check_pass(const struct state *s, int who) {
     bool is_keyed = it->call == TAKE_IF || it->call == PUT_IF;
     int words = (family->passes + PER_WORD - 1) / PER_WORD;
     int most = is_look ? 8 : it->call == RELEASE ? 3 : it->call == REMOVE ? 5 : is_put ? 3 : is_keyed ? 5 + TRIES
-        : 2 * family->passes + words;
+        : 2 * family->passes + words + 1;
     want(it->call == PUT_ANY || it->step == SEEK || it->steps + (is_look ? 1 : 0) < most || it->step == IDLE, "a call has too many steps");
     int hold = s->hold[who] & ~MARK;
     bool has_bit = s->list[who / PER_WORD] >> who % PER_WORD & 1;

@@ -13,13 +13,11 @@ int stock;
 /* Nodes. A node is told by where it is: at a slot, or in the stock of a pass. So an installation
  * gives two nodes each other's numbers, wherever one is named. */
 
-int node_in_stock(int who, int nth) {
-    return family->slots + who * stock + nth + 1;
-}
+int node_in_stock(int who, int nth) { return family->slots + who * stock + nth + 1; }
 
-int node_at(int slot) {
-    return slot + 1;
-}
+int node_at(int slot) { return slot + 1; }
+
+bool has_stock(int who) { return stock && (family->calls[who] & (PUT | PUT_ANY | PUT_IF)); }
 
 bool names(const struct state *s, int slot, int node) {
     return s->is_full[slot] && node_at(slot) == node;
@@ -68,12 +66,15 @@ static uint64_t said_of(const struct state *s, int node) {
 /* Sorts the stock of each pass that doesn't search in it: its order decides nothing then. */
 static void sort_stocks(struct state *s) {
     for (int who = 0; who < family->passes; who++) {
-        for (int end = s->pass[who].step == SEEK ? 0 : stock; end > 1; end--) {
-            for (int nth = 0; nth + 1 < end; nth++) {
-                int node = node_in_stock(who, nth);
-                if (said_of(s, node) > said_of(s, node + 1)) {
-                    exchange_nodes(s, node, node + 1);
-                }
+        int count = s->pass[who].step == SEEK || !has_stock(who) ? 0 : stock;
+        uint64_t said[MOST_PASSES];
+        for (int nth = 0; nth < count; nth++) {
+            said[nth] = said_of(s, node_in_stock(who, nth));
+            for (int at = nth; at > 0 && said[at - 1] > said[at]; at--) {
+                uint64_t kept = said[at];
+                said[at] = said[at - 1];
+                said[at - 1] = kept;
+                exchange_nodes(s, node_in_stock(who, at - 1), node_in_stock(who, at));
             }
         }
     }
@@ -104,23 +105,29 @@ static void empty_slot(struct state *s, int slot) {
     s->is_full[slot] = s->takes[slot] = s->heat[slot] = 0;
 }
 
-/* Puts the node of the pass at the slot, and the node that was named there in its place in the
- * stock. Returns the node that was named. */
-static int install(struct state *s, struct pass *it) {
+/* Names the node of the pass at the slot, and puts the node that was named there in its place in
+ * the stock. Returns the node that was named. */
+static int exchange_names(struct state *s, const struct pass *it) {
     int own = it->node, first = node_in_stock(0, 0);
+    exchange_nodes(s, own, node_at(it->slot));
+    if (wrong == node_goes_to_another_stock) {
+        exchange_nodes(s, own, first);
+        own = first;
+    }
+    exchanged = node_at(it->slot);
+    return own;
+}
+
+/* Puts the file of the pass at the slot. Returns the node that was named. */
+static int install(struct state *s, struct pass *it) {
     empty_slot(s, it->slot);
     s->is_full[it->slot] = 1;
-    if (stock) {
-        s->file[own] = AT_SLOT;
-        s->place[own] = OPEN_FILE;
-        exchange_nodes(s, own, node_at(it->slot));
-        if (wrong == node_goes_to_another_stock) {
-            exchange_nodes(s, own, first);
-            own = first;
-        }
-        exchanged = node_at(it->slot);
+    if (!stock) {
+        return it->node;
     }
-    return own;
+    s->file[it->node] = AT_SLOT;
+    s->place[it->node] = OPEN_FILE;
+    return exchange_names(s, it);
 }
 
 /* Calls */
@@ -232,6 +239,14 @@ static bool empty_hold(struct state *s, const struct pass *it, int who, enum wro
     return found & MARK;
 }
 
+static void end_take(struct pass *it) {
+    if (it->holds) {
+        hold_until_release(it, COUNTED);
+    } else {
+        begin_call(it, 0, IDLE);
+    }
+}
+
 static void take(struct state *s, struct pass *it) {
     bool heats = s->takes[it->slot] >= family->cold_takes && wrong != slot_never_heated;
     s->takes[it->slot]++;
@@ -241,20 +256,14 @@ static void take(struct state *s, struct pass *it) {
     }
     if (heats) {
         it->step = HEAT;
-    } else if (it->holds) {
-        hold_until_release(it, COUNTED);
     } else {
-        begin_call(it, 0, IDLE);
+        end_take(it);
     }
 }
 
 static void heat(struct state *s, struct pass *it) {
     s->heat[it->slot] += wrong == heat_counts_two ? 2 : 1;
-    if (it->holds) {
-        hold_until_release(it, COUNTED);
-    } else {
-        begin_call(it, 0, IDLE);
-    }
+    end_take(it);
 }
 
 /* A removal, and the retirement of what it removed */
@@ -274,7 +283,7 @@ static void go_on(struct pass *it, int who) {
         }
     }
     it->next = it->words = it->last = 0;
-    it->step = it->call == RETIREMENT ? RETIRE : SWAP;
+    it->step = it->call != RETIREMENT ? SWAP : wrong == finish_before_the_visits ? RETIRE : FINISH;
 }
 
 static void skim(struct state *s, struct pass *it, int who) {
@@ -305,7 +314,11 @@ void end_change(struct pass *it, int who) {
     it->words = found.words;
     it->last = found.last;
     it->next = found.heat && wrong != no_visits && wrong != scan_before_the_swap ? 0 : family->passes;
-    go_on(it, who);
+    if (wrong == finish_before_the_visits) {
+        it->step = FINISH;
+    } else {
+        go_on(it, who);
+    }
 }
 
 static void swap(struct state *s, struct pass *it, int who) {
@@ -318,8 +331,9 @@ static void swap(struct state *s, struct pass *it, int who) {
         found = install(s, it);
     } else {
         empty_slot(s, it->slot);
+        found = it->call == REMOVE && has_stock(who) ? exchange_names(s, it) : found;
     }
-    it->node = removes ? found : 0;
+    it->node = !removes ? 0 : wrong == removal_loses_the_old_name ? node_at(it->slot) : found;
     it->takes = removes ? takes : UINT8_MAX;
     it->heat = heat > 0;
     it->step = after_swap(it, !was_full);
@@ -343,6 +357,20 @@ static void visit(struct state *s, struct pass *it, int who) {
         it->step = MARK_HOLD;
     } else {
         visit_next(it, who);
+    }
+}
+
+/* Closes the file at a load, if all of its takes and marks were dropped, so that nobody else
+ * changes the node's word. */
+static void finish(struct state *s, struct pass *it, int who) {
+    int dropped = it->takes + (wrong == finish_ignores_marks ? 0 : it->marks);
+    if (s->word[it->node] + dropped == BORN) {
+        close_file(s, it->node);
+        it->step = REST;
+    } else if (wrong == finish_before_the_visits) {
+        go_on(it, who);
+    } else {
+        it->step = RETIRE;
     }
 }
 
@@ -390,13 +418,9 @@ static void birth(struct state *s, struct pass *it) {
     it->step = after_birth(it);
 }
 
-void begin_installation(struct pass *it) {
-    it->step = stock ? SEEK : after_birth(it);
-}
+void begin_installation(struct pass *it) { it->step = stock ? SEEK : after_birth(it); }
 
-enum step after_scan(void) {
-    return stock ? REST_UNUSED : BEGIN;
-}
+enum step after_scan(void) { return stock ? REST_UNUSED : BEGIN; }
 
 static void peek(struct state *s, struct pass *it, int who) {
     if (s->is_full[it->slot]) {
@@ -511,15 +535,21 @@ static void begin_at(struct state *s, struct pass *it, int who, int call, int sl
     }
 }
 
-/* Begins a call in the `nth` way: a search may begin at each node of the pass's stock. */
+/* Begins a call in the `nth` way: a search may begin at each node of the pass's stock, and a
+ * removal may put each of them at the slot. */
 static bool begin_nth(struct state *s, struct pass *it, int who, int nth) {
     for (int call = LOOK; call <= PUT_IF; call *= 2) {
-        bool searches = stock && (call == PUT || call == PUT_ANY || call == PUT_IF), is_keyed = call == TAKE_IF || call == PUT_IF;
+        bool uses_stock = has_stock(who) && call != LOOK && call != TAKE_IF, is_keyed = call == TAKE_IF || call == PUT_IF;
         bool may = (family->calls[who] & call) && (!is_keyed || key_of(s, who));
-        int ways = may ? family->slots * (searches ? stock : 1) : 0;
+        int ways = may ? family->slots * (uses_stock ? stock : 1) : 0;
         if (nth < ways) {
+            int entry = nth / family->slots;
             begin_at(s, it, who, call, nth % family->slots);
-            it->nth = it->step == IDLE ? 0 : nth / family->slots;
+            if (call == REMOVE && uses_stock && !it->node) {
+                it->node = node_in_stock(wrong == removal_takes_a_node_of_another_pass ? 0 : who, entry);
+            } else if (call != REMOVE && it->step != IDLE) {
+                it->nth = entry;
+            }
             return call == LOOK || call == REMOVE || is_keyed || take_step(s, who, 0);
         }
         nth -= ways;
@@ -591,6 +621,7 @@ bool take_step(void *state, int who, int nth) {
     case SKIM: skim(s, it, who); break;
     case VISIT: visit(s, it, who); break;
     case MARK_HOLD: mark_hold(s, it, who); break;
+    case FINISH: finish(s, it, who); break;
     case RETIRE: retire(s, it); break;
     case PEEK: peek(s, it, who); break;
     case EXCHANGE: exchange_empty(s, it, who); break;

@@ -22,8 +22,8 @@ enum { TRIES = 2 };
 /* The next step of a pass. */
 enum step {
     IDLE, LIST, ANNOUNCE, CONFIRM, WITHDRAW, DROP_OWED, REST_OF_LOOK, TAKE, HEAT, GUARDED, COUNTED, DROP_YIELDED, REST,
-    SEEK, BIRTH, LOWER, CHECK, BREAK, SWAP, RAISE, SKIM, VISIT, MARK_HOLD, RETIRE, PEEK, EXCHANGE, PEEK_GROUP, REST_UNUSED,
-    DECIDE_FIRST, BEGIN, ASK, COUNT, DECIDE, RAISE_EARLY, LOWER_LATE
+    SEEK, BIRTH, LOWER, CHECK, BREAK, SWAP, RAISE, SKIM, VISIT, MARK_HOLD, FINISH, RETIRE, PEEK, EXCHANGE, PEEK_GROUP,
+    REST_UNUSED, DECIDE_FIRST, BEGIN, ASK, COUNT, DECIDE, RAISE_EARLY, LOWER_LATE
 };
 
 /* The right table and wrong ones: each is the right one with one change. */
@@ -35,6 +35,7 @@ enum step {
     X(hot_not_asked_at_the_second_look) X(takes_left_out_of_a_retirement) X(last_pass_not_visited) X(no_visits) \
     X(closed_one_too_early) X(closed_one_too_late) X(slot_never_heated) X(listed_after_the_second_look) \
     X(skimmed_before_the_swap) X(listed_by_a_store) X(listed_at_each_look) X(heat_counts_two) \
+    X(finish_ignores_marks) X(finish_before_the_visits) X(removal_loses_the_old_name) X(removal_takes_a_node_of_another_pass) \
     X(question_is_loaded_once) X(question_is_loaded_before_the_lower) X(question_is_not_cleared) \
     X(question_is_cleared_after_the_swap) X(cleared_only_at_a_full_group) X(cleared_by_one_exchange) \
     X(one_bit_is_cleared_alone) X(raise_before_the_fill) X(lower_after_the_swap) X(no_lower) X(raise_in_another_group) \
@@ -102,9 +103,10 @@ extern enum wrong wrong;
 /* The number of nodes of each pass's stock. */
 extern int stock;
 
-/* The node that a slot names, and one of a pass's stock. */
+/* The node that a slot names, and one of a pass's stock. A pass that installs has a stock. */
 int node_at(int slot);
 int node_in_stock(int who, int nth);
+bool has_stock(int who);
 /* Returns whether the slot has a file, on this node. */
 bool names(const struct state *s, int slot, int node);
 /* Makes one step of a pass, as a `step_table` says. */

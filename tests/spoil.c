@@ -27,15 +27,13 @@ struct text {
     size_t length;
 };
 
-static void give_up(const char *why)
-{
+static void give_up(const char *why) {
     perror(why);
     exit(99);
 }
 
 /* What was written to the file. */
-static struct text text_of(FILE *file)
-{
+static struct text text_of(FILE *file) {
     struct text text;
     if (fseek(file, 0, SEEK_END) != 0)
         give_up("spoil: seek");
@@ -47,8 +45,7 @@ static struct text text_of(FILE *file)
     return text;
 }
 
-static void change_byte(struct text *text)
-{
+static void change_byte(struct text *text) {
     size_t end = text->length - (text->bytes[text->length - 1] == '\n');
     if (end > 0)
         text->bytes[end - 1] ^= 1;
@@ -56,16 +53,14 @@ static void change_byte(struct text *text)
         text->length = 0;
 }
 
-static void leave_line_out(struct text *text)
-{
+static void leave_line_out(struct text *text) {
     size_t end = text->length - 1;
     while (end > 0 && text->bytes[end - 1] != '\n')
         end--;
     text->length = end;
 }
 
-static void change(const char *how, struct text *text, struct text *message, int *status)
-{
+static void change(const char *how, struct text *text, struct text *message, int *status) {
     if (strcmp(how, "status") == 0)
         *status = *status == 0;
     if (strcmp(how, "byte") != 0 && strcmp(how, "line") != 0 && strcmp(how, "message") != 0)
@@ -81,8 +76,7 @@ static void change(const char *how, struct text *text, struct text *message, int
     }
 }
 
-static void halve_memory(void)
-{
+static void halve_memory(void) {
     struct rlimit limit;
     if (getrlimit(RLIMIT_AS, &limit) != 0)
         give_up("spoil: limit");
@@ -93,8 +87,7 @@ static void halve_memory(void)
         give_up("spoil: limit");
 }
 
-int main(int count, char **words)
-{
+int main(int count, char **words) {
     const char *program = getenv("SPOILED"), *how = getenv("SPOIL");
     FILE *out = tmpfile(), *error = tmpfile();
     int status;

@@ -48,25 +48,19 @@ static uint64_t longest;
 static __thread __attribute__((tls_model("initial-exec"))) int number = -1;
 static __thread __attribute__((tls_model("initial-exec"))) uint64_t left;
 
-static void futex(_Atomic uint32_t *word, int operation, uint32_t value)
-{
+static void futex(_Atomic uint32_t *word, int operation, uint32_t value) {
     syscall(SYS_futex, word, operation, value, NULL, NULL, 0);
 }
 
-static void take_lock(void)
-{
+static void take_lock(void) {
     while (atomic_exchange(&lock, 1) != 0)
         syscall(SYS_sched_yield);
 }
 
-static void let_lock_go(void)
-{
-    atomic_store(&lock, 0);
-}
+static void let_lock_go(void) { atomic_store(&lock, 0); }
 
 /* A number below the bound (xorshift). */
-static uint64_t draw(uint64_t bound)
-{
+static uint64_t draw(uint64_t bound) {
     draws ^= draws << 13;
     draws ^= draws >> 7;
     draws ^= draws << 17;
@@ -74,8 +68,7 @@ static uint64_t draw(uint64_t bound)
 }
 
 /* Gives the turn to one of the members. */
-static void pass_turn(void)
-{
+static void pass_turn(void) {
     uint64_t others = members;
     if (others != 0)
         for (uint64_t nth = draw(__builtin_popcountll(others)); nth > 0; nth--)
@@ -87,20 +80,15 @@ static void pass_turn(void)
     futex(&turns[turn], FUTEX_WAKE_PRIVATE, 1);
 }
 
-static void wait_for_turn(void)
-{
+static void wait_for_turn(void) {
     for (uint32_t count = turns[number]; turn != (uint32_t)number; count = turns[number])
         futex(&turns[number], FUTEX_WAIT_PRIVATE, count);
     left = 1 + draw(longest);
 }
 
-static int is_member(int which)
-{
-    return members >> which & 1;
-}
+static int is_member(int which) { return members >> which & 1; }
 
-static void join_in(void)
-{
+static void join_in(void) {
     take_lock();
     members |= 1ull << number;
     if (turn == NOBODY)
@@ -109,8 +97,7 @@ static void join_in(void)
     wait_for_turn();
 }
 
-static void leave(void)
-{
+static void leave(void) {
     take_lock();
     members &= ~(1ull << number);
     if (turn == (uint32_t)number)
@@ -118,8 +105,7 @@ static void leave(void)
     let_lock_go();
 }
 
-static int new_number(void)
-{
+static int new_number(void) {
     take_lock();
     if (~numbers == 0)
         _exit(77);
@@ -130,8 +116,7 @@ static int new_number(void)
 }
 
 /* Whether the next instruction is a call of the kernel in which the thread may wait. */
-static int may_wait(const greg_t *registers)
-{
+static int may_wait(const greg_t *registers) {
     const unsigned char *next = (const unsigned char *)registers[REG_RIP];
     if (next[0] != 0x0f || next[1] != 0x05)
         return 0;
@@ -139,8 +124,7 @@ static int may_wait(const greg_t *registers)
 }
 
 /* An instruction was done. Who is no member comes from the kernel. */
-static void stepped(int signal, siginfo_t *info, void *context)
-{
+static void stepped(int signal, siginfo_t *info, void *context) {
     int error = errno;
     (void)signal;
     (void)info;
@@ -159,14 +143,12 @@ static void stepped(int signal, siginfo_t *info, void *context)
     errno = error;
 }
 
-static void step(int is_stepped)
-{
+static void step(int is_stepped) {
     uint64_t flags = __readeflags() & ~TRAP_FLAG;
     __writeeflags(is_stepped ? flags | TRAP_FLAG : flags);
 }
 
-static void *run_in_turns(void *given)
-{
+static void *run_in_turns(void *given) {
     struct start start = *(struct start *)given;
     free(given);
     number = start.number;
@@ -180,8 +162,7 @@ static void *run_in_turns(void *given)
     return result;
 }
 
-__attribute__((constructor)) static void begin(void)
-{
+__attribute__((constructor)) static void begin(void) {
     struct sigaction action = {.sa_sigaction = stepped, .sa_flags = SA_SIGINFO};
     draws = 1 + strtoull(getenv("SEED"), NULL, 10);
     longest = strtoull(getenv("TURN"), NULL, 10);
@@ -190,8 +171,7 @@ __attribute__((constructor)) static void begin(void)
 }
 
 /* The new thread takes part before the one that makes it goes on. */
-int pthread_create(pthread_t *thread, const pthread_attr_t *how, void *(*run)(void *), void *with)
-{
+int pthread_create(pthread_t *thread, const pthread_attr_t *how, void *(*run)(void *), void *with) {
     step(0);
     Create *create = (Create *)dlsym(RTLD_NEXT, "pthread_create");
     if (number < 0)
@@ -211,8 +191,7 @@ int pthread_create(pthread_t *thread, const pthread_attr_t *how, void *(*run)(vo
     return result;
 }
 
-int pthread_join(pthread_t thread, void **result)
-{
+int pthread_join(pthread_t thread, void **result) {
     step(0);
     Join *join = (Join *)dlsym(RTLD_NEXT, "pthread_join");
     if (number >= 0 && is_member(number))

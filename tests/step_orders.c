@@ -74,10 +74,12 @@ static bool is_new(uint64_t print) {
     return true;
 }
 
-static void push(const struct state *s, size_t size) {
-    if (!is_new(print_of(s, size))) {
+/* Checks a state that no order has reached before, and adds it to those to go on from. */
+static void push(const struct step_table *table, const struct state *s) {
+    if (fault != NULL || !is_new(print_of(s, table->state_size))) {
         return;
     }
+    table->check(s->words);
     if (queue.count == queue.room) {
         /* what was gone on from makes room */
         queue.count -= queue.next;
@@ -102,10 +104,7 @@ static long go_on(const struct step_table *table, const struct state *s) {
     for (int who = 0; who < MOST_PASSES; who++) {
         struct state next = *s;
         for (int nth = 0; fault == NULL && table->take_step(next.words, who, nth); nth++) {
-            if (fault == NULL) {
-                table->check(next.words);
-            }
-            push(&next, table->state_size);
+            push(table, &next);
             next = *s;
             steps++;
         }
@@ -120,7 +119,7 @@ static bool explore(const struct step_table *table, int family, int wrong) {
     long steps = 0, done = 0, nearer = 0, depth = 0;
     fault = NULL;
     const char *name = table->begin(family, wrong, first.words);
-    push(&first, table->state_size);
+    push(table, &first);
     for (; queue.next < queue.count && fault == NULL; done++) {
         if (done == nearer) {
             /* all states of so many steps were gone on from */

@@ -51,14 +51,12 @@ static _Atomic bool is_in_main;
 static uint64_t failing, reads, read_bytes, failing_read, read_error, write_bytes, room;
 
 /* What a variable has, or the other number where there is none. */
-static uint64_t number(const char *variable, uint64_t other)
-{
+static uint64_t number(const char *variable, uint64_t other) {
     const char *text = getenv(variable);
     return text == NULL ? other : strtoull(text, NULL, 10);
 }
 
-__attribute__((constructor)) static void begin(void)
-{
+__attribute__((constructor)) static void begin(void) {
     failing = number("FAILING_ALLOCATION", 0);
     read_bytes = number("READ_BYTES", UINT64_MAX);
     failing_read = number("FAILING_READ", 0);
@@ -74,8 +72,7 @@ __attribute__((constructor)) static void begin(void)
     close(file);
 }
 
-static bool fails(size_t size)
-{
+static bool fails(size_t size) {
     atomic_fetch_add(&counts->bytes, size);
     if (!atomic_load(&is_in_main) || atomic_fetch_add(&counts->allocations, 1) + 1 != failing)
         return false;
@@ -83,28 +80,19 @@ static bool fails(size_t size)
     return true;
 }
 
-void *malloc(size_t size)
-{
-    return fails(size) ? NULL : __libc_malloc(size);
-}
+void *malloc(size_t size) { return fails(size) ? NULL : __libc_malloc(size); }
 
-void *calloc(size_t count, size_t size)
-{
+void *calloc(size_t count, size_t size) {
     return fails(count * size) ? NULL : __libc_calloc(count, size);
 }
 
-void *realloc(void *old, size_t size)
-{
-    return fails(size) ? NULL : __libc_realloc(old, size);
-}
+void *realloc(void *old, size_t size) { return fails(size) ? NULL : __libc_realloc(old, size); }
 
-void *aligned_alloc(size_t alignment, size_t size)
-{
+void *aligned_alloc(size_t alignment, size_t size) {
     return fails(size) ? NULL : __libc_memalign(alignment, size);
 }
 
-int posix_memalign(void **made, size_t alignment, size_t size)
-{
+int posix_memalign(void **made, size_t alignment, size_t size) {
     void *memory = fails(size) ? NULL : __libc_memalign(alignment, size);
     if (memory == NULL)
         return ENOMEM;
@@ -112,8 +100,7 @@ int posix_memalign(void **made, size_t alignment, size_t size)
     return 0;
 }
 
-ssize_t read(int file, void *bytes, size_t size)
-{
+ssize_t read(int file, void *bytes, size_t size) {
     if (file == STDIN_FILENO && ++reads == failing_read) {
         errno = (int)read_error;
         return -1;
@@ -121,8 +108,7 @@ ssize_t read(int file, void *bytes, size_t size)
     return syscall(SYS_read, file, bytes, file == STDIN_FILENO && size > read_bytes ? read_bytes : size);
 }
 
-ssize_t write(int file, const void *bytes, size_t size)
-{
+ssize_t write(int file, const void *bytes, size_t size) {
     if (file == STDOUT_FILENO) {
         uint64_t nth = atomic_fetch_add(&counts->writes, 1);
         if (nth < KEPT)
@@ -137,15 +123,13 @@ ssize_t write(int file, const void *bytes, size_t size)
     return syscall(SYS_write, file, bytes, size);
 }
 
-int pthread_create(pthread_t *thread, const pthread_attr_t *how, void *(*start)(void *), void *with)
-{
+int pthread_create(pthread_t *thread, const pthread_attr_t *how, void *(*start)(void *), void *with) {
     Create *create = (Create *)dlsym(RTLD_NEXT, "pthread_create");
     atomic_fetch_add(&counts->threads, 1);
     return create(thread, how, start, with);
 }
 
-static int counted_main(int count, char **words, char **variables)
-{
+static int counted_main(int count, char **words, char **variables) {
     atomic_store(&is_in_main, true);
     int status = main_of_the_program(count, words, variables);
     atomic_store(&is_in_main, false);
@@ -153,8 +137,7 @@ static int counted_main(int count, char **words, char **variables)
 }
 
 int __libc_start_main(Main *main, int count, char **words, void (*begin)(void), void (*end)(void),
-                      void (*end_of_loader)(void), void *stack)
-{
+                      void (*end_of_loader)(void), void *stack) {
     Start *start = (Start *)dlsym(RTLD_NEXT, "__libc_start_main");
     main_of_the_program = main;
     return start(counted_main, count, words, begin, end, end_of_loader, stack);

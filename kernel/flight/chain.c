@@ -11,8 +11,7 @@
 
 enum { BAD_ARGUMENT = 2 };
 
-static int *place_of(struct options *options, const char *word)
-{
+static int *place_of(struct options *options, const char *word) {
 	struct { const char *word; int *place; } places[] = {
 		{ "--chains", &options->chains }, { "--slots", &options->slots }, { "--open", &options->most_open },
 		{ "--updates", &options->updates }, { "--settle", &options->settle },
@@ -23,8 +22,7 @@ static int *place_of(struct options *options, const char *word)
 	return NULL;
 }
 
-int read_options(struct options *options, int count, char **words)
-{
+int read_options(struct options *options, int count, char **words) {
 	int at = 2;
 	for (; at < count; at++) {
 		int *place = place_of(options, words[at]);
@@ -47,8 +45,7 @@ int read_options(struct options *options, int count, char **words)
 	return atoi(words[1]);
 }
 
-static void open_entry(struct list *list, struct member_name of, int at)
-{
+static void open_entry(struct list *list, struct member_name of, int at) {
 	char path[PATH_BYTES];
 	make_link(path, of, at, list->entries[at]);
 	list->descriptors[at] = openat(links_folder(), path, O_RDONLY | O_CLOEXEC);
@@ -56,8 +53,7 @@ static void open_entry(struct list *list, struct member_name of, int at)
 		die("a descriptor for a list");
 }
 
-void fill_list(struct list *list, const struct options *options, struct member_name of, char *text)
-{
+void fill_list(struct list *list, const struct options *options, struct member_name of, char *text) {
 	int most = options->slots < LONGEST_LIST ? options->slots : LONGEST_LIST;
 	list->count = 1 + (int)below(most);
 	list->slot = (int)below(options->slots - list->count + 1);
@@ -71,15 +67,13 @@ void fill_list(struct list *list, const struct options *options, struct member_n
 	}
 }
 
-void close_list(struct list *list)
-{
+void close_list(struct list *list) {
 	for (int at = 0; at < list->count; at++)
 		if (list->descriptors[at] >= 0)
 			close(list->descriptors[at]);
 }
 
-static void prepare_open(struct io_uring_sqe *sqe, struct member *it, int slot, char *text)
-{
+static void prepare_open(struct io_uring_sqe *sqe, struct member *it, int slot, char *text) {
 	int entry = (int)below(FILES);
 	make_link(it->path, it->name, 0, entry);
 	io_uring_prep_openat(sqe, links_folder(), it->path, O_RDONLY, 0);
@@ -90,8 +84,7 @@ static void prepare_open(struct io_uring_sqe *sqe, struct member *it, int slot, 
 		sprintf(text, "open %s at %d", name_of(entry), slot);
 }
 
-static void prepare_read(struct io_uring_sqe *sqe, struct member *it, int slot, int pipes, char *text)
-{
+static void prepare_read(struct io_uring_sqe *sqe, struct member *it, int slot, int pipes, char *text) {
 	unsigned size = pipes ? 1 : 1 + below(LONGEST_READ);
 	it->is_read = 1;
 	io_uring_prep_read(sqe, slot, it->buffer, size, pipes ? -1 : 0);
@@ -100,8 +93,7 @@ static void prepare_read(struct io_uring_sqe *sqe, struct member *it, int slot, 
 }
 
 static void prepare_update(struct io_uring_sqe *sqe, struct member *it, const struct options *options,
-			   char *text)
-{
+			   char *text) {
 	it->is_update = 1;
 	memcpy(text, "update ", 8);
 	fill_list(&it->list, options, it->name, text + 7);
@@ -110,8 +102,7 @@ static void prepare_update(struct io_uring_sqe *sqe, struct member *it, const st
 
 /* One slot in eight may be the one past the table's end. A pipe is opened for lists alone, since an
  * open of a pipe may wait. */
-static void prepare(struct io_uring_sqe *sqe, struct member *it, const struct options *options, char *text)
-{
+static void prepare(struct io_uring_sqe *sqe, struct member *it, const struct options *options, char *text) {
 	int slot = (int)below(options->slots + !below(8));
 	char kind = options->pipes ? "rrrucr"[below(6)] : "oorrruca"[below(8)];
 	if (kind == 'r') {
@@ -127,8 +118,7 @@ static void prepare(struct io_uring_sqe *sqe, struct member *it, const struct op
 	}
 }
 
-struct chain *prepare_chain(struct io_uring *ring, const struct options *options, int call, char *text)
-{
+struct chain *prepare_chain(struct io_uring *ring, const struct options *options, int call, char *text) {
 	struct chain *chain = memory_of(sizeof *chain);
 	char words[LINE_BYTES];
 	*text = 0;
@@ -150,8 +140,7 @@ struct chain *prepare_chain(struct io_uring *ring, const struct options *options
 	return chain;
 }
 
-int finish_member(struct chain *chain, unsigned member, int res)
-{
+int finish_member(struct chain *chain, unsigned member, int res) {
 	struct member *it = &chain->members[member - 1];
 	char bytes[2 * LONGEST_READ + 2] = "";
 	for (int at = 0; it->is_read && at < res; at++)

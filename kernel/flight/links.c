@@ -27,19 +27,14 @@ static size_t seen_count, seen_room;
 static const char *contents[FILES] = { "a", "bb", "ccc", "dddd" };
 static _Thread_local unsigned long long state;
 
-void seed_random(unsigned long long seed)
-{
-	state = seed * 2654435761u + 1;
-}
+void seed_random(unsigned long long seed) { state = seed * 2654435761u + 1; }
 
-unsigned below(unsigned most)
-{
+unsigned below(unsigned most) {
 	state = state * 6364136223846793005u + 1442695040888963407u;
 	return (unsigned)(state >> 33) % most;
 }
 
-const char *name_of(int entry)
-{
+const char *name_of(int entry) {
 	static _Thread_local char name[NAME_BYTES];
 	if (with_pipes)
 		snprintf(name, sizeof name, "p%d", entry);
@@ -48,15 +43,13 @@ const char *name_of(int entry)
 	return name;
 }
 
-static int new_folder(const char *name)
-{
+static int new_folder(const char *name) {
 	char path[PATH_BYTES];
 	snprintf(path, sizeof path, "%s/%s", folder, name);
 	return make_folder(path);
 }
 
-int make_catalogue(int pipes)
-{
+int make_catalogue(int pipes) {
 	char path[PATH_BYTES];
 	with_pipes = pipes;
 	events = inotify_init1(IN_NONBLOCK | IN_CLOEXEC);
@@ -74,8 +67,7 @@ int make_catalogue(int pipes)
 	return 1;
 }
 
-void remove_catalogue(void)
-{
+void remove_catalogue(void) {
 	char command[2 * PATH_BYTES];
 	snprintf(command, sizeof command, "rm -rf '%s'", folder);
 	if (system(command))
@@ -83,8 +75,7 @@ void remove_catalogue(void)
 }
 
 /* Opens its pipe for reading too, so that no open and no write waits. */
-static int new_pipe(void)
-{
+static int new_pipe(void) {
 	if (pipe_count == MOST_PIPES)
 		return -1;
 	const char *name = name_of(pipe_count);
@@ -96,8 +87,7 @@ static int new_pipe(void)
 	return pipe_count++;
 }
 
-int pick_entry(void)
-{
+int pick_entry(void) {
 	if (!with_pipes)
 		return (int)below(FILES);
 	pthread_mutex_lock(&lock);
@@ -106,21 +96,16 @@ int pick_entry(void)
 	return entry;
 }
 
-int links_folder(void)
-{
-	return links;
-}
+int links_folder(void) { return links; }
 
-void make_link(char path[PATH_BYTES], struct member_name of, int in_list, int entry)
-{
+void make_link(char path[PATH_BYTES], struct member_name of, int in_list, int entry) {
 	snprintf(path, PATH_BYTES, "%d.%d.%d_%s", of.call, of.member, in_list, name_of(entry));
 	if (linkat(entries, name_of(entry), links, path, 0))
 		die("a link for an installation");
 }
 
 /* Keeps the name of a close until its line is appended. */
-static void note_event(const struct inotify_event *event)
-{
+static void note_event(const struct inotify_event *event) {
 	if (!strchr(event->name, '_'))
 		return;
 	opened += (event->mask & IN_OPEN) != 0;
@@ -131,8 +116,7 @@ static void note_event(const struct inotify_event *event)
 	snprintf(seen[seen_count++].name, PATH_BYTES, "%s", event->name);
 }
 
-void read_closes(void (*reap)(void))
-{
+void read_closes(void (*reap)(void)) {
 	read_events(events, note_event);
 	reap();
 	for (size_t at = 0; at < seen_count; at++) {
@@ -146,13 +130,9 @@ void read_closes(void (*reap)(void))
 	seen_count = 0;
 }
 
-int open_count(void)
-{
-	return opened - closed;
-}
+int open_count(void) { return opened - closed; }
 
-void feed_a_pipe(void)
-{
+void feed_a_pipe(void) {
 	pthread_mutex_lock(&lock);
 	int entry = pipe_count ? (int)below(pipe_count) : 0, unread = 1;
 	/* a byte that nobody has read yet is enough: so as many bytes are fed as are read, and one more
@@ -170,8 +150,7 @@ void feed_a_pipe(void)
 	pthread_mutex_unlock(&lock);
 }
 
-void write_catalogue(void)
-{
+void write_catalogue(void) {
 	for (int entry = 0; !with_pipes && entry < FILES; entry++) {
 		printf("file %s ", name_of(entry));
 		for (const char *at = contents[entry]; *at; at++)

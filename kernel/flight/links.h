@@ -1,7 +1,5 @@
-/*
- * The catalogue as real files or named pipes in a new folder, with a hard link for each
- * installation. inotify(7) watches the links, so that a close names a single installation.
- */
+/* The catalogue as real files or named pipes in a new folder, with a hard link for each
+ * installation. inotify(7) watches the links, so that a close names a single installation. */
 #ifndef LINKS_H
 #define LINKS_H
 
@@ -28,12 +26,10 @@ void make_link(char path[PATH_BYTES], struct member_name of, int in_list, int en
 /* Returns the descriptor of the links' folder. */
 int links_folder(void);
 
-/*
- * Reads the closes that inotify has seen, then calls `reap`, and then appends a line for each
+/* Reads the closes that inotify has seen, then calls `reap`, and then appends a line for each
  * close. The kernel posts a completion before it releases the request's file. So the line of an
  * answer is before that of a close which had to wait for it, if `reap` appends the answers that are
- * there.
- */
+ * there. */
 void read_closes(void (*reap)(void));
 
 /* Returns the number of files that were opened by links and are not closed. */

@@ -19,8 +19,7 @@ static size_t count, room;
 static struct member_name *left_out;
 static size_t left_out_count, left_out_room;
 
-static void append_line(struct member_name of, const char *format, va_list words)
-{
+static void append_line(struct member_name of, const char *format, va_list words) {
 	char *text;
 	if (vasprintf(&text, format, words) < 0)
 		die_of("out of memory");
@@ -30,40 +29,35 @@ static void append_line(struct member_name of, const char *format, va_list words
 	pthread_mutex_unlock(&lock);
 }
 
-void append(const char *format, ...)
-{
+void append(const char *format, ...) {
 	va_list words;
 	va_start(words, format);
 	append_line((struct member_name){ 0, 0 }, format, words);
 	va_end(words);
 }
 
-void append_close(struct member_name of, const char *format, ...)
-{
+void append_close(struct member_name of, const char *format, ...) {
 	va_list words;
 	va_start(words, format);
 	append_line(of, format, words);
 	va_end(words);
 }
 
-void leave_out_closes(struct member_name of)
-{
+void leave_out_closes(struct member_name of) {
 	pthread_mutex_lock(&lock);
 	left_out = with_room(left_out, left_out_count, &left_out_room, sizeof *left_out);
 	left_out[left_out_count++] = of;
 	pthread_mutex_unlock(&lock);
 }
 
-static int is_left_out(struct member_name of)
-{
+static int is_left_out(struct member_name of) {
 	for (size_t at = 0; of.call && at < left_out_count; at++)
 		if (left_out[at].call == of.call && left_out[at].member == of.member)
 			return 1;
 	return 0;
 }
 
-void write_log(void)
-{
+void write_log(void) {
 	for (size_t at = 0; at < count; at++)
 		if (!is_left_out(lines[at].of))
 			puts(lines[at].text);

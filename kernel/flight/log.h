@@ -13,10 +13,8 @@ void append(const char *format, ...) __attribute__((format(printf, 1, 2)));
 /* Appends the line of a close of a file that this member installs or tried to install. */
 void append_close(struct member_name of, const char *format, ...) __attribute__((format(printf, 2, 3)));
 
-/*
- * Leaves out the closes of this member's files. Linux opens and closes the file of a refused open,
- * and files of a refused update never were in the table.
- */
+/* Leaves out the closes of this member's files. Linux opens and closes the file of a refused open,
+ * and files of a refused update never were in the table. */
 void leave_out_closes(struct member_name of);
 
 /* Writes all lines to standard output. Call it once all threads that append have ended. */

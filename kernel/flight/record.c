@@ -1,5 +1,4 @@
-/*
- * Plays random chains on the io_uring of the running kernel without waiting for them, and writes a
+/* Plays random chains on the io_uring of the running kernel without waiting for them, and writes a
  * log of docs/FLIGHT.md.
  *
  *   record SEED [--chains N] [--slots N] [--open N] [--updates N] [--settle N] [--pipes] [--inline]
@@ -15,8 +14,7 @@
  *
  * At the end an update empties all slots. A `call` line is appended before its system call, and a
  * `done` line after its answer was seen. So a call whose answer was seen before another call began
- * has its line before that call's.
- */
+ * has its line before that call's. */
 #include <errno.h>
 #include <liburing.h>
 #include <pthread.h>
@@ -40,13 +38,9 @@ static struct chain **chains;
 static int in_flight;
 static volatile int updater_waits, updater_has_ended;
 
-static int next_call(void)
-{
-	return __atomic_add_fetch(&last_call, 1, __ATOMIC_SEQ_CST);
-}
+static int next_call(void) { return __atomic_add_fetch(&last_call, 1, __ATOMIC_SEQ_CST); }
 
-static void start_chain(void)
-{
+static void start_chain(void) {
 	int call = next_call();
 	char text[LINE_BYTES];
 	chains[call] = prepare_chain(&ring, &options, call, text);
@@ -58,8 +52,7 @@ static void start_chain(void)
 }
 
 /* Reaps all completions that are there. */
-static void reap(void)
-{
+static void reap(void) {
 	struct io_uring_cqe *cqe;
 	while (!io_uring_peek_cqe(&ring, &cqe)) {
 		unsigned long long data = cqe->user_data;
@@ -72,8 +65,7 @@ static void reap(void)
 	}
 }
 
-static void update_table(void)
-{
+static void update_table(void) {
 	char text[LINE_BYTES];
 	__u64 tags[LONGEST_LIST] = { 0 };
 	struct list list;
@@ -90,8 +82,7 @@ static void update_table(void)
 	close_list(&list);
 }
 
-static void *make_updates(void *seed)
-{
+static void *make_updates(void *seed) {
 	seed_random(*(int *)seed * 77ull + 5);
 	for (int at = 0; at < options.updates; at++) {
 		while (updater_waits)
@@ -106,8 +97,7 @@ static void *make_updates(void *seed)
 
 /* Returns the number of files in the table, by the kernel's list in /proc/self/fdinfo: between the
  * lines `UserFiles:` and `UserBufs:`. Returns -1 while the kernel works on the ring. */
-static int files_in_table(void)
-{
+static int files_in_table(void) {
 	char path[PATH_BYTES], line[512];
 	int is_listed = 0, count = 0;
 	snprintf(path, sizeof path, "/proc/self/fdinfo/%d", ring.ring_fd);
@@ -124,8 +114,7 @@ static int files_in_table(void)
 }
 
 /* Waits until each opened file is in the table or closed. No call is open. */
-static void settle(void)
-{
+static void settle(void) {
 	for (int turn = 0; turn < TURNS; turn++) {
 		read_closes(reap);
 		if (open_count() == files_in_table()) {
@@ -139,14 +128,12 @@ static void settle(void)
 }
 
 /* Waits for the updater to be between two calls. */
-static void settle_meanwhile(void)
-{
+static void settle_meanwhile(void) {
 	usleep(10 * TURN_MICROSECONDS);
 	settle();
 }
 
-static void play(void)
-{
+static void play(void) {
 	int left = options.chains, since = 0, idle = 0;
 	while (left || in_flight || !updater_has_ended) {
 		int before = in_flight;
@@ -169,8 +156,7 @@ static void play(void)
 }
 
 /* Empties all slots by an update of the ring. */
-static void empty_table(void)
-{
+static void empty_table(void) {
 	char text[LINE_BYTES];
 	int *none = memory_of(options.slots * sizeof *none), size = 0;
 	int call = options.waiting_read ? LAST_OF_WAITING + 1 : next_call();
@@ -183,8 +169,7 @@ static void empty_table(void)
 	free(none);
 }
 
-static void play_beside_updates(int *seed)
-{
+static void play_beside_updates(int *seed) {
 	pthread_t updater;
 	if (pthread_create(&updater, NULL, make_updates, seed))
 		die_of("no thread");
@@ -192,8 +177,7 @@ static void play_beside_updates(int *seed)
 	pthread_join(updater, NULL);
 }
 
-int main(int count, char **words)
-{
+int main(int count, char **words) {
 	int seed = read_options(&options, count, words);
 	seed_random(seed);
 	chains = memory_of((options.chains + options.updates + 3) * sizeof *chains);

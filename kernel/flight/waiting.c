@@ -15,8 +15,7 @@ enum { LOOKS = 100, LOOK_MICROSECONDS = 1000, OF_UPDATE = 2, OF_READ = 3, OF_REM
 static struct io_uring *ring;
 static unsigned char byte;
 
-static void note_completion(const struct io_uring_cqe *cqe)
-{
+static void note_completion(const struct io_uring_cqe *cqe) {
 	if (cqe->user_data & TAG_BIT)
 		append("tag %d.1.0", OF_UPDATE);
 	else if (cqe->res > 0)
@@ -25,8 +24,7 @@ static void note_completion(const struct io_uring_cqe *cqe)
 		append("done %d.1 %d", OF_READ, cqe->res);
 }
 
-static void reap(void)
-{
+static void reap(void) {
 	struct io_uring_cqe *cqe;
 	while (!io_uring_peek_cqe(ring, &cqe)) {
 		note_completion(cqe);
@@ -34,16 +32,14 @@ static void reap(void)
 	}
 }
 
-static void look_around(void)
-{
+static void look_around(void) {
 	for (int look = 0; look < LOOKS; look++) {
 		read_closes(reap);
 		usleep(LOOK_MICROSECONDS);
 	}
 }
 
-static void install_pipe(void)
-{
+static void install_pipe(void) {
 	char path[PATH_BYTES];
 	__u64 tag = TAG_BIT;
 	make_link(path, (struct member_name){ OF_UPDATE, 1 }, 0, pick_entry());
@@ -55,8 +51,7 @@ static void install_pipe(void)
 	close(file);
 }
 
-static void start_read(void)
-{
+static void start_read(void) {
 	struct io_uring_sqe *sqe = io_uring_get_sqe(ring);
 	io_uring_prep_read(sqe, AT_SLOT, &byte, 1, -1);
 	sqe->flags |= IOSQE_FIXED_FILE;
@@ -66,16 +61,14 @@ static void start_read(void)
 	look_around();
 }
 
-static void remove_pipe(void)
-{
+static void remove_pipe(void) {
 	int none = -1;
 	append("call %d regupdate %d -1", OF_REMOVAL, AT_SLOT);
 	append("done %d.1 %d", OF_REMOVAL, io_uring_register_files_update(ring, AT_SLOT, &none, 1));
 	look_around();
 }
 
-void play_waiting_read(struct io_uring *on)
-{
+void play_waiting_read(struct io_uring *on) {
 	ring = on;
 	install_pipe();
 	start_read();

@@ -27,33 +27,33 @@ static yacht_judgement judgement;
 
 static yacht_event *add(uint32_t kind, uint32_t number) {
     yacht_event *it = &events[count++];
-    memset(it, 0, sizeof *it);
-    it->kind = kind;
-    it->call = number;
+    *it = (yacht_event){ .kind = kind, .call = number };
     return it;
 }
 
 static void call(uint32_t number, uint32_t first, uint32_t length) {
     yacht_event *it = add(YACHT_EVENT_CALL, number);
-    it->first = first;
-    it->count = length;
+    it->first = first, it->count = length;
 }
 
 static yacht_event *done(uint32_t number, uint32_t member, int32_t res) {
     yacht_event *it = add(YACHT_EVENT_DONE, number);
-    it->member = member;
-    it->res = res;
+    it->member = member, it->res = res;
     return it;
 }
 
 static yacht_event *of_file(uint32_t kind, uint32_t number, uint32_t by, uint32_t entry, uint8_t file) {
     yacht_event *it = add(kind, number);
-    it->by_call = by;
-    it->by_member = 1;
-    it->by_entry = entry;
-    it->file = file;
+    it->by_call = by, it->by_member = 1, it->by_entry = entry, it->file = file;
     return it;
 }
+
+static yacht_event *look(uint32_t number) { return add(YACHT_EVENT_LOOK, number); }
+static void found(uint32_t number, uint32_t by) { of_file(YACHT_EVENT_FOUND, number, by, 0, 0); }
+static void empty(uint32_t number) { add(YACHT_EVENT_EMPTY, number); }
+static void ends(uint32_t number) { add(YACHT_EVENT_FREE, number); }
+static void closed(uint32_t by, uint32_t entry, uint8_t file) { of_file(YACHT_EVENT_CLOSED, 0, by, entry, file); }
+static void settled(void) { add(YACHT_EVENT_SETTLED, 0); }
 
 static uint32_t judge_at(uint32_t slots, uint32_t states, size_t entries_length, size_t bytes_length) {
     memset(&judgement, '?', sizeof judgement);
@@ -63,134 +63,72 @@ static uint32_t judge_at(uint32_t slots, uint32_t states, size_t entries_length,
 
 static uint32_t judge(void) { return judge_at(2, YACHT_STATES, 3, 2); }
 
-/* whether the log has this verdict at this event, with this fault or flaw. Begins another log */
 static int is(uint32_t verdict, uint64_t at, uint32_t fault) {
     int holds = judge() == verdict && judgement.at == at && judgement.fault == fault && judgement.line == 0;
     count = 0;
     return holds;
 }
 
+/* The log of these events has this verdict at this event, with this fault or flaw. The next log is
+ * empty. */
+#define LEGAL(...) ((void)(__VA_ARGS__), WANT(is(YACHT_LEGAL, 0, 0)))
+#define NOT_LEGAL(at, ...) ((void)(__VA_ARGS__), WANT(is(YACHT_NOT_LEGAL, at, 0)))
+#define FAULTY(at, fault, ...) ((void)(__VA_ARGS__), WANT(is(YACHT_FAULTY, at, YACHT_FAULT_##fault)))
+#define MALFORMED(at, flaw, ...) ((void)(__VA_ARGS__), WANT(is(YACHT_MALFORMED, at, YACHT_FLAW_##flaw)))
+
 /* the file is opened, read while it leaves its slot, replaced, and closed */
 static void in_flight(int32_t read) {
-    call(1, OPEN_A, 1);
-    done(1, 1, 0);
-    call(2, UPDATE, 1);
-    done(2, 1, 2);
-    call(3, READ, 1);
-    call(4, OPEN_B_LINK, 2);
-    done(4, 1, 0);
-    of_file(YACHT_EVENT_CLOSED, 0, 2, 1, 1);
-    call(5, CLOSE, 1);
-    done(4, 2, 0);
-    done(5, 1, 0);
-    done(3, 1, read);
-    of_file(YACHT_EVENT_CLOSED, 0, 4, 0, 1);
-    of_file(YACHT_EVENT_CLOSED, 0, 1, 0, 0);
-    add(YACHT_EVENT_SETTLED, 0);
+    call(1, OPEN_A, 1), done(1, 1, 0), call(2, UPDATE, 1), done(2, 1, 2);
+    call(3, READ, 1), call(4, OPEN_B_LINK, 2), done(4, 1, 0), closed(2, 1, 1);
+    call(5, CLOSE, 1), done(4, 2, 0), done(5, 1, 0), done(3, 1, read);
+    closed(4, 0, 1), closed(1, 0, 0), settled();
+}
+
+static void in_flight_of_a_byte(void) {
+    in_flight(1);
+    events[11].first = events[11].count = 1;
 }
 
 static void verdicts(void) {
-    WANT(is(YACHT_LEGAL, 0, 0));
-    in_flight(0);
-    WANT(is(YACHT_LEGAL, 0, 0));
+    LEGAL((void)0);
+    LEGAL(in_flight(0));
     /* the read was open while call 5 emptied its slot */
-    in_flight(-9);
-    WANT(is(YACHT_LEGAL, 0, 0));
-    in_flight(-22);
-    WANT(is(YACHT_NOT_LEGAL, 11, 0));
+    LEGAL(in_flight(-9));
+    NOT_LEGAL(11, in_flight(-22));
     /* it can't read one byte of `a` from byte 1 on, but the update's `b` has one */
-    in_flight(1);
-    events[11].first = 1;
-    events[11].count = 1;
-    WANT(is(YACHT_NOT_LEGAL, 11, 0));
+    NOT_LEGAL(11, in_flight_of_a_byte());
     requests[READ].slot = 1;
-    in_flight(1);
-    events[11].first = 1;
-    events[11].count = 1;
-    WANT(is(YACHT_LEGAL, 0, 0));
+    LEGAL(in_flight_of_a_byte());
     requests[READ].slot = 0;
     /* the second file of the list is on slot 1 */
-    in_flight(0);
-    events[7].by_entry = 0;
-    WANT(is(YACHT_NOT_LEGAL, 7, 0));
-    in_flight(0);
-    events[7].file = 0;
-    WANT(is(YACHT_NOT_LEGAL, 7, 0));
-    in_flight(0);
-    count--;
-    events[13].by_call = 5;
-    WANT(is(YACHT_NOT_LEGAL, 13, 0));
-    call(1, OPEN_ANY, 1);
-    done(1, 1, 1);
-    call(2, OPEN_MISSING, 1);
-    done(2, 1, -2);
-    WANT(is(YACHT_LEGAL, 0, 0));
-    call(1, OPEN_ANY, 1);
-    done(1, 1, 2);
-    WANT(is(YACHT_NOT_LEGAL, 1, 0));
+    NOT_LEGAL(7, in_flight(0), events[7].by_entry = 0);
+    NOT_LEGAL(7, in_flight(0), events[7].file = 0);
+    NOT_LEGAL(13, in_flight(0), count--, events[13].by_call = 5);
+    LEGAL(call(1, OPEN_ANY, 1), done(1, 1, 1), call(2, OPEN_MISSING, 1), done(2, 1, -2));
+    NOT_LEGAL(1, call(1, OPEN_ANY, 1), done(1, 1, 2));
 }
+
+static void open_a(uint32_t number) { call(number, OPEN_A, 1), done(number, 1, 0); }
 
 /* the file is opened and looked at, and the look waits while the file leaves its slot */
-static void looked_at(void) {
-    call(1, OPEN_A, 1);
-    done(1, 1, 0);
-    add(YACHT_EVENT_LOOK, 2);
-    call(3, CLOSE, 1);
-    done(3, 1, 0);
-}
+static void looked_at(void) { open_a(1), look(2), call(3, CLOSE, 1), done(3, 1, 0); }
 
 static void looks(void) {
-    looked_at();
-    of_file(YACHT_EVENT_FOUND, 2, 1, 0, 0);
-    add(YACHT_EVENT_FREE, 2);
-    of_file(YACHT_EVENT_CLOSED, 0, 1, 0, 0);
-    add(YACHT_EVENT_SETTLED, 0);
-    WANT(is(YACHT_LEGAL, 0, 0));
+    LEGAL(looked_at(), found(2, 1), ends(2), closed(1, 0, 0), settled());
     /* the hold has not begun to end when the file is closed, or when each file is said to be */
-    looked_at();
-    of_file(YACHT_EVENT_FOUND, 2, 1, 0, 0);
-    of_file(YACHT_EVENT_CLOSED, 0, 1, 0, 0);
-    add(YACHT_EVENT_FREE, 2);
-    WANT(is(YACHT_NOT_LEGAL, 6, 0));
-    looked_at();
-    of_file(YACHT_EVENT_FOUND, 2, 1, 0, 0);
-    add(YACHT_EVENT_SETTLED, 0);
-    WANT(is(YACHT_NOT_LEGAL, 6, 0));
+    NOT_LEGAL(6, looked_at(), found(2, 1), closed(1, 0, 0), ends(2));
+    NOT_LEGAL(6, looked_at(), found(2, 1), settled());
     /* once the file is closed, the look finds nothing */
-    looked_at();
-    of_file(YACHT_EVENT_CLOSED, 0, 1, 0, 0);
-    of_file(YACHT_EVENT_FOUND, 2, 1, 0, 0);
-    WANT(is(YACHT_NOT_LEGAL, 6, 0));
-    looked_at();
-    of_file(YACHT_EVENT_CLOSED, 0, 1, 0, 0);
-    add(YACHT_EVENT_EMPTY, 2);
-    WANT(is(YACHT_LEGAL, 0, 0));
+    NOT_LEGAL(6, looked_at(), closed(1, 0, 0), found(2, 1));
+    LEGAL(looked_at(), closed(1, 0, 0), empty(2));
     /* a look that waits finds the file of a later call, or nothing, but no file before that call */
-    for (int finds = 0; finds < 2; finds++) {
-        add(YACHT_EVENT_LOOK, 1);
-        call(2, OPEN_A, 1);
-        done(2, 1, 0);
-        of_file(finds ? YACHT_EVENT_FOUND : YACHT_EVENT_EMPTY, 1, 2, 0, 0);
-        WANT(is(YACHT_LEGAL, 0, 0));
-    }
-    add(YACHT_EVENT_LOOK, 1);
-    of_file(YACHT_EVENT_FOUND, 1, 2, 0, 0);
-    call(2, OPEN_A, 1);
-    WANT(is(YACHT_NOT_LEGAL, 1, 0));
-    call(1, OPEN_A, 1);
-    done(1, 1, 0);
-    add(YACHT_EVENT_LOOK, 2);
-    add(YACHT_EVENT_EMPTY, 2);
-    WANT(is(YACHT_NOT_LEGAL, 3, 0));
+    LEGAL(look(1), open_a(2), empty(1));
+    LEGAL(look(1), open_a(2), found(1, 2));
+    NOT_LEGAL(1, look(1), found(1, 2), call(2, OPEN_A, 1));
+    NOT_LEGAL(3, open_a(1), look(2), empty(2));
     /* another slot of the table, and one past its size */
     for (uint32_t slot = 1; slot < 3; slot++) {
-        call(1, OPEN_A, 1);
-        done(1, 1, 0);
-        add(YACHT_EVENT_LOOK, 2)->slot = slot;
-        add(YACHT_EVENT_EMPTY, 2);
-        add(YACHT_EVENT_LOOK, 3)->slot = slot;
-        of_file(YACHT_EVENT_FOUND, 3, 1, 0, 0);
-        WANT(is(YACHT_NOT_LEGAL, 5, 0));
+        NOT_LEGAL(5, open_a(1), look(2)->slot = slot, empty(2), look(3)->slot = slot, found(3, 1));
     }
 }
 
@@ -202,87 +140,49 @@ static void undecided(void) {
 }
 
 static void faults(void) {
-    call(2, OPEN_A, 1);
-    WANT(is(YACHT_FAULTY, 0, YACHT_FAULT_WRONG_NUMBER));
-    call(1, OPEN_A, 1);
-    call(1, CLOSE, 1);
-    WANT(is(YACHT_FAULTY, 1, YACHT_FAULT_WRONG_NUMBER));
-    add(YACHT_EVENT_LOOK, 2);
-    WANT(is(YACHT_FAULTY, 0, YACHT_FAULT_WRONG_NUMBER));
+    FAULTY(0, WRONG_NUMBER, call(2, OPEN_A, 1));
+    FAULTY(1, WRONG_NUMBER, call(1, OPEN_A, 1), call(1, CLOSE, 1));
+    FAULTY(0, WRONG_NUMBER, look(2));
     /* no request, two chains, and a read that is too long */
-    call(1, OPEN_A, 0);
-    WANT(is(YACHT_FAULTY, 0, YACHT_FAULT_NOT_ONE_CHAIN));
-    call(1, OPEN_A, 2);
-    WANT(is(YACHT_FAULTY, 0, YACHT_FAULT_NOT_ONE_CHAIN));
-    call(1, TOO_LONG, 1);
-    WANT(is(YACHT_FAULTY, 0, YACHT_FAULT_NOT_ONE_CHAIN));
-    done(1, 1, 0);
-    WANT(is(YACHT_FAULTY, 0, YACHT_FAULT_NOT_CALLED));
-    call(1, OPEN_A, 1);
-    add(YACHT_EVENT_EMPTY, 1);
-    WANT(is(YACHT_FAULTY, 1, YACHT_FAULT_NOT_CALLED));
-    call(1, OPEN_B_LINK, 2);
-    done(1, 2, 0);
-    WANT(is(YACHT_FAULTY, 1, YACHT_FAULT_OUT_OF_TURN));
-    call(1, OPEN_A, 1);
-    done(1, 1, 0);
-    done(1, 1, 0);
-    WANT(is(YACHT_FAULTY, 2, YACHT_FAULT_ANSWERED_TWICE));
-    add(YACHT_EVENT_LOOK, 1);
-    of_file(YACHT_EVENT_FOUND, 1, 1, 0, 0);
-    add(YACHT_EVENT_EMPTY, 1);
-    WANT(is(YACHT_FAULTY, 2, YACHT_FAULT_ANSWERED_TWICE));
-    add(YACHT_EVENT_LOOK, 1);
-    add(YACHT_EVENT_EMPTY, 1);
-    add(YACHT_EVENT_FREE, 1);
-    WANT(is(YACHT_FAULTY, 2, YACHT_FAULT_NOT_HELD));
-    call(1, OPEN_A, 1);
-    add(YACHT_EVENT_SETTLED, 0);
-    WANT(is(YACHT_FAULTY, 1, YACHT_FAULT_STILL_OPEN));
+    FAULTY(0, NOT_ONE_CHAIN, call(1, OPEN_A, 0));
+    FAULTY(0, NOT_ONE_CHAIN, call(1, OPEN_A, 2));
+    FAULTY(0, NOT_ONE_CHAIN, call(1, TOO_LONG, 1));
+    FAULTY(0, NOT_CALLED, done(1, 1, 0));
+    FAULTY(1, NOT_CALLED, call(1, OPEN_A, 1), empty(1));
+    FAULTY(1, OUT_OF_TURN, call(1, OPEN_B_LINK, 2), done(1, 2, 0));
+    FAULTY(2, ANSWERED_TWICE, open_a(1), done(1, 1, 0));
+    FAULTY(2, ANSWERED_TWICE, look(1), found(1, 1), empty(1));
+    FAULTY(2, NOT_HELD, look(1), empty(1), ends(1));
+    FAULTY(1, STILL_OPEN, call(1, OPEN_A, 1), settled());
 }
 
 static void flaws(void) {
-    call(1, OPEN_A, 1);
-    add(0, 2);
-    WANT(is(YACHT_MALFORMED, 1, YACHT_FLAW_EVENT));
-    add(YACHT_EVENT_SETTLED + 1, 0);
-    WANT(is(YACHT_MALFORMED, 0, YACHT_FLAW_EVENT));
+    MALFORMED(1, EVENT, call(1, OPEN_A, 1), add(0, 2));
+    MALFORMED(0, EVENT, add(YACHT_EVENT_SETTLED + 1, 0));
     requests[READ].kind = YACHT_REQUEST_UPDATE + 1;
-    call(1, READ, 1);
-    WANT(is(YACHT_MALFORMED, 0, YACHT_FLAW_REQUEST));
+    MALFORMED(0, REQUEST, call(1, READ, 1));
     requests[READ].kind = YACHT_REQUEST_READ;
     requests[READ].flags = 3;
-    call(1, OPEN_B_LINK, 2);
-    call(2, READ, 1);
-    WANT(is(YACHT_MALFORMED, 1, YACHT_FLAW_FLAGS));
+    MALFORMED(1, FLAGS, call(1, OPEN_B_LINK, 2), call(2, READ, 1));
     requests[READ].flags = 1;
     requests[OPEN_A].file = 2;
-    call(1, OPEN_A, 1);
-    WANT(is(YACHT_MALFORMED, 0, YACHT_FLAW_FILE));
+    MALFORMED(0, FILE, call(1, OPEN_A, 1));
     requests[OPEN_A].file = 0;
-    call(1, OPEN_A, 1);
-    of_file(YACHT_EVENT_CLOSED, 0, 1, 0, 2);
-    WANT(is(YACHT_MALFORMED, 1, YACHT_FLAW_FILE));
-    call(1, REQUESTS - 1, 2);
-    WANT(is(YACHT_MALFORMED, 0, YACHT_FLAW_RANGE));
-    call(1, UINT32_MAX, UINT32_MAX);
-    WANT(is(YACHT_MALFORMED, 0, YACHT_FLAW_RANGE));
+    MALFORMED(1, FILE, call(1, OPEN_A, 1), closed(1, 0, 2));
+    MALFORMED(0, RANGE, call(1, REQUESTS - 1, 2));
+    MALFORMED(0, RANGE, call(1, UINT32_MAX, UINT32_MAX));
     call(1, UPDATE, 1);
     WANT(judge_at(2, YACHT_STATES, 2, 2) == YACHT_MALFORMED && judgement.at == 0 && judgement.fault == YACHT_FLAW_RANGE);
     WANT(is(YACHT_LEGAL, 0, 0));
-    call(1, READ, 1);
-    done(1, 1, 1)->count = 2;
+    call(1, READ, 1), done(1, 1, 1)->count = 2;
     WANT(judge_at(2, YACHT_STATES, 3, 1) == YACHT_MALFORMED && judgement.at == 1 && judgement.fault == YACHT_FLAW_RANGE);
     WANT(is(YACHT_NOT_LEGAL, 1, 0));
     /* the first event has a fault, and the second one can't be read */
-    call(2, OPEN_A, 1);
-    add(0, 0);
-    WANT(is(YACHT_MALFORMED, 1, YACHT_FLAW_EVENT));
+    MALFORMED(1, EVENT, call(2, OPEN_A, 1), add(0, 0));
 }
 
 static void tables(void) {
-    call(1, OPEN_ANY, 1);
-    done(1, 1, -23);
+    call(1, OPEN_ANY, 1), done(1, 1, -23);
     WANT(judge_at(0, YACHT_STATES, 3, 2) == YACHT_LEGAL);
     WANT(judge_at(1, YACHT_STATES, 3, 2) == YACHT_NOT_LEGAL && judgement.at == 1);
     WANT(judge_at(YACHT_MOST_LOG_SLOTS + 1, YACHT_STATES, 3, 2) == YACHT_TOO_MANY_SLOTS && judgement.at == 0 && judgement.line == 0);

@@ -5,17 +5,9 @@ import sys
 from pathlib import Path
 
 import yachtjudge
+from rows import end, want
 
 root = Path(sys.argv[1])
-looked = wrong = 0
-
-
-def want(holds, what):
-    global looked, wrong
-    looked += 1
-    if not holds:
-        wrong += 1
-        print(f"judge.py: {what}")
 
 
 def is_other(lines, number):
@@ -65,5 +57,4 @@ for fault in sorted((root / "examples/faults").glob("*.fault")):
 # text and bytes alike, undecided within no states, empty input
 want(yachtjudge.judge("", "").word == "legal", "nothing isn't legal for nothing")
 want(yachtjudge.judge("sparse 1\n", "sparse 0\n") == yachtjudge.judge(b"sparse 1\n", b"sparse 0\n"), "text differs from bytes")
-print(f"judge.py: {looked} looked at, {wrong} wrong")
-sys.exit(wrong != 0)
+end()

@@ -1,36 +1,11 @@
 """Rows for yachtjudge, each derived by hand: every field of a verdict and of a list of texts, both limits, the types of arguments, and the
 faults that are raised."""
-import sys
 import typing
 from pathlib import Path
 
 import yachtjudge
+from rows import end, raised, raises, want
 from yachtjudge import judge, outcomes
-
-looked = wrong = 0
-
-
-def want(holds, what):
-    global looked, wrong
-    looked += 1
-    if not holds:
-        wrong += 1
-        print(f"judge_rows.py: {what}")
-
-
-def raised(call):
-    """Returns what a call raises, or None."""
-    try:
-        call()
-    except Exception as fault:
-        return fault
-    return None
-
-
-def raises(kind, words, call):
-    fault = raised(call)
-    want(type(fault) is kind and words in str(fault), f"{kind.__name__} with '{words}' expected, and {fault!r} found")
-
 
 script = "file a.txt 68656c6c6f\nsparse 2\nopen a.txt at 0 link\nread 0 0 5 link\nclose 0\nsubmit\n"
 text = "sparse 0\n1.1.1 0\n1.1.2 5 68656c6c6f\n1.1.3 0\nclosed 1.1.1.0 a.txt\n"
@@ -91,5 +66,4 @@ want(typing.get_type_hints(judge)["return"] is yachtjudge.Verdict, "judge has an
 want(typing.get_type_hints(outcomes)["return"] is yachtjudge.Outcomes, "outcomes has another hint for its result")
 version = Path(__file__).resolve().parents[2] / "VERSION"
 want(yachtjudge.__version__ == version.read_text().strip(), f"the module's version is {yachtjudge.__version__}")
-print(f"judge_rows.py: {looked} looked at, {wrong} wrong")
-sys.exit(wrong != 0)
+end()

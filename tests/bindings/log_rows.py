@@ -1,30 +1,12 @@
 """Rows for yachtjudge.judge_events and yachtevents, each derived by hand: verdicts with their lines, the faults of a log, and the structs
 that an event and a request become."""
-import sys
-
 import yachtevents
 import yachtjudge
 import yachtlog
+from rows import end, raises, want
 from yachtjudge import LogVerdict, judge_events
 
-looked = wrong = 0
 HEAD = "file a 61\nfile b 6262\ncall 1 sparse 2\ndone 1.1 0\n"
-
-
-def want(holds, what):
-    global looked, wrong
-    looked += 1
-    if not holds:
-        wrong += 1
-        print(f"log_rows.py: {what}")
-
-
-def raises(kind, words, call):
-    try:
-        found = call()
-    except Exception as fault:
-        found = fault
-    want(type(found) is kind and words in str(found), f"{kind.__name__} with '{words}' expected, and {found!r} found")
 
 
 def log(*lines, head=HEAD):
@@ -130,5 +112,4 @@ want(rows[5][:2] == (yachtevents.EVENT_EMPTY, 3), f"a look of an empty slot is a
 want(rows[6][:4] == (yachtevents.EVENT_DONE, 1, 1, 2), f"an update is answered by {rows[6]}")
 want(rows[7][0] == yachtevents.EVENT_SETTLED and len(rows) == 8, f"a log is settled by {rows[7]}")
 want(yachtevents.REQUEST.unpack(events.requests) == (yachtevents.REQUEST_UPDATE, 1, 0, 2, 0, 0), "an update is another request")
-print(f"log_rows.py: {looked} looked at, {wrong} wrong")
-sys.exit(wrong != 0)
+end()

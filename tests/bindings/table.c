@@ -249,20 +249,14 @@ static void an_empty_slot_is_found(void) {
 }
 
 static void words(void) {
-    WANT(!strcmp(yacht_strerror(YACHT_DONE), "done"));
-    WANT(!strcmp(yacht_strerror(YACHT_DROPPED), "the old value was dropped"));
-    WANT(!strcmp(yacht_strerror(YACHT_IN_USE), "the old value is in use"));
-    WANT(!strcmp(yacht_strerror(YACHT_EMPTY), "the slot is empty"));
-    WANT(!strcmp(yacht_strerror(YACHT_NO_SLOT), "the table has no such slot"));
-    WANT(!strcmp(yacht_strerror(YACHT_BUSY), "the handle holds a value"));
-    WANT(!strcmp(yacht_strerror(YACHT_IDLE), "the handle holds no value"));
-    WANT(!strcmp(yacht_strerror(YACHT_READER), "a reader only looks values up"));
-    WANT(!strcmp(yacht_strerror(YACHT_FULL), "every slot has a value"));
-    WANT(!strcmp(yacht_strerror(YACHT_AGAIN), "other threads are changing slots"));
-    WANT(!strcmp(yacht_strerror(YACHT_BAD_ARGUMENT), "an argument is NULL or out of its range"));
-    WANT(!strcmp(yacht_strerror(YACHT_NO_MEMORY), "an allocation failed"));
-    WANT(!strcmp(yacht_strerror(YACHT_STALE), "the slot has another value"));
-    WANT(!strcmp(yacht_strerror(3), "not a number of yachtbanyan.h"));
+    static const struct { int number; const char *words; } said[] = {
+        {YACHT_DONE, "done"}, {YACHT_DROPPED, "the old value was dropped"}, {YACHT_IN_USE, "the old value is in use"},
+        {YACHT_EMPTY, "the slot is empty"}, {YACHT_NO_SLOT, "the table has no such slot"}, {YACHT_BUSY, "the handle holds a value"},
+        {YACHT_IDLE, "the handle holds no value"}, {YACHT_READER, "a reader only looks values up"}, {YACHT_FULL, "every slot has a value"},
+        {YACHT_AGAIN, "other threads are changing slots"}, {YACHT_BAD_ARGUMENT, "an argument is NULL or out of its range"},
+        {YACHT_NO_MEMORY, "an allocation failed"}, {YACHT_STALE, "the slot has another value"}, {3, "not a number of yachtbanyan.h"},
+    };
+    for (size_t nth = 0; nth < sizeof said / sizeof *said; nth++) WANT(!strcmp(yacht_strerror(said[nth].number), said[nth].words));
 }
 
 static void refused_openings(void) {

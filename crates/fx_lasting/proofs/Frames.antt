@@ -108,7 +108,12 @@ module _ {at at' : ℕ → Option File} (size : ℕ) {takes_at takes_at' : ℕ �
     counts = omega arith;
     somebody = omega arith;
   }
-  node_same (emptied j) same o = vacant_same o
+  node_same (emptied j) same o = let a = o.counts in record {
+    counts = omega arith;
+    at_home = homed ∙ o.at_home;
+    untaken = counted ∙ o.untaken;
+    unowed = owed ∙ o.unowed;
+  }
 
 -- a slot whose word and file stay
 pub slot_same : {k : Start} {node_of : Nodes} {phase phase' : ℕ → Phase} {deed deed' : ℕ → Deed} {slot word word' : ℕ}

@@ -140,7 +140,7 @@ module _ {turn : Turn} {n : ℕ} {f : File} {h₁ : List Event} {debt' : ℕ →
     pub may : (owner (r.phase n) ≡ 0) ⊎ (owner (r.phase n) ≡ id + 1)
     pub marked : (q : ℕ) → q ≢ x.number → (0 < q) × (q ≤ v.start.passes) → MayBeUnmarked (slot_word st.words) q (r.phase n) → ⊥
     pub home : get_elem? st.homes n ≡ some (some (Some f.identity))
-    pub left : less ≡ closed_word
+    pub left : 0 < less
     pub none_taken : total ≡ taking n v.work
     pub none_owed : owed debt' v.start.passes n ≡ 0
 

@@ -26,6 +26,7 @@ pub mod QuestionSteps
 pub mod Peeking
 pub mod Swaps
 pub mod SlotLaws
+pub mod SwapsOut
 pub mod Seeing
 pub mod Seats
 pub mod Openings
@@ -40,12 +41,14 @@ pub mod Running
 pub mod Calling
 pub mod Sought
 pub mod Passing
+pub mod Removals
 pub mod Questions
 pub mod Trying
 pub mod ByNode
 pub mod EmptySlots
 pub mod Taking
 pub mod Retiring
+pub mod Finishing
 pub mod Visiting
 pub mod Skimming
 pub mod Rounds

@@ -14,13 +14,13 @@ module _ (turn : Turn) (f : File) (n t : ℕ) (nx : Round) (m : ℕ) (works : tu
     (done : (p : ℕ) → nx.next ≤ p → p ≤ turn.v.start.passes → IsPassed turn.x.number nx p) where
   open turn use {st, v, r, id, x, here, one}
 
-  its : (n < nodes_of v.start) × (r.phase n ≡ leaving id t nx m f)
+  pub its : (n < nodes_of v.start) × (r.phase n ≡ leaving id t nx m f)
   its = subst (WorkAgrees v.start r.phase id) works (its_work turn)
 
-  node : NodeNow turn n (leaving id t nx m f)
+  pub node : NodeNow turn n (leaving id t nx m f)
   node = in_phase turn its.0 its.1
 
-  lets : IsLetGo turn n f r.history r.debt []
+  pub lets : IsLetGo turn n f r.history r.debt []
   lets = let o = rw works at (its_log turn).hold in record {
     its = (its.0, ap file_in its.1);
     grows = grows_none x.number r.history;
@@ -51,7 +51,7 @@ module _ (turn : Turn) (f : File) (n t : ℕ) (nx : Round) (m : ℕ) (works : tu
   abbrev total : ℕ
   total = sum_by (taken_of n) st.views
 
-  retiring_same : {g : File} {i a : ℕ} {b : Round} {c : ℕ} → v.work ≡ Retiring g i a b c → (f ≡ g) × (n ≡ i)
+  pub retiring_same : {g : File} {i a : ℕ} {b : Round} {c : ℕ} → v.work ≡ Retiring g i a b c → (f ≡ g) × (n ≡ i)
   retiring_same its = (cc (sym works ∙ its), cc (sym works ∙ its))
 
   still_removed : (state_after_all v.start r.history).removed f.number ≡ Some f
@@ -59,7 +59,7 @@ module _ (turn : Turn) (f : File) (n t : ℕ) (nx : Round) (m : ℕ) (works : tu
       ∙ (ap (removed_in f.number) its.1 ∙ rw (eq-eqb f.number f.number refl) refl))
 
   -- nobody has still to be visited
-  nobody : (q : ℕ) → q ≢ x.number → (0 < q) × (q ≤ v.start.passes) → MayBeUnmarked (slot_word st.words) q (r.phase n) → ⊥
+  pub nobody : (q : ℕ) → q ≢ x.number → (0 < q) × (q ≤ v.start.passes) → MayBeUnmarked (slot_word st.words) q (r.phase n) → ⊥
   nobody q other range may = let z = subst (MayBeUnmarked (slot_word st.words) q) its.1 may in ⊎_elim other z.1 (done q z.0 range.1)
 
   pub retires_either : (slots : ℕ) (carried : List (ℕ × Option Closed)) → found < 18446744073709551616

@@ -111,6 +111,13 @@ module _ (at : ℕ → Option File) (size : ℕ) (takes_at : ℕ → ℕ) (node_
     pub counts : word ≡ closed_word + taken + owing
     pub somebody : 0 < taken + owing
 
+  -- its file is closed, and comes out: the word isn't that of a free node
+  pub record IsEmptied : Type 0 where
+    pub counts : 0 < word
+    pub at_home : home ≡ some none
+    pub untaken : taken ≡ 0
+    pub unowed : owing ≡ 0
+
   -- what the node's phase says
   abbrev pub NodeAgrees : Phase → Type 0
   NodeAgrees free = IsVacant 0 (some (some None))
@@ -118,7 +125,7 @@ module _ (at : ℕ → Option File) (size : ℕ) (takes_at : ℕ → ℕ) (node_
   NodeAgrees (seated slot f) = IsAtSlot slot f
   NodeAgrees (leaving seat takes round marks f) = IsLeaving takes round marks f
   NodeAgrees (retired f) = IsRetired f
-  NodeAgrees (emptied seat) = IsVacant closed_word (some none)
+  NodeAgrees (emptied seat) = IsEmptied
 
 -- the label of the node is so, as far as it is written
 abbrev pub Labels : Start → List ℕ → ℕ → Written → Type 0

@@ -14,6 +14,7 @@ use Rattle.fx_lasting.specs.Layout.{question_place, group_place, list_place}
 use Rattle.fx_lasting.specs.Layout.{slot_place, groups_in, group_of}
 use Rattle.fx_lasting.specs.Parts.{heat_unit, birth_word, announced, mark, retirement_amount}
 use Rattle.fx_lasting.specs.Parts.{bit_of, full_name_in, file_word_of, without_file, name_mask}
+use Rattle.fx_lasting.specs.Parts.{empty_word_of}
 use Rattle.fx_lasting.specs.Passes.{Sat, HasNoFile, slots_of, range_at_start, word_of}
 use Rattle.fx_lasting.specs.Passes.{hold_word_of, HoldsOn, tag_word_of, number_word_of}
 use Rattle.fx_lasting.specs.Stocks.{IsInStock}
@@ -189,6 +190,13 @@ MarksKeep tells = (k : Start) (slots id i node takes marks pass : ℕ) (round : 
     (λ word. either (word == announced node) (announced node + mark) word)
     (tells (step slots i (announced node) (announced node + mark) none) m)
 
+-- it loads the node's word, when it has visited all passes that it has to
+abbrev pub FinishesKeep : Kind → Type 0
+FinishesKeep tells = (k : Start) (slots id i node takes marks : ℕ) (round : Round) (f : File)
+    (m : Sat) (x : Log) → HasPass k m x → m.0.work ≡ Retiring f node takes round marks
+    → ((p : ℕ) → round.next ≤ p → p ≤ k.passes → IsPassed x.number round p) → i ≡ word_of k node
+    → Allows (Agrees k) slots id m i (λ word. word) (tells (step slots i 0 0 none) m)
+
 -- it subtracts 2^32 less the takes and the marks, when it has visited all passes that it has to
 abbrev pub RetiresKeep : Kind → Type 0
 RetiresKeep tells = (k : Start) (slots id i node takes marks amount : ℕ) (round : Round) (f : File)
@@ -301,6 +309,13 @@ TakesOutKeep tells = (k : Start) (slots id i slot : ℕ) (m : Sat) (x : Log) →
     → HasNoFile m.0.work → slot < slots_of k → IsOffCount k slot m.0.change → i ≡ slot_place slot
     → Allows (Agrees k) slots id m i (λ word. bit_and word name_mask)
     (tells (step slots i name_mask 0 none) m)
+
+-- an idle pass swaps the word of an empty slot that names a node of its stock into a slot
+abbrev pub SwapsOutKeep : Kind → Type 0
+SwapsOutKeep tells = (k : Start) (slots id i slot n new : ℕ) (m : Sat) (x : Log) → HasPass k m x
+    → HasNoFile m.0.work → slot < slots_of k → IsOffCount k slot m.0.change → IsInStock x.stock n
+    → i ≡ slot_place slot → new ≡ empty_word_of n
+    → Allows (Agrees k) slots id m i (λ _. new) (tells (step slots i new 0 none) m)
 
 -- a pass exchanges the word of an empty slot of the range for the word of the file that it places
 abbrev pub ExchangesKeep : Kind → Type 0

@@ -10,6 +10,8 @@ pub mod Groups
 pub mod Tells
 pub mod LabelSteps
 pub mod Runs
+pub mod SwapSteps
+pub mod FinishSteps
 pub mod Questions
 pub mod Agrees
 pub mod Cuts

@@ -13,10 +13,10 @@ ghost use Rattle.fx_lasting.specs.Tells.{Found, first_visit, IsOnList};
 ghost use Rattle.fx_lasting.specs.declared.view.Glance.TheVariants.{Hot, Cold};
 ghost use Rattle.fx_lasting.specs.declared.view.Work.TheVariants.{Idle};
 
-use crate::kinds::{Clearing, Glancing, Installing, Listing, Retire, TakingOut};
+use crate::kinds::{Finishing, Glancing, Installing, Listing, Retire};
 use crate::layout::{list_place, node_place, slot_place};
 use crate::parts::{
-    NAME, count_of, file_node_of, file_word, is_hot, list_bit, node_named, retire_amount,
+    count_of, file_node_of, file_word, is_hot, list_bit, node_named, retire_amount,
 };
 use crate::pass::LastingPass;
 use crate::table::LastingTable;
@@ -203,8 +203,8 @@ impl LastingTable {
     {
         let inside = self.is_in_range(slot);
         self.lower(&mut pass.seat, slot, inside);
-        let shared = &self.table.shared;
-        let found = shared.fetch_and::<Clearing>(&mut pass.seat, slot_place(slot), NAME);
+        let entry = pass.next_entry;
+        let found = self.clear_slot(&mut pass.seat, &mut pass.stock, entry, slot);
         let removed = removed_in(found);
         self.raise(&mut pass.seat, slot, inside, removed.is_none());
         pass.next_visit = self.first_visit(found);
@@ -231,8 +231,8 @@ impl LastingTable {
     {
         let inside = self.is_in_range(slot);
         self.lower(&mut pass.seat, slot, inside);
-        let shared = &self.table.shared;
-        let found = shared.fetch_and::<TakingOut>(&mut pass.seat, slot_place(slot), NAME);
+        let entry = pass.next_entry;
+        let found = self.take_slot(&mut pass.seat, &mut pass.stock, entry, slot);
         let removed = removed_in(found);
         self.raise(&mut pass.seat, slot, inside, removed.is_none());
         pass.next_visit = self.first_visit(found);
@@ -242,9 +242,9 @@ impl LastingTable {
     }
 
     /// Retires the file that the pass removed, by the `Retired` that it got, in at most twice as
-    /// many atomic steps as the table has passes, and one for each 64 passes. Returns the file, to
-    /// be closed, if nobody uses it now. Otherwise its last release returns it, or a look-up that
-    /// first saw it and came too late (`LookUp::freed`). Afterwards the pass is idle.
+    /// many atomic steps as the table has passes, one for each 64 passes, and one more. Returns the
+    /// file, to be closed, if nobody uses it now. Otherwise its last release returns it, or a
+    /// look-up that first saw it and came too late (`LookUp::freed`). Afterwards the pass is idle.
     #[inline(always)]
     pub fn retire(&self, pass: &mut LastingPass, retired: Retired) -> Option<OpenFile>
         requires fits { IsPassOfTable self.now pass.old }
@@ -253,7 +253,7 @@ impl LastingTable {
         ensures retired { HasRetired (opening_of_table self.now) (view_of pass.old) retired result
             (view_of pass.new) }
         ensures steps { let passes = self.now.passes in
-            steps_taken pass.new ≤ steps_taken pass.old + (2 * passes + (passes + 63) / 64) }
+            steps_taken pass.new ≤ steps_taken pass.old + (2 * passes + (passes + 63) / 64 + 1) }
     {
         let Retired {
             node,
@@ -264,8 +264,13 @@ impl LastingTable {
         let place = node_place(self.size, self.passes, node);
         let amount = retire_amount(takes, marks);
         let shared = &self.table.shared;
-        let found = shared.fetch_sub::<Retire>(&mut pass.seat, place, amount);
         pass.idle = true;
+        let left = shared.load::<Finishing>(&mut pass.seat, place);
+        if left == amount + 1 {
+            let freed = self.take_out(&mut pass.seat, node);
+            return Some(freed);
+        }
+        let found = shared.fetch_sub::<Retire>(&mut pass.seat, place, amount);
         if found != amount + 1 {
             return None;
         }

@@ -213,6 +213,16 @@ impl Play<Option<OpenFile>, View> for Marking {
     ghost then = { Marks };
 }
 
+/// Finish: a pass that removed a file reads whether everybody has let it go. If so, the file goes
+/// to the pass.
+pub struct Finishing;
+
+impl Play<Option<OpenFile>, View> for Finishing {
+    ghost use Rattle.fx_lasting.specs.FinishSteps.{Finishes};
+
+    ghost then = { Finishes };
+}
+
 /// Retire: takes and marks turn the word of a removed file's node into what is still to be dropped.
 /// Where nothing is left, the file goes to the pass.
 pub struct Retire;
@@ -298,6 +308,28 @@ impl Play<Option<OpenFile>, View> for TakingOut {
     ghost use Rattle.fx_lasting.specs.Tells.{Removes};
 
     ghost then = { Removes Take };
+}
+
+/// Swap: a slot is emptied for an update. Its word names a node of the pass's stock, and the node
+/// that it named takes that node's place.
+pub struct SwappingClear;
+
+impl Play<Option<OpenFile>, View> for SwappingClear {
+    ghost use Rattle.fx_plain.specs.declared.event.Action.TheVariants.{Clear};
+    ghost use Rattle.fx_lasting.specs.SwapSteps.{SwapsOut};
+
+    ghost then = { SwapsOut Clear };
+}
+
+/// Swap: a slot is emptied for a close. Its word names a node of the pass's stock, and the node
+/// that it named takes that node's place.
+pub struct SwappingTake;
+
+impl Play<Option<OpenFile>, View> for SwappingTake {
+    ghost use Rattle.fx_plain.specs.declared.event.Action.TheVariants.{Take};
+    ghost use Rattle.fx_lasting.specs.SwapSteps.{SwapsOut};
+
+    ghost then = { SwapsOut Take };
 }
 
 /// Lower: a group's word counts one full slot less, before the pass empties that slot.

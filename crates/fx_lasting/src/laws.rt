@@ -8,14 +8,14 @@ ghost use Rattle.fx_lasting.specs.Layout.{PlacesAreInside, PlacesAreApart, Label
 ghost use Rattle.fx_lasting.specs.Opens.{OpeningKeeps};
 ghost use Rattle.fx_lasting.specs.WholeHistory.{HasOneHistory, RemovedFilesHaveUsers};
 ghost use Rattle.fx_lasting.specs.declared.layout.TheConstants.{MOST_SLOTS, MOST_NODES, MOST_PASSES, MOST_INSTALLING};
-ghost use Rattle.fx_lasting.specs.Laws.{GlancesKeep, ListsKeep, AnnouncesKeep, ConfirmsKeep, WithdrawsKeep, TakesOnceKeep, HeatsKeep, StepsDownKeep, LettingGoKeeps, SeeksKeep, BirthsKeep, TagsKeep, NumbersKeep, ReadsTagKeep, ReadsNumberKeep, RestsKeep, SkimsKeep, VisitsKeep, MarksKeep, RetiresKeep, LowersKeep, ChecksKeep, BreaksKeep, RaisesKeep, BeginsKeep, AsksKeep, CountsKeep, DecidesKeep, PeeksKeep, SplitsKeep, JoinsKeep, ClearsKeep, TakesOutKeep, InstallsKeep, ExchangesKeep, SeesKeep, TakesIfKeep, ReplacesKeep};
+ghost use Rattle.fx_lasting.specs.Laws.{GlancesKeep, ListsKeep, AnnouncesKeep, ConfirmsKeep, WithdrawsKeep, TakesOnceKeep, HeatsKeep, StepsDownKeep, LettingGoKeeps, SeeksKeep, BirthsKeep, TagsKeep, NumbersKeep, ReadsTagKeep, ReadsNumberKeep, RestsKeep, SkimsKeep, VisitsKeep, MarksKeep, FinishesKeep, RetiresKeep, LowersKeep, ChecksKeep, BreaksKeep, RaisesKeep, BeginsKeep, AsksKeep, CountsKeep, DecidesKeep, PeeksKeep, SplitsKeep, JoinsKeep, ClearsKeep, TakesOutKeep, SwapsOutKeep, InstallsKeep, ExchangesKeep, SeesKeep, TakesIfKeep, ReplacesKeep};
 
 use crate::kinds::{
     Announcing, Asking, Beginning, Birth, Breaking, Checking, Clearing, Confirming, Counting, Deal,
-    Deciding, Exchanging, Gather, Glancing, HeatingUp, Installing, Letting, Listing, Lowering,
-    Marking, Numbering, OneHistory, Peeking, Raising, ReadingNumber, ReadingTag, Replacing,
-    Resting, Retire, Seeing, Seeking, Skimming, SteppingDown, Tagging, Taking, TakingIf, TakingOut,
-    Visiting, Withdrawing,
+    Deciding, Exchanging, Finishing, Gather, Glancing, HeatingUp, Installing, Letting, Listing,
+    Lowering, Marking, Numbering, OneHistory, Peeking, Raising, ReadingNumber, ReadingTag,
+    Replacing, Resting, Retire, Seeing, Seeking, Skimming, SteppingDown, SwappingClear,
+    SwappingTake, Tagging, Taking, TakingIf, TakingOut, Visiting, Withdrawing,
 };
 use crate::view::{Start, View};
 use atomic_table::{Join, Play, Split, TableRule};
@@ -141,6 +141,13 @@ pub fn mark_keeps_rule()
     ensures { MarksKeep ⟦<Marking as Play<Option<OpenFile>, View>>⟧.then }
 {}
 
+/// A pass that removed a file, has visited all passes that it has to, and loads the word of the
+/// file's node keeps the rule. Where nobody has still to let the file go, it is closed and with the
+/// pass.
+pub fn finish_keeps_rule()
+    ensures { FinishesKeep ⟦<Finishing as Play<Option<OpenFile>, View>>⟧.then }
+{}
+
 /// A pass that subtracts 2^32 less the takes and marks of the file that it removed keeps the rule.
 /// Where 1 is left nobody has still to let the file go: it is closed and with the pass.
 pub fn retire_keeps_rule()
@@ -218,6 +225,20 @@ pub fn clear_keeps_rule()
 /// the file that was there to retire.
 pub fn take_out_keeps_rule()
     ensures { TakesOutKeep ⟦<TakingOut as Play<Option<OpenFile>, View>>⟧.then }
+{}
+
+/// An idle pass that swaps the word of an empty slot, which names a node of its stock, into a slot,
+/// for an update, keeps the rule. It has the file that was there to retire, and the node that the
+/// slot named in its stock.
+pub fn swap_clear_keeps_rule()
+    ensures { SwapsOutKeep ⟦<SwappingClear as Play<Option<OpenFile>, View>>⟧.then }
+{}
+
+/// An idle pass that swaps the word of an empty slot, which names a node of its stock, into a slot,
+/// for a close, keeps the rule. It has the file that was there to retire, and the node that the
+/// slot named in its stock.
+pub fn swap_take_keeps_rule()
+    ensures { SwapsOutKeep ⟦<SwappingTake as Play<Option<OpenFile>, View>>⟧.then }
 {}
 
 /// A pass that swaps the word of the file that it places into a slot keeps the rule, and has the

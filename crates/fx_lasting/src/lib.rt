@@ -11,6 +11,7 @@ mod calls;
 mod change;
 mod close;
 mod emptied;
+mod emptying;
 mod keyed;
 mod kinds;
 mod labels;

@@ -1,10 +1,12 @@
 //! An unproved stand-in for the core, in plain Rust, with the core's interface: for sanitizers,
-//! which see all of it. It counts holds by takes, as the core does of cold files. It is never part
-//! of a library that is handed out (`--cfg yachtbanyan_stand_in`).
+//! which see all of it. Its nodes travel as the core's do. It counts holds by takes, as the core
+//! does of cold files. It is never part of a library that is handed out
+//! (`--cfg yachtbanyan_stand_in`).
 //!
-//! A slot's word has the node and one, shifted by 32 bits, and the number of takes. A node's word
-//! is 0 where the node is free, `BORN` less what was released while its file is in a slot, and 1
-//! and what is still held after that.
+//! A slot's word has a node, shifted by 32 bits, also if the slot is empty; a bit that says whether
+//! the node's file is there; and the number of takes. A node's word is 0 where the node is free,
+//! `BORN` less what was released while its file is in a slot, and 1 and what is still held after
+//! that.
 use super::core::{
     Core, Label, Placed, AGAIN, BAD, BUSY, CLOSED, DONE, EMPTY, FULL, IDLE, IN_USE, NO_BLOCK,
     NO_SLOT, OTHER,
@@ -16,7 +18,9 @@ use std::sync::atomic::{AtomicU64, Ordering::SeqCst};
 use std::sync::Arc;
 
 const BORN: u64 = (1 << 32) + 1;
-const TAKES: u64 = (1 << 32) - 1;
+const NAME: u64 = !0 << 32;
+const FILE: u64 = 1 << 31;
+const TAKES: u64 = FILE - 1;
 // how many slots a worker keeps of those that it emptied last
 const EMPTIED: usize = 8;
 
@@ -28,7 +32,6 @@ struct Table {
     labels: Vec<UnsafeCell<(u64, u64)>>,
     // how many installations and removals there were
     changes: AtomicU64,
-    block: usize,
 }
 
 // SAFETY: a label is written before its node is installed, read while the node is held and after
@@ -39,16 +42,25 @@ unsafe impl Send for Table {}
 
 struct Worker {
     table: Arc<Table>,
-    // the worker's block of nodes, if it installs
-    first: Option<usize>,
-    next: Option<usize>,
     // the number of the next file, or 0 if all were used, and the distance to the one after it
     number: u64,
     step: u64,
+    // the worker's nodes, as many as the table has workers, or none if it doesn't install; and the
+    // entry that it found free last
+    stock: Vec<usize>,
+    free: usize,
     held: Option<usize>,
     // the slots that the worker emptied last, and the one after that which it filled last
     emptied: VecDeque<usize>,
     after_filled: usize,
+}
+
+fn node_of(word: u64) -> usize {
+    (word >> 32) as usize
+}
+
+fn has_file(word: u64) -> bool {
+    word & FILE != 0
 }
 
 impl Table {
@@ -66,33 +78,20 @@ impl Table {
         (left == 1).then(|| self.close(node))
     }
 
+    // Retires the file that a word named. If each of its users has ended, a load closes it.
     fn retire(&self, word: u64) -> Option<u64> {
+        let (node, takes) = (node_of(word), word & TAKES);
         self.changes.fetch_add(1, SeqCst);
-        self.subtract((word >> 32) as usize - 1, (1 << 32) - (word & TAKES))
-    }
-
-    // Fills a slot if it is empty. Returns the number of the result.
-    fn fill(&self, slot: usize, word: u64) -> i64 {
-        let it = &self.slots[slot];
-        let old = it.load(SeqCst);
-        if old >> 32 != 0 {
-            return OTHER;
+        if self.nodes[node].load(SeqCst) + takes == BORN {
+            return Some(self.close(node));
         }
-        #[cfg(test)]
-        if super::tests::is_overtaken() {
-            return AGAIN;
-        }
-        if it.compare_exchange(old, word, SeqCst, SeqCst).is_err() {
-            return AGAIN;
-        }
-        self.changes.fetch_add(1, SeqCst);
-        DONE
+        self.subtract(node, (1 << 32) - takes)
     }
 
     // Checks whether every slot has a file.
     fn full(&self) -> i64 {
         let before = self.changes.load(SeqCst);
-        let all = self.slots.iter().all(|it| it.load(SeqCst) >> 32 != 0);
+        let all = self.slots.iter().all(|it| has_file(it.load(SeqCst)));
         if all && self.changes.load(SeqCst) == before {
             FULL
         } else {
@@ -100,38 +99,37 @@ impl Table {
         }
     }
 
-    // Exchanges the word of a slot once if it names this node. Returns the old word, or the number
-    // of the reason.
-    fn exchange(&self, slot: u32, node: u32, word: u64) -> Result<u64, i64> {
+    // Exchanges the word of a slot once, for one that is made of it, if `refused` names no reason
+    // against it. Returns the old word, or the number of the reason.
+    fn exchange(
+        &self,
+        slot: u32,
+        refused: impl Fn(u64) -> Option<i64>,
+        word: impl Fn(u64) -> u64,
+    ) -> Result<u64, i64> {
         let it = &self.slots[slot as usize];
         let old = it.load(SeqCst);
-        if old >> 32 == 0 {
-            return Err(EMPTY);
-        }
-        if old >> 32 != u64::from(node) + 1 {
-            return Err(OTHER);
+        if let Some(number) = refused(old) {
+            return Err(number);
         }
         #[cfg(test)]
         if super::tests::is_overtaken() {
             return Err(AGAIN);
         }
-        let done = it.compare_exchange(old, word, SeqCst, SeqCst);
+        let done = it.compare_exchange(old, word(old), SeqCst, SeqCst);
         done.map_err(|_| AGAIN)
     }
 }
 
-impl Worker {
-    fn next(&mut self) -> Option<usize> {
-        let first = self.first?;
-        if self.next.is_none() {
-            let block = first..first + self.table.block;
-            self.next = block
-                .into_iter()
-                .find(|&it| self.table.nodes[it].load(SeqCst) == 0);
-        }
-        self.next
+// Returns why a word isn't one of a slot that has this node's file.
+fn unless_named(node: u32) -> impl Fn(u64) -> Option<i64> {
+    move |word| match has_file(word) {
+        false => Some(EMPTY),
+        true => (node_of(word) != node as usize).then_some(OTHER),
     }
+}
 
+impl Worker {
     // Draws the number of a file that is installed.
     fn draw(&mut self) -> u64 {
         let number = self.number;
@@ -142,13 +140,26 @@ impl Worker {
         number
     }
 
-    // Makes a node for the tag and the number. Returns the word that installs it.
+    // Makes a free node of the stock one for the tag and the number. Returns the word that installs
+    // it, or nothing if the worker has no stock. The other workers work with one node each, so one
+    // is free.
     fn begin(&mut self, tag: u64, number: u64) -> Option<u64> {
-        let node = self.next()?;
+        let count = self.stock.len();
+        let is_free = |it: &usize| self.table.nodes[self.stock[*it]].load(SeqCst) == 0;
+        self.free = (0..count)
+            .map(|it| (self.free + it) % count)
+            .find(is_free)?;
+        let node = self.stock[self.free];
         // SAFETY: the node is free, and this worker's.
         unsafe { *self.table.labels[node].get() = (tag, number) };
         self.table.nodes[node].store(BORN, SeqCst);
-        Some((node as u64 + 1) << 32)
+        Some((node as u64) << 32 | FILE)
+    }
+
+    // Ends an installation that found this word at its slot: its node goes into the stock, in place
+    // of the node that is at the slot now.
+    fn end(&mut self, old: u64) {
+        self.stock[self.free] = node_of(old);
     }
 
     // Makes a node for the tag and the number, to be installed at a slot. Returns the word that
@@ -165,23 +176,22 @@ impl Worker {
 
     // Makes the node of a word that was not installed free again. The worker's next file gets it.
     fn take_back(&self, word: u64) {
-        self.table.nodes[(word >> 32) as usize - 1].store(0, SeqCst);
+        self.table.nodes[node_of(word)].store(0, SeqCst);
     }
 
     fn look(&mut self, slot: usize) -> i64 {
         let Some(word) = self.table.slots.get(slot) else {
             return NO_SLOT;
         };
-        if word.load(SeqCst) >> 32 == 0 {
+        if !has_file(word.load(SeqCst)) {
             return EMPTY;
         }
-        match (word.fetch_add(1, SeqCst) >> 32) as usize {
-            0 => EMPTY,
-            name => {
-                self.held = Some(name - 1);
-                name as i64 - 1
-            }
+        let found = word.fetch_add(1, SeqCst);
+        if !has_file(found) {
+            return EMPTY;
         }
+        self.held = Some(node_of(found));
+        node_of(found) as i64
     }
 
     // Notes that this worker emptied a slot.
@@ -201,8 +211,9 @@ impl Worker {
         for slot in (first..first + slots).map(|it| it % slots) {
             let it = &self.table.slots[slot];
             let old = it.load(SeqCst);
-            if old >> 32 == 0 && it.compare_exchange(old, word, SeqCst, SeqCst).is_ok() {
+            if !has_file(old) && it.compare_exchange(old, word, SeqCst, SeqCst).is_ok() {
                 self.table.changes.fetch_add(1, SeqCst);
+                self.end(old);
                 self.after_filled = slot + 1;
                 return slot as i64;
             }
@@ -245,28 +256,29 @@ pub(crate) unsafe fn yacht_core_open(
     if !is_right {
         return BAD;
     }
-    let block = slots as usize + count;
-    let nodes = installing as usize * block;
-    let words = |count: usize| (0..count).map(|_| AtomicU64::new(0)).collect();
+    // each slot names a node, and each stock has one for each worker
+    let slots = slots as usize;
+    let nodes = slots + installing as usize * count;
     let table = Arc::new(Table {
-        slots: words(slots as usize),
-        nodes: words(nodes),
+        slots: (0..slots)
+            .map(|it| AtomicU64::new((it as u64) << 32))
+            .collect(),
+        nodes: (0..nodes).map(|_| AtomicU64::new(0)).collect(),
         labels: (0..nodes).map(|_| UnsafeCell::new((0, 0))).collect(),
         changes: AtomicU64::new(0),
-        block,
     });
     for at in 0..count {
-        let first = (at < installing as usize).then_some(at * block);
+        let first = slots + at * count;
         let it = Worker {
             table: Arc::clone(&table),
-            first,
-            next: None,
-            number: if first.is_some() { at as u64 + 1 } else { 0 },
+            number: if at < installing as usize { at as u64 + 1 } else { 0 },
             step: installing.into(),
+            stock: (first..nodes.min(first + count)).collect(),
+            free: 0,
             held: None,
             emptied: VecDeque::new(),
             // apart from the other workers, as in the core
-            after_filled: 67 * (at + 1) % slots as usize,
+            after_filled: 67 * (at + 1) % slots,
         };
         // SAFETY: there is room for `count` handles.
         unsafe { *out.add(at) = Box::into_raw(Box::new(it)).cast() };
@@ -314,13 +326,14 @@ pub(crate) unsafe fn yacht_core_put(
         Ok(word) => word,
         Err(number) => return number,
     };
-    it.next = None;
     placed.number = it.draw();
     it.table.changes.fetch_add(1, SeqCst);
-    match it.table.slots[slot as usize].swap(word, SeqCst) {
-        old if old >> 32 == 0 => DONE,
-        old => answer(it.table.retire(old), IN_USE, &mut placed.closed),
+    let old = it.table.slots[slot as usize].swap(word, SeqCst);
+    it.end(old);
+    if !has_file(old) {
+        return DONE;
     }
+    answer(it.table.retire(old), IN_USE, &mut placed.closed)
 }
 
 pub(crate) unsafe fn yacht_core_put_any(handle: *mut Core, tag: u64, number: *mut u64) -> i64 {
@@ -334,7 +347,6 @@ pub(crate) unsafe fn yacht_core_put_any(handle: *mut Core, tag: u64, number: *mu
     };
     let slot = it.round(word);
     if slot >= 0 {
-        it.next = None;
         *number = it.draw();
     } else {
         it.take_back(word);
@@ -345,7 +357,7 @@ pub(crate) unsafe fn yacht_core_put_any(handle: *mut Core, tag: u64, number: *mu
 pub(crate) unsafe fn yacht_core_draw(handle: *mut Core, number: *mut u64) -> i64 {
     let (it, number) = unsafe { (worker(handle), &mut *number) };
     *number = 0;
-    if it.first.is_none() {
+    if it.stock.is_empty() {
         return NO_BLOCK;
     }
     *number = it.draw();
@@ -369,13 +381,19 @@ pub(crate) unsafe fn yacht_core_take(handle: *mut Core, slot: u32, closed: *mut 
     let Some(word) = it.table.slots.get(slot as usize) else {
         return NO_SLOT;
     };
-    match word.swap(0, SeqCst) {
-        old if old >> 32 == 0 => EMPTY,
-        old => {
-            it.note_emptied(slot);
-            answer(it.table.retire(old), IN_USE, unsafe { &mut *closed })
+    let old = match it.stock.get_mut(it.free) {
+        None => word.fetch_and(NAME, SeqCst),
+        Some(node) => {
+            let old = word.swap((*node as u64) << 32, SeqCst);
+            *node = node_of(old);
+            old
         }
+    };
+    if !has_file(old) {
+        return EMPTY;
     }
+    it.note_emptied(slot);
+    answer(it.table.retire(old), IN_USE, unsafe { &mut *closed })
 }
 
 pub(crate) unsafe fn yacht_core_take_if(
@@ -391,7 +409,7 @@ pub(crate) unsafe fn yacht_core_take_if(
     if slot as usize >= it.table.slots.len() {
         return NO_SLOT;
     }
-    match it.table.exchange(slot, node, 0) {
+    match it.table.exchange(slot, unless_named(node), |it| it & NAME) {
         Err(number) => number,
         Ok(old) => {
             it.note_emptied(slot);
@@ -413,13 +431,13 @@ pub(crate) unsafe fn yacht_core_put_if(
         Ok(word) => word,
         Err(number) => return number,
     };
-    match it.table.exchange(slot, node, word) {
+    match it.table.exchange(slot, unless_named(node), |_| word) {
         Err(number) => {
             it.take_back(word);
             number
         }
         Ok(old) => {
-            it.next = None;
+            it.end(old);
             placed.number = it.draw();
             answer(it.table.retire(old), IN_USE, &mut placed.closed)
         }
@@ -437,13 +455,18 @@ pub(crate) unsafe fn yacht_core_put_empty(
         Ok(word) => word,
         Err(answer) => return answer,
     };
-    let answer = it.table.fill(slot as usize, word);
-    if answer == DONE {
-        it.next = None;
-    } else {
-        it.take_back(word);
+    let unless_empty = |word| has_file(word).then_some(OTHER);
+    match it.table.exchange(slot, unless_empty, |_| word) {
+        Err(number) => {
+            it.take_back(word);
+            number
+        }
+        Ok(old) => {
+            it.table.changes.fetch_add(1, SeqCst);
+            it.end(old);
+            DONE
+        }
     }
-    answer
 }
 
 pub(crate) unsafe fn yacht_core_full(handle: *mut Core) -> i64 {
@@ -451,7 +474,7 @@ pub(crate) unsafe fn yacht_core_full(handle: *mut Core) -> i64 {
     if it.held.is_some() {
         return BUSY;
     }
-    if it.first.is_none() {
+    if it.stock.is_empty() {
         return NO_BLOCK;
     }
     it.table.full()

@@ -1,9 +1,11 @@
 use Rattle.fx_lasting.proofs.Words.{Round, new_round, IsPassed, ◌/◌}
 use Rattle.fx_lasting.proofs.Rounds.{passed_by}
 use Rattle.fx_lasting.proofs.Words.{◌≡◌, ◌≢◌, ℕ, ◌+◌, ◌-◌, ◌*◌, ◌≤◌, refl, ◌∙◌, subst, arith, sym, inl, inr, ⊎_elim, [], Some, File, Start}
-use Rattle.fx_lasting.proofs.Words.{IsAtWork, Runs, Retiring, Sat, state_after_all, pass_in, TakesOut, HasPlace, At, Retires}
+use Rattle.fx_lasting.proofs.Words.{IsAtWork, Runs, Retiring, Sat, state_after_all, pass_in, TakesOut, HasPlace, At, Retires, retirement_amount, Work, Goes, ap}
+use Rattle.fx_lasting.specs.FinishSteps.{Finishes}
 use Rattle.fx_table.specs.Calls.{no_use}
 use Rattle.fx_lasting.proofs.Calling.{node_inside, node_word}
+use Rattle.fx_lasting.proofs.Finishing.{finishes_keep}
 use Rattle.fx_lasting.proofs.Retiring.{retires_keep}
 use Rattle.fx_lasting.proofs.Running.{still_at_work, does_then, runs_goes, runs_one, its_inside, out_place, out_and_home}
 use Rattle.fx_lasting.proofs.Passing.{adds_so, at_rest, still_pass, its_retiring}
@@ -46,15 +48,83 @@ module _ (c : After-mark_all-marks) where
   at : IsAtWork k c.args.pass.now.number c.mark_all-marks.new.seat.me
   at = still_at_work c.requires.fits.seated.at visited
 
+pub load-left-requires : goal.load-left-requires
+load-left-requires c =
+    let a = (goal.at.load-left-requires c).After-mark_all-marks in
+    let t = c.args.self.now in (
+      c.mark_all-marks.ensures.table ∙ c.requires.fits.seated.table,
+      node_inside t (its_inside (at a) (visited a).work) c.node_place-place.ensures,
+      finishes_keep _ _ _ _ c.args.retired.node c.args.retired.takes c.mark_all-marks.result (round a) (file a) c.mark_all-marks.new.seat.me _
+          (at a).pass (visited a).work (λ p low high. passed_by (round a) (sym (at a).its_number) (all a p low (omega (arith, high, t.key.0))))
+          (node_word t c.args.retired.node c.node_place-place.ensures),
+    )
+
+-- the pass has the place of the file, if its places were those that it had after its visits
+place : (a : After-mark_all-marks) {m m' : Sat} → m.1 ≡ a.mark_all-marks.new.seat.me.1 → TakesOut m [] (file a) a.args.retired.node m'
+    → HasPlace a.args.retired.node (Some (file a).identity) m'
+place a same went = out_place (same ∙ (a.mark_all-marks.ensures.places ∙ a.requires.fits.seated.places)) went
+
+-- everybody had let the file go before
+out_before : (a : After-mark_all-marks) {st : At} {m' : Sat} {found : ℕ} → Finishes st a.mark_all-marks.new.seat.me found m'
+    → found ≡ retirement_amount a.args.retired.takes a.mark_all-marks.result + 1 → TakesOut a.mark_all-marks.new.seat.me [] (file a) a.args.retired.node m'
+out_before a did is = did.closes (file a) a.args.retired.node a.args.retired.takes (round a) a.mark_all-marks.result (visited a).work is
+
+pub take_out-freed-requires : goal.take_out-freed-requires
+take_out-freed-requires c =
+    let a = (goal.at.take_out-freed-requires c).After-mark_all-marks in
+    let is : c.load-left.result ≡ c.retire_amount-amount.result + 1 = c.if-left-amount.true in
+    let went = out_before a c.load-left.ensures.2 (is ∙ ap (λ (z : ℕ). z + 1) c.retire_amount-amount.ensures) in
+    record {
+      table = c.load-left.ensures.0 ∙ (c.mark_all-marks.ensures.table ∙ c.requires.fits.seated.table);
+      at = (c.args.pass.now.number, still_at_work (at a) (runs_one went.stepped));
+      place = ((file a).identity, place a refl went);
+    }
+
+pub returns-then-left-amount : goal.returns-then-left-amount
+returns-then-left-amount c =
+    let a = (goal.at.returns-then-left-amount c).After-mark_all-marks in
+    let t = c.args.self.now in
+    let is : c.load-left.result ≡ c.retire_amount-amount.result + 1 = c.if-left-amount.true in
+    let fits = c.requires.fits in
+    let s = fits.seated in
+    let went = out_before a c.load-left.ensures.2 (is ∙ ap (λ (z : ℕ). z + 1) c.retire_amount-amount.ensures) in
+    let run = at_rest fits (does_then (visited a) (out_and_home went c.take_out-freed.ensures.rests)) in
+    record {
+      fits = still_pass s _ run (refl, refl) (c.take_out-freed.ensures.table ∙ (c.load-left.ensures.0 ∙ c.mark_all-marks.ensures.table))
+          c.take_out-freed.ensures.empty (refl, s.next) refl;
+      retired = (file a, c.requires.removed.1, (c.take_out-freed.ensures.file (file a).identity (place a refl went), adds_so s run no_use));
+      steps = let few = run.steps in omega (arith, few, t.bounds.0);
+    }
+
+-- the pass has looked whether everybody had let the file go
+module _ (a : After-mark_all-marks) {m : Sat} (goes : Goes a.mark_all-marks.new.seat.me [] a.mark_all-marks.new.seat.me.0.work a.mark_all-marks.new.seat.me.0.glance m) where
+  looked : Runs a.args.pass.now.seat.me [] (Retiring (file a) a.args.retired.node a.args.retired.takes (round a) a.mark_all-marks.result)
+      a.args.pass.now.seat.me.0.glance a.args.pass.now.seat.me.0.change (2 * (a.args.self.now.passes - 1) + (a.args.self.now.passes + 63) / 64 + 1) m
+  looked = does_then (visited a) (subst (λ (w : Work). Runs a.mark_all-marks.new.seat.me [] w a.mark_all-marks.new.seat.me.0.glance
+      a.mark_all-marks.new.seat.me.0.change 1 m) (visited a).work (runs_goes goes))
+
+  at_look : IsAtWork (k a) a.args.pass.now.number m
+  at_look = still_at_work (at a) (runs_goes goes)
+
+-- it wasn't so
+still_waits : (a : After-mark_all-marks) {st : At} {m' : Sat} {found : ℕ} → Finishes st a.mark_all-marks.new.seat.me found m'
+    → found ≢ retirement_amount a.args.retired.takes a.mark_all-marks.result + 1
+    → Goes a.mark_all-marks.new.seat.me [] a.mark_all-marks.new.seat.me.0.work a.mark_all-marks.new.seat.me.0.glance m'
+still_waits a did is = did.waits (file a) a.args.retired.node a.args.retired.takes (round a) a.mark_all-marks.result (visited a).work is
+
+not_yet : (takes marks : ℕ) {left amount : ℕ} → left ≢ amount + 1 → amount ≡ retirement_amount takes marks → left ≢ retirement_amount takes marks + 1
+not_yet takes marks not_so is same = not_so (same ∙ sym (ap (λ (z : ℕ). z + 1) is))
+
 pub fetch_sub-found-requires : goal.fetch_sub-found-requires
 fetch_sub-found-requires c =
     let a = (goal.at.fetch_sub-found-requires c).After-mark_all-marks in
     let t = c.args.self.now in
-    let r = c.requires.removed in (
-      c.mark_all-marks.ensures.table ∙ c.requires.fits.seated.table,
-      node_inside t (its_inside (at a) (visited a).work) c.node_place-place.ensures,
-      retires_keep _ _ _ _ c.args.retired.node c.args.retired.takes c.mark_all-marks.result _ (round a) (file a) c.mark_all-marks.new.seat.me _
-          (at a).pass (visited a).work (λ p low high. passed_by (round a) (sym (at a).its_number) (all a p low (omega (arith, high, t.key.0))))
+    let goes = still_waits a c.load-left.ensures.2 (not_yet c.args.retired.takes c.mark_all-marks.result c.if-left-amount.false c.retire_amount-amount.ensures) in
+    let there = at_look a goes in (
+      c.load-left.ensures.0 ∙ (c.mark_all-marks.ensures.table ∙ c.requires.fits.seated.table),
+      node_inside t (its_inside there (looked a goes).work) c.node_place-place.ensures,
+      retires_keep _ _ _ _ c.args.retired.node c.args.retired.takes c.mark_all-marks.result _ (round a) (file a) c.load-left.new.seat.me _
+          there.pass (looked a goes).work (λ p low high. passed_by (round a) (sym there.its_number) (all a p low (omega (arith, high, t.key.0))))
           (node_word t c.args.retired.node c.node_place-place.ensures) c.retire_amount-amount.ensures,
     )
 
@@ -64,51 +134,50 @@ returns-then-found-amount c =
     let t = c.args.self.now in
     let fits = c.requires.fits in
     let s = fits.seated in
+    let goes = still_waits a c.load-left.ensures.2 (not_yet c.args.retired.takes c.mark_all-marks.result c.if-left-amount.false c.retire_amount-amount.ensures) in
     let more : c.fetch_sub-found.result ≢ c.retire_amount-amount.result + 1 = c.if-found-amount.true in
-    let went = c.fetch_sub-found.ensures.2.waits (file a) c.args.retired.node c.args.retired.takes (round a) c.mark_all-marks.result (visited a).work more in
-    let run = at_rest fits (does_then (visited a) (runs_goes went.0)) in
+    let went = c.fetch_sub-found.ensures.2.waits (file a) c.args.retired.node c.args.retired.takes (round a) c.mark_all-marks.result (looked a goes).work more in
+    let run = at_rest fits (does_then (looked a goes) (runs_goes went.0)) in
     let removed = subst (λ (z : Start). (state_after_all z (pass_in c.fetch_sub-found.new.seat.me).front).removed (file a).number ≡ Some (file a))
-    (at a).pass.0 went.1 in
+    (at_look a goes).pass.0 went.1 in
     record {
-      fits = still_pass s _ run (refl, refl) (c.fetch_sub-found.ensures.0 ∙ c.mark_all-marks.ensures.table)
-          (went.0.carried ∙ (c.mark_all-marks.ensures.places ∙ s.places)) (refl, s.next) refl;
+      fits = still_pass s _ run (refl, refl) (c.fetch_sub-found.ensures.0 ∙ (c.load-left.ensures.0 ∙ c.mark_all-marks.ensures.table))
+          (went.0.carried ∙ (goes.carried ∙ (c.mark_all-marks.ensures.places ∙ s.places))) (refl, s.next) refl;
       retired = (file a, c.requires.removed.1, (removed, adds_so s run no_use));
       steps = let few = run.steps in omega (arith, few, t.bounds.0);
     }
 
 -- nobody has to let the file go any more
-out : (a : After-mark_all-marks) {st : At} {m' : Sat} {found : ℕ} → Retires st a.mark_all-marks.new.seat.me found m' → found ≡ st.first + 1
-    → TakesOut a.mark_all-marks.new.seat.me [] (file a) a.args.retired.node m'
-out a did is = did.closes (file a) a.args.retired.node a.args.retired.takes (round a) a.mark_all-marks.result (visited a).work is
+out : (a : After-mark_all-marks) {m : Sat} (works : m.0.work ≡ Retiring (file a) a.args.retired.node a.args.retired.takes (round a) a.mark_all-marks.result)
+    {st : At} {m' : Sat} {found : ℕ} → Retires st m found m' → found ≡ st.first + 1 → TakesOut m [] (file a) a.args.retired.node m'
+out a works did is = did.closes (file a) a.args.retired.node a.args.retired.takes (round a) a.mark_all-marks.result works is
 
-place : (a : After-mark_all-marks) {m' : Sat} → TakesOut a.mark_all-marks.new.seat.me [] (file a) a.args.retired.node m'
-    → HasPlace a.args.retired.node (Some (file a).identity) m'
-place a went = out_place (a.mark_all-marks.ensures.places ∙ a.requires.fits.seated.places) went
-
-pub take_out-requires-clause-at : goal.take_out-requires-clause-at
-take_out-requires-clause-at c =
-    let a = (goal.at.take_out-requires-clause-at c).After-mark_all-marks in
+pub take_out-requires : goal.take_out-requires
+take_out-requires c =
+    let a = (goal.at.take_out-requires c).After-mark_all-marks in
+    let goes = still_waits a c.load-left.ensures.2 (not_yet c.args.retired.takes c.mark_all-marks.result c.if-left-amount.false c.retire_amount-amount.ensures) in
     let is : c.fetch_sub-found.result ≡ c.retire_amount-amount.result + 1 = omega (arith, c.if-found-amount.false) in
-    (c.args.pass.now.number, still_at_work (at a) (runs_one (out a c.fetch_sub-found.ensures.2 is).stepped))
-
-pub take_out-requires-clause-place : goal.take_out-requires-clause-place
-take_out-requires-clause-place c =
-    let a = (goal.at.take_out-requires-clause-place c).After-mark_all-marks in
-    let is : c.fetch_sub-found.result ≡ c.retire_amount-amount.result + 1 = omega (arith, c.if-found-amount.false) in
-    ((file a).identity, place a (out a c.fetch_sub-found.ensures.2 is))
+    let went = out a (looked a goes).work c.fetch_sub-found.ensures.2 is in
+    record {
+      table = c.fetch_sub-found.ensures.0 ∙ (c.load-left.ensures.0 ∙ (c.mark_all-marks.ensures.table ∙ c.requires.fits.seated.table));
+      at = (c.args.pass.now.number, still_at_work (at_look a goes) (runs_one went.stepped));
+      place = ((file a).identity, place a goes.carried went);
+    }
 
 pub returns : goal.returns
 returns c =
     let a = (goal.at.returns c).After-mark_all-marks in
     let t = c.args.self.now in
+    let goes = still_waits a c.load-left.ensures.2 (not_yet c.args.retired.takes c.mark_all-marks.result c.if-left-amount.false c.retire_amount-amount.ensures) in
     let is : c.fetch_sub-found.result ≡ c.retire_amount-amount.result + 1 = omega (arith, c.if-found-amount.false) in
     let fits = c.requires.fits in
     let s = fits.seated in
-    let went = out a c.fetch_sub-found.ensures.2 is in
-    let run = at_rest fits (does_then (visited a) (out_and_home went c.take_out.ensures.rests)) in
+    let went = out a (looked a goes).work c.fetch_sub-found.ensures.2 is in
+    let run = at_rest fits (does_then (looked a goes) (out_and_home went c.take_out.ensures.rests)) in
     record {
-      fits = still_pass s _ run (refl, refl) (c.take_out.ensures.table ∙ (c.fetch_sub-found.ensures.0 ∙ c.mark_all-marks.ensures.table)) c.take_out.ensures.empty
+      fits = still_pass s _ run (refl, refl)
+          (c.take_out.ensures.table ∙ (c.fetch_sub-found.ensures.0 ∙ (c.load-left.ensures.0 ∙ c.mark_all-marks.ensures.table))) c.take_out.ensures.empty
           (refl, s.next) refl;
-      retired = (file a, c.requires.removed.1, (c.take_out.ensures.file (file a).identity (place a went), adds_so s run no_use));
+      retired = (file a, c.requires.removed.1, (c.take_out.ensures.file (file a).identity (place a goes.carried went), adds_so s run no_use));
       steps = let few = run.steps in omega (arith, few, t.bounds.0);
     }

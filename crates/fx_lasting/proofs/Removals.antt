@@ -1,0 +1,125 @@
+-- A pass that emptied a slot: what the step leaves, and the pass with the stock that it has then.
+use Rattle.fx_lasting.proofs.Words.{◌≡◌, ◌≤◌, ◌<◌, ℕ, ◌+◌, ◌-◌, List, [], set, sym, refl, ap, ◌∙◌, subst, Option, Bool, get_elem?, some}
+use Rattle.fx_lasting.proofs.Words.{Action, ◌▷◌, ◌▷▷◌, Sat, Start, Work, Glance, Change, Runs, IsAtWork, IsStockOf, Log, first_log, TableId, File, At}
+use Rattle.fx_lasting.proofs.Words.{as_stocked, as_swapped, pass_in, name_in, nodes_of, empty_word_of, retiring_work, account, range_at_start}
+use Rattle.fx_lasting.proofs.Words.{slot_of, slot_place, Removes, Nothing, Outside, LastingPass, IsSeatOf, IsPassOf, IsBetweenCalls, opening_of, view_of, pass_of}
+use Rattle.fx_lasting.proofs.Words.{doing_in, IsHistory}
+use Rattle.fx_table.specs.Calls.{Use, no_use, Adds}
+use Rattle.fx_lasting.specs.SwapSteps.{SwapsOut, HasEmptied}
+use Rattle.fx_lasting.proofs.Places.{slot_back}
+use Rattle.fx_lasting.proofs.Running.{runs_one, runs_then, runs_stocked, turns_then, number_is, stock_is, still_at_work, at_swapped}
+use Rattle.fx_lasting.proofs.Passing.{adds_run}
+
+-- the seat of a pass with this stock
+pub at_stocked : {k : Start} {p : ℕ} {m : Sat} → IsAtWork k p m → (s : List ℕ) → IsStockOf k p s → IsAtWork k p (as_stocked s m)
+at_stocked {k} {p} {m} at s its = record {
+  log = record (pass_in m) { stock = s };
+  pass = (at.pass.0, refl);
+  its_number = number_is at;
+  low = at.low;
+  high = at.high;
+  legal = subst (λ (l : Log). IsHistory k l.front) (sym (ap first_log at.pass.1)) at.legal;
+  inside = at.inside;
+  stock = its;
+}
+
+-- a pass that has the stock that it had
+pub as_it_was : {m m' : Sat} {xs : List Action} {w : Work} {g : Glance} {c : Change} {n : ℕ} (s : List ℕ) → s ≡ (pass_in m).stock → Runs m xs w g c n m'
+    → Runs (as_stocked s m) xs w g c n m'
+as_it_was s same r = record {
+  one = r.one;
+  number = r.number;
+  seen = r.seen;
+  legal = r.legal;
+  own = r.own;
+  steps = r.steps;
+  begun = r.begun;
+  listed = r.listed;
+  asked = r.asked;
+  stock = r.stock ∙ sym same;
+  work = r.work;
+  inside = r.inside;
+  glance = r.glance;
+  change = r.change;
+  start = r.start;
+}
+
+-- a pass that goes on with another stock
+pub stocked_then : {m m' m'' : Sat} {xs ys : List Action} {w w' : Work} {g g' : Glance} {c c' : Change} {n n' : ℕ} (s : List ℕ) → Runs m xs w g c n m'
+    → Runs (as_stocked s m') ys w' g' c' n' m'' → Runs (as_stocked s m) (xs ▷▷ ys) w' g' c' (n + n') m''
+stocked_then s a b = runs_then (runs_stocked s a) b
+
+module _ {k : Start} {p : ℕ} {m : Sat} (at : IsAtWork k p m) (stock : List ℕ) (its : stock ≡ (pass_in m).stock) where
+  its_stock : IsStockOf k p stock
+  its_stock = subst (IsStockOf k p) (sym (its ∙ stock_is at)) at.stock
+
+  -- what a step on a slot's word tells, as its table and slot have it
+  module _ (act : ℕ → Option File → Action) (slot found : ℕ) where
+    -- the name stays at the slot
+    pub by_and : {st : At} {m' : Sat} → Removes act st m found m' → st.word ≡ slot_place slot → HasEmptied k act slot found stock m m'
+    by_and {m' = m'} did here = record {
+      file = did.file;
+      names = did.names;
+      its = subst (λ (n : ℕ). IsStockOf k n stock) (sym (number_is at)) its_stock;
+      runs = as_it_was stock its (subst (λ (z : Start × ℕ). Runs m ([] ▷ act z.1 did.file) (retiring_work z.0 found did.file) m.0.glance
+          (account (range_at_start z.0) z.1 did.file) 1 m') (λ i. (at.pass.0 i, (ap slot_of here ∙ slot_back slot) i)) (runs_one did.stepped));
+    }
+
+    -- the name goes into the stock
+    pub by_swap : {st : At} {m' : Sat} → SwapsOut act st m found m' → st.word ≡ slot_place slot → (n entry named : ℕ) → get_elem? stock entry ≡ some n
+        → st.first ≡ empty_word_of n → named ≡ name_in found - 1 → HasEmptied k act slot found (set stock entry named) m m'
+    by_swap {st} {m'} did here n entry named there makes is =
+        let inside : name_in found - 1 < nodes_of k = subst (λ (z : Start). name_in found - 1 < nodes_of z) at.pass.0 did.named.1 in
+        let after = at_swapped at entry (name_in found - 1) inside in
+        let stepped = did.stepped n entry (ap (λ (l : List ℕ). get_elem? l entry) (sym its) ∙ there) makes in
+        let slot_is : slot_of st.word ≡ slot = ap slot_of here ∙ slot_back slot in
+        let same : set (pass_in m).stock entry (name_in found - 1) ≡ set stock entry named = λ i. set (sym its i) entry (sym is i) in
+        record {
+          file = did.file;
+          names = did.names;
+          its = subst (λ (n : ℕ). IsStockOf k n (set stock entry named)) (sym (number_is at))
+              (subst (IsStockOf k p) (sym (stock_is after) ∙ same) after.stock);
+          runs = subst (λ (z : Start × ℕ × List ℕ). Runs (as_stocked z.2 m) ([] ▷ act z.1 did.file) (retiring_work z.0 found did.file) m.0.glance
+              (account (range_at_start z.0) z.1 did.file) 1 m') (λ i. (at.pass.0 i, slot_is i, same i)) (runs_one stepped);
+        }
+
+-- the pass goes on
+module _ {k : Start} {p : ℕ} {m₁ m₂ : Sat} {act : ℕ → Option File → Action} {slot found : ℕ} {stock : List ℕ} (at : IsAtWork k p m₁)
+    (e : HasEmptied k act slot found stock m₁ m₂) where
+  pub emptied_stock : IsStockOf k p stock
+  emptied_stock = subst (λ (n : ℕ). IsStockOf k n stock) (number_is at) e.its
+
+  pub emptied_at_work : IsAtWork k p m₂
+  emptied_at_work = still_at_work (at_stocked at stock emptied_stock) e.runs
+
+  -- between the two steps on its group's word, if there are such
+  pub emptied_around : {m m₃ : Sat} {w : Work} {g : Glance} {c : Change} → Runs m [] w g c 3 m₁ → Runs m₂ [] m₂.0.work m₂.0.glance Outside 1 m₃
+      → Runs (as_stocked stock m) ([] ▷ act slot e.file) (retiring_work k found e.file) g Outside 5 m₃
+  emptied_around began ended = turns_then (stocked_then stock began (subst (λ (z : Glance). Runs (as_stocked stock m₁) ([] ▷ act slot e.file)
+      (retiring_work k found e.file) z (account (range_at_start k) slot e.file) 1 m₂) began.glance e.runs)) ended
+
+-- a pass that has another stock now
+module _ {id : TableId} {k : Start} {p : LastingPass} (seated : IsSeatOf id k p) (s : List ℕ) where
+  pub adds_stocked : {m' : Sat} {xs : List Action} {w : Work} {g : Glance} {c : Change} {n : ℕ} → Runs (as_stocked s p.seat.me) xs w g c n m' → (used : Use)
+      → Adds (opening_of k) (view_of p) xs (doing_in w) used (pass_of m'.0)
+  adds_stocked = adds_run (as_stocked s p.seat.me) seated.at.pass.0
+
+  pub stocked_pass : IsStockOf k p.number s → (q : LastingPass) {xs : List Action} {w : Work} {n : ℕ} → Runs (as_stocked s p.seat.me) xs w Nothing Outside n q.seat.me
+      → (q.number ≡ p.number) × ◌≡◌ {A = Bool × Bool} (q.listed, q.sure) (p.listed, p.sure) → q.seat.table_id ≡ p.seat.table_id → q.seat.me.1 ≡ []
+      → (q.stock.items ≡ s) × (q.number ≤ k.installing → q.next_entry < k.passes)
+      → IsBetweenCalls k.passes q.idle q.guarded q.next_visit w → IsPassOf id k q
+  stocked_pass its q r same table places stocked knows = record {
+    seated = record {
+      table = table ∙ seated.table;
+      places = places;
+      at = subst (λ (n : ℕ). IsAtWork k n q.seat.me) (sym same.0) (still_at_work (at_stocked seated.at s its) r);
+      change = r.change;
+      stock = stocked.0 ∙ sym r.stock;
+      next = stocked.1;
+      listed = ap (λ (z : Bool × Bool). z.0) same.1 ∙ (seated.listed ∙ sym r.listed);
+      sure = λ is. r.asked ∙ seated.sure (sym (ap (λ (z : Bool × Bool). z.1) same.1) ∙ is);
+    };
+    calm = r.glance;
+    knows = subst (IsBetweenCalls k.passes q.idle q.guarded q.next_visit) (sym r.work) knows;
+    front = (adds_stocked r no_use).front;
+  }

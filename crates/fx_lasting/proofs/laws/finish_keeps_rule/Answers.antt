@@ -1,0 +1,5 @@
+use Rattle.fx_lasting.proofs.Finishing.{finishes_keep}
+use Rattle.fx_lasting.proofs.laws.finish_keeps_rule.Goals as goal
+
+pub returns : goal.returns
+returns c = finishes_keep

@@ -1,0 +1,5 @@
+use Rattle.fx_lasting.proofs.SwapsOut.{swap_clears_keep}
+use Rattle.fx_lasting.proofs.laws.swap_clear_keeps_rule.Goals as goal
+
+pub returns : goal.returns
+returns c = swap_clears_keep

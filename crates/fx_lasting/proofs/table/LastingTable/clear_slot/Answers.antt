@@ -1,0 +1,54 @@
+use Rattle.fx_lasting.proofs.Words.{◌≡◌, ◌<◌, ◌≤◌, ℕ, List, ap, sym, ◌∙◌, arith, length, get_elem?, some, get_or, nodes_of, Clear}
+use Rattle.fx_words.specs.Words.{last_node}
+use Rattle.std.proofs.lemmas.List.{get_or_default}
+use Rattle.fx_lasting.proofs.Calling.{slot_inside, slot_low, few_nodes, stock_inside}
+use Rattle.fx_lasting.proofs.Removals.{by_swap}
+use Rattle.fx_lasting.proofs.FreeNodes.{entry_is}
+use Rattle.fx_lasting.proofs.Running.{stock_is}
+use Rattle.fx_lasting.proofs.SlotLaws.{clears_keep}
+use Rattle.fx_lasting.proofs.SwapsOut.{swap_clears_keep}
+use Rattle.fx_lasting.proofs.table.LastingTable.clear_slot.Goals.{After-index}
+use Rattle.fx_lasting.proofs.table.LastingTable.clear_slot.Goals as goal
+
+pub fetch_and-requires : goal.fetch_and-requires
+fetch_and-requires c =
+    let t = c.args.self.now in (
+      c.requires.table,
+      slot_inside t c.requires.slot c.slot_place-place.ensures,
+      clears_keep _ _ _ _ c.args.slot c.args.seat.now.me _ c.requires.at.1.pass c.requires.idle (slot_low t c.requires.slot) c.requires.off
+          c.slot_place-place.ensures,
+    )
+
+-- the node at the entry
+there : (c : After-index) → get_elem? c.args.stock.now.items c.args.entry ≡ some c.index.result.now
+there c =
+    let inside : c.args.entry < length c.args.stock.now.items = omega arith in
+    entry_is c.args.stock.now.items c.args.entry inside
+    ∙ ap some (sym (c.index.ensures ∙ get_or_default c.args.stock.now.items c.args.entry c.index.result.now 0 inside))
+
+few : (c : After-index) → c.index.result.now ≤ last_node
+few c =
+    let t = c.args.self.now in
+    let inside : c.index.result.now < nodes_of t.table.shared.key = stock_inside t.table.shared.key c.requires.at.0 c.args.entry c.index.result.now
+    c.args.seat.now.me c.requires.at.1 (ap (λ (l : List ℕ). get_elem? l c.args.entry) (sym c.requires.stock) ∙ there c) in
+    omega (arith, inside, few_nodes t)
+
+pub empty_word-requires : goal.empty_word-requires
+empty_word-requires c = few (goal.at.empty_word-requires c).After-index
+
+pub swap-found-requires : goal.swap-found-requires
+swap-found-requires c =
+    let a = (goal.at.swap-found-requires c).After-index in
+    let t = c.args.self.now in
+    let at = c.requires.at.1 in (
+      c.requires.table,
+      slot_inside t c.requires.slot c.slot_place-place.ensures,
+      swap_clears_keep _ _ _ _ c.args.slot c.index.result.now _ c.args.seat.now.me _ at.pass c.requires.idle (slot_low t c.requires.slot) c.requires.off
+          (c.args.entry, ap (λ (l : List ℕ). get_elem? l c.args.entry) (sym (c.requires.stock ∙ stock_is at)) ∙ there a) c.slot_place-place.ensures c.empty_word.ensures,
+    )
+
+pub returns-clause-emptied : goal.returns-clause-emptied
+returns-clause-emptied c =
+    let a = (goal.at.returns-clause-emptied c).After-index in
+    by_swap c.requires.at.1 c.args.stock.now.items c.requires.stock Clear c.args.slot c.swap-found.result c.swap-found.ensures.2
+    c.slot_place-place.ensures c.index.result.now c.args.entry c.node_named.result (there a) c.empty_word.ensures c.node_named.ensures

@@ -1,0 +1,39 @@
+-- The kinds of step that empty a slot by an exchange of names: the slot's word names a node of the
+-- pass's stock then, and the node that it named takes that node's place in the stock.
+use Rattle.std.specs.Prelude.{◌≡◌, ℕ, ◌-◌, List, [], Option}
+use mathlib.Core.Option.{some}
+use lib.ListN.{get_elem?}
+use Rattle.fx_plain.specs.History.{◌▷◌}
+use Rattle.fx_plain.specs.declared.event.File.{File}
+use Rattle.fx_plain.specs.declared.event.Action.{Action}
+use Rattle.fx_words.specs.Words.{name_in}
+use Rattle.fx_lasting.specs.Groups.{account}
+use Rattle.fx_lasting.specs.Parts.{empty_word_of}
+use Rattle.fx_lasting.specs.Passes.{Sat, range_at_start}
+use Rattle.fx_lasting.specs.Runs.{Runs}
+use Rattle.fx_lasting.specs.Stocks.{IsStockOf}
+use Rattle.fx_lasting.specs.Tells.{At, Found, NamesANode, Stepped, as_stocked, as_swapped, pass_in}
+use Rattle.fx_lasting.specs.Tells.{retiring_work, slot_of}
+use Rattle.fx_lasting.specs.declared.view.Start.{Start}
+
+-- Swap, to the word of an empty slot that names a node of the stock, by a clear or by a take
+pub record SwapsOut (action : ℕ → Option File → Action)
+    (st : At) (m : Sat) (found : ℕ) (m' : Sat) : Type 0 where
+  pub file : Option File
+  pub names : Found found file
+  pub named : NamesANode m.0.start found
+  pub stepped : (n entry : ℕ) → get_elem? (pass_in m).stock entry ≡ some n
+      → st.first ≡ empty_word_of n
+      → Stepped (as_swapped entry (name_in found - 1) m) ([] ▷ action (slot_of st.word) file)
+      (retiring_work m.0.start found file) m.0.glance
+      (account (range_at_start m.0.start) (slot_of st.word) file) m'
+  pub carried : m'.1 ≡ m.1
+
+-- a pass emptied a slot, whose word was this, and has this stock now
+pub record HasEmptied (k : Start) (action : ℕ → Option File → Action) (slot found : ℕ)
+    (stock : List ℕ) (m m' : Sat) : Type 0 where
+  pub file : Option File
+  pub names : Found found file
+  pub its : IsStockOf k (pass_in m).number stock
+  pub runs : Runs (as_stocked stock m) ([] ▷ action slot file) (retiring_work k found file)
+      m.0.glance (account (range_at_start k) slot file) 1 m'
