@@ -49,19 +49,19 @@ pub node_word : (t : LastingTable) (n : ℕ) {i : ℕ} → i ≡ node_place t.si
 node_word t n is = omega (arith, is, t.same_size, t.key.0)
 
 -- the words of a node's label are words of the table
-pub tag_inside : (t : LastingTable) {n i : ℕ} → n < nodes_of t.table.shared.key → i ≡ tag_place t.size t.passes t.nodes n
+pub tag_inside : (t : LastingTable) {n i : ℕ} → n < nodes_of t.table.shared.key → i ≡ tag_place t.size t.passes n
     → i < t.table.shared.table_id.words
-tag_inside t {n} l is = omega (arith, l, is, t.words, t.same_nodes)
+tag_inside t {n} l is = omega (arith, l, is, t.words, t.same_size, t.key.0)
 
-pub tag_word : (t : LastingTable) (n : ℕ) {i : ℕ} → i ≡ tag_place t.size t.passes t.nodes n → i ≡ tag_word_of t.table.shared.key n
-tag_word t n is = omega (arith, is, t.same_size, t.key.0, t.same_nodes)
+pub tag_word : (t : LastingTable) (n : ℕ) {i : ℕ} → i ≡ tag_place t.size t.passes n → i ≡ tag_word_of t.table.shared.key n
+tag_word t n is = omega (arith, is, t.same_size, t.key.0)
 
-pub number_inside : (t : LastingTable) {n i : ℕ} → n < nodes_of t.table.shared.key → i ≡ number_place t.size t.passes t.nodes n
+pub number_inside : (t : LastingTable) {n i : ℕ} → n < nodes_of t.table.shared.key → i ≡ number_place t.size t.passes n
     → i < t.table.shared.table_id.words
-number_inside t {n} l is = omega (arith, l, is, t.words, t.same_nodes)
+number_inside t {n} l is = omega (arith, l, is, t.words, t.same_size, t.key.0)
 
-pub number_word : (t : LastingTable) (n : ℕ) {i : ℕ} → i ≡ number_place t.size t.passes t.nodes n → i ≡ number_word_of t.table.shared.key n
-number_word t n is = omega (arith, is, t.same_size, t.key.0, t.same_nodes)
+pub number_word : (t : LastingTable) (n : ℕ) {i : ℕ} → i ≡ number_place t.size t.passes n → i ≡ number_word_of t.table.shared.key n
+number_word t n is = omega (arith, is, t.same_size, t.key.0)
 
 -- the node whose place is with the pass
 pub place_inside : {k : Start} {p n : ℕ} {x : Option Closed} {m : Sat} → IsAtWork k p m → HasPlace n x m → n < nodes_of k

@@ -103,7 +103,7 @@ module _ (turn : Turn) where
   }
 
   -- the word at a place that counts or asks becomes y
-  module _ (place : ℕ) (low : place < 536) (unlisted : 8 ≤ place → 24 ≤ place) (y : ℕ) (c : Change) (q : Survey) (h' : List Event) where
+  module _ (place : ℕ) (low : place < 534) (unlisted : 6 ≤ place → 22 ≤ place) (y : ℕ) (c : Change) (q : Survey) (h' : List Event) where
     abbrev pub words' : List ℕ
     words' = set st.words place y
 
@@ -138,7 +138,7 @@ module _ (turn : Turn) where
           removed = ap (λ (z : State). z.removed) quiet.state;
           slot_words = same;
           node_words = λ n. read_else (word_of v.start n) (λ bad. omega arith);
-          label_words = label_same v.start st.words place y (omega arith);
+          label_words = label_same v.start st.words place y (λ n. (λ bad. omega (arith, bad, low), λ bad. omega (arith, bad, low)));
           hold_words = λ p other more. read_else (hold_word_of v.start p) (λ bad. omega arith);
           counts = counts;
           taken = λ n. refl;
@@ -194,10 +194,10 @@ module _ (turn : Turn) where
 
   -- the word of a group
   module _ (g : ℕ) (its : g < groups_in range.1) where
-    low_g : group_place g < 536
+    low_g : group_place g < 534
     low_g = let a = few_groups range.1 (few_slots turn) in omega (arith, a, its)
 
-    unlisted_g : 8 ≤ group_place g → 24 ≤ group_place g
+    unlisted_g : 6 ≤ group_place g → 22 ≤ group_place g
     unlisted_g l = omega arith
 
     abbrev word : ℕ

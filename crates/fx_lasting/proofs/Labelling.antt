@@ -1,5 +1,5 @@
 -- A pass stores the label of the file that it places, and loads that of the file that it holds.
-use Rattle.fx_lasting.proofs.Words.{◌≡◌, ◌≢◌, ℕ, ◌<◌, ◌≤◌, List, [], set, sym, refl, ap, ◌∙◌, subst, arith, Option, Some, None, inr, ⊎_elim}
+use Rattle.fx_lasting.proofs.Words.{◌≡◌, ◌≢◌, ℕ, ◌+◌, ◌<◌, ◌≤◌, List, [], set, sym, refl, ap, ◌∙◌, subst, arith, Option, Some, None, inr, ⊎_elim}
 use Rattle.fx_lasting.proofs.Words.{none, keeps, step, length-set, get_or-set_other, get_or-set_same, Closed, File, Agrees, WorkAgrees, HoldsAt, Labels}
 use Rattle.fx_lasting.proofs.Words.{slots_of, nodes_of, slot_place, group_place, list_place, question_place, word_of, hold_word_of, tag_word_of}
 use Rattle.fx_lasting.proofs.Words.{number_word_of, held_in, if_file, taken_of, taking, HoldsOn, Phase, placed, owner, file_in, removed_in, written_in}
@@ -22,28 +22,29 @@ held_file holds = ⊎_elim (λ is. ap held_in is) (λ is. ap held_in is) holds
 module _ (turn : Turn) where
   open turn use {st, v, r, id, x, here, one}
 
-  -- The pass has the place of the node, and stores one word of a label
-  module _ (n : ℕ) (l : Written) (works : v.work ≡ Placing n l) (place new : ℕ) (late : tag_word_of v.start 0 ≤ place) (l' : Written) where
+  -- The pass has the place of the node, and stores one word of its label
+  module _ (n : ℕ) (l : Written) (works : v.work ≡ Placing n l) (place new : ℕ) (low : word_of v.start n < place) (high : place < word_of v.start n + 4)
+      (l' : Written) where
     its : (n < nodes_of v.start) × (r.phase n ≡ placed id l)
     its = subst (WorkAgrees v.start r.phase id) works (its_work turn)
 
     abbrev words' : List ℕ
     words' = set st.words place new
 
-    same : (other : ℕ) → other < tag_word_of v.start 0 → word_at words' other ≡ word_at st.words other
-    same other low = get_or-set_other st.words place other new 0 (λ bad. omega (arith, bad, late, low))
+    same : (other : ℕ) → other ≢ place → word_at words' other ≡ word_at st.words other
+    same other apart = get_or-set_other st.words place other new 0 apart
 
     same_slots : (s : ℕ) → s < slots_of v.start → slot_word words' s ≡ slot_word st.words s
-    same_slots s inside = same (slot_place s) (omega (arith, inside))
+    same_slots s inside = same (slot_place s) (λ bad. omega (arith, bad, low, inside))
 
     same_hold : (p : ℕ) → p ≤ v.start.passes → word_at words' (hold_word_of v.start p) ≡ word_at st.words (hold_word_of v.start p)
-    same_hold p high = same (hold_word_of v.start p) (omega (arith, high))
+    same_hold p few = same (hold_word_of v.start p) (λ bad. omega (arith, bad, low, few))
 
-    same_node : (m : ℕ) → m < nodes_of v.start → word_at words' (word_of v.start m) ≡ word_at st.words (word_of v.start m)
-    same_node m inside = same (word_of v.start m) (omega (arith, inside))
+    same_node : (m : ℕ) → word_at words' (word_of v.start m) ≡ word_at st.words (word_of v.start m)
+    same_node m = same (word_of v.start m) (λ bad. omega (arith, bad, low, high))
 
     alike : CountAlike words' st.words
-    alike = (same question_place (omega arith), λ g few. same (group_place g) (omega (arith, few)))
+    alike = (same question_place (λ bad. omega (arith, bad, low)), λ g few. same (group_place g) (λ bad. omega (arith, bad, low, few)))
 
     abbrev stored_after : After turn
     stored_after = after turn n its.0 (placed id l') r.history words' st.homes r.debt (Placing n l') v.glance
@@ -61,8 +62,8 @@ module _ (turn : Turn) where
               (λ is. sym (ap (λ (i : ℕ). removed_in m (r.phase i)) is ∙ ap (removed_in m) its.1)) (λ _. refl));
           slot_words = same_slots;
           alike = alike;
-          lists = λ p few. same (list_place p) (omega (arith, few));
-          node_words = λ m inside other. same_node m inside;
+          lists = λ p few. same (list_place p) (λ bad. omega (arith, bad, low, few));
+          node_words = λ m inside other. same_node m;
           label_else = else;
           label = label;
           home_else = λ m inside other. refl;
@@ -76,7 +77,7 @@ module _ (turn : Turn) where
           guards = λ p e other range. guards_else turn n its.0 (placed id l') r.history words' st.homes r.debt (Placing n l') v.glance same_slots p e
               (same_hold p range.1) refl (λ may. rw its.1 at may);
           node = let t = sum_set (taken_of n) st.views id v (w turn stored_after) here in let a = ap (taking n) works in let b = node.untaken in record {
-            counts = same_node n its.0 ∙ node.counts;
+            counts = same_node n ∙ node.counts;
             at_home = node.at_home;
             untaken = omega arith;
             unowed = node.unowed;
@@ -95,30 +96,32 @@ module _ (turn : Turn) where
   -- the tag
   tag : (n tag : ℕ) → v.work ≡ Placing n Unlabelled → (slots : ℕ) (carried : List (ℕ × Option Closed))
       → Made turn carried (tag_word_of v.start n) (λ _. tag) (λ _. Tags (step slots (tag_word_of v.start n) tag 0 none) (v, carried) tag)
-  tag n t works slots carried = let place = tag_word_of v.start n in let low : tag_word_of v.start 0 ≤ place = omega arith in
-      let inside = (its n Unlabelled works place t low (Tag t)).0 in (
-        w turn (stored_after n Unlabelled works place t low (Tag t)),
+  tag n t works slots carried = let place = tag_word_of v.start n in
+      let low : word_of v.start n < place = omega arith in let high : place < word_of v.start n + 4 = omega arith in
+      let inside = (its n Unlabelled works place t low high (Tag t)).0 in (
+        w turn (stored_after n Unlabelled works place t low high (Tag t)),
         keeps,
         tt,
-        stored n Unlabelled works place t low (Tag t)
+        stored n Unlabelled works place t low high (Tag t)
             (λ m other. (
               get_or-set_other st.words place (tag_word_of v.start m) t 0 (λ bad. other (omega (arith, bad))),
               get_or-set_other st.words place (number_word_of v.start m) t 0 (λ bad. omega (arith, bad)),
             ))
             (get_or-set_same st.words place t 0 (omega (arith, r.shape.words, inside))),
-        record { goes = λ m works'. let e : n ≡ m = cc (sym works ∙ works') in rw (← e) (goes n Unlabelled works place t low (Tag t) carried) },
+        record { goes = λ m works'. let e : n ≡ m = cc (sym works ∙ works') in rw (← e) (goes n Unlabelled works place t low high (Tag t) carried) },
       )
 
   -- the number
   number : (n t number : ℕ) → v.work ≡ Placing n (Tag t) → (slots : ℕ) (carried : List (ℕ × Option Closed))
       → Made turn carried (number_word_of v.start n) (λ _. number)
       (λ _. Numbers (step slots (number_word_of v.start n) number 0 none) (v, carried) number)
-  number n t new works slots carried = let place = number_word_of v.start n in let low : tag_word_of v.start 0 ≤ place = omega arith in
-      let at = its n (Tag t) works place new low (Label t new) in (
-        w turn (stored_after n (Tag t) works place new low (Label t new)),
+  number n t new works slots carried = let place = number_word_of v.start n in
+      let low : word_of v.start n < place = omega arith in let high : place < word_of v.start n + 4 = omega arith in
+      let at = its n (Tag t) works place new low high (Label t new) in (
+        w turn (stored_after n (Tag t) works place new low high (Label t new)),
         keeps,
         tt,
-        stored n (Tag t) works place new low (Label t new)
+        stored n (Tag t) works place new low high (Label t new)
             (λ m other. (
               get_or-set_other st.words place (tag_word_of v.start m) new 0 (λ bad. omega (arith, bad)),
               get_or-set_other st.words place (number_word_of v.start m) new 0 (λ bad. other (omega (arith, bad))),
@@ -129,7 +132,7 @@ module _ (turn : Turn) where
             ),
         record {
           goes = λ m u works'. let e : n ≡ m = cc (sym works ∙ works') in let f : t ≡ u = cc (sym works ∙ works') in
-              rw (← e, ← f) (goes n (Tag t) works place new low (Label t new) carried);
+              rw (← e, ← f) (goes n (Tag t) works place new low high (Label t new) carried);
         },
       )
 

@@ -1,7 +1,7 @@
 -- Places are inside, and apart; and what a write to one of them leaves as it was.
-use Rattle.fx_lasting.proofs.Words.{◌≡◌, ◌≢◌, ℕ, ◌<◌, ◌≤◌, List, set, arith, get_or-set_other, get_or-set_same, list_place, slot_place, word_of}
+use Rattle.fx_lasting.proofs.Words.{◌≡◌, ◌≢◌, ℕ, ◌<◌, ◌≤◌, List, set, sym, arith, get_or-set_other, get_or-set_same, list_place, slot_place, word_of}
 use Rattle.fx_lasting.proofs.Words.{hold_word_of, slots_of, nodes_of, slot_of, group_at, group_place, pass_at, Start}
-use Rattle.fx_lasting.specs.Layout.{PlacesAreInside, PlacesAreApart, LabelsAreApart}
+use Rattle.fx_lasting.specs.Layout.{PlacesAreInside, PlacesAreApart, LabelsAreApart, NodesAreInOneLine, IsNoLabel}
 use Rattle.fx_lasting.proofs.Groups.{CountAlike}
 use Rattle.fx_lasting.proofs.Keeping.{Turn, word_at, slot_word, LabelSame}
 use Rattle.fx_lasting.proofs.Words.{tag_word_of, number_word_of}
@@ -42,17 +42,25 @@ places_apart size passes = record {
   node_and_hold = λ node pass l same. omega arith;
 }
 
-pub labels_apart : (size passes nodes : ℕ) → LabelsAreApart size passes nodes
-labels_apart size passes nodes = record {
+pub labels_apart : (size passes : ℕ) → LabelsAreApart size passes
+labels_apart size passes = record {
   tags = λ node other same. omega arith;
   numbers = λ node other same. omega arith;
   tag_and_number = λ node other same. omega arith;
-  tag_and_node = λ node other l. omega arith;
-  tag_and_hold = λ node pass l. omega arith;
-  tag_and_slot = λ node slot l. omega arith;
-  tag_and_group = λ node group few. omega arith;
-  tag_and_list = λ node pass few. omega arith;
-  tag_and_question = λ node. omega arith;
+  label_and_node = λ node other. (λ same. omega arith, λ same. omega arith);
+  label_and_hold = λ node pass l. (λ same. omega arith, λ same. omega arith);
+  label_and_slot = λ node slot l. (λ same. omega arith, λ same. omega arith);
+  label_and_group = λ node group few. (λ same. omega arith, λ same. omega arith);
+  label_and_list = λ node pass few. (λ same. omega arith, λ same. omega arith);
+  label_and_question = λ node. (λ same. omega arith, λ same. omega arith);
+}
+
+pub nodes_in_line : (size passes : ℕ) → NodesAreInOneLine size passes
+nodes_in_line size passes = record {
+  one = λ node. omega arith;
+  own = λ node other few same. omega arith;
+  node_and_slot = λ node slot l. omega arith;
+  node_and_hold = λ node pass l. omega arith;
 }
 
 pub slot_back : (s : ℕ) → slot_of (slot_place s) ≡ s
@@ -64,11 +72,12 @@ group_back g = omega arith
 pub pass_back : (k : Start) (p : ℕ) → pass_at k (hold_word_of k p) ≡ p
 pass_back k p = omega arith
 
--- a write before the labels leaves them as they were
-pub label_same : (k : Start) (words : List ℕ) (place new : ℕ) → place < tag_word_of k 0 → (n : ℕ) → LabelSame k (set words place new) words n
-label_same k words place new low n = (
-  get_or-set_other words place (tag_word_of k n) new 0 (λ same. omega arith),
-  get_or-set_other words place (number_word_of k n) new 0 (λ same. omega arith),
+-- a write that is of no label leaves all labels as they were
+pub label_same : (k : Start) (words : List ℕ) (place new : ℕ) → ((n : ℕ) → IsNoLabel (slots_of k) k.passes n place) → (n : ℕ)
+    → LabelSame k (set words place new) words n
+label_same k words place new apart n = (
+  get_or-set_other words place (tag_word_of k n) new 0 (λ same. (apart n).0 (sym same)),
+  get_or-set_other words place (number_word_of k n) new 0 (λ same. (apart n).1 (sym same)),
 )
 
 -- the word of a node is written
@@ -97,7 +106,7 @@ module _ (turn : Turn) (q : ℕ) (its : q < nodes_of turn.v.start) (new : ℕ) w
   node_list p few = node_apart (λ same. omega arith)
 
   pub node_label : (n : ℕ) → LabelSame v.start node_words st.words n
-  node_label = label_same v.start st.words (word_of v.start q) new (omega arith)
+  node_label = label_same v.start st.words (word_of v.start q) new (λ n. (λ same. omega arith, λ same. omega arith))
 
   pub node_alike : CountAlike node_words st.words
   node_alike = (node_apart (λ same. omega arith), λ g l. node_apart (λ same. omega arith))
@@ -128,7 +137,7 @@ module _ (turn : Turn) (p : ℕ) (low : 0 < p) (high : p ≤ turn.v.start.passes
   hold_list p few = hold_apart (λ same. omega arith)
 
   pub hold_label : (n : ℕ) → LabelSame v.start hold_words st.words n
-  hold_label = label_same v.start st.words (hold_word_of v.start p) new (omega arith)
+  hold_label = label_same v.start st.words (hold_word_of v.start p) new (λ n. (λ same. omega arith, λ same. omega arith))
 
   pub hold_alike : CountAlike hold_words st.words
   hold_alike = (hold_apart (λ same. omega arith), λ g l. hold_apart (λ same. omega arith))
@@ -159,7 +168,7 @@ module _ (turn : Turn) (s : ℕ) (inside : s < slots_of turn.v.start) (new : ℕ
   slot_list p few = slot_apart (λ same. omega arith)
 
   pub slot_label : (n : ℕ) → LabelSame v.start slot_words st.words n
-  slot_label = label_same v.start st.words (slot_place s) new (omega arith)
+  slot_label = label_same v.start st.words (slot_place s) new (λ n. (λ same. omega arith, λ same. omega arith))
 
   pub slot_alike : CountAlike slot_words st.words
   slot_alike = (slot_apart (λ same. omega arith), λ g l. slot_apart (λ same. omega arith))
@@ -187,7 +196,7 @@ module _ (turn : Turn) (p : ℕ) (few : p ≤ 1024) (new : ℕ) where
   list_slot s l = list_apart (λ same. omega arith)
 
   pub list_label : (n : ℕ) → LabelSame v.start list_words st.words n
-  list_label = label_same v.start st.words (list_place p) new (omega arith)
+  list_label = label_same v.start st.words (list_place p) new (λ n. (λ same. omega arith, λ same. omega arith))
 
   pub list_alike : CountAlike list_words st.words
   list_alike = (list_apart (λ same. omega arith), λ g l. list_apart (λ same. omega arith))

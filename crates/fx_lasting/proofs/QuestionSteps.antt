@@ -32,10 +32,10 @@ module _ (turn : Turn) where
   abbrev question : ℕ
   question = word_at st.words question_place
 
-  low_q : question_place < 536
+  low_q : question_place < 534
   low_q = omega arith
 
-  unlisted_q : 8 ≤ question_place → 24 ≤ question_place
+  unlisted_q : 6 ≤ question_place → 22 ≤ question_place
   unlisted_q l = absurd (omega (arith, l))
 
   abbrev asking : ℕ → Change → Survey → List Event → View

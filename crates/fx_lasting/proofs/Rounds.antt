@@ -55,8 +55,8 @@ pub loads_more : {passes number node takes first words last pass marks : ℕ} {f
     → HasVisited passes number node f takes first (words_at pass) found pass marks m m''
 loads_more {number = number} {node} {takes} {words = words} {last} {pass} {marks} {f} {m' = m'} {m'' = m''} {st = st} {found = found} at inside place h did =
     let few = h.few in let near = h.near in
-    let next_is : 64 * (st.word - 8) + 1 ≡ pass = omega (arith, at, place) in
-    let words_are : st.word - 7 ≡ words_at pass = omega (arith, at, place) in
+    let next_is : 64 * (st.word - 6) + 1 ≡ pass = omega (arith, at, place) in
+    let words_are : st.word - 5 ≡ words_at pass = omega (arith, at, place) in
     let round : round_from st.word found ≡ round_to pass (words_at pass) found = λ i. round_to (next_is i) (words_are i) found in record {
       next = pass;
       near = omega arith;

@@ -26,10 +26,10 @@ module _ (turn : Turn) (f : File) (n t : ℕ) (nx : Round) (m : ℕ) (works : tu
   open turn use {st, v, r, id, x, here, one}
 
   abbrev found : ℕ
-  found = word_at st.words (8 + index)
+  found = word_at st.words (6 + index)
 
   abbrev nx' : Round
-  nx' = round_from (8 + index) found
+  nx' = round_from (6 + index) found
 
   -- the list has its bit
   its_bit : (p : ℕ) → 0 < p → p ≤ v.start.passes → word_at st.words (hold_word_of v.start p) ≢ 0 → IsListedIn (word_at st.words (list_place p)) p
@@ -41,7 +41,7 @@ module _ (turn : Turn) (f : File) (n t : ℕ) (nx : Round) (m : ℕ) (works : tu
   still : (p : ℕ) → p ≢ x.number → (0 < p) × (p ≤ v.start.passes) → word_at st.words (hold_word_of v.start p) ≢ 0 → IsToVisit nx p → IsToVisit nx' p
   still p ne range some may = (
     dite (dec_le (64 * index + 1) p) (λ g. omega (arith, g)) (λ l. absurd (⊎_elim ne may.1 (between p may.0 (omega (arith, l))))),
-    λ idle. let bit = its_bit p range.0 range.1 some in let at : list_place p ≡ 8 + index = (let a = idle.0 in omega arith) in
+    λ idle. let bit = its_bit p range.0 range.1 some in let at : list_place p ≡ 6 + index = (let a = idle.0 in omega arith) in
         let clear = idle.1 in let set = subst (λ (i : ℕ). IsListedIn (word_at st.words i) p) at bit in omega (arith, clear, set),
   )
 
@@ -82,12 +82,12 @@ module _ (turn : Turn) (f : File) (n t : ℕ) (nx : Round) (m : ℕ) (works : tu
   }
 
   skims : (slots : ℕ) (carried : List (ℕ × Option Closed))
-      → Made turn carried (8 + index) (λ word. word) (Skims (step slots (8 + index) 0 0 none) (v, carried))
+      → Made turn carried (6 + index) (λ word. word) (Skims (step slots (6 + index) 0 0 none) (v, carried))
   skims slots carried = (
     w turn (seen_after turn f n t nx m works st.words r.debt nx' m),
     keeps,
     tt,
-    rw (set-get_or st.words (8 + index) 0) (visited turn f n t nx m works st.words r.debt nx' m skimmed),
+    rw (set-get_or st.words (6 + index) 0) (visited turn f n t nx m works st.words r.debt nx' m skimmed),
     record {
       goes = λ g i a b c its'. let e = retiring_same turn f n t nx m works its' in
           let same : Retiring f n t nx' m ≡ Retiring g i a nx' c = cc e in
@@ -98,6 +98,6 @@ module _ (turn : Turn) (f : File) (n t : ℕ) (nx : Round) (m : ℕ) (works : tu
   )
 
 pub skims_keep : SkimsKeep Skims
-skims_keep k slots id i n t m index nx f s x has works inside low between place = by_turn slots (λ _. Unit {0}) (λ _. 8 + index) (λ word. word)
+skims_keep k slots id i n t m index nx f s x has works inside low between place = by_turn slots (λ _. Unit {0}) (λ _. 6 + index) (λ word. word)
     (λ i. Skims (step slots i 0 0 none) s) has tt place
     (λ st r here _ fits. skims (turn_of s x has.1 id st r here) f n t nx m works index inside low between slots s.1)

@@ -20,6 +20,7 @@ use Rattle.fx_lasting.proofs.Words.{number_of_mark}
 use Rattle.fx_lasting.specs.Layout.{words_for}
 use Rattle.fx_table.proofs.Shells.{in_place, none_outside}
 use Rattle.fx_lasting.proofs.Groups.{few_groups}
+use Rattle.fx_lasting.proofs.Places.{labels_apart}
 use Rattle.fx_lasting.proofs.Words.{◌≢◌, subst, ℕ_discrete, length-set, get_or-set_other, get_or-set_same, file_word_of, birth_word}
 use Rattle.std.specs.Prelude.{slice_set, option_map}
 
@@ -154,54 +155,54 @@ module _ {st : State} {passes nodes gs slot : ℕ} {words : List ℕ} (so : AreW
     }
 
 -- the label of one file more is written, or there is none
-module _ {size passes nodes slot : ℕ} {homes : List (Option Closed)} {before words : List ℕ} (so : AreLabelled size passes nodes homes slot before words)
-    (inside : slot < nodes) (long : length before ≡ words_for size passes nodes) where
-  pub no_label : ((file : Closed) → file_in_place homes slot ≢ Some file) → AreLabelled size passes nodes homes (slot + 1) before words
+module _ {size passes slot : ℕ} {homes : List (Option Closed)} {before words : List ℕ} (so : AreLabelled size passes homes slot before words)
+    (inside : slot < size) (long : words_for size passes size ≤ length before) where
+  pub no_label : ((file : Closed) → file_in_place homes slot ≢ Some file) → AreLabelled size passes homes (slot + 1) before words
   no_label none = record {
     count = so.count;
-    others = so.others;
+    others = λ place apart. so.others place (λ s l. apart s (omega (arith, l)));
     labels = λ s file l there. dite (ℕ_discrete s slot)
         (λ same. absurd (none file (ap (file_in_place homes) (sym same) ∙ there))) (λ other. so.labels s file (omega (arith, l, other)) there);
   }
 
   module _ (tag number : ℕ) where
     abbrev tagged : List ℕ
-    tagged = slice_set words (tag_place size passes nodes slot) tag
+    tagged = slice_set words (tag_place size passes slot) tag
 
     abbrev labelled : List ℕ
-    labelled = slice_set tagged (number_place size passes nodes slot) number
+    labelled = slice_set tagged (number_place size passes slot) number
 
-    kept_label : (place : ℕ) → place ≢ tag_place size passes nodes slot → place ≢ number_place size passes nodes slot
+    kept_label : (place : ℕ) → place ≢ tag_place size passes slot → place ≢ number_place size passes slot
         → slice_index labelled place ≡ slice_index words place
-    kept_label place a b = get_or-set_other tagged (number_place size passes nodes slot) place number 0 b
-        ∙ get_or-set_other words (tag_place size passes nodes slot) place tag 0 a
+    kept_label place a b = get_or-set_other tagged (number_place size passes slot) place number 0 b
+        ∙ get_or-set_other words (tag_place size passes slot) place tag 0 a
 
-    long_words : length words ≡ words_for size passes nodes
-    long_words = so.count ∙ long
+    long_words : words_for size passes size ≤ length words
+    long_words = omega (arith, so.count, long)
 
-    long_tagged : length tagged ≡ words_for size passes nodes
-    long_tagged = length-set words (tag_place size passes nodes slot) tag ∙ long_words
+    long_tagged : words_for size passes size ≤ length tagged
+    long_tagged = omega (arith, length-set words (tag_place size passes slot) tag, long_words)
 
-    tag_there : slice_index labelled (tag_place size passes nodes slot) ≡ tag
-    tag_there = get_or-set_other tagged (number_place size passes nodes slot) (tag_place size passes nodes slot) number 0 (λ bad. omega (arith, bad))
-        ∙ get_or-set_same words (tag_place size passes nodes slot) tag 0 (omega (arith, long_words, inside))
+    tag_there : slice_index labelled (tag_place size passes slot) ≡ tag
+    tag_there = get_or-set_other tagged (number_place size passes slot) (tag_place size passes slot) number 0 (λ bad. omega (arith, bad))
+        ∙ get_or-set_same words (tag_place size passes slot) tag 0 (omega (arith, long_words, inside))
 
-    number_there : slice_index labelled (number_place size passes nodes slot) ≡ number
-    number_there = get_or-set_same tagged (number_place size passes nodes slot) number 0 (omega (arith, long_tagged, inside))
+    number_there : slice_index labelled (number_place size passes slot) ≡ number
+    number_there = get_or-set_same tagged (number_place size passes slot) number 0 (omega (arith, long_tagged, inside))
 
     pub one_label : (file : Closed) → file_in_place homes slot ≡ Some file → tag ≡ file.tag → number ≡ number_of_mark file.mark
-        → AreLabelled size passes nodes homes (slot + 1) before labelled
+        → AreLabelled size passes homes (slot + 1) before labelled
     one_label file there its_tag its_number = record {
-      count = length-set tagged (number_place size passes nodes slot) number ∙ (long_tagged ∙ sym long);
-      others = λ place low. kept_label place (λ bad. omega (arith, bad, low)) (λ bad. omega (arith, bad, low)) ∙ so.others place low;
+      count = length-set tagged (number_place size passes slot) number ∙ (length-set words (tag_place size passes slot) tag ∙ so.count);
+      others = λ place apart. let here = apart slot (omega arith) in kept_label place here.0 here.1 ∙ so.others place (λ s l. apart s (omega (arith, l)));
       labels = λ s other l is. dite (ℕ_discrete s slot)
           (λ same. let e : Some file ≡ Some other = sym there ∙ (ap (file_in_place homes) (sym same) ∙ is) in let f : file ≡ other = cc e in
-          subst (λ (i : ℕ). HasWritten (label_of other) (slice_index labelled (tag_place size passes nodes i)) (slice_index labelled (number_place size passes nodes i)))
+          subst (λ (i : ℕ). HasWritten (label_of other) (slice_index labelled (tag_place size passes i)) (slice_index labelled (number_place size passes i)))
           (sym same)
           (tag_there ∙ (its_tag ∙ ap (λ (c : Closed). c.tag) f), number_there ∙ (its_number ∙ ap (λ (c : Closed). number_of_mark c.mark) f)))
           (λ ne. let old = so.labels s other (omega (arith, l, ne)) is in (
-            kept_label (tag_place size passes nodes s) (λ bad. ne (omega (arith, bad))) (λ bad. omega (arith, bad)) ∙ old.0,
-            kept_label (number_place size passes nodes s) (λ bad. omega (arith, bad)) (λ bad. ne (omega (arith, bad))) ∙ old.1,
+            kept_label (tag_place size passes s) (λ bad. ne (omega (arith, bad))) (λ bad. omega (arith, bad)) ∙ old.0,
+            kept_label (number_place size passes s) (λ bad. omega (arith, bad)) (λ bad. ne (omega (arith, bad))) ∙ old.1,
           ));
     }
 
@@ -218,26 +219,26 @@ home_is : (found : Option File) (slot : ℕ) → identity_of found ≡ home_for 
 home_is None slot = refl
 home_is (Some f) slot = refl
 
--- the labels are written after all other words
-pub labelled_first : {st : State} {passes nodes : ℕ} {homes : List (Option Closed)} {before words : List ℕ} → st.size ≤ nodes
-    → AreFirstWords st passes nodes before → AreLabelled st.size passes nodes homes st.size before words → AreFirstWords st passes nodes words
-labelled_first {st} {passes} many w a = record {
+-- the labels are written after all other words, and leave these as they were
+pub labelled_first : {st : State} {passes nodes : ℕ} {homes : List (Option Closed)} {before words : List ℕ} → AreFirstWords st passes nodes before
+    → AreLabelled st.size passes homes st.size before words → AreFirstWords st passes nodes words
+labelled_first {st} {passes} w a = let apart = labels_apart st.size passes in record {
   count = a.count ∙ w.count;
   entries = w.entries;
-  question = a.others question_place (omega arith) ∙ w.question;
-  groups = λ g low l. a.others (group_place g) (omega (arith, low)) ∙ w.groups g low l;
-  slot_words = λ s l. a.others (slot_place s) (omega (arith, l)) ∙ w.slot_words s l;
-  node_words = λ s l. a.others (node_place st.size passes s) (omega (arith, l, many)) ∙ w.node_words s l;
-  free = λ n low high. a.others (node_place st.size passes n) (omega (arith, high)) ∙ w.free n low high;
-  lists = λ p few. a.others (list_place p) (omega (arith, few)) ∙ w.lists p few;
-  holds = λ p low high. a.others (hold_place st.size p) (omega (arith, high)) ∙ w.holds p low high;
+  question = a.others question_place (λ n _. apart.label_and_question n) ∙ w.question;
+  groups = λ g low l. a.others (group_place g) (λ n _. apart.label_and_group n g low) ∙ w.groups g low l;
+  slot_words = λ s l. a.others (slot_place s) (λ n _. apart.label_and_slot n s l) ∙ w.slot_words s l;
+  node_words = λ s l. a.others (node_place st.size passes s) (λ n _. apart.label_and_node n s) ∙ w.node_words s l;
+  free = λ m low high. a.others (node_place st.size passes m) (λ n _. apart.label_and_node n m) ∙ w.free m low high;
+  lists = λ p few. a.others (list_place p) (λ n _. apart.label_and_list n p few) ∙ w.lists p few;
+  holds = λ p low high. a.others (hold_place st.size p) (λ n _. apart.label_and_hold n p high) ∙ w.holds p low high;
 }
 
-pub labels_so : (st : State) (passes nodes : ℕ) {homes : List (Option Closed)} {before words : List ℕ}
-    → ((place : ℕ) → file_in_place homes place ≡ identity_of (st.at place)) → AreLabelled st.size passes nodes homes st.size before words
+pub labels_so : (st : State) (passes : ℕ) {homes : List (Option Closed)} {before words : List ℕ}
+    → ((place : ℕ) → file_in_place homes place ≡ identity_of (st.at place)) → AreLabelled st.size passes homes st.size before words
     → (slot : ℕ) (f : File) → slot < st.size → first_at st slot ≡ Some f
-    → HasWritten (label_of f.identity) (slice_index words (tag_place st.size passes nodes slot)) (slice_index words (number_place st.size passes nodes slot))
-labels_so st passes nodes files a slot f l there =
+    → HasWritten (label_of f.identity) (slice_index words (tag_place st.size passes slot)) (slice_index words (number_place st.size passes slot))
+labels_so st passes files a slot f l there =
     a.labels slot f.identity l (files slot ∙ (home_is (st.at slot) slot ∙ ap home_for there))
 
 module _ (k : Start) (words : List ℕ) (homes : List (Option Closed)) where

@@ -8,7 +8,7 @@ use Rattle.fx_table.specs.Shells.{file_in_place}
 use Rattle.fx_lasting.specs.Labels.{HasWritten, label_of}
 use Rattle.fx_lasting.specs.Layout.{question_place, group_place, list_place, slot_place}
 use Rattle.fx_lasting.specs.Layout.{hold_place, node_place, words_for, groups_in, group_start}
-use Rattle.fx_lasting.specs.Layout.{group_len, tag_place, number_place}
+use Rattle.fx_lasting.specs.Layout.{group_len, tag_place, number_place, IsNoLabel}
 use Rattle.fx_lasting.specs.Opens.{word_for, node_for}
 use Rattle.fx_lasting.specs.Parts.{empty_word_of}
 
@@ -40,11 +40,11 @@ pub record AreFirstWords (st : State) (passes nodes : ℕ) (words : List ℕ) : 
       → slice_index words (hold_place st.size pass) ≡ 0
 
 -- the labels of the files in the first `done` places were written, and no other word
-pub record AreLabelled (size passes nodes : ℕ) (homes : List (Option Identity)) (done : ℕ)
+pub record AreLabelled (size passes : ℕ) (homes : List (Option Identity)) (done : ℕ)
     (before words : List ℕ) : Type 0 where
   pub count : length words ≡ length before
-  pub others : (place : ℕ) → place < tag_place size passes nodes 0
+  pub others : (place : ℕ) → ((slot : ℕ) → slot < done → IsNoLabel size passes slot place)
       → slice_index words place ≡ slice_index before place
   pub labels : (slot : ℕ) (file : Identity) → slot < done → file_in_place homes slot ≡ Some file
-      → HasWritten (label_of file) (slice_index words (tag_place size passes nodes slot))
-      (slice_index words (number_place size passes nodes slot))
+      → HasWritten (label_of file) (slice_index words (tag_place size passes slot))
+      (slice_index words (number_place size passes slot))

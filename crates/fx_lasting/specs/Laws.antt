@@ -169,7 +169,7 @@ abbrev pub SkimsKeep : Kind → Type 0
 SkimsKeep tells = (k : Start) (slots id i node takes marks index : ℕ) (round : Round) (f : File)
     (m : Sat) (x : Log) → HasPass k m x → m.0.work ≡ Retiring f node takes round marks
     → index < 16 → round.next ≤ 64 * index + 1
-    → ((p : ℕ) → round.next ≤ p → p ≤ 64 * index → IsPassed x.number round p) → i ≡ 8 + index
+    → ((p : ℕ) → round.next ≤ p → p ≤ 64 * index → IsPassed x.number round p) → i ≡ 6 + index
     → Allows (Agrees k) slots id m i (λ word. word) (tells (step slots i 0 0 none) m)
 
 -- a pass that removed a hot file loads the hold word of the next pass that it has to visit

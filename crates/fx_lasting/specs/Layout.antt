@@ -4,9 +4,15 @@ use Rattle.std.specs.Prelude.{if◌then◌else◌, zero, suc, List, [], ◌∷�
 use Rattle.std.specs.List.{range_with_len}
 use Rattle.fx_lasting.specs.Parts.{bit_of}
 
--- The question word, each group of slots, each of the first 4,096 slots and each pass have a cache
--- line of their own.
+-- A line is 8 words. The table's memory begins with the third word of a line: the malloc of glibc
+-- returns a large block 16 bytes after the beginning of a page, so that a line is a cache line.
+-- The question word, each group of slots, each of the first 4,096 slots, each pass and each of the
+-- first 4,096 nodes have a line of their own. Each further node has half a line.
 -- The list of passes that ever looked a file up has a bit for each of 1,024 passes, 64 in a word.
+
+-- the line of the word at a place
+abbrev pub line_at : ℕ → ℕ
+line_at place = (place + 2) / 8
 
 -- the word with a bit for each pass that asks whether the allocation range is full
 abbrev pub question_place : ℕ
@@ -14,39 +20,48 @@ question_place = 0
 
 -- the word of a group, which counts its full slots. There are at most 64 groups
 abbrev pub group_place : ℕ → ℕ
-group_place group = 24 + 8 * group
+group_place group = 22 + 8 * group
 
 -- the word of the list that has the bit of a pass, from 1
 abbrev pub list_place : ℕ → ℕ
-list_place pass = 8 + (pass - 1) / 64
+list_place pass = 6 + (pass - 1) / 64
 
--- the number of words that the first `n` slots take: each of the first 4,096 slots has a cache line
--- of its own, and the words of the others are side by side
+-- the number of words that the first `n` slots take: each of the first 4,096 slots has a line of
+-- its own, and the words of the others are side by side
 abbrev pub slot_words : ℕ → ℕ
 slot_words n = n + 7 * min n 4096
 
+-- the number of lines that these words are in: no other word is in the last one
+abbrev pub slot_lines : ℕ → ℕ
+slot_lines n = (slot_words n + 7) / 8
+
+-- the number of words that the first `n` nodes take: each of the first 4,096 nodes has a line of
+-- its own, and each of the others has half a line
+abbrev pub node_words : ℕ → ℕ
+node_words n = 4 * n + 4 * min n 4096
+
 -- the word of a slot
 abbrev pub slot_place : ℕ → ℕ
-slot_place slot = 536 + slot_words slot
+slot_place slot = 534 + slot_words slot
 
 -- the hold word of a pass, from 1
 abbrev pub hold_place : ℕ → ℕ → ℕ
-hold_place size pass = 528 + slot_words size + 8 * pass
+hold_place size pass = 526 + 8 * slot_lines size + 8 * pass
 
--- the word of a node: these follow all others but the labels, side by side
+-- the word of a node, the first one of the node's words. The nodes' words follow all others
 abbrev pub node_place : ℕ → ℕ → ℕ → ℕ
-node_place size passes node = 536 + slot_words size + 8 * passes + node
+node_place size passes node = 534 + 8 * slot_lines size + 8 * passes + node_words node
 
--- the two words of a node's label, the tag of its file and the number: these come last
-abbrev pub tag_place : ℕ → ℕ → ℕ → ℕ → ℕ
-tag_place size passes nodes node = 536 + slot_words size + 8 * passes + nodes + 2 * node
+-- the next two words of the node, its label: the tag of its file, and the number
+abbrev pub tag_place : ℕ → ℕ → ℕ → ℕ
+tag_place size passes node = node_place size passes node + 1
 
-abbrev pub number_place : ℕ → ℕ → ℕ → ℕ → ℕ
-number_place size passes nodes node = tag_place size passes nodes node + 1
+abbrev pub number_place : ℕ → ℕ → ℕ → ℕ
+number_place size passes node = node_place size passes node + 2
 
 -- the number of words of a table with `nodes` nodes
 abbrev pub words_for : ℕ → ℕ → ℕ → ℕ
-words_for size passes nodes = 536 + slot_words size + 8 * passes + 3 * nodes
+words_for size passes nodes = 534 + 8 * slot_lines size + 8 * passes + node_words nodes
 
 -- the first node of a pass's first stock: the nodes that the slots name first come before all
 -- stocks
@@ -104,9 +119,9 @@ pub record PlacesAreInside (size passes nodes : ℕ) : Type 0 where
   pub node : (node : ℕ) → node < nodes
       → node_place size passes node < words_for size passes nodes
   pub tag : (node : ℕ) → node < nodes
-      → tag_place size passes nodes node < words_for size passes nodes
+      → tag_place size passes node < words_for size passes nodes
   pub number : (node : ℕ) → node < nodes
-      → number_place size passes nodes node < words_for size passes nodes
+      → number_place size passes node < words_for size passes nodes
 
 -- different words have different places
 pub record PlacesAreApart (size passes : ℕ) : Type 0 where
@@ -141,22 +156,39 @@ pub record PlacesAreApart (size passes : ℕ) : Type 0 where
   pub node_and_hold : (node pass : ℕ) → pass ≤ passes
       → node_place size passes node ≢ hold_place size pass
 
--- the words of labels have different places, after those of all other words
-pub record LabelsAreApart (size passes nodes : ℕ) : Type 0 where
-  pub tags : (node other : ℕ) → tag_place size passes nodes node
-      ≡ tag_place size passes nodes other → node ≡ other
-  pub numbers : (node other : ℕ) → number_place size passes nodes node
-      ≡ number_place size passes nodes other → node ≡ other
-  pub tag_and_number : (node other : ℕ) → tag_place size passes nodes node
-      ≢ number_place size passes nodes other
-  pub tag_and_node : (node other : ℕ) → other < nodes → node_place size passes other
-      < tag_place size passes nodes node
-  pub tag_and_hold : (node pass : ℕ) → pass ≤ passes → hold_place size pass
-      < tag_place size passes nodes node
-  pub tag_and_slot : (node slot : ℕ) → slot < size → slot_place slot
-      < tag_place size passes nodes node
-  pub tag_and_group : (node group : ℕ) → group < 64 → group_place group
-      < tag_place size passes nodes node
-  pub tag_and_list : (node pass : ℕ) → pass ≤ 1024 → list_place pass
-      < tag_place size passes nodes node
-  pub tag_and_question : (node : ℕ) → question_place < tag_place size passes nodes node
+-- the place isn't that of a word of the node's label
+abbrev pub IsNoLabel : (size passes node place : ℕ) → Type 0
+IsNoLabel size passes node place = (place ≢ tag_place size passes node)
+    × (place ≢ number_place size passes node)
+
+-- the words of labels have different places, and no other word has one of these
+pub record LabelsAreApart (size passes : ℕ) : Type 0 where
+  pub tags : (node other : ℕ) → tag_place size passes node ≡ tag_place size passes other
+      → node ≡ other
+  pub numbers : (node other : ℕ) → number_place size passes node ≡ number_place size passes other
+      → node ≡ other
+  pub tag_and_number : (node other : ℕ) → tag_place size passes node
+      ≢ number_place size passes other
+  pub label_and_node : (node other : ℕ) → IsNoLabel size passes node
+      (node_place size passes other)
+  pub label_and_hold : (node pass : ℕ) → pass ≤ passes → IsNoLabel size passes node
+      (hold_place size pass)
+  pub label_and_slot : (node slot : ℕ) → slot < size → IsNoLabel size passes node
+      (slot_place slot)
+  pub label_and_group : (node group : ℕ) → group < 64 → IsNoLabel size passes node
+      (group_place group)
+  pub label_and_list : (node pass : ℕ) → pass ≤ 1024 → IsNoLabel size passes node
+      (list_place pass)
+  pub label_and_question : (node : ℕ) → IsNoLabel size passes node question_place
+
+-- the words of a node are in one line, and no word of another kind is there
+pub record NodesAreInOneLine (size passes : ℕ) : Type 0 where
+  pub one : (node : ℕ) → line_at (number_place size passes node)
+      ≡ line_at (node_place size passes node)
+  -- the line of one of the first 4,096 nodes has no word of another node
+  pub own : (node other : ℕ) → node < 4096 → line_at (node_place size passes node)
+      ≡ line_at (node_place size passes other) → node ≡ other
+  pub node_and_slot : (node slot : ℕ) → slot < size
+      → line_at (slot_place slot) < line_at (node_place size passes node)
+  pub node_and_hold : (node pass : ℕ) → pass ≤ passes
+      → line_at (hold_place size pass) < line_at (node_place size passes node)

@@ -70,10 +70,10 @@ word_of k node = node_place (slots_of k) k.passes node
 
 -- where the two words of a node's label are
 abbrev pub tag_word_of : Start → ℕ → ℕ
-tag_word_of k node = tag_place (slots_of k) k.passes (nodes_of k) node
+tag_word_of k node = tag_place (slots_of k) k.passes node
 
 abbrev pub number_word_of : Start → ℕ → ℕ
-number_word_of k node = number_place (slots_of k) k.passes (nodes_of k) node
+number_word_of k node = number_place (slots_of k) k.passes node
 
 abbrev pub hold_word_of : Start → ℕ → ℕ
 hold_word_of k pass = hold_place (slots_of k) pass

@@ -17,7 +17,7 @@ use Rattle.fx_plain.specs.declared.event.Action.TheVariants.{Close, Take}
 use Rattle.fx_words.specs.Words.{entry_in, name_in}
 use Rattle.fx_lasting.specs.Agrees.{Names}
 use Rattle.fx_lasting.specs.Labels.{label_of}
-use Rattle.fx_lasting.specs.Layout.{slot_words, list_place, group_of, group_len}
+use Rattle.fx_lasting.specs.Layout.{slot_lines, list_place, group_of, group_len}
 use Rattle.fx_lasting.specs.Parts.{full_name_in, heat_in, IsHot, count_in, cold_takes, announced}
 use Rattle.fx_lasting.specs.Parts.{IsListedIn}
 use Rattle.fx_lasting.specs.Groups.{account, HasQuestionOf}
@@ -45,15 +45,15 @@ At = Step (Option Identity)
 
 -- the slot whose word is there
 abbrev pub slot_of : ℕ → ℕ
-slot_of place = min ((place - 536) / 8) 4096 + (place - (536 + 8 * 4096))
+slot_of place = min ((place - 534) / 8) 4096 + (place - (534 + 8 * 4096))
 
 -- the group whose word is there
 abbrev pub group_at : ℕ → ℕ
-group_at place = (place - 24) / 8
+group_at place = (place - 22) / 8
 
 -- the pass whose hold word is there
 abbrev pub pass_at : Start → ℕ → ℕ
-pass_at k place = (place - (528 + slot_words (slots_of k))) / 8
+pass_at k place = (place - (526 + 8 * slot_lines (slots_of k))) / 8
 
 -- an action of a pass: a lasting table knows no chains
 abbrev pub pass_event : Log → Action → Event
@@ -242,7 +242,7 @@ abbrev pub round_at : Round → ℕ → Round
 round_at round pass = record round { next = pass + 1 }
 
 abbrev pub round_from : ℕ → ℕ → Round
-round_from place found = record { next = 64 * (place - 8) + 1; words = place - 7; last = found }
+round_from place found = record { next = 64 * (place - 6) + 1; words = place - 5; last = found }
 
 -- Skim, of a word of the list: of its passes, those without their bits need no visit
 pub record Skims (st : At) (m : Sat) (found : ℕ) (m' : Sat) : Type 0 where

@@ -81,11 +81,11 @@ impl LastingTable {
             table,
             passes: _,
             installing: _,
-            nodes,
             size,
             range_start: _,
             range_len: _,
         } = self;
+        let count = table.slot_count();
         let mut closed = table.close_with(seat);
         for slot in 0..size {
             if let Some(node) = file_node_of(closed.word(slot_place(slot))) {
@@ -94,7 +94,7 @@ impl LastingTable {
                 }
             }
         }
-        for place in 0..nodes as usize {
+        for place in 0..count {
             let home = closed.take(place);
             let None = home else { unreachable!() };
         }
@@ -110,7 +110,6 @@ impl LastingTable {
             table,
             passes: _,
             installing: _,
-            nodes: _,
             size: _,
             range_start: _,
             range_len: _,

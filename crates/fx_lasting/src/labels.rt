@@ -33,7 +33,7 @@ impl LastingTable {
             → result ≡ f.identity.tag }
         ensures steps { steps_taken pass.new ≤ steps_taken pass.old + 1 }
     {
-        let place = tag_place(self.size, self.passes, self.nodes, hold.node);
+        let place = tag_place(self.size, self.passes, hold.node);
         self.table.shared.load::<ReadingTag>(&mut pass.seat, place)
     }
 
@@ -50,7 +50,7 @@ impl LastingTable {
             → result ≡ number_of_mark f.identity.mark }
         ensures steps { steps_taken pass.new ≤ steps_taken pass.old + 1 }
     {
-        let place = number_place(self.size, self.passes, self.nodes, hold.node);
+        let place = number_place(self.size, self.passes, hold.node);
         self.table
             .shared
             .load::<ReadingNumber>(&mut pass.seat, place)
@@ -73,9 +73,9 @@ impl LastingTable {
         ensures stored { Does seat.old.me [] (Placing node (Label tag number)) 2 seat.new.me }
     {
         let shared = &self.table.shared;
-        let place = tag_place(self.size, self.passes, self.nodes, node);
+        let place = tag_place(self.size, self.passes, node);
         shared.store::<Tagging>(seat, place, tag);
-        let place = number_place(self.size, self.passes, self.nodes, node);
+        let place = number_place(self.size, self.passes, node);
         shared.store::<Numbering>(seat, place, number);
     }
 }

@@ -4,7 +4,7 @@ ghost use Rattle.std.specs.Prelude.{◌≡◌, ◌≤◌, ℕ};
 ghost use Rattle.fx_words.specs.Words.{last_node};
 ghost use Rattle.fx_lasting.specs.Bounds.{WordsAreBounded};
 ghost use Rattle.fx_lasting.specs.Holds.{NodesAreOfOneFile, HeldNodesNameFiles};
-ghost use Rattle.fx_lasting.specs.Layout.{PlacesAreInside, PlacesAreApart, LabelsAreApart};
+ghost use Rattle.fx_lasting.specs.Layout.{PlacesAreInside, PlacesAreApart, LabelsAreApart, NodesAreInOneLine};
 ghost use Rattle.fx_lasting.specs.Opens.{OpeningKeeps};
 ghost use Rattle.fx_lasting.specs.WholeHistory.{HasOneHistory, RemovedFilesHaveUsers};
 ghost use Rattle.fx_lasting.specs.declared.layout.TheConstants.{MOST_SLOTS, MOST_NODES, MOST_PASSES, MOST_INSTALLING};
@@ -315,8 +315,9 @@ pub fn places_are_inside()
     ensures { (size passes nodes : ℕ) → PlacesAreInside size passes nodes }
 {}
 
-/// Different words of such a table have different places.
+/// Different words of such a table have different places, and those of a node are in one line.
 pub fn places_are_apart()
     ensures places { (size passes : ℕ) → PlacesAreApart size passes }
-    ensures labels { (size passes nodes : ℕ) → LabelsAreApart size passes nodes }
+    ensures labels { (size passes : ℕ) → LabelsAreApart size passes }
+    ensures lines { (size passes : ℕ) → NodesAreInOneLine size passes }
 {}

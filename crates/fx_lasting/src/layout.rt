@@ -1,10 +1,14 @@
-//! The places of a table's words. The question word, each group's word, the word of each of the
-//! first 4,096 slots and each pass's hold word have a cache line of their own, and so has the list
-//! of passes that ever looked a file up, a bit for each. The words of the other slots are side by
-//! side. The nodes' words follow them, side by side, and then the two words of
-//! each node's label: the tag of its file, and the number of the file's mark.
+//! The places of a table's words. A line is 8 words. The question word, each group's word, the word
+//! of each of the first 4,096 slots and each pass's hold word have a line of their own. The list of
+//! passes that ever looked a file up, a bit for each, has two lines. The words of the other slots
+//! are side by side. The nodes' words follow from the next line on. Each node has three: its word,
+//! and its label, which is the tag of its file and the number of the file's mark. The words of each
+//! of the first 4,096 nodes have a line of their own, and those of each other node have half a
+//! line. The table's memory begins with the third word of a line. The malloc of glibc returns a
+//! large block 16 bytes after the beginning of a page, so that a line is a cache line there. It
+//! aligns a small block to 16 bytes alone, and then the words of a node may be in two cache lines.
 ghost use Rattle.std.specs.Prelude.{◌≡◌, ◌<◌, ◌≤◌};
-ghost use Rattle.fx_lasting.specs.Layout.{question_place, group_place, group_size, groups_in, group_len, list_place, slot_place, hold_place, node_place, tag_place, number_place, words_for, slot_words, stock_start, nodes_for};
+ghost use Rattle.fx_lasting.specs.Layout.{question_place, group_place, group_size, groups_in, group_len, list_place, slot_place, hold_place, node_place, tag_place, number_place, words_for, slot_words, slot_lines, node_words, stock_start, nodes_for};
 
 /// The greatest number of slots of a table.
 pub const MOST_SLOTS: u32 = 1_048_576;
@@ -77,7 +81,7 @@ pub(crate) fn group_place(group: u32) -> usize
     requires { group < MOST_GROUPS }
     ensures { result ≡ group_place group }
 {
-    24 + 8 * group as usize
+    22 + 8 * group as usize
 }
 
 // Returns the place of the word of the list that has the bit of a pass.
@@ -85,10 +89,10 @@ pub(crate) fn list_place(pass: u32) -> usize
     requires { (1 ≤ pass) × (pass ≤ MOST_PASSES) }
     ensures { result ≡ list_place pass }
 {
-    8 + (pass - 1) as usize / 64
+    6 + (pass - 1) as usize / 64
 }
 
-// The number of slots whose words have a cache line of their own.
+// The number of slots whose words have a line of their own, and that of nodes.
 const OWN_LINES: u32 = 4096;
 
 // Returns the number of words that the first `n` slots take.
@@ -104,12 +108,34 @@ fn slot_words(n: u32) -> u32
     }
 }
 
+// Returns the number of lines that the words of the first `n` slots are in.
+#[inline(always)]
+fn slot_lines(n: u32) -> u32
+    requires { n ≤ MOST_SLOTS }
+    ensures { result ≡ slot_lines n }
+{
+    (slot_words(n) + 7) / 8
+}
+
+// Returns the number of words that the first `n` nodes take.
+#[inline(always)]
+fn node_words(n: u32) -> u32
+    requires { n ≤ MOST_NODES }
+    ensures { result ≡ node_words n }
+{
+    if n < OWN_LINES {
+        8 * n
+    } else {
+        4 * n + 4 * OWN_LINES
+    }
+}
+
 // Returns the place of a slot's word.
 pub(crate) fn slot_place(slot: u32) -> usize
     requires { slot < MOST_SLOTS }
     ensures { result ≡ slot_place slot }
 {
-    536 + slot_words(slot) as usize
+    534 + slot_words(slot) as usize
 }
 
 // Returns the place of a pass's hold word.
@@ -118,41 +144,40 @@ pub(crate) fn hold_place(size: u32, pass: u32) -> usize
     requires pass { pass ≤ MOST_PASSES }
     ensures { result ≡ hold_place size pass }
 {
-    (528 + slot_words(size) + 8 * pass) as usize
+    (526 + 8 * slot_lines(size) + 8 * pass) as usize
 }
 
 // Returns the place of a node's word.
+#[inline(always)]
 pub(crate) fn node_place(size: u32, passes: u32, node: u32) -> usize
     requires size { size ≤ MOST_SLOTS }
     requires passes { passes ≤ MOST_PASSES }
     requires node { node < MOST_NODES }
     ensures { result ≡ node_place size passes node }
 {
-    (536 + slot_words(size) + 8 * passes + node) as usize
+    (534 + 8 * slot_lines(size) + 8 * passes + node_words(node)) as usize
 }
 
-// Returns the place of the tag of a node's file, in a table with `nodes` nodes.
+// Returns the place of the tag of a node's file.
 #[inline(always)]
-pub(crate) fn tag_place(size: u32, passes: u32, nodes: u32, node: u32) -> usize
+pub(crate) fn tag_place(size: u32, passes: u32, node: u32) -> usize
     requires size { size ≤ MOST_SLOTS }
     requires passes { passes ≤ MOST_PASSES }
-    requires nodes { nodes ≤ MOST_NODES }
-    requires node { node < nodes }
-    ensures { result ≡ tag_place size passes nodes node }
+    requires node { node < MOST_NODES }
+    ensures { result ≡ tag_place size passes node }
 {
-    (536 + slot_words(size) + 8 * passes + nodes + 2 * node) as usize
+    node_place(size, passes, node) + 1
 }
 
-// Returns the place of the number of a node's file, in a table with `nodes` nodes.
+// Returns the place of the number of a node's file.
 #[inline(always)]
-pub(crate) fn number_place(size: u32, passes: u32, nodes: u32, node: u32) -> usize
+pub(crate) fn number_place(size: u32, passes: u32, node: u32) -> usize
     requires size { size ≤ MOST_SLOTS }
     requires passes { passes ≤ MOST_PASSES }
-    requires nodes { nodes ≤ MOST_NODES }
-    requires node { node < nodes }
-    ensures { result ≡ number_place size passes nodes node }
+    requires node { node < MOST_NODES }
+    ensures { result ≡ number_place size passes node }
 {
-    tag_place(size, passes, nodes, node) + 1
+    node_place(size, passes, node) + 2
 }
 
 // Returns the number of words of a table with `nodes` nodes.
@@ -162,7 +187,7 @@ pub(crate) fn words_for(size: u32, passes: u32, nodes: u32) -> usize
     requires nodes { nodes ≤ MOST_NODES }
     ensures { result ≡ words_for size passes nodes }
 {
-    (536 + slot_words(size) + 8 * passes + 3 * nodes) as usize
+    (534 + 8 * slot_lines(size) + 8 * passes + node_words(nodes)) as usize
 }
 
 // Returns the first node of a pass's first stock.

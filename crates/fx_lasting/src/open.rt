@@ -156,7 +156,6 @@ impl LastingTable {
             table,
             passes,
             installing,
-            nodes,
             size,
             range_start,
             range_len,
@@ -198,7 +197,7 @@ impl LastingTable {
         let Ok(homes) = move_out(alloc, &mut plain, nodes as usize) else {
             return Err((plain, NoMemory));
         };
-        write_labels(&mut words, &homes, size, passes, nodes);
+        write_labels(&mut words, &homes, size, passes);
         match Table::new(alloc, words.as_slice(), homes, &key) {
             Ok((table, seat)) => {
                 plain.dismiss();
@@ -207,7 +206,6 @@ impl LastingTable {
                         table,
                         passes,
                         installing,
-                        nodes,
                         size,
                         range_start,
                         range_len,
@@ -377,24 +375,17 @@ fn first_words(
 }
 
 // Writes the labels of the files in the places of the slots' nodes.
-fn write_labels(
-    words: &mut Vec<u64>,
-    homes: &Vec<Option<OpenFile>>,
-    size: u32,
-    passes: u32,
-    nodes: u32,
-)
+fn write_labels(words: &mut Vec<u64>, homes: &Vec<Option<OpenFile>>, size: u32, passes: u32)
     requires size { size ≤ MOST_SLOTS }
     requires passes { passes ≤ MOST_PASSES }
-    requires nodes { (size ≤ nodes) × (nodes ≤ MOST_NODES) }
-    requires homes { length homes.now.items ≡ nodes }
-    requires words { length words.old.items ≡ words_for size passes nodes }
-    ensures { AreLabelled size passes nodes homes.now.items size words.old.items words.new.items }
+    requires homes { size ≤ length homes.now.items }
+    requires words { words_for size passes size ≤ length words.old.items }
+    ensures { AreLabelled size passes homes.now.items size words.old.items words.new.items }
 {
     for slot in 0..size {
         if let Some(file) = &homes[slot as usize] {
-            words[tag_place(size, passes, nodes, slot)] = file.tag();
-            words[number_place(size, passes, nodes, slot)] = number_of_mark(file.mark());
+            words[tag_place(size, passes, slot)] = file.tag();
+            words[number_place(size, passes, slot)] = number_of_mark(file.mark());
         }
     }
 }

@@ -2,7 +2,6 @@
 ghost use Rattle.std.specs.Prelude.{◌≡◌, ◌<◌, ◌≤◌, ◌↔◌, IsTrue};
 ghost use Rattle.fx_table.specs.Opening.{size_of, range_of};
 ghost use Rattle.fx_table.specs.Pass.{IsIdle};
-ghost use Rattle.fx_lasting.specs.Passes.{nodes_of};
 ghost use Rattle.fx_lasting.specs.Tables.{view_of, opening_of_table, IsPassOfTable};
 
 use crate::layout::MOST_SLOTS;
@@ -38,13 +37,6 @@ impl LastingTable {
         ensures { result ≡ self.now.table.shared.key.installing }
     {
         self.installing
-    }
-
-    /// Returns the number of nodes of the table. The node of each `Hold` and `Retired` is below it.
-    pub fn nodes(&self) -> u32
-        ensures { result ≡ nodes_of self.now.table.shared.key }
-    {
-        self.nodes
     }
 
     /// Checks whether the pass installs files: it is one of the first `installing` passes.

@@ -20,7 +20,6 @@ pub struct LastingTable {
     pub(crate) table: Table<Option<OpenFile>, View, Start, OneHistory, Global>,
     pub(crate) passes: u32,
     pub(crate) installing: u32,
-    pub(crate) nodes: u32,
     pub(crate) size: u32,
     pub(crate) range_start: u32,
     pub(crate) range_len: u32,
@@ -29,7 +28,6 @@ pub struct LastingTable {
     pub ghost homes: { table.shared.table_id.slots ≡ nodes_of table.shared.key },
     pub ghost key: { (passes ≡ table.shared.key.passes)
         × (installing ≡ table.shared.key.installing) },
-    pub ghost same_nodes: { nodes ≡ nodes_of table.shared.key },
     pub ghost same_size: { size ≡ slots_of table.shared.key },
     pub ghost same_range: { (range_start, range_len) ≡ range_at_start table.shared.key },
     pub ghost few_slots: { size ≤ MOST_SLOTS },

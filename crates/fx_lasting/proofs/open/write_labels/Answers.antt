@@ -6,8 +6,8 @@ use Rattle.fx_lasting.proofs.Starting.{no_label, one_label}
 use Rattle.fx_lasting.proofs.open.write_labels.Goals.{in-Some, in_default, Joined-index}
 use Rattle.fx_lasting.proofs.open.write_labels.Goals as goal
 
-inside : (c : Joined-index) → c.loop-slot.slot < c.args.nodes
-inside c = omega (arith, c.loop-slot-test.true, c.requires.nodes)
+inside : (c : Joined-index) → c.loop-slot.slot < c.args.size
+inside c = omega (arith, c.loop-slot-test.true)
 
 -- what was loaded is what lies in the place
 there : (c : Joined-index) → c.index.result.now ≡ file_in_place c.args.homes.now.items c.loop-slot.slot

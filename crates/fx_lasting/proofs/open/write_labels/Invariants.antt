@@ -2,4 +2,4 @@ use Rattle.fx_lasting.specs.Firsts.{AreLabelled}
 use Rattle.fx_lasting.proofs.open.write_labels.Given as goal
 
 abbrev pub invariant-loop-slot : goal.invariant-loop-slot
-invariant-loop-slot l = AreLabelled l.size l.passes l.nodes l.homes.items l.slot l.initial.words.items l.words.items
+invariant-loop-slot l = AreLabelled l.size l.passes l.homes.items l.slot l.initial.words.items l.words.items

@@ -20,15 +20,15 @@ new-requires c =
     let many : c.nodes_for-nodes.result ≡ nodes_for (state_of c.args.plain).size c.args.passes c.args.installing =
     nodes.nodes ∙ ap (λ (n : ℕ). nodes_for n c.args.passes c.args.installing) few.value in
     let first = subst (λ (n : ℕ). AreFirstWords (state_of c.args.plain) c.args.passes n c.in-Ok.words.items) many c.in-Ok.ensures in
-    let labelled = subst (λ (z : ℕ × ℕ).
-    AreLabelled z.0 c.args.passes z.1 c.in-Ok-move_out.homes.items z.0 c.in-Ok.words.items c.write_labels.new.words.items)
-    (λ i. (few.value i, many i)) c.write_labels.ensures in
-    let words = labelled_first (omega arith) first labelled in
+    let labelled = subst (λ (n : ℕ).
+    AreLabelled n c.args.passes c.in-Ok-move_out.homes.items n c.in-Ok.words.items c.write_labels.new.words.items)
+    few.value c.write_labels.ensures in
+    let words = labelled_first first labelled in
     let homes = subst (λ (n : ℕ). AreFirstHomes c.args.plain n c.in-Ok-move_out.homes.items) many c.in-Ok-move_out.ensures.ok.homes in
     opening_keeps k _ _ (opens_with k c.as_slice.result.now c.in-Ok-move_out.homes.items (rw c.of.ensures (omega (arith, few.value, few.few)))
     (rw c.of.ensures c.range-range_start.ensures.inside) c.requires.passes.1 (rw c.of.ensures (omega (arith, many, nodes.few)))
     (rw (c.of.ensures, c.as_slice.ensures.value) words) (rw c.of.ensures homes)
-    (rw (c.of.ensures, c.as_slice.ensures.value) (labels_so (state_of c.args.plain) c.args.passes _ homes.files labelled)))
+    (rw (c.of.ensures, c.as_slice.ensures.value) (labels_so (state_of c.args.plain) c.args.passes homes.files labelled)))
 
 pub dismiss-requires-clause-empty : goal.dismiss-requires-clause-empty
 dismiss-requires-clause-empty c = no_files c.in-Ok-move_out.ensures.ok.shell.shell
