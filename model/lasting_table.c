@@ -10,8 +10,8 @@ const struct family *family;
 enum wrong wrong;
 int stock;
 
-/* Nodes. A node is told by where it is: at a slot, or in the stock of a pass. So an installation
- * gives two nodes each other's numbers, wherever one is named. */
+/* Nodes. A node is told by where it is: at a slot, or in the stock of a pass. So an installation or
+ * a removal gives two nodes each other's numbers, wherever one is named. */
 
 int node_in_stock(int who, int nth) { return family->slots + who * stock + nth + 1; }
 

@@ -221,18 +221,6 @@ module _ {id : TableId} {k : Start} {p : LastingPass} (fits : IsPassOf id k p) w
       → IsToRetire k.passes p.next_visit f retired p.seat.me.0.work
   its_retiring {f} {retired} = work_retiring k.passes p.next_visit p.idle p.guarded f retired p.seat.me.0.work fits.knows
 
--- a step between a begin and an end, if there are such
-pub goes_around : {m m' m'' m₃ : Sat} {action : Action} {w w' : Work} {g : Glance} {c c' : Change} → Runs m [] w g c 3 m'
-    → Stepped m' ([] ▷ action) w' m'.0.glance c' m'' → Runs m'' [] m''.0.work m''.0.glance Outside 1 m₃ → Runs m ([] ▷ action) w' g Outside 5 m₃
-goes_around {m' = m'} {m'' = m''} {action = action} {w' = w'} {c' = c'} began s ended = turns_then
-    (runs_then began (subst (λ (z : Glance). Runs m' ([] ▷ action) w' z c' 1 m'') began.glance (runs_one s))) ended
-
--- the same, up to the step
-pub goes_in : {m m' m'' : Sat} {action : Action} {w w' : Work} {g : Glance} {c c' : Change} → Runs m [] w g c 3 m'
-    → Stepped m' ([] ▷ action) w' m'.0.glance c' m'' → Runs m ([] ▷ action) w' g c' 4 m''
-goes_in {m' = m'} {m'' = m''} {action = action} {w' = w'} {c' = c'} began s =
-    runs_then began (subst (λ (z : Glance). Runs m' ([] ▷ action) w' z c' 1 m'') began.glance (runs_one s))
-
 -- The results of calls that empty or replace a slot
 module _ (k : Start) (v : PassView) (slot found : ℕ) (w : PassView) where
   abbrev o : Opening

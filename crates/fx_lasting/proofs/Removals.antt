@@ -2,7 +2,7 @@
 use Rattle.fx_lasting.proofs.Words.{◌≡◌, ◌≤◌, ◌<◌, ℕ, ◌+◌, ◌-◌, List, [], set, sym, refl, ap, ◌∙◌, subst, Option, Bool, get_elem?, some}
 use Rattle.fx_lasting.proofs.Words.{Action, ◌▷◌, ◌▷▷◌, Sat, Start, Work, Glance, Change, Runs, IsAtWork, IsStockOf, Log, first_log, TableId, File, At}
 use Rattle.fx_lasting.proofs.Words.{as_stocked, as_swapped, pass_in, name_in, nodes_of, empty_word_of, retiring_work, account, range_at_start}
-use Rattle.fx_lasting.proofs.Words.{slot_of, slot_place, Removes, Nothing, Outside, LastingPass, IsSeatOf, IsPassOf, IsBetweenCalls, opening_of, view_of, pass_of}
+use Rattle.fx_lasting.proofs.Words.{slot_of, slot_place, Nothing, Outside, LastingPass, IsSeatOf, IsPassOf, IsBetweenCalls, opening_of, view_of, pass_of}
 use Rattle.fx_lasting.proofs.Words.{doing_in, IsHistory}
 use Rattle.fx_table.specs.Calls.{Use, no_use, Adds}
 use Rattle.fx_lasting.specs.SwapSteps.{SwapsOut, HasEmptied}
@@ -23,48 +23,14 @@ at_stocked {k} {p} {m} at s its = record {
   stock = its;
 }
 
--- a pass that has the stock that it had
-pub as_it_was : {m m' : Sat} {xs : List Action} {w : Work} {g : Glance} {c : Change} {n : ℕ} (s : List ℕ) → s ≡ (pass_in m).stock → Runs m xs w g c n m'
-    → Runs (as_stocked s m) xs w g c n m'
-as_it_was s same r = record {
-  one = r.one;
-  number = r.number;
-  seen = r.seen;
-  legal = r.legal;
-  own = r.own;
-  steps = r.steps;
-  begun = r.begun;
-  listed = r.listed;
-  asked = r.asked;
-  stock = r.stock ∙ sym same;
-  work = r.work;
-  inside = r.inside;
-  glance = r.glance;
-  change = r.change;
-  start = r.start;
-}
-
 -- a pass that goes on with another stock
 pub stocked_then : {m m' m'' : Sat} {xs ys : List Action} {w w' : Work} {g g' : Glance} {c c' : Change} {n n' : ℕ} (s : List ℕ) → Runs m xs w g c n m'
     → Runs (as_stocked s m') ys w' g' c' n' m'' → Runs (as_stocked s m) (xs ▷▷ ys) w' g' c' (n + n') m''
 stocked_then s a b = runs_then (runs_stocked s a) b
 
 module _ {k : Start} {p : ℕ} {m : Sat} (at : IsAtWork k p m) (stock : List ℕ) (its : stock ≡ (pass_in m).stock) where
-  its_stock : IsStockOf k p stock
-  its_stock = subst (IsStockOf k p) (sym (its ∙ stock_is at)) at.stock
-
   -- what a step on a slot's word tells, as its table and slot have it
   module _ (act : ℕ → Option File → Action) (slot found : ℕ) where
-    -- the name stays at the slot
-    pub by_and : {st : At} {m' : Sat} → Removes act st m found m' → st.word ≡ slot_place slot → HasEmptied k act slot found stock m m'
-    by_and {m' = m'} did here = record {
-      file = did.file;
-      names = did.names;
-      its = subst (λ (n : ℕ). IsStockOf k n stock) (sym (number_is at)) its_stock;
-      runs = as_it_was stock its (subst (λ (z : Start × ℕ). Runs m ([] ▷ act z.1 did.file) (retiring_work z.0 found did.file) m.0.glance
-          (account (range_at_start z.0) z.1 did.file) 1 m') (λ i. (at.pass.0 i, (ap slot_of here ∙ slot_back slot) i)) (runs_one did.stepped));
-    }
-
     -- the name goes into the stock
     pub by_swap : {st : At} {m' : Sat} → SwapsOut act st m found m' → st.word ≡ slot_place slot → (n entry named : ℕ) → get_elem? stock entry ≡ some n
         → st.first ≡ empty_word_of n → named ≡ name_in found - 1 → HasEmptied k act slot found (set stock entry named) m m'

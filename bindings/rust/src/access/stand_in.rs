@@ -271,7 +271,11 @@ pub(crate) unsafe fn yacht_core_open(
         let first = slots + at * count;
         let it = Worker {
             table: Arc::clone(&table),
-            number: if at < installing as usize { at as u64 + 1 } else { 0 },
+            number: if at < installing as usize {
+                at as u64 + 1
+            } else {
+                0
+            },
             step: installing.into(),
             stock: (first..nodes.min(first + count)).collect(),
             free: 0,
