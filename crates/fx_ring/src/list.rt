@@ -29,7 +29,12 @@ fn is_bad_file(entries: u32, number: i32) -> bool
 pub fn has_bad_file(entries: u32, list: &[i32]) -> bool
     ensures { result ≡ list_any (is_bad_file entries) list.now }
 {
-    list.iter().any(|number| is_bad_file(entries, *number))
+    for number in list {
+        if is_bad_file(entries, *number) {
+            return true;
+        }
+    }
+    false
 }
 
 // Checks whether a number below 0, which opens no file, has a tag.
@@ -39,13 +44,17 @@ fn is_bad_tag(number: i32, tag: u64) -> bool
     number < 0 && tag != 0
 }
 
-// Checks whether a number below 0 has the tag of its place, as far as both lists go.
+// Checks whether a number below 0 has a tag other than 0 at its place.
 fn has_bad_tag(list: &[i32], tags: &[u64]) -> bool
+    requires { length list.now ≡ length tags.now }
     ensures { result ≡ list_any (λ pair. is_bad_tag pair.0 pair.1) (zip list.now tags.now) }
 {
-    list.iter()
-        .zip(tags)
-        .any(|(number, tag)| is_bad_tag(*number, *tag))
+    for i in 0..list.len() {
+        if is_bad_tag(list[i], tags[i]) {
+            return true;
+        }
+    }
+    false
 }
 
 /// Checks whether `tags` and `list` differ in length, or a number below 0, which opens no file, has

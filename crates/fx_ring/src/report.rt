@@ -17,7 +17,7 @@ pub enum SubmitFault {
 }
 
 /// The result of an accepted submission (io_uring_enter(2), "CQE").
-#[derive(Debug, Drop)]
+#[derive(Drop)]
 pub struct Report {
     /// The number of the submission among those that the ring accepted, from 1.
     pub submission: u32,

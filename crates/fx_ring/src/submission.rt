@@ -116,7 +116,10 @@ pub(crate) fn accept(
     if earlier >= MOST_SUBMISSIONS {
         return Err(SubmitFault::TooMany);
     }
-    cut(alloc, requests).map_err(|_| SubmitFault::NoMemory)
+    match cut(alloc, requests) {
+        Ok(chains) => Ok(chains),
+        Err(NoMemory) => Err(SubmitFault::NoMemory),
+    }
 }
 
 impl Ring {
