@@ -16,7 +16,7 @@ use fx_order::members;
 use std::alloc::Global;
 
 /// The claims of a member, and the state of its chain after it: severed or not.
-#[derive(Debug, Drop)]
+#[derive(Drop)]
 pub struct MemberClaims {
     pub claims: Vec<Claim>,
     pub cut: bool,

@@ -22,7 +22,7 @@ use fx_script::result_line;
 use std::alloc::Global;
 
 /// The judge's answer for the next command of a script and the rest of a text.
-#[derive(Debug, Drop)]
+#[derive(Drop)]
 pub(crate) enum CommandVerdict {
     /// The text continues with this many bytes that the command may print; of an accepted
     /// submission, an order that prints them.
@@ -49,7 +49,7 @@ impl CommandVerdict {
 }
 
 /// The result of looking for a command's text.
-#[derive(Debug, Drop)]
+#[derive(Drop)]
 pub(crate) enum Met {
     /// The text begins with it; its number of bytes.
     Here(usize),

@@ -7,7 +7,7 @@ use std::alloc::{AllocError, AllocFailed};
 
 /// The reason why no order leads to a report. It is advice for a person, and no contract speaks of
 /// it.
-#[derive(Clone, Copy, Debug, PartialEq, Eq)]
+#[derive(Clone, Copy)]
 pub enum Reason {
     /// The request at this place has no completion, or one that is impossible with any table.
     Member(Place),
@@ -22,7 +22,7 @@ pub enum Reason {
 }
 
 /// A verdict on the report of a submission.
-#[derive(Debug, Drop)]
+#[derive(Drop)]
 pub enum Verdict {
     /// This order of accesses leads to the report.
     Legal(Vec<ChainAccess>),
@@ -33,7 +33,7 @@ pub enum Verdict {
 }
 
 /// A reason for which there is no answer.
-#[derive(Clone, Copy, Debug, PartialEq, Eq)]
+#[derive(Clone, Copy)]
 pub enum Stop {
     /// No order explains the report.
     Refuted(Reason),
@@ -78,7 +78,7 @@ impl<T: Drop> From<AllocFailed<T>> for Stop {
 
 /// The reason why a script doesn't print a text after its break. It is advice for a person, and no
 /// contract speaks of it.
-#[derive(Debug, Drop)]
+#[derive(Drop)]
 pub enum Fault {
     /// The text doesn't continue with any text that the next command, or the end, may print; this
     /// is the likeliest one.
@@ -93,7 +93,7 @@ pub enum Fault {
 
 /// The place at which a script is seen not to print a text. The first commands may print the text
 /// before it.
-#[derive(Debug, Drop)]
+#[derive(Drop)]
 pub struct Break {
     /// The number of commands that may have printed the text before the break. No play prints a
     /// beginning of the text with one more command, unless a line of a closed file or a tag follows
@@ -109,7 +109,7 @@ pub struct Break {
 }
 
 /// A verdict: whether a script may print a text.
-#[derive(Debug, Drop)]
+#[derive(Drop)]
 pub enum Judgement {
     /// The script may print the text: an order for each accepted submission.
     Legal(Vec<Order>),

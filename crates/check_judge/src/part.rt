@@ -15,7 +15,7 @@ use fx_order::{ChainAccess, Slots};
 use std::alloc::Global;
 
 /// The result of a search.
-#[derive(Debug, Drop)]
+#[derive(Drop)]
 pub enum PartVerdict {
     /// An order, which is still to be made.
     Order(Vec<ChainAccess>),

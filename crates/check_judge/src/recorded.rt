@@ -16,7 +16,7 @@ use fx_order::Slots;
 use std::alloc::Global;
 
 /// A report of a submission that is to be judged, for instance a kernel's.
-#[derive(Debug, Drop)]
+#[derive(Drop)]
 pub struct Recorded {
     /// The completion of each request, in order of place.
     pub completions: Vec<Completion>,
