@@ -7,7 +7,7 @@ use std::alloc::{AllocError, AllocFailed};
 
 /// The reason why no order leads to a report. It is advice for a person, and no contract speaks of
 /// it.
-#[derive(Clone, Copy, Debug, PartialEq, Eq)]
+#[derive(Clone, Copy)]
 pub enum Reason {
     /// The request at this place has no completion, or one that is impossible with any table.
     Member(Place),
@@ -33,7 +33,7 @@ pub enum Verdict {
 }
 
 /// A reason for which there is no answer.
-#[derive(Clone, Copy, Debug, PartialEq, Eq)]
+#[derive(Clone, Copy)]
 pub enum Stop {
     /// No order explains the report.
     Refuted(Reason),

@@ -146,10 +146,7 @@ fn is_refuted_by(
         table.now.closes.now table.now.chains.now) }
 {
     let strands = strands_of(alloc, cells, table.chains)?;
-    if !sees_no_end(alloc, &strands, cells, slot)? {
-        return Ok(false);
-    }
-    Ok(true)
+    sees_no_end(alloc, &strands, cells, slot)
 }
 
 // Returns the slots whose counts of claims differ. No contract says anything of them.
@@ -157,13 +154,17 @@ fn suspects(alloc: Global, table: &TableRecorded<'_>) -> Result<Vec<usize>, NoMe
     requires small { length table.now.slots.now.at.items < 2 ^ 32 }
     requires few { length table.now.chains.now + 1 < 2 ^ 32 }
 {
-    let mut slots: Vec<usize> = (0..table.slots.at.len()).collect(alloc)?;
+    let slots: Vec<usize> = (0..table.slots.at.len()).collect(alloc)?;
     let cells = cells_of(alloc, table, &slots)?;
     let strands = strands_of(alloc, &cells, table.chains)?;
-    let steps = Steps::new(alloc, &strands, &cells)?;
+    dead_slots(alloc, &Steps::new(alloc, &strands, &cells)?)
+}
+
+// Returns the slots whose counts of claims differ, by the claims at each.
+fn dead_slots(alloc: Global, steps: &Steps<'_>) -> Result<Vec<usize>, NoMemory> {
     let tallies = steps.tallies(alloc)?;
     let start = steps.start(alloc)?;
-    slots.clear();
+    let mut slots = Vec::new(alloc);
     for slot in 0..tallies.len() {
         let found = steps.file(&start, slot);
         if tallies[slot].is_dead(found) {

@@ -104,7 +104,10 @@ pub(crate) fn accesses_along(
             break;
         };
         let found = match claim {
-            Claim::At(slot, _, _) => cell_at(&cells, *slot).map(|resident| resident.file),
+            Claim::At(slot, _, _) => match cell_at(&cells, *slot) {
+                Some(resident) => Some(resident.file),
+                None => None,
+            },
             Claim::Full => None,
         };
         accesses.push(ChainAccess {

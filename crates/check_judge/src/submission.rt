@@ -43,7 +43,7 @@ fn line_length(text: &[u8]) -> usize
 // Checks whether a line is that of a completion at a place.
 fn is_completion(alloc: Global, line: &[u8], place: Place) -> Result<bool, NoMemory> {
     match read_report(alloc, line, 1)? {
-        Some((lines, _)) => Ok(lines.completions.iter().all(|c| c.place == place)),
+        Some((lines, _)) => Ok(matches!(lines.completions.first(), Some(c) if c.place == place)),
         None => Ok(false),
     }
 }
@@ -103,8 +103,12 @@ fn wrong_close(alloc: Global, before: usize, text: &[u8]) -> Result<Fault, NoMem
         rest = others;
         count = count.saturating_add(1);
     }
-    let expected = format!(in alloc; "the closed files, and then their tags")?;
-    Ok(Fault::Line(count, expected))
+    line_fault(alloc, count, "the closed files, and then their tags")
+}
+
+// Returns the fault of a line in whose place these words are expected.
+fn line_fault(alloc: Global, number: usize, expected: &str) -> Result<Fault, NoMemory> {
+    Ok(Fault::Line(number, String::from_str(alloc, expected)?))
 }
 
 // Returns the completions and closes that lines report, or the first invalid line.
@@ -126,19 +130,22 @@ fn recorded_by(
     let closes = match files_recorded(alloc, catalogue, &ring.slots, &closed)? {
         Ok(files) => files,
         Err(i) => {
-            let expected = format!(in alloc; "a closed file by its mark and its own name")?;
-            return Ok(Err(Fault::Line(completions.len().saturating_add(i), expected)));
+            let number = completions.len().saturating_add(i);
+            let expected = "a closed file by its mark and its own name";
+            return Ok(Err(line_fault(alloc, number, expected)?));
         }
     };
     if let Some(i) = wrong_order(&closes) {
-        let expected = format!(in alloc; "the closed files in order of mark, each once")?;
-        return Ok(Err(Fault::Line(completions.len().saturating_add(i), expected)));
+        let number = completions.len().saturating_add(i);
+        let expected = "the closed files in order of mark, each once";
+        return Ok(Err(line_fault(alloc, number, expected)?));
     }
-    let expected = tags_recorded(alloc, &closes)?;
-    if let Some(i) = wrong_tag(&expected, &tags) {
+    let own_tags = tags_recorded(alloc, &closes)?;
+    if let Some(i) = wrong_tag(&own_tags, &tags) {
         let behind = completions.len().saturating_add(closes.len());
-        let expected = format!(in alloc; "the tags of the closed files, in their order")?;
-        return Ok(Err(Fault::Line(behind.saturating_add(i), expected)));
+        let number = behind.saturating_add(i);
+        let expected = "the tags of the closed files, in their order";
+        return Ok(Err(line_fault(alloc, number, expected)?));
     }
     Ok(Ok(Recorded {
         completions,
@@ -164,8 +171,9 @@ fn recorded_of(
         Err(fault) => return Ok(Err(fault)),
     };
     if let Some(i) = unknown_file(&ring.slots, requests, &recorded) {
-        let expected = format!(in alloc; "a file that was at a slot, or that a request installed")?;
-        return Ok(Err(Fault::Line(recorded.completions.len().saturating_add(i), expected)));
+        let number = recorded.completions.len().saturating_add(i);
+        let expected = "a file that was at a slot, or that a request installed";
+        return Ok(Err(line_fault(alloc, number, expected)?));
     }
     Ok(Ok(recorded))
 }

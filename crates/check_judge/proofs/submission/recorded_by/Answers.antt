@@ -8,7 +8,7 @@ returns-clause-lines c =
     recorded_lines c.args.catalogue.now c.args.lines c.in-Ok.files.items
     (recorded ∙ ap (λ (l : List ClosedLine). map named_close_of l) c.deref.ensures.value)
     (ap (λ (l : List Closed). map (λ file. file.tag) (filter (λ file. not (file.tag == 0)) l)) (sym c.deref-3.ensures.value)
-    ∙ sym c.in_ok-expected-2.ensures ∙ sym c.deref-4.ensures.value ∙ c.in_default-wrong_tag.ensures.same ∙ c.deref-5.ensures.value)
+    ∙ sym c.in_ok-own_tags.ensures ∙ sym c.deref-4.ensures.value ∙ c.in_default-wrong_tag.ensures.same ∙ c.deref-5.ensures.value)
 
 pub returns-in-Some-wrong_tag-clause-only : goal.returns-in-Some-wrong_tag-clause-only
 returns-in-Some-wrong_tag-clause-only c = λ apart report may same.
@@ -18,5 +18,5 @@ returns-in-Some-wrong_tag-clause-only c = λ apart report may same.
     let closed : named_closes catalogue report.closes.files ≡ map named_close_of c.deref.result.now =
     ap (λ (l : Lines). l.closed) same ∙ ap (λ (l : List ClosedLine). map named_close_of l) (sym c.deref.ensures.value) in
     let files : c.deref-3.result.now ≡ report.closes.files = c.deref-3.ensures.value ∙ only apart report.closes.files may.each closed in
-    c.in-Some-wrong_tag.ensures.apart (c.deref-4.ensures.value ∙ c.in_ok-expected-2.ensures ∙ tags_again files
+    c.in-Some-wrong_tag.ensures.apart (c.deref-4.ensures.value ∙ c.in_ok-own_tags.ensures ∙ tags_again files
     ∙ ap (λ (l : Lines). l.tags) same ∙ sym c.deref-5.ensures.value)
