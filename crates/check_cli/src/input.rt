@@ -66,7 +66,7 @@ impl NoVerdict {
     /// The error of the write, if it fails.
     pub fn print(&self, rt: &HostRuntime) -> io::Result<()> {
         match self {
-            NoVerdict::Refused(refusal) => refusal.tell(rt, "fixcheck"),
+            NoVerdict::Refused(refusal) => refusal.print(rt, "fixcheck"),
             NoVerdict::Because(_, words) => eprintln!(rt; "fixcheck: {words}"),
             NoVerdict::Fault(fault) => eprintln!(rt; "fixcheck: {fault}"),
         }

@@ -4,7 +4,7 @@ ghost use Rattle.std.specs.Prelude.{IfOk};
 ghost use Rattle.check_judge.specs.Judged.{IsJudged};
 
 use check_explain::{
-    AskedLine, Case, Words, after_closes, cut_word, line_number, next_line, rest_at, slots_after,
+    AskedLine, Case, Facts, Words, after_closes, cut_word, line_number, next_line, rest_at,
 };
 use check_judge::{Break, Fault, Judgement, judge, judge_from};
 use check_lines::{accepted_in, copy_of};
@@ -42,31 +42,39 @@ pub(crate) struct Question<'a> {
 impl Question<'_> {
     /// Returns the lines of the script after those of the first `commands` commands.
     pub(crate) fn asked_after(&self, commands: usize) -> &[AskedLine<'_>] {
-        let mut lines = 0usize;
-        for command in self.script.commands().iter().take(commands) {
-            let requests = match command {
-                Command::Submit(requests) => requests.len(),
-                _ => 0,
-            };
-            lines = lines.saturating_add(requests).saturating_add(1);
+        let (script, mut lines) = (self.script.commands(), 0usize);
+        for i in 0..commands {
+            if let Some(Command::Submit(requests)) = script.get(i) {
+                lines = lines.saturating_add(requests.len());
+            }
+            lines = lines.saturating_add(1);
         }
         self.asked.get(lines..).unwrap_or(&[])
     }
 
-    /// Returns the submission at a break, if it is one that is accepted.
-    pub(crate) fn case_at<'b>(&'b self, broken: &'b Break) -> Option<Case<'b>> {
+    /// Returns the facts of the submission at a break, if it is one that is accepted.
+    ///
+    /// # Errors
+    /// `NoMemory` if an allocation fails.
+    pub(crate) fn facts_at<'b>(&'b self, broken: &'b Break) -> Result<Option<Facts<'b>>, NoMemory> {
         let submissions = broken.ring.submissions;
-        let command = self.script.commands().get(broken.commands)?;
-        Some(Case {
+        let Some(command) = self.script.commands().get(broken.commands) else {
+            return Ok(None);
+        };
+        let Some(requests) = accepted_in(command, submissions) else {
+            return Ok(None);
+        };
+        let facts = Facts::new(&Case {
             alloc: self.alloc,
             catalogue: self.script.catalogue(),
             slots: &broken.ring.slots,
             submissions,
             asked: self.asked_after(broken.commands),
-            requests: accepted_in(command, submissions)?,
+            requests,
             text: rest_at(self.text, broken.at),
             line: line_number(self.text, broken.at),
-        })
+        })?;
+        Ok(Some(facts))
     }
 }
 
@@ -198,20 +206,21 @@ fn after_line(
 fn shown_after<'a>(
     question: &'a Question<'_>,
     broken: &'a Break,
+    facts: &Option<Facts<'a>>,
 ) -> Result<Option<Shown<'a>>, NoMemory> {
-    if let Some(case) = question.case_at(broken) {
-        if let Some((slots, rest)) = slots_after(&case)? {
-            let ring = RingSlots {
-                slots,
-                submissions: broken.ring.submissions.saturating_add(1),
-                registrations: broken.ring.registrations,
-            };
-            return Ok(Some(Shown {
-                ring,
-                commands: 1,
-                rest,
-            }));
-        }
+    if let Some(facts) = facts
+        && let Some((slots, rest)) = facts.slots_after()?
+    {
+        let ring = RingSlots {
+            slots,
+            submissions: broken.ring.submissions.saturating_add(1),
+            registrations: broken.ring.registrations,
+        };
+        return Ok(Some(Shown {
+            ring,
+            commands: 1,
+            rest,
+        }));
     }
     let (line, rest) = next_line(rest_at(question.text, broken.at));
     let Some((ring, commands)) = after_line(question, broken, line)? else {
@@ -227,17 +236,18 @@ fn shown_after<'a>(
 
 /// Judges a text after a break, from the ring that the text shows there: the verdict is that of
 /// `check_judge::judge_from` on that ring, and nothing is proved of whether a play leads to it. A
-/// further break is counted from the beginning of the script and of the text. Returns `None` if the
-/// text shows no ring there.
+/// further break is counted from the beginning of the script and of the text. `facts`: those of the
+/// submission at the break. Returns `None` if the text shows no ring there.
 ///
 /// # Errors
 /// `NoMemory` if an allocation fails.
-pub(crate) fn judged_after(
-    question: &Question<'_>,
+pub(crate) fn judged_after<'a>(
+    question: &'a Question<'_>,
     limits: Limits,
-    broken: &Break,
+    broken: &'a Break,
+    facts: &Option<Facts<'a>>,
 ) -> Result<Option<Judgement>, NoMemory> {
-    let Some(shown) = shown_after(question, broken)? else {
+    let Some(shown) = shown_after(question, broken, facts)? else {
         return Ok(None);
     };
     let (alloc, script) = (question.alloc, question.script);

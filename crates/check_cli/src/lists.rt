@@ -96,63 +96,52 @@ impl<'a> ListedOrders<'a> {
         })
     }
 
-    // Returns for each chain of the submission of an order the places of its accesses, the first
-    // one last.
-    fn chains_of(&self, past: &Past) -> Result<Vec<Vec<AccessPlace>>, NoMemory> {
+    // Returns the places of all accesses of the submission of an order, chain by chain.
+    fn places_of(&self, past: &Past) -> Result<Vec<AccessPlace>, NoMemory> {
         let nth = (past.submission as usize).saturating_sub(1);
         let requests = self.submissions.get(nth).copied().unwrap_or(&[]);
         let size = u32::try_from(past.size).unwrap_or(0);
-        let mut chains = access_places(self.alloc, self.script.catalogue(), size, requests)?;
-        for places in &mut chains {
-            places.reverse();
-        }
-        Ok(chains)
+        access_places(self.alloc, self.script.catalogue(), size, requests)
     }
 
-    // Returns the places of the accesses of an order.
-    fn places_of(&self, past: &Past) -> Result<Vec<AccessPlace>, NoMemory> {
-        let (mut left, mut places) = (self.chains_of(past)?, Vec::new(self.alloc));
+    // Appends the line of an order: each access of a chain is the chain's next one.
+    fn push(&self, report: &mut Words, past: &Past) -> Result<(), NoMemory> {
+        let all = self.places_of(past)?;
+        let mut next = Vec::new(self.alloc);
+        let mut places = Vec::new(self.alloc);
+        for i in 0..all.len() {
+            for _ in next.len()..all[i].chain as usize {
+                next.push(i)?;
+            }
+        }
         for made in &past.order {
-            if let Some(rest) = left.get_mut((made.chain as usize).saturating_sub(1))
-                && let Some(place) = rest.pop()
+            if let Some(turn) = next.get_mut((made.chain as usize).saturating_sub(1))
+                && let Some(place) = all.get(*turn)
             {
-                places.push(place)?;
+                places.push(*place)?;
+                *turn = turn.saturating_add(1);
             }
         }
-        Ok(places)
-    }
-
-    // Appends the line of an order, by its number in the list.
-    fn push(&self, report: &mut Words, number: usize) -> Result<(), NoMemory> {
-        if let Some(past) = self.orders.get(number) {
-            let places = self.places_of(past)?;
-            push_order(report, past.submission, &places);
-        }
+        push_order(report, past.submission, &places);
         Ok(())
-    }
-
-    // Returns the numbers of the orders that lead to an order, from that one back to the first.
-    fn way_back(&self, last: usize) -> Result<Vec<usize>, NoMemory> {
-        let (mut way, mut next) = (Vec::new(self.alloc), Some(last));
-        for _ in 0..self.orders.len() {
-            if let Some(i) = next
-                && let Some(past) = self.orders.get(i)
-            {
-                way.push(i)?;
-                next = past.before;
-            }
-        }
-        Ok(way)
     }
 
     // Appends the line of an order, by its number in the list, after those of the orders that lead
     // to it, each after two spaces.
     fn push_way(&self, report: &mut Words, last: usize) -> Result<(), NoMemory> {
-        let mut way = self.way_back(last)?;
+        let (mut way, mut next) = (Vec::new(self.alloc), Some(last));
+        for _ in 0..self.orders.len() {
+            if let Some(i) = next
+                && let Some(past) = self.orders.get(i)
+            {
+                way.push(past)?;
+                next = past.before;
+            }
+        }
         for _ in 0..way.len() {
-            if let Some(i) = way.pop() {
+            if let Some(past) = way.pop() {
                 report.say("  ");
-                self.push(report, i)?;
+                self.push(report, past)?;
             }
         }
         Ok(())
@@ -239,7 +228,9 @@ pub(crate) fn listing_of_texts(
         }
         if let Some(by) = all.by.get(i) {
             for number in by {
-                orders.push(&mut report, *number)?;
+                if let Some(past) = all.orders.get(*number) {
+                    orders.push(&mut report, past)?;
+                }
             }
         }
     }

@@ -102,34 +102,27 @@ fn list_texts(
 fn print_judgement(
     rt: &HostRuntime,
     question: &Question<'_>,
-    judgement: Judgement,
+    judgement: &Judgement,
 ) -> Result<(), NoVerdict> {
     let settings = question.settings;
     match judgement {
-        Judgement::Legal(orders) if settings.history => {
-            print_history(rt, question, orders.as_slice())
-        }
+        Judgement::Legal(orders) if settings.history => print_history(rt, question, orders),
         Judgement::NotLegal(first) if settings.keep_going => {
             write(rt, &breaks_text(question, limits_of(settings), first)?)
         }
-        judgement => write(rt, &verdict_text(question, &judgement)?),
+        _ => write(rt, &verdict_text(question, judgement)?),
     }
 }
 
 // Judges a text that was read from a path, and prints the verdict. Returns the exit status.
 fn judge_text(rt: &HostRuntime, question: &Question<'_>, path: &str) -> Result<u8, NoVerdict> {
-    let judgement = judged(
-        rt,
-        question.script,
-        question.text,
-        limits_of(question.settings),
-    )?;
-    let status = status_of(&judgement);
+    let limits = limits_of(question.settings);
+    let judgement = judged(rt, question.script, question.text, limits)?;
     if matches!(&judgement, Judgement::NotLegal(_)) {
         note_script(rt, path, question.text)?;
     }
-    print_judgement(rt, question, judgement)?;
-    Ok(status)
+    print_judgement(rt, question, &judgement)?;
+    Ok(status_of(&judgement))
 }
 
 // Judges the text at a path, and prints the verdict. Returns the exit status.

@@ -5,7 +5,7 @@ ghost use Rattle.check_cli.specs.Status.{status};
 use crate::judging::{Question, judged_after};
 use crate::lists::push_order;
 use check_explain::{
-    Complaint, Words, explain, first_difference, line_after, line_at, line_number, rest_at,
+    Complaint, Facts, Words, first_difference, line_after, line_at, line_number, rest_at,
     sign_before,
 };
 use check_judge::{Break, Fault, Judgement, Reason};
@@ -90,20 +90,6 @@ fn push_reason(report: &mut Words, submission: u32, reason: Reason) {
         Reason::Closes => report.say("no order closes these files\n"),
         Reason::Slot(slot) => report.count("slot ", u64::from(slot), " alone has no order\n"),
         Reason::Chains => report.say("its chains have no order\n"),
-    }
-}
-
-// Returns a complaint about the lines of the submission at which a text breaks, if it is one and a
-// complaint is found.
-fn complaint_in(question: &Question<'_>, broken: &Break) -> Result<Option<Complaint>, NoMemory> {
-    let slot = match &broken.fault {
-        Fault::Text(_) => return Ok(None),
-        Fault::Order(_, Reason::Slot(slot)) => Some(*slot),
-        Fault::Line(..) | Fault::Order(..) => None,
-    };
-    match question.case_at(broken) {
-        Some(case) => explain(&case, slot),
-        None => Ok(None),
     }
 }
 
@@ -237,13 +223,28 @@ fn push_complaint(
     Ok(())
 }
 
-// Appends the command at which a text breaks, and the reason.
-fn push_break(report: &mut Words, question: &Question<'_>, broken: &Break) -> Result<(), NoMemory> {
+// Appends the command at which a text breaks, and the reason: a complaint about the lines of the
+// submission there, if it is one and a complaint is found, or else the judge's fault. `facts`:
+// those of the submission.
+fn push_break(
+    report: &mut Words,
+    question: &Question<'_>,
+    broken: &Break,
+    facts: &Option<Facts<'_>>,
+) -> Result<(), NoMemory> {
     push_command(report, question, broken.commands);
-    match complaint_in(question, broken)? {
-        Some(complaint) => push_complaint(report, question, broken.at, &complaint),
-        None => push_fault(report, question, broken),
+    let (is_text, slot) = match &broken.fault {
+        Fault::Text(_) => (true, None),
+        Fault::Order(_, Reason::Slot(slot)) => (false, Some(*slot)),
+        Fault::Line(..) | Fault::Order(..) => (false, None),
+    };
+    if let Some(facts) = facts
+        && !is_text
+        && let Some(complaint) = facts.explain(slot)?
+    {
+        return push_complaint(report, question, broken.at, &complaint);
     }
+    push_fault(report, question, broken)
 }
 
 // Appends the submission that wasn't decided, and the reason.
@@ -274,7 +275,9 @@ pub(crate) fn verdict_text(
                 push_order(&mut report, order.submission, &order.places);
             }
         }
-        Judgement::NotLegal(broken) => push_break(&mut report, question, broken)?,
+        Judgement::NotLegal(broken) => {
+            push_break(&mut report, question, broken, &question.facts_at(broken)?)?;
+        }
         Judgement::Undecided(submission, doubt) => {
             report.say("undecided: ");
             push_doubt(&mut report, &question.settings, *submission, doubt);
@@ -283,28 +286,33 @@ pub(crate) fn verdict_text(
     Ok(report)
 }
 
-// Appends the verdict on the text after the last break, or that it wasn't judged.
-fn push_last(
+// Appends a break, and the verdict on the text after it unless that is a further break, which it
+// returns. Nothing follows the end of the script.
+fn push_next(
     report: &mut Words,
     question: &Question<'_>,
-    command: usize,
-    judgement: &Option<Judgement>,
-) {
-    let command = command as u64;
-    match judgement {
-        None => {
-            report.count(
-                "not judged after command ",
-                command,
-                ": the text shows no ring there\n",
-            );
-        }
+    limits: Limits,
+    broken: &Break,
+) -> Result<Option<Break>, NoMemory> {
+    let facts = question.facts_at(broken)?;
+    push_break(report, question, broken, &facts)?;
+    if broken.commands >= question.script.commands().len() {
+        return Ok(None);
+    }
+    let command = broken.commands.saturating_add(1) as u64;
+    match judged_after(question, limits, broken, &facts)? {
+        Some(Judgement::NotLegal(next)) => return Ok(Some(next)),
         Some(Judgement::Undecided(submission, doubt)) => {
             report.count("undecided after command ", command, ": ");
-            push_doubt(report, &question.settings, *submission, doubt);
+            push_doubt(report, &question.settings, submission, &doubt);
         }
-        Some(_) => report.count("legal after command ", command, "\n"),
+        Some(Judgement::Legal(_)) => report.count("legal after command ", command, "\n"),
+        None => {
+            let after = ": the text shows no ring there\n";
+            report.count("not judged after command ", command, after);
+        }
     }
+    Ok(None)
 }
 
 /// Returns the lines of all breaks of a text, each found from the ring that the text shows after
@@ -312,27 +320,15 @@ fn push_last(
 pub(crate) fn breaks_text(
     question: &Question<'_>,
     limits: Limits,
-    first: Break,
+    first: &Break,
 ) -> Result<Words, NoMemory> {
-    let (mut broken, commands) = (first, question.script.commands().len());
     let mut report = Words::new(question.alloc);
-    for _ in 0..=commands {
-        push_break(&mut report, question, &broken)?;
-        if broken.commands >= commands {
+    let mut next = push_next(&mut report, question, limits, first)?;
+    for _ in 0..question.script.commands().len() {
+        let Some(broken) = next else {
             break;
-        }
-        match judged_after(question, limits, &broken)? {
-            Some(Judgement::NotLegal(next)) => broken = next,
-            last => {
-                push_last(
-                    &mut report,
-                    question,
-                    broken.commands.saturating_add(1),
-                    &last,
-                );
-                break;
-            }
-        }
+        };
+        next = push_next(&mut report, question, limits, &broken)?;
     }
     Ok(report)
 }

@@ -1,10 +1,11 @@
 //! The answers that a request may give, whatever the other requests answer (docs/MODEL.md, "What a
 //! request answers").
-use crate::case::{Act, Effect, Row, result_of, slots_of};
+use crate::case::{Act, Row, result_of, slots_of};
 use crate::facts::Facts;
 use crate::words::{Words, name_of, sign_before};
 use fx_base::{Errno, NoMemory};
-use fx_chain::Completion;
+use fx_chain::{Completion, Intent};
+use std::alloc::AllocError;
 
 /// The largest number of answers, and of bytes of a file, that are shown.
 const SHOWN: usize = 16;
@@ -12,26 +13,29 @@ const SHOWN: usize = 16;
 /// A content that requests leave at a slot, and their chain, or `None` if it may be any.
 pub(crate) type Left = (Option<u8>, Option<u32>);
 
-/// An answer that a request may give: one of the results from `first` to `last`, with these bytes,
-/// of a file of this name.
-#[derive(Drop)]
-struct ValidAnswer<'a> {
+/// An answer that a request may give: one of the results from `first` to `last`, with the bytes
+/// that it reads of a file of an entry, or with none.
+#[derive(Clone, Copy)]
+struct ValidAnswer {
     first: i32,
     last: i32,
-    bytes: Vec<u8>,
-    name: Option<&'a str>,
+    entry: Option<u8>,
 }
 
 /// The answers that a request may give.
 #[derive(Drop)]
-pub(crate) struct Answers<'a>(Vec<ValidAnswer<'a>>);
+pub(crate) struct Answers<'a> {
+    facts: &'a Facts<'a>,
+    row: &'a Row<'a>,
+    list: Vec<ValidAnswer>,
+}
 
 // Returns the content that an access leaves at its slot, or `None` if it changes nothing.
-fn content_after(effect: Effect) -> Option<Option<u8>> {
-    match effect {
-        Effect::Looks => None,
-        Effect::Takes | Effect::Clears => Some(None),
-        Effect::Installs(file) => Some(Some(file.entry)),
+fn content_after(act: &Act) -> Option<Option<u8>> {
+    match (act.intent, act.put) {
+        (Intent::Look(_), _) => None,
+        (_, Some(file)) => Some(Some(file.entry)),
+        (_, None) => Some(None),
     }
 }
 
@@ -41,7 +45,7 @@ fn add_content(
     there: &mut Vec<Left>,
     content: Option<u8>,
     by: Option<u32>,
-) -> Result<(), NoMemory> {
+) -> Result<(), AllocError> {
     for i in 0..there.len() {
         if there[i].0 == content {
             if there[i].1 != by {
@@ -54,13 +58,13 @@ fn add_content(
 }
 
 /// Returns for each slot the contents that requests leave there, each once.
-pub(crate) fn left_at_slots(facts: &Facts<'_>) -> Result<Vec<Vec<Left>>, NoMemory> {
+pub(crate) fn left_at_slots(facts: &Facts<'_>) -> Result<Vec<Vec<Left>>, AllocError> {
     let mut left: Vec<Vec<Left>> = Vec::new(facts.case.alloc);
     for _ in 0..facts.case.size() {
         left.push(Vec::new(facts.case.alloc))?;
     }
     for act in &facts.acts {
-        let Some(content) = content_after(act.effect) else {
+        let Some(content) = content_after(act) else {
             continue;
         };
         let mut by = None;
@@ -77,7 +81,8 @@ pub(crate) fn left_at_slots(facts: &Facts<'_>) -> Result<Vec<Vec<Left>>, NoMemor
     Ok(left)
 }
 
-// Returns the content that a slot has before a request if no other chain changes it.
+// Returns the content that a slot has before a request if no other chain changes it: that of the
+// last earlier member of its chain, or else that before the submission.
 fn content_before(facts: &Facts<'_>, row: &Row<'_>, slot: u32) -> Option<u8> {
     let mut content = match facts.case.slots.at.get(slot as usize) {
         Some(Some(file)) => Some(file.entry),
@@ -86,7 +91,7 @@ fn content_before(facts: &Facts<'_>, row: &Row<'_>, slot: u32) -> Option<u8> {
     let (from, to, _) = row.acts;
     for act in facts.acts_between(from, to) {
         if act.asked == Some(slot)
-            && let Some(left) = content_after(act.effect)
+            && let Some(left) = content_after(act)
         {
             content = left;
         }
@@ -94,115 +99,90 @@ fn content_before(facts: &Facts<'_>, row: &Row<'_>, slot: u32) -> Option<u8> {
     content
 }
 
-// Returns the contents that a slot may have before a request, each once: that of the last earlier
-// member of its chain, or else that before the submission, and those that other chains leave. A
-// later member of its chain comes too late.
-fn contents_at(
-    facts: &Facts<'_>,
-    left: &[Vec<Left>],
-    row: &Row<'_>,
-    slot: u32,
-) -> Result<Vec<Option<u8>>, NoMemory> {
-    let mut contents = Vec::new(facts.case.alloc);
-    contents.push(content_before(facts, row, slot))?;
-    if let Some(left) = left.get(slot as usize) {
-        for (content, by) in left {
-            if *by != Some(row.place.chain) && !contents.contains(content) {
-                contents.push(*content)?;
-            }
-        }
-    }
-    Ok(contents)
-}
-
 impl<'a> Answers<'a> {
     // Appends the answer without bytes of one of some results.
-    fn push(&mut self, facts: &Facts<'_>, first: i32, last: i32) -> Result<(), NoMemory> {
-        let bytes = Vec::new(facts.case.alloc);
-        let name = None;
-        Ok(
-            self.0.push(ValidAnswer {
-                first,
-                last,
-                bytes,
-                name,
-            })?,
-        )
+    fn push(&mut self, first: i32, last: i32) -> Result<(), AllocError> {
+        let entry = None;
+        Ok(self.list.push(ValidAnswer { first, last, entry })?)
     }
 
     // Appends the answer of an error.
-    fn push_error(&mut self, facts: &Facts<'_>, errno: Errno) -> Result<(), NoMemory> {
-        self.push(facts, result_of(errno), result_of(errno))
+    fn push_error(&mut self, errno: Errno) -> Result<(), AllocError> {
+        self.push(result_of(errno), result_of(errno))
     }
 
-    // Appends the answer of a read of a file of an entry.
-    fn push_read(&mut self, facts: &Facts<'a>, row: &Row<'_>, entry: u8) -> Result<(), NoMemory> {
-        let catalogue = facts.case.catalogue;
-        let bytes = row.request.bytes_of(facts.case.alloc, catalogue, entry)?;
-        let number = i32::try_from(bytes.len()).unwrap_or(i32::MAX);
-        Ok(
-            self.0.push(ValidAnswer {
-                first: number,
-                last: number,
-                bytes,
-                name: Some(name_of(catalogue, entry)),
-            })?,
-        )
+    // Returns the bytes that the request reads of a file of an entry, or no bytes without one.
+    fn bytes_of(&self, entry: Option<u8>) -> Result<Vec<u8>, NoMemory> {
+        let (facts, row) = (self.facts, self.row);
+        match entry {
+            Some(entry) => row
+                .request
+                .bytes_of(facts.case.alloc, facts.case.catalogue, entry),
+            None => Ok(Vec::new(facts.case.alloc)),
+        }
+    }
+
+    // Appends the answer of a read of a file of an entry, unless it is there, or that of a close of
+    // any file.
+    fn push_file(&mut self, is_read: bool, entry: u8) -> Result<(), NoMemory> {
+        let entry = if is_read { Some(entry) } else { None };
+        for i in 0..self.list.len() {
+            if self.list[i].entry == entry {
+                return Ok(());
+            }
+        }
+        let number = i32::try_from(self.bytes_of(entry)?.len()).unwrap_or(i32::MAX);
+        let (first, last) = (number, number);
+        Ok(self.list.push(ValidAnswer { first, last, entry })?)
     }
 
     // Appends the answers of an open at any slot of the allocation range.
-    fn push_open(&mut self, facts: &Facts<'_>) -> Result<(), NoMemory> {
+    fn push_open(&mut self) -> Result<(), AllocError> {
+        let facts = self.facts;
         let (first, count) = facts.case.slots.range;
         if count > 0 {
             let last = first.saturating_add(count).saturating_sub(1);
             let first = i32::try_from(first).unwrap_or(i32::MAX);
-            self.push(facts, first, i32::try_from(last).unwrap_or(i32::MAX))?;
+            self.push(first, i32::try_from(last).unwrap_or(i32::MAX))?;
         }
-        self.push_error(facts, Errno::ENFILE)
+        self.push_error(Errno::ENFILE)
     }
 
-    // Appends the answers of a read or a close of a slot that may have these contents.
-    fn push_slot(
-        &mut self,
-        facts: &Facts<'a>,
-        row: &Row<'_>,
-        act: &Act,
-        contents: &[Option<u8>],
-    ) -> Result<(), NoMemory> {
-        for content in contents {
-            if let Some(entry) = *content {
-                if !matches!(act.effect, Effect::Looks) {
-                    self.push(facts, 0, 0)?;
-                    break;
+    // Appends the answers of a read or a close of a slot, by the contents that the slot may have
+    // before it: its content if no other chain changes it, and those that other chains leave. A
+    // later member of the request's chain comes too late.
+    fn push_slot(&mut self, left: &[Vec<Left>], is_read: bool, slot: u32) -> Result<(), NoMemory> {
+        let mut is_empty = false;
+        match content_before(self.facts, self.row, slot) {
+            Some(entry) => self.push_file(is_read, entry)?,
+            None => is_empty = true,
+        }
+        if let Some(left) = left.get(slot as usize) {
+            for (content, by) in left {
+                match content {
+                    _ if *by == Some(self.row.place.chain) => {}
+                    Some(entry) => self.push_file(is_read, *entry)?,
+                    None => is_empty = true,
                 }
-                self.push_read(facts, row, entry)?;
             }
         }
-        if contents.contains(&None) {
-            self.push_error(facts, Errno::EBADF)?;
+        if is_empty {
+            self.push_error(Errno::EBADF)?;
         }
         Ok(())
     }
 
-    // Appends the answers that a request may give by what its accesses find.
-    fn push_acts(
-        &mut self,
-        facts: &Facts<'a>,
-        left: &[Vec<Left>],
-        row: &Row<'_>,
-    ) -> Result<(), NoMemory> {
-        let (_, from, to) = row.acts;
-        for act in facts.acts_between(from, to) {
+    // Appends the answers that the request may give by what its access finds.
+    fn push_found(&mut self, left: &[Vec<Left>]) -> Result<(), NoMemory> {
+        let (_, from, to) = self.row.acts;
+        for act in self.facts.acts_between(from, to) {
             match act.asked {
-                None => self.push_open(facts)?,
-                Some(slot) => {
-                    let contents = contents_at(facts, left, row, slot)?;
-                    self.push_slot(facts, row, act, &contents)?;
-                }
+                None => self.push_open()?,
+                Some(slot) => self.push_slot(left, matches!(act.intent, Intent::Look(_)), slot)?,
             }
         }
-        if row.request.bytes_asked() > 0 {
-            self.push_error(facts, Errno::ENOMEM)?;
+        if self.row.request.bytes_asked() > 0 {
+            self.push_error(Errno::ENOMEM)?;
         }
         Ok(())
     }
@@ -210,67 +190,76 @@ impl<'a> Answers<'a> {
     /// Returns the answers that a request may give. `severed`: whether an earlier member severed
     /// its chain. `left`: the contents that requests leave at the slots.
     pub(crate) fn new(
-        facts: &Facts<'a>,
+        facts: &'a Facts<'a>,
         left: &[Vec<Left>],
         severed: bool,
-        row: &Row<'_>,
+        row: &'a Row<'a>,
     ) -> Result<Answers<'a>, NoMemory> {
-        let mut answers = Answers(Vec::new(facts.case.alloc));
+        let list = Vec::new(facts.case.alloc);
+        let mut answers = Answers { facts, row, list };
         if severed {
-            answers.push_error(facts, Errno::ECANCELED)?;
+            answers.push_error(Errno::ECANCELED)?;
+        } else if let Some(res) = row.fixed_result() {
+            answers.push(res, res)?;
         } else {
-            match row.fixed_result() {
-                Some(res) => answers.push(facts, res, res)?,
-                None => answers.push_acts(facts, left, row)?,
-            }
+            answers.push_found(left)?;
         }
         Ok(answers)
     }
 
     /// Checks whether one of them is that of a completion.
-    pub(crate) fn have(&self, it: &Completion) -> bool {
-        for answer in &self.0 {
+    ///
+    /// # Errors
+    /// `NoMemory` if an allocation fails.
+    pub(crate) fn have(&self, it: &Completion) -> Result<bool, NoMemory> {
+        for answer in &self.list {
             if answer.first <= it.res && it.res <= answer.last {
-                if answer.bytes.as_slice() == it.got.as_slice() {
-                    return true;
+                if self.bytes_of(answer.entry)?.as_slice() == it.got.as_slice() {
+                    return Ok(true);
                 }
             }
         }
-        false
+        Ok(false)
     }
 
-    /// Appends the first 16 of them: each one's result, or its range of results, its first 16
-    /// bytes, and the name of the file that has them.
-    pub(crate) fn say(&self, words: &mut Words) {
-        for (i, answer) in self.0.iter().enumerate() {
+    // Appends an answer: its result, or its range of results, its first 16 bytes, and the name of
+    // the file that has them.
+    fn say_one(&self, answer: &ValidAnswer, words: &mut Words) -> Result<(), NoMemory> {
+        let facts = self.facts;
+        words.result(answer.first);
+        if answer.first < answer.last {
+            words.say(" to ");
+            words.result(answer.last);
+        }
+        if let Some(entry) = answer.entry {
+            let bytes = self.bytes_of(answer.entry)?;
+            match bytes.get(..SHOWN) {
+                Some(bytes) => words.got(bytes),
+                None => words.got(bytes.as_slice()),
+            }
+            words.say(if bytes.len() > SHOWN {
+                ".. of "
+            } else {
+                " of "
+            });
+            words.say(name_of(facts.case.catalogue, entry));
+        }
+        Ok(())
+    }
+
+    /// Appends the first 16 of them.
+    ///
+    /// # Errors
+    /// `NoMemory` if an allocation fails.
+    pub(crate) fn say(&self, words: &mut Words) -> Result<(), NoMemory> {
+        for i in 0..self.list.len() {
             if i >= SHOWN {
                 words.say(" or others");
                 break;
             }
-            words.say(sign_before(i, self.0.len(), " or "));
-            answer.say(words);
+            words.say(sign_before(i, self.list.len(), " or "));
+            self.say_one(&self.list[i], words)?;
         }
-    }
-}
-
-impl ValidAnswer<'_> {
-    // Appends the answer.
-    fn say(&self, words: &mut Words) {
-        words.result(self.first);
-        if self.first < self.last {
-            words.say(" to ");
-            words.result(self.last);
-        }
-        match self.bytes.get(..SHOWN) {
-            Some(bytes) => words.got(bytes),
-            None => words.got(self.bytes.as_slice()),
-        }
-        if self.bytes.len() > SHOWN {
-            words.say("..");
-        }
-        if let Some(name) = self.name {
-            words.say(" of ");
-            words.say(name);
-        }
+        Ok(())
     }
 }

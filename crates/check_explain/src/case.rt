@@ -39,26 +39,16 @@ pub(crate) struct Row<'a> {
     pub acts: (usize, usize, usize),
 }
 
-/// The effect of an access on its slot.
-#[derive(Clone, Copy)]
-pub(crate) enum Effect {
-    /// A read looks for a file, and leaves it.
-    Looks,
-    /// A close takes a file away.
-    Takes,
-    /// An entry of an update empties the slot.
-    Clears,
-    /// A file is installed.
-    Installs(Closed),
-}
-
 /// An access that a request makes unless it is refused or canceled, and the facts that the
-/// request's line shows of it.
+/// request's line shows about it.
 #[derive(Clone, Copy)]
 pub(crate) struct Act {
+    /// The access that the request intends.
+    pub intent: Intent,
     /// The slot that the request names; `None` for an open at any slot.
     pub asked: Option<u32>,
-    pub effect: Effect,
+    /// The file that it installs if it succeeds.
+    pub put: Option<Closed>,
     /// The line, from 0.
     pub line: usize,
     /// The slot that the request names, or else the one that the line shows.
@@ -122,26 +112,6 @@ pub(crate) fn slots_of(slot: Option<u32>, range: (u32, u32)) -> (u32, u32) {
     }
 }
 
-/// Returns an access of a request, of which no line shows anything.
-pub(crate) fn act_of(intent: Intent, line: usize) -> Act {
-    let (asked, effect) = match intent {
-        Intent::Look(slot) => (Some(slot), Effect::Looks),
-        Intent::Take(slot) => (Some(slot), Effect::Takes),
-        Intent::Clear(slot) => (Some(slot), Effect::Clears),
-        Intent::Put(slot, file) => (Some(slot), Effect::Installs(file)),
-        Intent::Allocate(file) => (None, Effect::Installs(file)),
-    };
-    Act {
-        asked,
-        effect,
-        line,
-        slot: asked,
-        found: None,
-        is_done: false,
-        file: None,
-    }
-}
-
 /// Returns the place of the first request of a submission.
 pub(crate) fn first_place(submission: u32) -> Place {
     Place {
@@ -163,25 +133,9 @@ pub(crate) fn place_after(place: Place, request: &Request) -> Place {
     next
 }
 
-// Appends the places of the accesses of the request at a place.
-fn push_places(
-    alloc: Global,
-    places: &mut Vec<AccessPlace>,
-    request: &Request,
-    at: Place,
-) -> Result<(), NoMemory> {
-    for entry in request.positions(alloc)? {
-        places.push(AccessPlace {
-            chain: at.chain,
-            member: at.member,
-            entry,
-        })?;
-    }
-    Ok(())
-}
-
-/// Returns for each chain of a submission the places of the accesses that its requests make at a
-/// table of `size` slots, in order, if no request is canceled and no allocation fails.
+/// Returns the places of the accesses that the requests of a submission make at a table of `size`
+/// slots, chain by chain and each chain's in order, if no request is canceled and no allocation
+/// fails.
 ///
 /// # Errors
 /// `NoMemory` if an allocation fails.
@@ -190,17 +144,20 @@ pub fn access_places(
     catalogue: &Catalogue,
     size: u32,
     requests: &[Request],
-) -> Result<Vec<Vec<AccessPlace>>, NoMemory> {
-    let mut chains: Vec<Vec<AccessPlace>> = Vec::new(alloc);
-    let mut at = first_place(0);
+) -> Result<Vec<AccessPlace>, NoMemory> {
+    let (mut places, mut at) = (Vec::new(alloc), first_place(0));
     for request in requests {
-        if at.member == 1 {
-            chains.push(Vec::new(alloc))?;
-        }
-        if let (None, Some(places)) = (refusal_of(catalogue, size, request), chains.last_mut()) {
-            push_places(alloc, places, request, at)?;
+        let Place { chain, member, .. } = at;
+        if refusal_of(catalogue, size, request).is_none() {
+            for entry in request.positions(alloc)? {
+                places.push(AccessPlace {
+                    chain,
+                    member,
+                    entry,
+                })?;
+            }
         }
         at = place_after(at, request);
     }
-    Ok(chains)
+    Ok(places)
 }

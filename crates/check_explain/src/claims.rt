@@ -1,9 +1,11 @@
 //! The claims of a submission's lines about some slots, for a search.
-use crate::case::{Act, Effect, slots_of};
+use crate::case::{Act, slots_of};
 use crate::complaint::Complaint;
 use crate::facts::Facts;
 use check_search::{Cell, Claim, Leaves, Resident, Strand, Wants};
 use fx_base::NoMemory;
+use fx_chain::Intent;
+use std::alloc::{AllocError, Global};
 
 /// The files that stay at their slots. Each other one is closed.
 #[derive(Drop)]
@@ -26,6 +28,27 @@ pub(crate) struct ClaimsView<'a> {
     /// For each line, from 0, true if it is left out.
     pub out: Vec<bool>,
     pub stays: Stays,
+}
+
+// Appends a claim of a chain to those of its strand.
+fn push_claim(
+    alloc: Global,
+    strands: &mut Vec<Strand>,
+    chain: u32,
+    claim: Claim,
+) -> Result<(), AllocError> {
+    let is_new = match strands.last() {
+        Some(last) => last.chain != chain,
+        None => true,
+    };
+    if is_new {
+        let claims = Vec::new(alloc);
+        strands.push(Strand { chain, claims })?;
+    }
+    if let Some(last) = strands.last_mut() {
+        last.claims.push(claim)?;
+    }
+    Ok(())
 }
 
 impl ClaimsView<'_> {
@@ -66,23 +89,19 @@ impl ClaimsView<'_> {
         }
     }
 
-    // Adds the `closed` lines of the slots.
-    fn add_closes(&self, said: &mut Complaint) {
-        for i in 0..self.facts.closes.len() {
-            if let Some(it) = self.facts.closed_file(i)
-                && self.has_slot(it.slot)
-            {
-                said.line(it.closed.unwrap_or(0));
-            }
-        }
-    }
-
     /// Adds the lines that depend on the slots, with the slots' `closed` lines if `closes`, or else
     /// the lines that change the slots.
     pub(crate) fn add_named(&self, closes: bool, said: &mut Complaint) {
         self.add_lines(true, said);
-        if closes {
-            self.add_closes(said);
+        let mut line = self.facts.rows.len();
+        for close in &self.facts.closes {
+            if let Some(it) = close.file
+                && closes
+                && self.has_slot(it.slot)
+            {
+                said.line(line);
+            }
+            line = line.saturating_add(1);
         }
         if said.lines.is_empty() {
             self.add_lines(false, said);
@@ -110,66 +129,46 @@ impl ClaimsView<'_> {
         }
     }
 
-    // Returns what an access of a slot claims, if anything. That of a close that is left out
-    // empties the slot, if anything.
-    fn wants_of(&self, act: &Act) -> Result<Option<(Wants, Leaves)>, NoMemory> {
+    // Returns the claim of an access, if it makes one. That of a close that is left out empties the
+    // slot, if anything.
+    fn claim_of(&self, act: &Act) -> Result<Option<Claim>, NoMemory> {
+        let Some(slot) = act.slot else {
+            return Ok(if act.found.is_some() {
+                Some(Claim::Full)
+            } else {
+                None
+            });
+        };
         let is_out = self.is_out(act.line);
         let resident = match act.file {
             Some(number) => self.resident(number),
             None => None,
         };
-        Ok(Some(match (act.effect, act.found, resident) {
-            (Effect::Looks, Some(_), _) if is_out => return Ok(None),
-            (Effect::Takes, Some(_), _) if is_out => (Wants::Anything, Leaves::Empty),
-            (Effect::Looks, Some(true), _) => (Wants::Bytes(self.fits_of(act.line)?), Leaves::Same),
-            (Effect::Looks, Some(false), _) => (Wants::Nothing, Leaves::Same),
-            (Effect::Takes, Some(true), _) => (Wants::Something, Leaves::Empty),
-            (Effect::Takes, Some(false), _) => (Wants::NothingToTake, Leaves::Same),
-            (Effect::Clears, _, _) if act.is_done => (Wants::Anything, Leaves::Empty),
-            (Effect::Installs(_), None, Some(file)) => (Wants::Anything, Leaves::File(file)),
-            (Effect::Installs(_), Some(_), Some(file)) => (Wants::Nothing, Leaves::File(file)),
+        let (expects, leaves) = match (act.intent, act.found, resident) {
+            (Intent::Look(_), Some(_), _) if is_out => return Ok(None),
+            (Intent::Take(_), Some(_), _) if is_out => (Wants::Anything, Leaves::Empty),
+            (Intent::Look(_), Some(true), _) => {
+                (Wants::Bytes(self.fits_of(act.line)?), Leaves::Same)
+            }
+            (Intent::Look(_), Some(false), _) => (Wants::Nothing, Leaves::Same),
+            (Intent::Take(_), Some(true), _) => (Wants::Something, Leaves::Empty),
+            (Intent::Take(_), Some(false), _) => (Wants::NothingToTake, Leaves::Same),
+            (Intent::Clear(_), _, _) if act.is_done => (Wants::Anything, Leaves::Empty),
+            (Intent::Put(..), _, Some(file)) => (Wants::Anything, Leaves::File(file)),
+            (Intent::Allocate(_), _, Some(file)) => (Wants::Nothing, Leaves::File(file)),
             _ => return Ok(None),
-        }))
-    }
-
-    // Returns the claim of an access, if it makes one.
-    fn claim_of(&self, act: &Act) -> Result<Option<Claim>, NoMemory> {
-        let Some(slot) = act.slot else {
-            return Ok(match act.found {
-                Some(_) => Some(Claim::Full),
-                None => None,
-            });
         };
-        Ok(match self.wants_of(act)? {
-            Some((wants, leaves)) => Some(Claim::At(slot, wants, leaves)),
-            None => None,
-        })
-    }
-
-    // Appends a claim of a chain to those of its strand.
-    fn push_claim(
-        &self,
-        strands: &mut Vec<Strand>,
-        chain: u32,
-        claim: Claim,
-    ) -> Result<(), NoMemory> {
-        if let Some(last) = strands.last_mut()
-            && last.chain == chain
-        {
-            return Ok(last.claims.push(claim)?);
-        }
-        let claims = vec![in self.facts.case.alloc; claim]?;
-        Ok(strands.push(Strand { chain, claims })?)
+        Ok(Some(Claim::At(slot, expects, leaves)))
     }
 
     // Returns the claims of each chain about the slots that are looked at.
     fn strands(&self) -> Result<Vec<Strand>, NoMemory> {
-        let mut strands = Vec::new(self.facts.case.alloc);
+        let (alloc, mut strands) = (self.facts.case.alloc, Vec::new(self.facts.case.alloc));
         for act in &self.facts.acts {
             if self.has(act)
                 && let Some(claim) = self.claim_of(act)?
             {
-                self.push_claim(&mut strands, self.facts.chain_of(act.line), claim)?;
+                push_claim(alloc, &mut strands, self.facts.chain_of(act.line), claim)?;
             }
         }
         Ok(strands)

@@ -1,13 +1,11 @@
 //! Complaints about the lines of a submission, for a person. They are advice, on which no verdict
 //! rests.
-use crate::case::Case;
 use crate::contradiction::no_order;
 use crate::facts::Facts;
 use crate::words::Words;
 use crate::wrong_answer::wrong_answer;
 use crate::wrong_files::{wrong_close, wrong_count};
 use fx_base::NoMemory;
-use std::alloc::Global;
 
 /// Invalid lines of a submission's report.
 #[derive(Drop)]
@@ -22,19 +20,10 @@ pub struct Complaint {
 }
 
 impl Complaint {
-    // Returns a complaint about no line.
-    fn new(alloc: Global) -> Complaint {
-        Complaint {
-            lines: Vec::new(alloc),
-            expected: Words::new(alloc),
-            why: Words::new(alloc),
-        }
-    }
-
     /// Adds a line.
     pub(crate) fn line(&mut self, at: usize) {
         if self.lines.push(at).is_err() {
-            self.why.lose();
+            self.why.is_whole = false;
         }
     }
 
@@ -46,20 +35,26 @@ impl Complaint {
     }
 }
 
-/// Looks for the first invalid lines of a submission. `slot`: the slot that the judge blames, if it
-/// blames one.
-///
-/// # Errors
-/// `NoMemory` if an allocation fails.
-pub fn explain(case: &Case<'_>, slot: Option<u32>) -> Result<Option<Complaint>, NoMemory> {
-    let mut facts = Facts::new(case)?;
-    let mut out = Complaint::new(case.alloc);
-    if wrong_answer(&facts, &mut out)?
-        || wrong_close(&mut facts, &mut out)?
-        || wrong_count(&facts, &mut out)?
-        || no_order(&facts, slot, &mut out)?
-    {
-        return Ok(Some(out));
+impl Facts<'_> {
+    /// Looks for the first invalid lines of the submission. `slot`: the slot that the judge blames,
+    /// if it blames one.
+    ///
+    /// # Errors
+    /// `NoMemory` if an allocation fails.
+    pub fn explain(&self, slot: Option<u32>) -> Result<Option<Complaint>, NoMemory> {
+        let alloc = self.case.alloc;
+        let mut out = Complaint {
+            lines: Vec::new(alloc),
+            expected: Words::new(alloc),
+            why: Words::new(alloc),
+        };
+        if wrong_answer(self, &mut out)?
+            || wrong_close(self, &mut out)?
+            || wrong_count(self, &mut out)?
+            || no_order(self, slot, &mut out)?
+        {
+            return Ok(Some(out));
+        }
+        Ok(None)
     }
-    Ok(None)
 }

@@ -1,12 +1,12 @@
 //! Lines of a submission that have no order together. Lines are left out, and the search is
 //! repeated.
-use crate::case::Effect;
 use crate::claims::{ClaimsView, Stays};
 use crate::complaint::Complaint;
 use crate::facts::Facts;
 use crate::words::Words;
 use check_search::{Claim, Found, Limits, Steps, components, explore};
 use fx_base::NoMemory;
+use fx_chain::Intent;
 use std::alloc::{AllocError, Global};
 
 /// The largest number of states of all searches, in which a search counts at least as many as there
@@ -28,21 +28,14 @@ const MOST_CHOICES: usize = 64;
 #[derive(Drop)]
 struct Contradiction<'a> {
     view: ClaimsView<'a>,
+    // True if several slots are looked at.
+    has_many: bool,
     // True if the lines have no order only if exactly the files with a `closed` line are closed.
     rests_on_closes: bool,
     // True if each line that isn't left out is known to be needed.
     is_sure: bool,
     // The number of states that are left.
     states: usize,
-}
-
-// Returns the number of choices of one file, or none, at each slot.
-fn choices_of(slots: &[Vec<usize>]) -> usize {
-    let mut choices = 1usize;
-    for files in slots {
-        choices = choices.saturating_mul(files.len() + 1);
-    }
-    choices
 }
 
 // Returns the files of a choice, by its number from 0.
@@ -69,15 +62,17 @@ impl<'a> Contradiction<'a> {
                 out: vec![in alloc; false; facts.rows.len()]?,
                 stays: Stays::AsClosed,
             },
+            has_many: true,
             rests_on_closes: false,
             is_sure: true,
             states: STATES,
         })
     }
 
-    // Searches for an order of the lines that aren't left out. Returns the number of states that it
-    // met, and what it found.
-    fn explored(&self) -> Result<(usize, Found), NoMemory> {
+    // Searches for an order of the lines that aren't left out. Returns true if no order exists, or
+    // `None` if the search reaches a limit.
+    fn search(&mut self, stays: Stays) -> Result<Option<bool>, NoMemory> {
+        self.view.stays = stays;
         let alloc = self.view.facts.case.alloc;
         let (cells, strands) = self.view.question()?;
         let steps = Steps::new(alloc, &strands, &cells)?;
@@ -86,15 +81,7 @@ impl<'a> Contradiction<'a> {
             bytes: BYTES,
         };
         let (rows, found) = explore(alloc, &steps, limits)?;
-        Ok((rows.len(), found))
-    }
-
-    // Searches for an order of the lines that aren't left out. Returns true if no order exists, or
-    // `None` if the search reaches a limit.
-    fn search(&mut self, stays: Stays) -> Result<Option<bool>, NoMemory> {
-        self.view.stays = stays;
-        let (met, found) = self.explored()?;
-        let spent = met.max(self.view.out.len());
+        let spent = rows.len().max(self.view.out.len());
         self.states = self.states.saturating_sub(spent);
         Ok(match found {
             Found::NoEnd => Some(true),
@@ -120,23 +107,14 @@ impl<'a> Contradiction<'a> {
         Ok(slots)
     }
 
-    // Checks whether several slots are looked at.
-    fn are_many(&self) -> bool {
-        let mut has_one = false;
-        for has in &self.view.slots {
-            if *has && has_one {
-                return true;
-            }
-            has_one = has_one || *has;
-        }
-        false
-    }
-
     // Checks whether the lines that aren't left out have no order by each choice of one file, or
     // none, that stays at each slot. Returns `None` if that isn't seen.
     fn has_no_order_by_files(&mut self, slots: &[Vec<usize>]) -> Result<Option<bool>, NoMemory> {
-        let choices = choices_of(slots);
-        if choices > MOST_CHOICES && self.are_many() {
+        let mut choices = 1usize;
+        for files in slots {
+            choices = choices.saturating_mul(files.len() + 1);
+        }
+        if choices > MOST_CHOICES && self.has_many {
             return Ok(None);
         }
         for choice in 0..choices {
@@ -159,22 +137,13 @@ impl<'a> Contradiction<'a> {
         self.has_no_order_by_files(&slots)
     }
 
-    // Checks whether the lines that aren't left out have no order. Returns `None` if that isn't
-    // seen.
-    fn has_no_order(&mut self) -> Result<Option<bool>, NoMemory> {
-        let as_closed = self.search(Stays::AsClosed)?;
-        if as_closed == Some(false) || self.rests_on_closes {
-            return Ok(as_closed);
-        }
-        self.has_no_order_at_all()
-    }
-
     // Looks at some slots. Returns whether the lines are seen to have no order there, whichever
     // files are closed, or else by the text.
     fn look_at(&mut self, slots: &[usize]) -> Result<bool, NoMemory> {
         for (slot, has) in self.view.slots.iter_mut().enumerate() {
             *has = slots.contains(&slot);
         }
+        self.has_many = slots.len() > 1;
         self.rests_on_closes = true;
         if self.search(Stays::AsClosed)? != Some(true) {
             return Ok(false);
@@ -183,21 +152,14 @@ impl<'a> Contradiction<'a> {
         Ok(true)
     }
 
-    // Returns the claims of each chain.
-    fn chains(&self) -> Result<Vec<Vec<Claim>>, NoMemory> {
-        let (_, strands) = self.view.question()?;
-        let mut chains: Vec<Vec<Claim>> = Vec::new(self.view.facts.case.alloc);
-        for it in strands {
-            chains.push(it.claims)?;
-        }
-        Ok(chains)
-    }
-
     // Looks at the first slots that chains join and at which the lines have no order. Returns
     // whether there are such slots.
     fn look_at_parts(&mut self) -> Result<bool, NoMemory> {
         let case = self.view.facts.case;
-        let chains = self.chains()?;
+        let mut chains: Vec<Vec<Claim>> = Vec::new(case.alloc);
+        for it in self.view.question()?.1 {
+            chains.push(it.claims)?;
+        }
         for part in &components(case.alloc, case.size(), case.slots.range, &chains)? {
             if part.len() > 1 && self.look_at(part)? {
                 return Ok(true);
@@ -206,23 +168,24 @@ impl<'a> Contradiction<'a> {
         Ok(false)
     }
 
-    // Sets whether a line is left out.
-    fn set_out(&mut self, line: usize, is_out: bool) {
-        if let Some(it) = self.view.out.get_mut(line) {
-            *it = is_out;
-        }
-    }
-
     // Leaves out each read and each close that isn't needed.
     fn leave_out(&mut self) -> Result<(), NoMemory> {
         let facts = self.view.facts;
         for act in &facts.acts {
             let is_optional = act.found.is_some() && act.file.is_none() && act.slot.is_some();
-            if is_optional && self.view.has(act) {
-                self.set_out(act.line, true);
-                let seen = self.has_no_order()?;
-                self.set_out(act.line, seen == Some(true));
+            let line = act.line;
+            if is_optional && line < self.view.out.len() && self.view.has(act) {
+                self.view.out[line] = true;
+                let mut seen = self.search(Stays::AsClosed)?;
+                if seen != Some(false) && !self.rests_on_closes {
+                    seen = self.has_no_order_at_all()?;
+                }
                 self.is_sure = self.is_sure && seen.is_some();
+                if seen != Some(true)
+                    && let Some(is_out) = self.view.out.get_mut(line)
+                {
+                    *is_out = false;
+                }
             }
         }
         Ok(())
@@ -232,7 +195,7 @@ impl<'a> Contradiction<'a> {
     fn changes_later(&self, chain: u32, line: usize) -> bool {
         let facts = self.view.facts;
         for act in &facts.acts {
-            let changes = !matches!(act.effect, Effect::Looks);
+            let changes = !matches!(act.intent, Intent::Look(_));
             if act.line > line
                 && changes
                 && facts.chain_of(act.line) == chain

@@ -1,36 +1,48 @@
-//! What the lines of a submission's report show of its requests.
-use crate::case::{Act, Case, Effect, Installed, Row, act_of, first_place, place_after, result_of};
+//! The facts that the lines of a submission's report show about its requests.
+use crate::case::{Act, Case, Installed, Row, first_place, place_after, result_of};
 use crate::lines::{Lines, after_closes};
-use check_lines::{ClosedLine, read_report};
-use fx_base::{Errno, Mark, NoMemory};
-use fx_chain::{Completion, Place, Request, intent_of, refusal_of};
+use check_lines::read_report;
+use fx_base::{Closed, Errno, Mark, NoMemory};
+use fx_chain::{Completion, Intent, Place, Request, intent_of, refusal_of};
 use fx_order::Slots;
+use std::alloc::{AllocError, Global};
 
-/// The requests of a submission, and what its lines show, as far as they were read.
+/// A `closed` line.
+#[derive(Clone, Copy)]
+pub(crate) struct Close<'a> {
+    /// The line, its end included.
+    pub line: &'a [u8],
+    /// Its mark, or `None` if the line can't be read.
+    pub mark: Option<Mark>,
+    /// The file with that mark, if there is one, with its earlier `closed` line, if it has one.
+    pub file: Option<Installed>,
+}
+
+/// The requests of a submission, and the facts that its lines show, as far as they were read.
 #[derive(Drop)]
-pub(crate) struct Facts<'a> {
-    pub case: Case<'a>,
-    pub rows: Vec<Row<'a>>,
+pub struct Facts<'a> {
+    pub(crate) case: Case<'a>,
+    pub(crate) rows: Vec<Row<'a>>,
     /// The accesses of the requests that aren't refused, in order.
-    pub acts: Vec<Act>,
+    pub(crate) acts: Vec<Act>,
     /// The completions of the first lines, up to the first line that isn't the completion of its
     /// request.
-    pub completions: Vec<Completion>,
-    /// The text after these lines and the `closed` lines that were taken.
-    pub rest: Lines<'a>,
+    pub(crate) completions: Vec<Completion>,
     /// The files: first those that were at the slots, then the others in order of mark.
-    pub files: Vec<Installed>,
-    /// The numbers, from 0, of the files with a `closed` line, in the order of these lines.
-    pub closes: Vec<usize>,
+    pub(crate) files: Vec<Installed>,
+    /// The `closed` lines after the completions, if each request has one.
+    pub(crate) closes: Vec<Close<'a>>,
+    /// The text after these lines.
+    pub(crate) rest: Lines<'a>,
 }
 
 // Returns whether an access found a file, by the result of its request, or `None` if that doesn't
 // show it.
-fn found_by(act: &Act, res: i32) -> Option<bool> {
-    let (if_done, error) = match (act.effect, act.asked) {
-        (Effect::Looks | Effect::Takes, _) => (true, Errno::EBADF),
-        (Effect::Installs(_), None) => (false, Errno::ENFILE),
-        _ => return None,
+fn found_by(intent: Intent, res: i32) -> Option<bool> {
+    let (if_done, error) = match intent {
+        Intent::Look(_) | Intent::Take(_) => (true, Errno::EBADF),
+        Intent::Allocate(_) => (false, Errno::ENFILE),
+        Intent::Put(..) | Intent::Clear(_) => return None,
     };
     if res >= 0 {
         Some(if_done)
@@ -41,69 +53,101 @@ fn found_by(act: &Act, res: i32) -> Option<bool> {
     }
 }
 
+// Reads a line of a completion.
+fn completion_in(alloc: Global, line: &[u8]) -> Result<Option<Completion>, NoMemory> {
+    match read_report(alloc, line, 1)? {
+        Some((mut report, _)) => Ok(report.completions.pop()),
+        None => Ok(None),
+    }
+}
+
+// Reads the mark of a `closed` line.
+fn mark_in(alloc: Global, line: &[u8]) -> Result<Option<Mark>, NoMemory> {
+    if let Some((report, _)) = read_report(alloc, line, 0)?
+        && let [closed] = report.closed.as_slice()
+    {
+        return Ok(Some(closed.mark));
+    }
+    Ok(None)
+}
+
 impl<'a> Facts<'a> {
-    // Records the files at the slots before the submission.
-    fn add_files(&mut self) -> Result<(), NoMemory> {
+    // Adds a file that is at a slot before the submission, or that the request of a line installs.
+    fn add_file(&mut self, file: Closed, slot: u32, line: Option<usize>) -> Result<(), AllocError> {
+        Ok(
+            self.files.push(Installed {
+                file,
+                slot,
+                line,
+                closed: None,
+            })?,
+        )
+    }
+
+    // Adds the files at the slots before the submission.
+    fn add_files(&mut self) -> Result<(), AllocError> {
         let mut slot = 0u32;
         for file in &self.case.slots.at {
             if let Some(file) = *file {
-                self.files.push(Installed {
-                    file,
-                    slot,
-                    line: None,
-                    closed: None,
-                })?;
+                self.add_file(file, slot, None)?;
             }
             slot = slot.saturating_add(1);
         }
         Ok(())
     }
 
-    // Reads the next line if it is the completion of the request at a place. Returns whether it is.
-    fn read(&mut self, place: Place) -> Result<bool, NoMemory> {
+    // Reads the next line if it is the completion of the request at a place. Returns its result.
+    fn read(&mut self, place: Place) -> Result<Option<i32>, NoMemory> {
         let mut after = self.rest;
-        let Some((mut report, _)) = read_report(self.case.alloc, after.take(), 1)? else {
-            return Ok(false);
-        };
-        match report.completions.pop() {
+        match completion_in(self.case.alloc, after.take())? {
             Some(it) if it.place == place => {
+                let res = it.res;
                 self.completions.push(it)?;
                 self.rest = after;
-                Ok(true)
+                Ok(Some(res))
             }
-            _ => Ok(false),
+            _ => Ok(None),
         }
     }
 
-    // Adds what a result shows of an access, and the file that the access installed.
-    fn show(&mut self, act: &mut Act, res: i32) -> Result<(), NoMemory> {
+    // Adds the facts that a result shows about an access, and the file that the access installed.
+    fn show(&mut self, act: &mut Act, res: i32) -> Result<(), AllocError> {
         act.is_done = res >= 0;
-        act.found = found_by(act, res);
+        act.found = found_by(act.intent, res);
         if act.slot.is_none() {
             act.slot = u32::try_from(res).ok();
         }
-        if let (Effect::Installs(file), true, Some(slot)) = (act.effect, act.is_done, act.slot)
+        if let (Some(file), true, Some(slot)) = (act.put, act.is_done, act.slot)
             && (slot as usize) < self.case.size()
         {
             act.file = Some(self.files.len());
-            self.files.push(Installed {
-                file,
-                slot,
-                line: Some(act.line),
-                closed: None,
-            })?;
+            return self.add_file(file, slot, Some(act.line));
         }
         Ok(())
     }
 
     // Adds the accesses of a request that isn't refused. `res`: its result, if its line was read.
-    fn add_acts(&mut self, row: &Row<'_>, res: Option<i32>) -> Result<(), NoMemory> {
+    fn add_acts(&mut self, row: &Row<'_>, res: Option<i32>) -> Result<(), AllocError> {
         let (catalogue, line) = (self.case.catalogue, self.rows.len());
         for made in 0..row.request.accesses() {
             let Some(intent) = intent_of(catalogue, u32::MAX, row.place, row.request, made) else {
                 break;
             };
-            let mut act = act_of(intent, line);
+            let (asked, put) = match intent {
+                Intent::Look(slot) | Intent::Take(slot) | Intent::Clear(slot) => (Some(slot), None),
+                Intent::Put(slot, file) => (Some(slot), Some(file)),
+                Intent::Allocate(file) => (None, Some(file)),
+            };
+            let mut act = Act {
+                intent,
+                asked,
+                put,
+                line,
+                slot: asked,
+                found: None,
+                is_done: false,
+                file: None,
+            };
             if let Some(res) = res {
                 self.show(&mut act, res)?;
             }
@@ -112,8 +156,15 @@ impl<'a> Facts<'a> {
         Ok(())
     }
 
-    // Adds a request. `chain`: the number of the first access of its chain.
-    fn add(&mut self, request: &'a Request, place: Place, chain: usize) -> Result<(), NoMemory> {
+    // Adds a request. `chain`: the number of the first access of its chain. `res`: its result, if
+    // its line was read.
+    fn add(
+        &mut self,
+        request: &'a Request,
+        place: Place,
+        chain: usize,
+        res: Option<i32>,
+    ) -> Result<(), AllocError> {
         let size = u32::try_from(self.case.size()).unwrap_or(u32::MAX);
         let first = self.acts.len();
         let mut row = Row {
@@ -123,48 +174,98 @@ impl<'a> Facts<'a> {
             acts: (chain, first, first),
         };
         if row.refusal.is_none() {
-            let res = match self.completions.get(self.rows.len()) {
-                Some(it) => Some(it.res),
-                None => None,
-            };
             self.add_acts(&row, res)?;
             row.acts.2 = self.acts.len();
         }
         Ok(self.rows.push(row)?)
     }
 
-    // Adds the requests, and reads the lines of their completions.
-    fn add_requests(&mut self) -> Result<(), NoMemory> {
+    // Adds the requests, and reads the lines of their completions. Returns whether each has one.
+    fn add_requests(&mut self) -> Result<bool, NoMemory> {
         let mut place = first_place(self.case.submissions.saturating_add(1));
         let (mut chain, mut is_read) = (0usize, true);
         for request in self.case.requests {
-            is_read = is_read && self.read(place)?;
+            let mut res = None;
+            if is_read {
+                res = self.read(place)?;
+                is_read = res.is_some();
+            }
             if place.member == 1 {
                 chain = self.acts.len();
             }
-            self.add(request, place, chain)?;
+            self.add(request, place, chain, res)?;
             place = place_after(place, request);
+        }
+        Ok(is_read)
+    }
+
+    // Returns the number, from 0, of the file with a mark. The files from one on are tried first.
+    fn file_marked(&self, near: usize, mark: Mark) -> Option<usize> {
+        for number in near..self.files.len() {
+            if self.files[number].file.mark == mark {
+                return Some(number);
+            }
+        }
+        for number in 0..self.files.len() {
+            if self.files[number].file.mark == mark {
+                return Some(number);
+            }
+        }
+        None
+    }
+
+    // Records a `closed` line, and that its file has one. `near`: the number of a file. Returns
+    // that of its file, or else of the other one.
+    fn close(&mut self, at: usize, line: &'a [u8], near: usize) -> Result<usize, NoMemory> {
+        let mark = mark_in(self.case.alloc, line)?;
+        let (mut number, mut file) = (near, None);
+        if let Some(mark) = mark
+            && let Some(found) = self.file_marked(near, mark)
+            && let Some(it) = self.files.get_mut(found)
+        {
+            (number, file) = (found, Some(*it));
+            it.closed = it.closed.or(Some(at));
+        }
+        self.closes.push(Close { line, mark, file })?;
+        Ok(number)
+    }
+
+    // Records the `closed` lines. The files from that of the line before on are tried first.
+    fn take_closes(&mut self) -> Result<(), NoMemory> {
+        let mut near = 0usize;
+        for _ in 0..self.rest.rest.len() {
+            if !self.rest.rest.starts_with(b"closed ") {
+                break;
+            }
+            let at = self.rest.taken;
+            let line = self.rest.take();
+            near = self.close(at, line, near)?;
         }
         Ok(())
     }
 
-    /// Returns the facts of a case. No file has a `closed` line yet.
-    pub(crate) fn new(case: &Case<'a>) -> Result<Facts<'a>, NoMemory> {
+    /// Returns the facts of a case.
+    ///
+    /// # Errors
+    /// `NoMemory` if an allocation fails.
+    pub fn new(case: &Case<'a>) -> Result<Facts<'a>, NoMemory> {
         let alloc = case.alloc;
         let mut facts = Facts {
             case: *case,
             rows: Vec::new(alloc),
             acts: Vec::new(alloc),
             completions: Vec::new(alloc),
+            files: Vec::new(alloc),
+            closes: Vec::new(alloc),
             rest: Lines {
                 rest: case.text,
                 taken: 0,
             },
-            files: Vec::new(alloc),
-            closes: Vec::new(alloc),
         };
         facts.add_files()?;
-        facts.add_requests()?;
+        if facts.add_requests()? {
+            facts.take_closes()?;
+        }
         Ok(facts)
     }
 
@@ -174,57 +275,6 @@ impl<'a> Facts<'a> {
             Some(acts) => acts,
             None => &[],
         }
-    }
-
-    /// Returns the closed file of a line, or `None` if it isn't such a line.
-    pub(crate) fn closed_of(&self, line: &[u8]) -> Result<Option<ClosedLine>, NoMemory> {
-        match read_report(self.case.alloc, line, 0)? {
-            Some((mut report, _)) => Ok(report.closed.pop()),
-            None => Ok(None),
-        }
-    }
-
-    // Returns the number of the file with a mark, of those from one on.
-    fn marked_from(&self, from: usize, mark: Mark) -> Option<usize> {
-        for number in from..self.files.len() {
-            if self.files[number].file.mark == mark {
-                return Some(number);
-            }
-        }
-        None
-    }
-
-    /// Returns the number, from 0, of the file with a mark. The files from that of the last
-    /// `closed` line on are tried first.
-    pub(crate) fn file_marked(&self, mark: Mark) -> Option<usize> {
-        let from = match self.closes.last() {
-            Some(number) => *number,
-            None => 0,
-        };
-        match self.marked_from(from, mark) {
-            None => self.marked_from(0, mark),
-            found => found,
-        }
-    }
-
-    /// Returns the file of a `closed` line, by the number of the line among these, from 0.
-    pub(crate) fn closed_file(&self, line: usize) -> Option<Installed> {
-        let number = self.closes.get(line)?;
-        Some(*self.files.get(*number)?)
-    }
-
-    /// Returns the mark of the file of the last `closed` line.
-    pub(crate) fn last_closed(&self) -> Option<Mark> {
-        let last = self.closes.len().checked_sub(1)?;
-        Some(self.closed_file(last)?.file.mark)
-    }
-
-    /// Records that a file, by its number, has the `closed` line `at`.
-    pub(crate) fn close(&mut self, number: usize, at: usize) -> Result<(), NoMemory> {
-        if let Some(it) = self.files.get_mut(number) {
-            it.closed = Some(at);
-        }
-        Ok(self.closes.push(number)?)
     }
 
     /// Returns the chain of the request of a line, or 0 if it isn't that of a request.
@@ -250,57 +300,28 @@ impl<'a> Facts<'a> {
         Ok(fits)
     }
 
-    // Records the files of the next `closed` lines. A line that names no file closes none.
-    fn take_closes(&mut self) -> Result<(), NoMemory> {
-        for _ in 0..self.rest.rest.len() {
-            if !self.rest.rest.starts_with(b"closed ") {
-                break;
-            }
-            let at = self.rest.taken;
-            let line = self.rest.take();
-            if let Some(closed) = self.closed_of(line)?
-                && let Some(number) = self.file_marked(closed.mark)
-            {
-                self.close(number, at)?;
+    /// Returns the slots that the text shows after the submission, and the rest of the text. A file
+    /// that was at a slot, or that a completion installs there, is there unless it has a `closed`
+    /// line. A completion that claims what its request can't do installs nothing. Returns `None` if
+    /// a request has no completion, or if two files are at one slot.
+    ///
+    /// # Errors
+    /// `NoMemory` if an allocation fails.
+    pub fn slots_after(&self) -> Result<Option<(Slots, &'a [u8])>, NoMemory> {
+        let mut at = vec![in self.case.alloc; None; self.case.size()]?;
+        for it in &self.files {
+            let slot = it.slot as usize;
+            if it.closed.is_none() {
+                if slot >= at.len() || at[slot].is_some() {
+                    return Ok(None);
+                }
+                at[slot] = Some(it.file);
             }
         }
-        Ok(())
-    }
-}
-
-// Returns the slots at which the files without a `closed` line are, or `None` if two of them are at
-// one slot.
-fn slots_left(facts: &Facts<'_>) -> Result<Option<Slots>, NoMemory> {
-    let mut at = vec![in facts.case.alloc; None; facts.case.size()]?;
-    for it in &facts.files {
-        let slot = it.slot as usize;
-        if it.closed.is_some() {
-            continue;
-        }
-        if slot >= at.len() || at[slot].is_some() {
+        if self.completions.len() < self.rows.len() {
             return Ok(None);
         }
-        at[slot] = Some(it.file);
-    }
-    let range = facts.case.slots.range;
-    Ok(Some(Slots { range, at }))
-}
-
-/// Returns the slots that a text shows after a submission, and the rest of the text. A file that
-/// was at a slot, or that a completion installs there, is there unless it has a `closed` line. A
-/// completion that claims what its request can't do installs nothing. Returns `None` if a request
-/// has no completion, or if two files are at one slot.
-///
-/// # Errors
-/// `NoMemory` if an allocation fails.
-pub fn slots_after<'a>(case: &Case<'a>) -> Result<Option<(Slots, &'a [u8])>, NoMemory> {
-    let mut facts = Facts::new(case)?;
-    if facts.completions.len() < facts.rows.len() {
-        return Ok(None);
-    }
-    facts.take_closes()?;
-    match slots_left(&facts)? {
-        Some(slots) => Ok(Some((slots, after_closes(facts.rest.rest)))),
-        None => Ok(None),
+        let range = self.case.slots.range;
+        Ok(Some((Slots { range, at }, after_closes(self.rest.rest))))
     }
 }

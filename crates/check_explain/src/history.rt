@@ -1,24 +1,21 @@
 //! Prints one whole history of a script and a legal text: an event or an answer on each line, with
 //! the state of the table after it.
-use crate::case::result_of;
+use crate::case::{first_place, place_after};
 use crate::lines::{AskedLine, after_closes, cut_word, next_line};
 use crate::words::Words;
-use check_lines::read_report;
-use fx_base::{Catalogue, Closed, Errno, Mark, NoMemory};
-use fx_chain::{Completion, Place};
+use fx_base::{Catalogue, Closed, Mark, NoMemory};
+use fx_chain::{Place, Request};
 use fx_order::{Access, AccessPlace, Order};
 use fx_ring::tag_at;
 use fx_script::Command;
 use std::alloc::{AllocError, Global};
 
-// The line of a request without its end, and its completion.
-type Answer<'a> = (&'a [u8], Completion);
-
-// Who makes an access: a request, or the command with this word.
+/// A request's place, its line of the script without its end, and its result as the text has it.
 #[derive(Clone, Copy)]
-enum Who<'a> {
-    At(Place),
-    Command(&'a [u8]),
+struct Answer<'a> {
+    place: Place,
+    request: &'a [u8],
+    result: &'a [u8],
 }
 
 /// A history that is printed command by command, in the order of the script: the rest of the
@@ -36,35 +33,22 @@ pub struct History<'a> {
     lists: u32,
     // The file at each slot. Without a table there are no slots.
     at: Vec<Option<Closed>>,
+    // The place of the request that makes the next access, or the word of its command.
+    who: Words,
     // The file that a request holds, and the one that was removed and isn't closed yet.
     held: Option<Mark>,
-    removed: Option<Mark>,
+    removed: Option<Closed>,
     // The lines that aren't printed yet, and the place at which the last one begins, which may be
     // unfinished.
     lines: Words,
     last: usize,
 }
 
-// Returns the number of each chain, and its first request.
-fn chains_of(alloc: Global, answers: &[Answer<'_>]) -> Result<Vec<(u32, usize)>, NoMemory> {
-    let mut chains = Vec::new(alloc);
-    for (at, (_, it)) in answers.iter().enumerate() {
-        if it.place.member == 1 {
-            chains.push((it.place.chain, at))?;
-        }
-    }
-    Ok(chains)
-}
-
 // Checks whether no access from one on is of a request.
-fn is_last(places: &[AccessPlace], from: usize, at: &AccessPlace) -> bool {
-    let places = match places.get(from..) {
-        Some(places) => places,
-        None => &[],
-    };
-    for it in places {
-        if it.chain == at.chain {
-            return it.member != at.member;
+fn is_last(places: &[AccessPlace], from: usize, request: &AccessPlace) -> bool {
+    for at in from..places.len() {
+        if places[at].chain == request.chain {
+            return places[at].member != request.member;
         }
     }
     true
@@ -91,6 +75,7 @@ impl<'a> History<'a> {
             orders,
             lists: 0,
             at: Vec::new(alloc),
+            who: Words::new(alloc),
             held: None,
             removed: None,
             last: lines.len(),
@@ -109,7 +94,7 @@ impl<'a> History<'a> {
         self.last = 0;
     }
 
-    // Returns the next line of the script that is a command or a request.
+    // Takes the next line of the script that is a command or a request.
     fn next_asked(&mut self) -> &'a [u8] {
         match self.asked {
             [line, rest @ ..] => {
@@ -120,35 +105,46 @@ impl<'a> History<'a> {
         }
     }
 
-    // Returns the next line of the text without its first word. The lines of closed files and of
-    // tags that follow it are skipped.
+    // Takes the next line of the text. Returns it without its first word.
     fn next_answer(&mut self) -> &'a [u8] {
         let (line, rest) = next_line(self.text);
-        self.text = after_closes(rest);
+        self.text = rest;
         cut_word(line).1
+    }
+
+    // Returns the file at a slot.
+    fn file_at(&self, slot: u32) -> Option<Closed> {
+        match self.at.get(slot as usize) {
+            Some(file) => *file,
+            None => None,
+        }
     }
 
     // Appends the state: each slot that has a file, with the file's mark, and the file that was
     // removed.
     fn push_state(&mut self) {
-        let (lines, mut slot, mut sign) = (&mut self.lines, 0u64, "");
+        let (mut slot, mut sign) = (0u64, "");
         for file in &self.at {
             if let Some(Closed { mark, .. }) = *file {
-                lines.count(sign, slot, " ");
-                lines.mark(mark);
+                self.lines.count(sign, slot, " ");
+                self.lines.mark(mark);
                 if self.held == Some(mark) {
-                    lines.say(" held");
+                    self.lines.say(" held");
                 }
                 sign = ", ";
             }
             slot = slot.saturating_add(1);
         }
         if sign.is_empty() {
-            lines.say(if slot == 0 { "no table" } else { "empty" });
+            self.lines.say(if self.at.is_empty() {
+                "no table"
+            } else {
+                "empty"
+            });
         }
-        if let Some(mark) = self.removed {
-            lines.say(", removed ");
-            lines.mark(mark);
+        if let Some(file) = self.removed {
+            self.lines.say(", removed ");
+            self.lines.mark(file.mark);
         }
     }
 
@@ -161,95 +157,76 @@ impl<'a> History<'a> {
         self.last = self.lines.len();
     }
 
-    // Sets the file at a slot.
-    fn set(&mut self, slot: u32, file: Option<Closed>) {
-        if let Some(at) = self.at.get_mut(slot as usize) {
-            *at = file;
-        }
-    }
-
-    // Applies an access to the slots: it installs a file, or removes one.
-    fn apply(&mut self, access: Access) {
-        match access {
-            Access::Puts(slot, file, _) | Access::Allocates(slot, file) => {
-                self.set(slot, Some(file));
-            }
-            Access::Clears(slot, _) | Access::Takes(slot, _) => self.set(slot, None),
-            Access::Looks(_, _) | Access::FindsFull => {}
-        }
-        self.removed = match access.removed() {
-            Some(file) => Some(file.mark),
-            None => None,
-        };
-    }
-
     // Appends the beginning of an event: who makes it, and its name.
-    fn push_name(&mut self, who: Who<'_>, name: &str) {
-        match who {
-            Who::At(place) => self.lines.place(place),
-            Who::Command(word) => self.lines.bytes(word),
-        }
+    fn push_name(&mut self, name: &str) {
+        self.lines.append(&self.who);
         self.lines.say(" ");
         self.lines.say(name);
     }
 
     // Appends an event of a file.
-    fn push_event(&mut self, who: Who<'_>, name: &str, file: Mark) {
-        self.push_name(who, name);
+    fn push_event(&mut self, name: &str, file: Mark) {
+        self.push_name(name);
         self.lines.mark(file);
         self.lines.say(")");
     }
 
-    // Appends the mark of a file that an access found, or `none`, after the access's slot and the
-    // file that it installed.
-    fn push_found(&mut self, slot: u32, put: Option<Closed>, found: Option<Closed>) {
-        self.lines.count("", u64::from(slot), ", ");
+    // Appends the first event of an access (docs/MODEL.md, "Steps"): the slot, the file that was
+    // installed, and the mark of the file that was found, or `none` unless the access looks for an
+    // empty slot.
+    fn push_first(&mut self, access: Access) {
+        let (name, slot, put, found, none) = match access {
+            Access::Looks(slot, found) => ("Look(", slot, None, found, ", none"),
+            Access::Clears(slot, found) => ("Clear(", slot, None, found, ", none"),
+            Access::Takes(slot, found) => ("Take(", slot, None, found, ", none"),
+            Access::Puts(slot, file, found) => ("Put(", slot, Some(file), found, ", none"),
+            Access::Allocates(slot, file) => ("Allocate(", slot, Some(file), None, ""),
+            Access::FindsFull => return self.push_name("Full"),
+        };
+        self.push_name(name);
+        self.lines.number(u64::from(slot));
         if let Some(file) = put {
-            self.lines.file(self.catalogue, file);
             self.lines.say(", ");
+            self.lines.file(self.catalogue, file);
         }
         match found {
-            Some(file) => self.lines.mark(file.mark),
-            None => self.lines.say("none"),
+            Some(file) => {
+                self.lines.say(", ");
+                self.lines.mark(file.mark);
+            }
+            None => self.lines.say(none),
         }
         self.lines.say(")");
     }
 
-    // Appends the first event of an access (docs/MODEL.md, "Steps"): the slot, the file installed,
-    // and the file found.
-    fn push_first(&mut self, who: Who<'_>, access: Access) {
-        let (name, slot, put, found) = match access {
-            Access::Looks(slot, found) => ("Look(", slot, None, found),
-            Access::Clears(slot, found) => ("Clear(", slot, None, found),
-            Access::Takes(slot, found) => ("Take(", slot, None, found),
-            Access::Puts(slot, file, found) => ("Put(", slot, Some(file), found),
-            Access::Allocates(slot, file) => {
-                self.push_name(who, "Allocate(");
-                self.lines.count("", u64::from(slot), ", ");
-                self.lines.file(self.catalogue, file);
-                return self.lines.say(")");
+    // Applies an access: it installs a file, removes one, or holds one.
+    fn apply(&mut self, access: Access) {
+        self.removed = access.removed();
+        let (slot, file) = match access {
+            Access::Puts(slot, file, _) | Access::Allocates(slot, file) => (slot, Some(file)),
+            Access::Clears(slot, _) | Access::Takes(slot, _) => (slot, None),
+            Access::Looks(_, Some(file)) => {
+                self.held = Some(file.mark);
+                return;
             }
-            Access::FindsFull => return self.push_name(who, "Full"),
+            Access::Looks(_, None) | Access::FindsFull => return,
         };
-        self.push_name(who, name);
-        self.push_found(slot, put, found);
+        if let Some(at) = self.at.get_mut(slot as usize) {
+            *at = file;
+        }
     }
 
-    // Appends the events of an access, and the request or the command that makes it.
-    fn push_access(&mut self, who: Who<'_>, access: Access) {
-        if let Access::Looks(_, Some(file)) = access {
-            self.held = Some(file.mark);
-        }
-        self.push_first(who, access);
+    // Appends the events of an access.
+    fn push_access(&mut self, access: Access) {
+        self.push_first(access);
         self.apply(access);
         self.end_line();
-        self.removed = None;
         if let Some(mark) = self.held.take() {
-            self.push_event(who, "Release(", mark);
+            self.push_event("Release(", mark);
             self.end_line();
         }
-        if let Some(file) = access.removed() {
-            self.push_event(who, "Close(", file.mark);
+        if let Some(file) = self.removed.take() {
+            self.push_event("Close(", file.mark);
             if file.tag != 0 {
                 self.lines.count(" tag ", file.tag, "");
             }
@@ -257,170 +234,165 @@ impl<'a> History<'a> {
         }
     }
 
-    // Returns the access of a number of a list, at a slot and a position of the list, or `None` if
-    // it makes none. A -1 of a registration leaves its slot empty.
-    fn access_of(
-        &self,
-        is_update: bool,
-        (slot, i): (u32, u32),
-        number: i32,
-        tag: u64,
-    ) -> Option<Access> {
-        let found = match self.at.get(slot as usize) {
-            Some(found) => *found,
-            None => None,
-        };
-        let mark = Mark::Registered { k: self.lists, i };
-        match u8::try_from(number) {
-            Ok(entry) => Some(Access::Puts(slot, Closed { mark, entry, tag }, found)),
-            Err(_) if is_update && number == -1 => Some(Access::Clears(slot, found)),
-            Err(_) => None,
-        }
-    }
-
-    // Appends the effect of each number of a list on its slot, from one on.
-    fn push_list(&mut self, who: &[u8], off: u32, list: &[i32], tags: Option<&[u64]>) {
+    // Appends the effect of each number of a list on its slot, from the slot `off` on. `clears`:
+    // whether -1 empties its slot.
+    fn push_list(&mut self, off: u32, list: &[i32], tags: Option<&[u64]>, clears: bool) {
         self.lists = self.lists.saturating_add(1);
-        let (is_update, mut i) = (who == b"regupdate".as_slice(), 0u32);
+        let mut i = 0u32;
         for number in list {
-            let (slot, tag) = (off.saturating_add(i), tag_at(tags, i as usize));
-            if let Some(access) = self.access_of(is_update, (slot, i), *number, tag) {
-                self.push_access(Who::Command(who), access);
+            let slot = off.saturating_add(i);
+            let found = self.file_at(slot);
+            if let Ok(entry) = u8::try_from(*number) {
+                let mark = Mark::Registered { k: self.lists, i };
+                let tag = tag_at(tags, i as usize);
+                self.push_access(Access::Puts(slot, Closed { mark, entry, tag }, found));
+            } else if clears && *number == -1 {
+                self.push_access(Access::Clears(slot, found));
             }
             i = i.saturating_add(1);
         }
     }
 
     // Appends the closes of all files.
-    fn push_closes(&mut self, who: &[u8]) {
+    fn push_closes(&mut self) {
         let mut slot = 0u32;
-        for at in 0..self.at.len() {
-            if let Some(Some(file)) = self.at.get(at) {
-                let access = Access::Clears(slot, Some(*file));
-                self.push_access(Who::Command(who), access);
+        for _ in 0..self.at.len() {
+            if let Some(file) = self.file_at(slot) {
+                self.push_access(Access::Clears(slot, Some(file)));
             }
             slot = slot.saturating_add(1);
         }
     }
 
     // Appends the events of a call between submissions that was accepted.
-    fn push_events(&mut self, who: &[u8], command: &Command) -> Result<(), AllocError> {
+    fn push_events(&mut self, command: &Command) -> Result<(), AllocError> {
         match command {
             Command::Sparse(slots) => self.at = vec![in self.alloc; None; *slots as usize]?,
             Command::Register(list, tags) => {
                 self.at = vec![in self.alloc; None; list.len()]?;
-                self.push_list(who, 0, list, tags.as_deref());
+                self.push_list(0, list, tags.as_deref(), false);
             }
             Command::Unregister => {
-                self.push_closes(who);
+                self.push_closes();
                 self.at.clear();
             }
-            Command::Update(off, list, tags) => self.push_list(who, *off, list, tags.as_deref()),
+            Command::Update(off, list, tags) => self.push_list(*off, list, tags.as_deref(), true),
             Command::Range(_, _) | Command::Submit(_) => {}
         }
         Ok(())
     }
 
     // Appends a command that the next line of the text answers alone.
-    fn push_call(&mut self, command: &Command) -> Result<(), NoMemory> {
+    fn push_call(&mut self, command: &Command) -> Result<(), AllocError> {
         let (line, answer) = (self.next_asked(), self.next_answer());
+        self.text = after_closes(self.text);
         if !answer.starts_with(b"-") && !answer.starts_with(b"refused") {
-            self.push_events(cut_word(line).0, command)?;
+            self.who.clear();
+            self.who.bytes(cut_word(line).0);
+            self.push_events(command)?;
         }
+        self.push_answer(line, answer);
+        Ok(())
+    }
+
+    // Ends the unfinished line with a request or a command, its answer, and the state.
+    fn push_answer(&mut self, line: &[u8], answer: &[u8]) {
         self.lines.bytes(line);
         self.lines.say(" answers ");
         self.lines.bytes(answer);
         self.end_line();
-        Ok(())
     }
 
     // Appends answers from one on up to a member of a chain, and, if `canceled`, those of the
     // canceled ones after it. Returns the next one.
     fn push_answers(
         &mut self,
-        answers: &[Answer<'a>],
+        answers: &[Answer<'_>],
         from: usize,
         (chain, member): (u32, u32),
         canceled: bool,
     ) -> usize {
         for at in from..answers.len() {
-            let (request, it) = &answers[at];
-            let is_canceled = canceled && it.res == result_of(Errno::ECANCELED);
-            if it.place.chain != chain || it.place.member > member && !is_canceled {
+            let Answer {
+                place,
+                request,
+                result,
+            } = answers[at];
+            let is_canceled = canceled && result == b"-125".as_slice();
+            if place.chain != chain || place.member > member && !is_canceled {
                 return at;
             }
-            self.lines.place(it.place);
+            self.lines.place(place);
             self.lines.say(" ");
-            self.lines.bytes(request);
-            self.lines.say(" answers ");
-            self.lines.result(it.res);
-            self.end_line();
+            self.push_answer(request, result);
         }
         answers.len()
     }
 
-    // Appends the events of an access of a chain, and the answers that come with it. `next`: the
-    // first request of the chain that hasn't answered yet. `ends`: whether it is the last access of
-    // its request. A request answers after its last access; one that makes none answers when its
-    // chain has reached it.
-    fn push_turn(
-        &mut self,
-        answers: &[Answer<'a>],
-        (access, place): (Access, Place),
-        next: usize,
-        ends: bool,
-    ) -> usize {
-        let (chain, member) = (place.chain, place.member);
-        let before = (chain, member.saturating_sub(1));
-        let next = self.push_answers(answers, next, before, false);
-        self.push_access(Who::At(place), access);
-        if ends {
-            return self.push_answers(answers, next, (chain, member), true);
-        }
-        next
-    }
-
-    // Appends the lines of a submission, by the answers of its requests and their order. `chains`:
-    // the number of each chain, and its first request that hasn't answered yet.
-    fn push_turns(&mut self, answers: &[Answer<'a>], order: &Order, chains: &mut [(u32, usize)]) {
-        for (i, at) in order.places.iter().enumerate() {
-            let turn = chains.get_mut((at.chain as usize).saturating_sub(1));
+    // Appends the lines of a submission, by the answers of its requests and their order. A request
+    // answers after its last access; one that makes none answers when its chain has reached it.
+    // `next`: the first request of each chain that hasn't answered yet.
+    fn push_turns(&mut self, answers: &[Answer<'_>], order: &Order, next: &mut [usize]) {
+        let submission = order.submission;
+        for i in 0..order.places.len() {
+            let at = &order.places[i];
+            let (chain, member) = (at.chain, at.member);
+            let turn = next.get_mut((chain as usize).saturating_sub(1));
             if let (Some(turn), Some(made)) = (turn, order.accesses.get(i)) {
-                let place = Place {
-                    submission: order.submission,
-                    chain: at.chain,
-                    member: at.member,
-                };
-                let ends = is_last(&order.places, i.saturating_add(1), at);
-                turn.1 = self.push_turn(answers, (made.access, place), turn.1, ends);
+                let before = (chain, member.saturating_sub(1));
+                *turn = self.push_answers(answers, *turn, before, false);
+                self.who.clear();
+                self.who.place(Place {
+                    submission,
+                    chain,
+                    member,
+                });
+                self.push_access(made.access);
+                if is_last(&order.places, i.saturating_add(1), at) {
+                    *turn = self.push_answers(answers, *turn, (chain, member), true);
+                }
             }
         }
-        for (chain, from) in chains.iter() {
-            self.push_answers(answers, *from, (*chain, u32::MAX), false);
-        }
     }
 
-    // Takes the lines of the script of a submission's requests, each with its completion.
-    fn answers(&mut self, completions: Vec<Completion>) -> Result<Vec<Answer<'a>>, NoMemory> {
-        let mut answers = Vec::new(self.alloc);
-        for it in completions {
-            answers.push((self.next_asked(), it))?;
+    // Takes the lines of a submission's requests in the script, and their lines of the text.
+    // Appends the number of the first request of each chain to `next`.
+    fn answers(
+        &mut self,
+        requests: &[Request],
+        submission: u32,
+        next: &mut Vec<usize>,
+    ) -> Result<Vec<Answer<'a>>, AllocError> {
+        let (mut answers, mut place) = (Vec::new(self.alloc), first_place(submission));
+        for request in requests {
+            if place.member == 1 {
+                next.push(answers.len())?;
+            }
+            let (result, _) = cut_word(self.next_answer());
+            answers.push(Answer {
+                place,
+                request: self.next_asked(),
+                result,
+            })?;
+            place = place_after(place, request);
         }
         Ok(answers)
     }
 
-    // Appends the lines of an accepted submission of a number of requests with an order of these,
-    // and takes its lines of the script and of the text. The script has the submission's own line
-    // after those of the requests.
-    fn push_submission(&mut self, count: usize, order: &Order) -> Result<(), NoMemory> {
-        let Some((report, rest)) = read_report(self.alloc, self.text, count)? else {
-            return Ok(());
-        };
-        self.text = rest;
-        let answers = self.answers(report.completions)?;
+    // Appends the lines of an accepted submission with an order of its requests, and takes its
+    // lines of the script and of the text. The script has the submission's own line after those of
+    // the requests.
+    fn push_submission(&mut self, requests: &[Request], order: &Order) -> Result<(), AllocError> {
+        let mut next = Vec::new(self.alloc);
+        let answers = self.answers(requests, order.submission, &mut next)?;
         self.next_asked();
-        let mut chains = chains_of(self.alloc, &answers)?;
-        self.push_turns(&answers, order, &mut chains);
+        self.text = after_closes(self.text);
+        self.push_turns(&answers, order, &mut next);
+        let mut chain = 1u32;
+        for from in &next {
+            self.push_answers(&answers, *from, (chain, u32::MAX), false);
+            chain = chain.saturating_add(1);
+        }
         Ok(())
     }
 
@@ -432,21 +404,25 @@ impl<'a> History<'a> {
     /// `NoMemory` if an allocation fails.
     pub fn push(&mut self, command: &Command) -> Result<(), NoMemory> {
         let Command::Submit(requests) = command else {
-            return self.push_call(command);
+            return Ok(self.push_call(command)?);
         };
         let is_refused = !requests.is_empty() && self.text.starts_with(b"submit ");
-        let [order, others @ ..] = (if is_refused { &[] } else { self.orders }) else {
-            for _ in 0..requests.len() {
-                self.next_asked();
-            }
-            return self.push_call(command);
-        };
-        self.orders = others;
-        self.push_submission(requests.len(), order)
+        if let [order, others @ ..] = self.orders
+            && !is_refused
+        {
+            self.orders = others;
+            return Ok(self.push_submission(requests, order)?);
+        }
+        for _ in 0..requests.len() {
+            self.next_asked();
+        }
+        Ok(self.push_call(command)?)
     }
 
     /// Appends the lines of the end of the script, where the remaining files are closed.
     pub fn push_end(&mut self) {
-        self.push_closes(b"teardown");
+        self.who.clear();
+        self.who.say("teardown");
+        self.push_closes();
     }
 }

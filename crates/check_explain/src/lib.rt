@@ -16,8 +16,8 @@ mod wrong_answer;
 mod wrong_files;
 
 pub use case::{Case, access_places};
-pub use complaint::{Complaint, explain};
-pub use facts::slots_after;
+pub use complaint::Complaint;
+pub use facts::Facts;
 pub use history::History;
 pub use lines::{
     AskedLine, after_closes, asked_lines, cut_word, first_difference, line_after, line_at,

@@ -15,7 +15,7 @@ const COLUMN: usize = 44;
 #[derive(Drop)]
 pub struct Words {
     words: String,
-    is_whole: bool,
+    pub(crate) is_whole: bool,
 }
 
 impl Words {
@@ -48,29 +48,30 @@ impl Words {
         self.words.clear();
     }
 
-    /// Records that an allocation failed.
-    pub(crate) fn lose(&mut self) {
-        self.is_whole = false;
-    }
-
     /// Appends a text.
     pub fn say(&mut self, text: &str) {
         if self.words.push_str(text).is_err() {
-            self.lose();
+            self.is_whole = false;
         }
+    }
+
+    /// Appends other words.
+    pub(crate) fn append(&mut self, other: &Words) {
+        self.say(other.words.as_str());
+        self.is_whole = self.is_whole && other.is_whole;
     }
 
     /// Appends a character of one byte.
     pub fn byte(&mut self, byte: u8) {
         if self.words.push(char::from(byte)).is_err() {
-            self.lose();
+            self.is_whole = false;
         }
     }
 
     /// Appends a number.
     pub fn number(&mut self, number: u64) {
         if write!(self.words, "{number}").is_err() {
-            self.lose();
+            self.is_whole = false;
         }
     }
 
@@ -92,7 +93,7 @@ impl Words {
     // Appends a byte in lower case hexadecimal.
     fn hex(&mut self, byte: u8) {
         if write!(self.words, "{byte:02x}").is_err() {
-            self.lose();
+            self.is_whole = false;
         }
     }
 
@@ -140,7 +141,7 @@ impl Words {
         }
     }
 
-    /// Appends the bytes of a read after a space, in hexadecimal, or nothing if there are none.
+    /// Appends a space and the bytes of a read in hexadecimal, unless there are none.
     pub fn got(&mut self, bytes: &[u8]) {
         if !bytes.is_empty() {
             self.say(" ");

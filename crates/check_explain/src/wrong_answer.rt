@@ -1,13 +1,13 @@
 //! Lines that aren't the completions of their requests, and completions that no request there may
 //! have, or that contradict their chain.
 use crate::answers::{Answers, Left, left_at_slots};
-use crate::case::{Act, Effect, Row, result_of};
+use crate::case::{Act, Row, result_of};
 use crate::complaint::Complaint;
 use crate::facts::Facts;
 use crate::lines::{Lines, next_line};
 use crate::words::{Words, name_of};
 use fx_base::{Errno, NoMemory};
-use fx_chain::{Completion, refusal_of};
+use fx_chain::{Completion, Intent, refusal_of};
 
 // The reason why a completion without a file has no bytes.
 const ONLY_READS: &str = "only a read that finds a file has bytes";
@@ -54,7 +54,7 @@ fn why_not_read(
 
 // Appends the reason why an access of a slot can't have an answer without bytes, if one is known.
 fn why_not_at(row: &Row<'_>, act: &Act, slot: u32, res: i32, why: &mut Words) {
-    if matches!(act.effect, Effect::Takes) && res == 0 {
+    if matches!(act.intent, Intent::Take(_)) && res == 0 {
         why.count("slot ", u64::from(slot), " can't have a file then");
     } else if res == result_of(Errno::EBADF) && row.fixed_result().is_none() {
         why.count("slot ", u64::from(slot), " can't be empty then");
@@ -69,7 +69,7 @@ fn why_not_by(
     it: &Completion,
     why: &mut Words,
 ) -> Result<(), NoMemory> {
-    let is_read = matches!(act.effect, Effect::Looks);
+    let is_read = matches!(act.intent, Intent::Look(_));
     match act.asked {
         _ if !is_read && !it.got.is_empty() => why.say(ONLY_READS),
         Some(slot) if is_read && it.res >= 0 => why_not_read(facts, row, slot, it, why)?,
@@ -164,11 +164,16 @@ fn why_unread(line: &[u8]) -> &'static str {
 }
 
 // Says which answers a request may give.
-fn expect(row: &Row<'_>, answers: &Answers<'_>, at: usize, out: &mut Complaint) {
+fn expect(
+    row: &Row<'_>,
+    answers: &Answers<'_>,
+    at: usize,
+    out: &mut Complaint,
+) -> Result<(), NoMemory> {
     out.line(at);
     out.expected.place(row.place);
     out.expected.say(" with ");
-    answers.say(&mut out.expected);
+    answers.say(&mut out.expected)
 }
 
 // Says why the first line after those of the completions isn't the completion of its request.
@@ -185,7 +190,7 @@ fn unread(
     front.say(" ");
     let front = front.text()?;
     if line.starts_with(front.as_bytes()) {
-        expect(row, answers, at, out);
+        expect(row, answers, at, out)?;
         out.why.say(why_unread(line));
     } else {
         misplaced(facts, at, front, out);
@@ -218,10 +223,10 @@ fn is_wrong(
         not_severed(facts, at, row, out);
         return Ok(true);
     }
-    if answers.have(it) {
+    if answers.have(it)? {
         return Ok(false);
     }
-    expect(row, &answers, at, out);
+    expect(row, &answers, at, out)?;
     why_not(facts, row, it, &mut out.why)?;
     Ok(true)
 }

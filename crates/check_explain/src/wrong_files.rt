@@ -1,46 +1,39 @@
 //! Invalid lines of closed files and of tags after a submission's completions, and lines that
 //! contradict each other by the files at one slot.
-use crate::case::{Act, Effect, Installed};
+use crate::case::{Act, Installed};
 use crate::complaint::Complaint;
-use crate::facts::Facts;
+use crate::facts::{Close, Facts};
+use crate::lines::{Lines, without_end};
 use crate::words::{Words, name_of};
-use check_lines::ClosedLine;
 use fx_base::{Mark, NoMemory};
+use fx_chain::Intent;
 
-// Says that a mark has another file's name.
-fn wrong_name(at: usize, mark: Mark, name: &str, out: &mut Complaint) {
-    out.line(at);
-    out.expected.say("closed ");
-    out.expected.mark(mark);
-    out.expected.say(" ");
-    out.expected.say(name);
-    out.why.mark(mark);
-    out.why.say(" is ");
-    out.why.say(name);
-}
-
-// Says that no known file has a mark.
-fn unknown_mark(at: usize, mark: Mark, out: &mut Complaint) {
-    let expected = "a file that was at a slot, or that a request installed";
-    out.wrong(at, expected, "no such file has the mark ");
-    out.why.mark(mark);
-}
-
-// Looks whether the line of a closed file is wrong. Else the file is recorded as closed.
+// Looks whether a `closed` line is wrong, by the one before it.
 fn is_wrong(
-    facts: &mut Facts<'_>,
+    facts: &Facts<'_>,
     at: usize,
-    line: &ClosedLine,
+    close: &Close<'_>,
+    before: Option<Mark>,
     out: &mut Complaint,
 ) -> Result<bool, NoMemory> {
-    let i = facts.file_marked(line.mark).unwrap_or(usize::MAX);
-    let Some(known) = facts.files.get(i) else {
-        unknown_mark(at, line.mark, out);
+    let Some(mark) = close.mark else {
+        out.wrong(at, "closed, a mark and a name", "");
         return Ok(true);
     };
-    let name = name_of(facts.case.catalogue, known.file.entry);
-    if name.as_bytes() != line.name.as_slice() {
-        wrong_name(at, line.mark, name, out);
+    let Some(known) = close.file else {
+        let expected = "a file that was at a slot, or that a request installed";
+        out.wrong(at, expected, "no such file has the mark ");
+        out.why.mark(mark);
+        return Ok(true);
+    };
+    let mut line = Words::new(facts.case.alloc);
+    line.say("closed ");
+    line.file(facts.case.catalogue, known.file);
+    if without_end(close.line) != line.text()?.as_bytes() {
+        out.wrong(at, line.text()?, "");
+        out.why.mark(mark);
+        out.why.say(" is ");
+        out.why.say(name_of(facts.case.catalogue, known.file.entry));
         return Ok(true);
     }
     if let Some(earlier) = known.closed {
@@ -48,125 +41,94 @@ fn is_wrong(
         out.wrong(at, "", "a file is closed once");
         return Ok(true);
     }
-    if let Some(before) = facts.last_closed()
-        && before > line.mark
-    {
+    let is_late = before > close.mark;
+    if is_late {
         out.line(at.saturating_sub(1));
         out.wrong(at, "", "closed files are in order of their marks");
-        return Ok(true);
     }
-    facts.close(i, at)?;
-    Ok(false)
+    Ok(is_late)
 }
 
-// Looks whether the next line is that of a closed file, and wrong.
-fn is_wrong_line(facts: &mut Facts<'_>, out: &mut Complaint) -> Result<bool, NoMemory> {
-    let at = facts.rest.taken;
-    let line = facts.rest.take();
-    match facts.closed_of(line)? {
-        Some(closed) => is_wrong(facts, at, &closed, out),
-        None => {
-            out.wrong(at, "closed, a mark and a name", "");
-            Ok(true)
+// Looks for the first wrong one of the `closed` lines.
+fn wrong_closed(facts: &Facts<'_>, out: &mut Complaint) -> Result<bool, NoMemory> {
+    let (mut at, mut before) = (facts.rows.len(), None);
+    for close in &facts.closes {
+        if is_wrong(facts, at, close, before, out)? {
+            return Ok(true);
         }
+        (at, before) = (at.saturating_add(1), close.mark);
     }
-}
-
-// Looks whether the next line isn't that of a closed file's tag.
-fn is_wrong_tag(
-    facts: &mut Facts<'_>,
-    it: &Installed,
-    out: &mut Complaint,
-) -> Result<bool, NoMemory> {
-    let at = facts.rest.taken;
-    let line = facts.rest.take();
-    let mut words = Words::new(facts.case.alloc);
-    words.count("tag ", it.file.tag, "");
-    let expected = words.text()?;
-    if line.strip_suffix(b"\n") == Some(expected.as_bytes()) {
-        return Ok(false);
-    }
-    out.wrong(at, expected, expected);
-    let number = facts.case.line.saturating_add(it.closed.unwrap_or(0));
-    out.why
-        .count(" is that of the file of line ", number as u64, "");
-    Ok(true)
+    Ok(false)
 }
 
 // Takes the lines of the closed files' tags, up to the first wrong one. Returns whether one is
 // wrong.
-fn wrong_tags(facts: &mut Facts<'_>, out: &mut Complaint) -> Result<bool, NoMemory> {
-    for i in 0..facts.closes.len() {
-        let it = facts.closed_file(i);
-        if let Some(it) = it
+fn wrong_tags(
+    facts: &Facts<'_>,
+    rest: &mut Lines<'_>,
+    out: &mut Complaint,
+) -> Result<bool, NoMemory> {
+    let mut number = facts.case.line.saturating_add(facts.rows.len()) as u64;
+    for close in &facts.closes {
+        if let Some(it) = close.file
             && it.file.tag != 0
-            && is_wrong_tag(facts, &it, out)?
         {
-            return Ok(true);
+            let at = rest.taken;
+            let mut tag = Words::new(facts.case.alloc);
+            tag.count("tag ", it.file.tag, "");
+            let expected = tag.text()?;
+            if rest.take().strip_suffix(b"\n") != Some(expected.as_bytes()) {
+                out.wrong(at, expected, expected);
+                out.why.count(" is that of the file of line ", number, "");
+                return Ok(true);
+            }
         }
+        number = number.saturating_add(1);
     }
     Ok(false)
 }
 
-/// Looks for the first wrong line after a submission's completions. It records the closed files in
-/// the facts. Returns whether a line is wrong.
-pub(crate) fn wrong_close(facts: &mut Facts<'_>, out: &mut Complaint) -> Result<bool, NoMemory> {
-    for _ in 0..facts.rest.rest.len() {
-        if !facts.rest.rest.starts_with(b"closed ") {
-            break;
-        }
-        if is_wrong_line(facts, out)? {
-            return Ok(true);
-        }
+/// Looks for the first wrong line after a submission's completions. Returns whether a line is
+/// wrong.
+pub(crate) fn wrong_close(facts: &Facts<'_>, out: &mut Complaint) -> Result<bool, NoMemory> {
+    if wrong_closed(facts, out)? {
+        return Ok(true);
     }
+    let mut rest = facts.rest;
     let mut front = Words::new(facts.case.alloc);
     front.count("", u64::from(facts.case.submissions.saturating_add(1)), ".");
-    if facts.rest.rest.starts_with(front.text()?.as_bytes()) {
+    if rest.rest.starts_with(front.text()?.as_bytes()) {
+        let expected = "a closed file, or the next command's line";
+        out.wrong(rest.taken, expected, "the submission has ");
         let count = facts.rows.len() as u64;
-        out.wrong(
-            facts.rest.taken,
-            "a closed file, or the next command's line",
-            "",
-        );
-        out.why.count(
-            "the submission has ",
-            count,
-            " requests, and this is one more",
-        );
+        out.why.count("", count, " requests, and this is one more");
         return Ok(true);
     }
-    if wrong_tags(facts, out)? {
+    if wrong_tags(facts, &mut rest, out)? {
         return Ok(true);
     }
-    let rest = facts.rest.rest;
-    let is_more = rest.starts_with(b"tag ") || rest.starts_with(b"closed ");
+    let is_more = rest.rest.starts_with(b"tag ") || rest.rest.starts_with(b"closed ");
     if is_more {
         let why = "the closed files come first, and have no further tag";
-        out.wrong(facts.rest.taken, "the next command's line", why);
+        out.wrong(rest.taken, "the next command's line", why);
     }
     Ok(is_more)
 }
 
-// Adds the line of the request that installed a file, if it wasn't there before.
-fn add_line(it: &Installed, out: &mut Complaint) {
-    if let Some(line) = it.line {
-        out.line(line);
-    }
-}
-
 // Says that two files are left at one slot.
 fn two_left(facts: &Facts<'_>, one: &Installed, other: &Installed, out: &mut Complaint) {
-    add_line(one, out);
-    add_line(other, out);
+    if let Some(line) = one.line {
+        out.line(line);
+    }
+    if let Some(line) = other.line {
+        out.line(line);
+    }
     out.why.file(facts.case.catalogue, one.file);
     out.why.say(" and ");
     out.why.file(facts.case.catalogue, other.file);
-    let slot = u64::from(one.slot);
-    out.why.count(
-        " are both left at slot ",
-        slot,
-        ": neither has a `closed` line",
-    );
+    let after = ": neither has a `closed` line";
+    out.why
+        .count(" are both left at slot ", u64::from(one.slot), after);
 }
 
 // Looks for the first slot at which two files are left. Sets the file that is left at each slot.
@@ -189,21 +151,21 @@ fn are_two(facts: &Facts<'_>, left: &mut [Option<Installed>], out: &mut Complain
 // Looks whether a file has no `closed` line, though it was at a slot before an access that removed
 // it or found the slot empty.
 fn is_removed(facts: &Facts<'_>, act: &Act, it: &Installed, out: &mut Complaint) -> bool {
-    let does = match (act.found, act.effect) {
+    let does = match (act.found, act.intent) {
         (Some(false), _) => "finds the slot empty",
-        (_, Effect::Looks) => return false,
+        (_, Intent::Look(_)) => return false,
         _ if act.is_done => "removes what is there",
         _ => return false,
     };
     let Some(later) = facts.rows.get(act.line) else {
         return false;
     };
-    if let Some(line) = it.line
-        && (line >= act.line || facts.chain_of(line) != later.place.chain)
-    {
-        return false;
+    if let Some(line) = it.line {
+        if line >= act.line || facts.chain_of(line) != later.place.chain {
+            return false;
+        }
+        out.line(line);
     }
-    add_line(it, out);
     out.line(act.line);
     out.why.file(facts.case.catalogue, it.file);
     out.why

@@ -1,5 +1,5 @@
 //! The command line of `fixcheck`.
-use crate::Refusal;
+use crate::{Refusal, with};
 use clap::{Arg, ArgAction, ArgMatches, Command, value_parser};
 use std::alloc::{AllocError, Global};
 use std::convert::AsStr;
@@ -76,12 +76,16 @@ fn flag<'a>(alloc: Global, name: &'a str) -> Arg<'a> {
     option(alloc, name).action(ArgAction::SetTrue)
 }
 
-fn states<'a>(alloc: Global) -> Arg<'a> {
-    option(alloc, "states")
+fn number<'a>(alloc: Global, name: &'a str, help: &'a str) -> Arg<'a> {
+    option(alloc, name)
         .value_name("N")
         .value_parser(value_parser!(u32))
-        .default_value("1000000")
-        .help("Largest number of states of a part of a submission; with more it is undecided")
+        .help(help)
+}
+
+fn states<'a>(alloc: Global) -> Arg<'a> {
+    let help = "Largest number of states of a part of a submission; with more it is undecided";
+    number(alloc, "states", help).default_value("1000000")
 }
 
 fn memory<'a>(alloc: Global) -> Arg<'a> {
@@ -90,11 +94,6 @@ fn memory<'a>(alloc: Global) -> Arg<'a> {
         .value_parser(value_parser!(u32).range(1..=MOST_MEMORY))
         .default_value("1024")
         .help("Largest number of MiB of these states; with more it is undecided")
-}
-
-// Adds the options that limit a search.
-fn with_limits<'a>(alloc: Global, command: Command<'a>) -> Result<Command<'a>, AllocError> {
-    command.arg(states(alloc))?.arg(memory(alloc))
 }
 
 fn history<'a>(alloc: Global) -> Arg<'a> {
@@ -117,21 +116,13 @@ fn may<'a>(alloc: Global) -> Arg<'a> {
 }
 
 fn all<'a>(alloc: Global) -> Result<Arg<'a>, AllocError> {
-    option(alloc, "all")
-        .value_name("N")
-        .value_parser(value_parser!(u32))
+    let help = "Lists every text of the script, the first N of them; by default 100";
+    number(alloc, "all", help)
         .num_args(0..=1)
         .require_equals(true)
         .default_missing_value("100")
-        .help("Lists every text of the script, the first N of them; by default 100")
         .conflicts_with("may")?
         .conflicts_with("history")
-}
-
-// Adds the options that choose the question, and the form of its answer.
-fn with_questions<'a>(alloc: Global, command: Command<'a>) -> Result<Command<'a>, AllocError> {
-    let command = command.arg(history(alloc))?.arg(keep_going(alloc)?)?;
-    command.arg(may(alloc))?.arg(all(alloc)?)
 }
 
 fn script<'a>(alloc: Global) -> Arg<'a> {
@@ -154,8 +145,14 @@ fn command<'a>(alloc: Global) -> Result<Command<'a>, AllocError> {
         .version(VERSION)
         .about(ABOUT)
         .after_help(STATUSES);
-    let command = with_questions(alloc, with_limits(alloc, command)?)?;
-    command.arg(script(alloc))?.arg(text(alloc)?)
+    let command = with(Ok(command), Ok(states(alloc)));
+    let command = with(command, Ok(memory(alloc)));
+    let command = with(command, Ok(history(alloc)));
+    let command = with(command, keep_going(alloc));
+    let command = with(command, Ok(may(alloc)));
+    let command = with(command, all(alloc));
+    let command = with(command, Ok(script(alloc)));
+    with(command, text(alloc))
 }
 
 // Returns the question, by the words after the options, which must be those that the options take.

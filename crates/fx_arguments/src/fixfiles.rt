@@ -2,7 +2,7 @@
 ghost use Rattle.std.specs.Prelude.{◌≤◌, IfOk};
 ghost use Rattle.fx_table.specs.declared.limits.TheConstants.{MAX_PASSES};
 
-use crate::{Refusal, words};
+use crate::{Refusal, with, words};
 use clap::error::ErrorKind;
 use clap::{Arg, ArgMatches, Command, Error, value_parser};
 use std::alloc::{AllocError, Global};
@@ -93,12 +93,10 @@ fn command<'a>(alloc: Global) -> Result<Command<'a>, AllocError> {
         .about(ABOUT)
         .after_help(SCRIPTS_AND_STATUSES)
         .override_usage("fixfiles [OPTIONS] < SCRIPT");
+    let command = with(Ok(command), Ok(workers_option(alloc)));
+    let command = with(command, Ok(table_option(alloc)));
     // no script is an argument; one that is given is refused with a tip
-    let script = Arg::new(alloc, "script").hide(true);
-    command
-        .arg(workers_option(alloc))?
-        .arg(table_option(alloc))?
-        .arg(script)
+    with(command, Ok(Arg::new(alloc, "script").hide(true)))
 }
 
 // Returns the error of a script that is given as an argument.

@@ -6,6 +6,7 @@ pub mod fixcheck;
 pub mod fixfiles;
 
 use clap::error::ErrorKind;
+use clap::{Arg, Command};
 use std::alloc::AllocError;
 use std::{env, io};
 use thiserror::Error;
@@ -68,12 +69,20 @@ impl Refusal {
     ///
     /// # Errors
     /// Returns the error of a write that fails.
-    pub fn tell(&self, rt: &HostRuntime, program: &str) -> io::Result<()> {
+    pub fn print(&self, rt: &HostRuntime, program: &str) -> io::Result<()> {
         match self {
             Refusal::Arguments(error) => error.print(rt),
             refusal => eprintln!(rt; "{program}: {refusal}"),
         }
     }
+}
+
+// Adds an argument to a command, unless an allocation for one of them failed.
+fn with<'a>(
+    command: Result<Command<'a>, AllocError>,
+    arg: Result<Arg<'a>, AllocError>,
+) -> Result<Command<'a>, AllocError> {
+    command?.arg(arg?)
 }
 
 /// Returns the words of the command line, the program's name first.

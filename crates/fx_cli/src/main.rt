@@ -24,7 +24,7 @@ fn main(rt: HostRuntime) -> ExitCode {
         Ok(settings) => settings,
         Err(refusal) => {
             // Nothing can be done if this write fails.
-            let _ = refusal.tell(&rt, "fixfiles");
+            let _ = refusal.print(&rt, "fixfiles");
             return ExitCode::from(refusal.status());
         }
     };
