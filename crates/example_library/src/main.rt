@@ -97,6 +97,27 @@ fn serve_under_load<T: FileTable, R: Threads + Wait + Sync>(
     Ok(closed.load(Ordering::SeqCst))
 }
 
+// Prints how many bytes were read, and the files that each thread closed.
+fn print_closed<R: Print>(
+    rt: &R,
+    alloc: Global,
+    count: usize,
+    by_reader: &CloseList,
+    by_writer: &CloseList,
+) -> Result<(), NoMemory> {
+    let (writer, reader) = (by_writer.len(), by_reader.len());
+    // A line that can't be written changes nothing.
+    let _ = println!(rt;
+        "the reader read {count} bytes of the file that it holds\n\
+         files closed by the writer: {writer}, by the reader: {reader}"
+    );
+    for tag in &by_reader.tags(alloc)? {
+        let tag = tag.user_data;
+        let _ = println!(rt; "reported by the reader: the file with tag {tag} is closed");
+    }
+    Ok(())
+}
+
 // Does the three things, the last one first and with a table of its own, and prints the results.
 fn serve<R: Threads + Wait + Sync + Print>(
     rt: &R,
@@ -125,16 +146,11 @@ fn serve<R: Threads + Wait + Sync + Print>(
     if let Some(file) = retired {
         by_writer.close(file);
     }
-    let (writer, reader, count) = (by_writer.len(), by_reader.len(), bytes?.len());
-    // A line that can't be written changes nothing.
-    let _ = println!(rt; "the reader read {count} bytes of the file that it holds");
-    let _ = println!(rt; "files closed by the writer: {writer}, by the reader: {reader}");
-    for tag in &by_reader.tags(alloc)? {
-        let tag = tag.user_data;
-        let _ = println!(rt; "reported by the reader: the file with tag {tag} is closed");
-    }
-    let _ = println!(rt; "files opened at any slot until no slot was free: {opened}");
-    let _ = println!(rt; "files that were replaced and closed under load: {closed}");
+    print_closed(rt, alloc, bytes?.len(), &by_reader, &by_writer)?;
+    let _ = println!(rt;
+        "files opened at any slot until no slot was free: {opened}\n\
+         files that were replaced and closed under load: {closed}"
+    );
     Ok(())
 }
 
