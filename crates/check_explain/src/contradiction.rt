@@ -79,8 +79,8 @@ impl<'a> Contradiction<'a> {
         Ok(has_none)
     }
 
-    // Searches for an order of claims. Returns the number of states that the search met, and true if
-    // no order exists, or `None` if the search reaches a limit.
+    // Searches for an order of claims. Returns the number of states that the search met, and true
+    // if no order exists, or `None` if the search reaches a limit.
     fn explored(
         &self,
         cells: &[Cell],
