@@ -57,12 +57,8 @@ fn add_content(
     Ok(there.push((content, by))?)
 }
 
-/// Returns for each slot the contents that requests leave there, each once.
-pub(crate) fn left_at_slots(facts: &Facts<'_>) -> Result<Vec<Vec<Left>>, AllocError> {
-    let mut left: Vec<Vec<Left>> = Vec::new(facts.case.alloc);
-    for _ in 0..facts.case.size() {
-        left.push(Vec::new(facts.case.alloc))?;
-    }
+// Adds the contents that requests leave at each slot.
+fn add_contents(facts: &Facts<'_>, left: &mut [Vec<Left>]) -> Result<(), AllocError> {
     for act in &facts.acts {
         let Some(content) = content_after(act) else {
             continue;
@@ -78,6 +74,16 @@ pub(crate) fn left_at_slots(facts: &Facts<'_>) -> Result<Vec<Vec<Left>>, AllocEr
             }
         }
     }
+    Ok(())
+}
+
+/// Returns for each slot the contents that requests leave there, each once.
+pub(crate) fn left_at_slots(facts: &Facts<'_>) -> Result<Vec<Vec<Left>>, AllocError> {
+    let mut left: Vec<Vec<Left>> = Vec::new(facts.case.alloc);
+    for _ in 0..facts.case.size() {
+        left.push(Vec::new(facts.case.alloc))?;
+    }
+    add_contents(facts, &mut left)?;
     Ok(left)
 }
 

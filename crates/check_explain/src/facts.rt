@@ -244,6 +244,15 @@ impl<'a> Facts<'a> {
         Ok(())
     }
 
+    // Adds the files and the requests, and reads the lines of the report.
+    fn fill(&mut self) -> Result<(), NoMemory> {
+        self.add_files()?;
+        if self.add_requests()? {
+            self.take_closes()?;
+        }
+        Ok(())
+    }
+
     /// Returns the facts of a case.
     ///
     /// # Errors
@@ -262,10 +271,7 @@ impl<'a> Facts<'a> {
                 taken: 0,
             },
         };
-        facts.add_files()?;
-        if facts.add_requests()? {
-            facts.take_closes()?;
-        }
+        facts.fill()?;
         Ok(facts)
     }
 
