@@ -19,7 +19,7 @@ use indexmap::IndexSet;
 use std::alloc::Global;
 
 /// The exits of a ring by a command.
-#[derive(Debug, Drop)]
+#[derive(Drop)]
 pub(crate) struct Exits {
     pub(crate) ring: RingSlots,
     /// The rings after the command, each with what the command printed.

@@ -125,10 +125,10 @@ fn push_report(
         (stage_reported setting.now.keeps (stage_of setting.now.catalogue.now from.now)
         possible.now)) }
 {
+    let past = spent.keep_order(setting.alloc, from, &possible.order)?;
     let line = report_text(setting.alloc, &possible.report, setting.catalogue)?;
     let printed = printed_behind(setting, from.printed.as_str(), line.as_str())?;
     let ring = from.ring_after(setting.alloc, &possible.slots)?;
-    let past = spent.keep_order(setting.alloc, from, &possible.order)?;
     push_new(
         setting,
         spent,

@@ -25,7 +25,7 @@ use fx_language::{Command, Script};
 use std::alloc::Global;
 
 /// An answer that a request may have.
-#[derive(Debug, Drop)]
+#[derive(Drop)]
 pub struct Said {
     /// The answer.
     pub completion: Completion,
@@ -34,7 +34,7 @@ pub struct Said {
 }
 
 /// The answers that a request of a script can give, and orders that lead to them.
-#[derive(Debug, Drop)]
+#[derive(Drop)]
 pub struct RequestAnswers {
     /// The answers.
     pub answers: Vec<Said>,
@@ -137,8 +137,8 @@ fn push_answer(
     if !goes_on(setting, reached, behind)? {
         return Ok(false);
     }
-    let completion = answer.completion.copy(setting.alloc)?;
     let past = spent.keep_order(setting.alloc, from, &answer.order)?;
+    let completion = answer.completion.copy(setting.alloc)?;
     answers.push(Said { completion, past })?;
     Ok(true)
 }

@@ -20,7 +20,7 @@ use fx_script::teardown_text;
 use indexmap::IndexSet;
 
 /// A text from a ring to the end of the script, and the orders of its submissions.
-#[derive(Debug, Drop)]
+#[derive(Drop)]
 pub(crate) struct TextEnd {
     pub(crate) text: String,
     /// The indices of the orders, the last submission's first.
@@ -28,7 +28,7 @@ pub(crate) struct TextEnd {
 }
 
 /// The ways from a ring to the end of the script: their number, and the first texts.
-#[derive(Debug, Drop)]
+#[derive(Drop)]
 pub(crate) struct KeptWays {
     pub(crate) ring: RingSlots,
     /// The number of ways that were found; the largest number stands for all larger ones.

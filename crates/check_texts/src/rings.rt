@@ -15,7 +15,7 @@ use fx_order::{RingSlots, Slots};
 use std::alloc::Global;
 
 /// Rings that commands may lead to.
-#[derive(Debug, Drop)]
+#[derive(Drop)]
 pub(crate) struct Rings {
     pub(crate) rings: Vec<Reached>,
     /// True if these are all of them.

@@ -18,7 +18,7 @@ use indexmap::IndexSet;
 use std::alloc::Global;
 
 /// The texts that a script can print, and orders that lead to them.
-#[derive(Debug, Drop)]
+#[derive(Drop)]
 pub struct AllTexts {
     /// The texts that were made, each once.
     pub texts: IndexSet<String>,

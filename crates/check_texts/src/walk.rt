@@ -43,7 +43,7 @@ pub(crate) struct Inquiry<'a> {
 }
 
 /// An order of an accepted submission, with a link to the order of the submission before it.
-#[derive(Debug, Drop)]
+#[derive(Drop)]
 pub struct Past {
     /// The number of the accepted submission, from 1.
     pub submission: u32,
@@ -56,7 +56,7 @@ pub struct Past {
 }
 
 /// A ring that commands can lead to.
-#[derive(Debug, Drop)]
+#[derive(Drop)]
 pub(crate) struct Reached {
     pub(crate) ring: RingSlots,
     /// The text that was printed on the way if the setting keeps it; else empty.
@@ -113,14 +113,16 @@ const PLACE_BYTES: usize = 8;
 
 // Returns the sum of some numbers, or the largest number.
 fn total(numbers: &[usize]) -> usize {
-    numbers
-        .iter()
-        .fold(0, |sum: usize, number| sum.saturating_add(*number))
+    let mut sum = 0usize;
+    for number in numbers {
+        sum = sum.saturating_add(*number);
+    }
+    sum
 }
 
 /// The orders that are kept, the number of states that the searches of a script have met, and that
 /// of the bytes that are kept.
-#[derive(Debug, Drop)]
+#[derive(Drop)]
 pub(crate) struct Spent {
     /// The orders of the submissions.
     pub(crate) orders: Vec<Past>,
