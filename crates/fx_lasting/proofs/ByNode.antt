@@ -14,6 +14,7 @@ use Rattle.fx_table.specs.declared.values.Doing.{Doing}
 use Rattle.fx_table.specs.declared.values.Doing.TheVariants.{Idle as DoesNothing}
 use Rattle.fx_table.specs.declared.values.Retired.{Retired}
 use Rattle.fx_lasting.specs.Ends.{Does}
+use Rattle.fx_lasting.specs.HeldFiles.{IsOneOnItsNode}
 use Rattle.fx_lasting.specs.Keyed.{IsOn, FitsMiss, WasSo, WasIn, SaysIf, SawIf, FailedIf, HasTriedIf, TriedTake, TriedReplace}
 use Rattle.fx_lasting.specs.declared.answers.Miss.{Miss}
 use Rattle.fx_lasting.specs.declared.answers.Miss.TheVariants.{Empty, Other, Again}
@@ -132,7 +133,7 @@ abbrev Replaced : (m₁ m₂ : Sat) (at found own : ℕ) → Closed → ℕ → 
 Replaced m₁ m₂ at found own file e = (old : Option File) × (number : ℕ) × Names (node_of_number m₁.0.start) found old
     × (node_of_number m₁.0.start number ≡ own) × NamesANode m₁.0.start found
     × Stepped (as_swapped e (name_in found - 1) m₁) ([] ▷ Put at (numbered number file) old) (retiring_work m₁.0.start found old) m₁.0.glance
-    (account (range_at_start m₁.0.start) at old) m₂ × (m₂.1 ≡ rest m₁.1)
+    (account (range_at_start m₁.0.start) at old) m₂ × (m₂.1 ≡ rest m₁.1) × IsOneOnItsNode m₁.0.start old (pass_in m₂).front
 
 its_own : (found node : ℕ) → full_name_in found ≡ node + 1 → name_in found - 1 ≡ node
 its_own found node is = let a = name_of_file found node is in omega arith
@@ -143,27 +144,30 @@ module _ {k : Start} {slot at : ℕ} (node found : ℕ) {m m₁ m₂ : Sat} {n :
   module _ (is : full_name_in found ≡ node + 1) where
     pub won_take : (file : Option File) → Names (node_of_number m₁.0.start) found file
         → Stepped m₁ ([] ▷ Take at file) (retiring_work m₁.0.start found file) m₁.0.glance (account (range_at_start m₁.0.start) at file) m₂
-        → TriedTake k slot node m (Ok found) m₂
-    won_take None names s = absurd (not_named _ _ is names)
-    won_take (Some f) names s = (
+        → IsOneOnItsNode m₁.0.start file (pass_in m₂).front → TriedTake k slot node m (Ok found) m₂
+    won_take None names s one = absurd (not_named _ _ is names)
+    won_take (Some f) names s one = (
       f,
       is,
       subst (λ (z : Start). Names (node_of_number z) found (Some f)) start names,
       runs_within few (acts_then still (subst (λ (z : Start × ℕ). Runs m₁ ([] ▷ Take z.1 (Some f)) (retiring_work z.0 found (Some f))
           m₁.0.glance Outside 1 m₂) (λ i. (start i, here i)) (at_once (range_at_start m₁.0.start) at f s))),
+      subst (λ (z : Start). IsOneOnItsNode z (Some f) (pass_in m₂).front) start one,
     )
 
     replaced_so : (own : ℕ) (file : Closed) (e : ℕ) → Replaced m₁ m₂ at found own file e → (number : ℕ) × (f : File) × (node_of_number k number ≡ own)
         × Names (node_of_number k) found (Some f)
         × Runs (as_swapped e node m) ([] ▷ Put slot (numbered number file) (Some f)) (retiring_work k found (Some f)) m.0.glance Outside 4 m₂
-    replaced_so own file e (None, number, names, on, a_node, s, home) = absurd (not_named _ _ is names)
-    replaced_so own file e (Some f, number, names, on, a_node, s, home) = (
+        × IsOneOnItsNode k (Some f) (pass_in m₂).front
+    replaced_so own file e (None, number, names, on, a_node, s, home, one) = absurd (not_named _ _ is names)
+    replaced_so own file e (Some f, number, names, on, a_node, s, home, one) = (
       number,
       f,
       subst (λ (z : Start). node_of_number z number ≡ own) start on,
       subst (λ (z : Start). Names (node_of_number z) found (Some f)) start names,
       runs_within few (swapped_then e node still (subst (λ (z : Start × ℕ × Glance × ℕ). Runs (as_swapped e z.3 m₁) ([] ▷ Put z.1 (numbered number file) (Some f))
           (retiring_work z.0 found (Some f)) z.2 Outside 1 m₂) (λ i. (start i, here i, still.glance i, its_own found node is i)) (at_once (range_at_start m₁.0.start) at f s))),
+      subst (λ (z : Start). IsOneOnItsNode z (Some f) (pass_in m₂).front) start one,
     )
 
     pub won_replace : (own : ℕ) (file : Closed) → IsInStock (pass_in m).stock own → ((e : ℕ) → get_elem? (pass_in m₁).stock e ≡ some own → Replaced m₁ m₂ at found own file e)

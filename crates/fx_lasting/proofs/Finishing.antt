@@ -1,7 +1,7 @@
 -- A load by which a retirement finds that everybody has let its file go keeps the rule.
-use Rattle.fx_lasting.proofs.Words.{Round, IsPassed, ◌≢◌}
-use Rattle.fx_lasting.proofs.Words.{◌≡◌, ℕ, ◌+◌, ◌≤◌, List, [], refl, ap, ◌∙◌, sym, arith, Option, Some, none, keeps, takes, Closed, File}
-use Rattle.fx_lasting.proofs.Words.{word_of, taking, owner, removed_in, Work, Retiring, retirement_amount, step, inr, dite, ℕ_discrete}
+use Rattle.fx_lasting.proofs.Words.{Round, IsPassed}
+use Rattle.fx_lasting.proofs.Words.{◌≡◌, ℕ, ◌+◌, ◌≤◌, List, ap, ◌∙◌, sym, arith, Option, Some, none, keeps, takes, Closed, File}
+use Rattle.fx_lasting.proofs.Words.{word_of, taking, owner, removed_in, Retiring, retirement_amount, step, inr, dite, ℕ_discrete}
 use Rattle.fx_lasting.specs.FinishSteps.{Finishes}
 use Rattle.fx_lasting.specs.Laws.{FinishesKeep}
 use Rattle.fx_lasting.proofs.Calm.{read_after, read_kept}

@@ -8,6 +8,7 @@ use Rattle.fx_lasting.proofs.Words.{Tags, Numbers, ReadsTag, ReadsNumber, TagsKe
 use Rattle.fx_lasting.proofs.Histories.{grows_none, each_changed}
 use Rattle.fx_lasting.proofs.Frames.{busy, does_now, written_of}
 use Rattle.fx_lasting.proofs.Groups.{CountAlike}
+use Rattle.fx_lasting.proofs.Holds.{on_node}
 use Rattle.fx_lasting.proofs.GroupSteps.{its_inside}
 use Rattle.fx_lasting.proofs.Keeping.{Turn, turn_of, After, word_at, slot_word, LabelSame, Made, by_turn, its_log, its_work, in_range, tells, tells_less, w, end}
 use Rattle.fx_lasting.proofs.NodeSteps.{after, node_kept, own_keeps, guards_else}
@@ -138,8 +139,11 @@ module _ (turn : Turn) where
 
   -- The pass holds the file of the node
   module _ (f : File) (n : ℕ) (holds : HoldsOn v.work f n) where
+    held_at : (g : File) (m : ℕ) → HoldsOn v.work g m → HoldsAt v.start r.phase g m
+    held_at g m its = ⊎_elim (λ is. subst (WorkAgrees v.start r.phase id) is (its_work turn)) (λ is. subst (WorkAgrees v.start r.phase id) is (its_work turn)) its
+
     its_file : HoldsAt v.start r.phase f n
-    its_file = ⊎_elim (λ is. subst (WorkAgrees v.start r.phase id) is (its_work turn)) (λ is. subst (WorkAgrees v.start r.phase id) is (its_work turn)) holds
+    its_file = held_at f n holds
 
     its_label : Labels v.start st.words n (label_of f.identity)
     its_label = subst (Labels v.start st.words n) (written_of (r.phase n) its_file.1) (r.each_label n its_file.0)
@@ -185,6 +189,7 @@ module _ (turn : Turn) where
         goes = sees carried;
         front = ap (λ (l : List Log). (first_log l).front) (sym one);
         number = λ g m its. its_label.1 ∙ ap (λ (h : File). number_of_mark h.identity.mark) (same_file g m its);
+        node = λ g m its. let at = held_at g m its in on_node v.start st r m g (r.phase m) at.1 (r.each_node m at.0);
       },
     )
 

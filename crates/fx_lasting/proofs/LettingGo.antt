@@ -5,7 +5,7 @@ use Rattle.fx_lasting.proofs.Words.{None, none, some, set_here, set_else, Closed
 use Rattle.fx_lasting.proofs.Words.{NodeAgrees, OwnerAgrees, MayBeUnmarked, HoldsAt, state_after_all, slots_of, word_of, hold_word_of, held_of, taken_of}
 use Rattle.fx_lasting.proofs.Words.{taking, if_file, owed, count_in, IsHistory, Phase, free, seated, emptied, owner, file_in, removed_in, file_if_numbered}
 use Rattle.fx_lasting.proofs.Words.{changed_at, changed_here, changed_else, View, Work, Idle, Counted, Emptying, Goes, TakesOut, length-set, inr, ◌⊎◌}
-use Rattle.fx_lasting.proofs.Words.{dite, ℕ_discrete, eq-eqb, ne_eqb, one_if, sum_by, closed_word, by_equality, sum_set, Agrees, get_elem?}
+use Rattle.fx_lasting.proofs.Words.{dite, ℕ_discrete, eq-eqb, ne_eqb, one_if, sum_by, by_equality, sum_set, Agrees, get_elem?}
 use Rattle.fx_lasting.proofs.Histories.{Grows, grows_more, legal_more, part_mine, held_mine, each_changed}
 use Rattle.fx_lasting.proofs.Frames.{busy, does_now, written_of}
 use Rattle.fx_lasting.proofs.Keeping.{Turn, After, Homes, word_at, slot_word, in_range, tells, w, end}

@@ -54,5 +54,6 @@ pub mod Skimming
 pub mod Rounds
 pub mod WordBounds
 pub mod Holds
+pub mod HeldFiles
 pub mod Showing
 pub mod WholeHistory

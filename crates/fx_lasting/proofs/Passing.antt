@@ -1,7 +1,7 @@
 -- A pass between two calls, and what a call adds to it.
 use Rattle.fx_lasting.proofs.Words.{as_listed}
 use Rattle.fx_lasting.proofs.Words.{◌≡◌, ℕ, ◌+◌, ◌-◌, ◌≤◌, ◌<◌, ◌^◌, ◌⊎◌, List, [], sym, refl, ap, ◌∙◌, subst, arith, Bool, true, false, Option, Some, None}
-use Rattle.fx_lasting.proofs.Words.{Start, Sat, Work, Glance, Change, Nothing, Outside, Runs, Stepped, IsAtWork, as_swapped, nodes_of, set}
+use Rattle.fx_lasting.proofs.Words.{Start, Sat, Work, Glance, Change, Nothing, Outside, Runs, IsAtWork, as_swapped, nodes_of, set}
 use Rattle.fx_lasting.proofs.Words.{part_of_pass, TableId, Idle, Counted, Guarded, Retiring, LastingPass, LastingTable, IsSeatOf, IsPassOf, IsPassOfTable, IsBetweenCalls}
 use Rattle.fx_lasting.proofs.Words.{opening_of, view_of, pass_of, pass_in, numbers_of_pass, doing_in, hold_at, retired_at, retiring_work, IsHistory}
 use Rattle.fx_lasting.proofs.Words.{Action, ◌▷◌, Put, Clear, Take, Release, Close, Look, File, Closed, numbered, full_name_in, count_in, LetsFileGo}
@@ -20,7 +20,7 @@ use Rattle.fx_table.specs.declared.values.Hold.{Hold}
 use Rattle.fx_table.specs.declared.values.LookFault.{LookFault}
 use Rattle.fx_table.specs.declared.values.LookFault.TheVariants.{Spent, Empty as EmptySlot}
 use Rattle.fx_table.specs.declared.values.Retired.{Retired}
-use Rattle.fx_lasting.proofs.Running.{runs_one, runs_then, turns_then, does_then, still_at_work, number_is, at_listed, at_swapped}
+use Rattle.fx_lasting.proofs.Running.{does_then, still_at_work, number_is, at_listed, at_swapped}
 use Rattle.fx_lasting.proofs.Words.{dite, dec_le, lt-ltb, IsIdleSeatOf, HasNoFile, Searching, is_in, account, uncounted, group_of}
 
 -- the changes that a seat's steps make to its view

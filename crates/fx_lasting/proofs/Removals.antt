@@ -1,7 +1,7 @@
 -- A pass that emptied a slot: what the step leaves, and the pass with the stock that it has then.
 use Rattle.fx_lasting.proofs.Words.{◌≡◌, ◌≤◌, ◌<◌, ℕ, ◌+◌, ◌-◌, List, [], set, sym, refl, ap, ◌∙◌, subst, Option, Bool, get_elem?, some}
 use Rattle.fx_lasting.proofs.Words.{Action, ◌▷◌, ◌▷▷◌, Sat, Start, Work, Glance, Change, Runs, IsAtWork, IsStockOf, Log, first_log, TableId, File, At}
-use Rattle.fx_lasting.proofs.Words.{as_stocked, as_swapped, pass_in, name_in, nodes_of, empty_word_of, retiring_work, account, range_at_start}
+use Rattle.fx_lasting.proofs.Words.{as_stocked, pass_in, name_in, nodes_of, empty_word_of, retiring_work, account, range_at_start}
 use Rattle.fx_lasting.proofs.Words.{slot_of, slot_place, Nothing, Outside, LastingPass, IsSeatOf, IsPassOf, IsBetweenCalls, opening_of, view_of, pass_of}
 use Rattle.fx_lasting.proofs.Words.{doing_in, IsHistory}
 use Rattle.fx_table.specs.Calls.{Use, no_use, Adds}

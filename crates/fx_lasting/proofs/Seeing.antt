@@ -3,7 +3,8 @@
 use Rattle.fx_lasting.proofs.Words.{◌≡◌, ◌≢◌, ℕ, ◌+◌, ◌^◌, ◌<◌, ◌≤◌, List, [], ◌∷◌, sym, refl, ap, ◌∙◌, Option, Some, None, none}
 use Rattle.fx_lasting.proofs.Words.{keeps, gives, rest, eqb, Closed, File, Take, Names, slots_of, slot_place, file_word_of, state_after_all}
 use Rattle.fx_lasting.proofs.Words.{node_of_number, HasNoFile, IsOffCount, Placing, Outside, Sees, TakesIf, Replaces, SeesKeep, TakesIfKeep, ReplacesKeep}
-use Rattle.fx_lasting.proofs.Words.{step, exchanged, subst, without_file, some, label_of}
+use Rattle.fx_lasting.proofs.Words.{step, exchanged, subst, without_file, some, label_of, pass_event}
+use Rattle.fx_lasting.proofs.HeldFiles.{one_after}
 use Rattle.fx_lasting.proofs.StockMoves.{names_a_node}
 use prog.Atomic.{either}
 use Rattle.fx_lasting.proofs.Keeping.{Turn, turn_of, Made, by_turn, word_at, slot_word, w}
@@ -61,7 +62,13 @@ module _ (turn : Turn) (s : ℕ) (inside : s < slots_of turn.v.start) (carried :
       tt,
       removal_agrees Take taken turn s inside free_of off,
       record {
-        wins = λ _. (there, named, rw (slot_back s) (removal_tells Take taken turn s inside free_of off carried), refl);
+        wins = λ _. (
+          there,
+          named,
+          rw (slot_back s) (removal_tells Take taken turn s inside free_of off carried),
+          refl,
+          one_after v.start st r s inside (pass_event x (Take s there)) (λ _. refl),
+        );
         loses = λ other. absurd (other is);
       },
     )
@@ -101,6 +108,8 @@ module _ (turn : Turn) (s : ℕ) (inside : s < slots_of turn.v.start) (carried :
               installation_tells turn s inside there refl n file works small out number late on_n
                   (put_action turn s inside n file works small out slots carried carries number late on_n) does carried (rest carried) e (at ∙ ap some (sym same)),
               refl,
+              one_after v.start st r s inside
+                  (pass_event x (put_action turn s inside n file works small out slots carried carries number late on_n)) (λ _. refl),
             );
         loses = λ other. absurd (other is);
       },

@@ -1,8 +1,8 @@
 -- A removal by an exchange of names keeps the rule: the slot's word names a node of the pass's
 -- stock, and the node that it named takes that node's place.
-use Rattle.fx_lasting.proofs.Words.{◌≡◌, ◌≢◌, ℕ, ◌-◌, ◌*◌, ◌+◌, ◌^◌, ◌<◌, List, [], ◌∷◌, set, sym, refl, ap, ◌∙◌, subst, arith, Option, Some, None, none, some}
+use Rattle.fx_lasting.proofs.Words.{◌≡◌, ◌≢◌, ℕ, ◌-◌, ◌<◌, List, [], ◌∷◌, set, sym, refl, ap, ◌∙◌, subst, arith, Option, Some, None, none, some}
 use Rattle.fx_lasting.proofs.Words.{keeps, get_elem?, inl, Closed, File, Event, Action, Clear, Take, ◌▷◌, State, changed_else, pass_event, Log}
-use Rattle.fx_lasting.proofs.Words.{Agrees, slots_of, slot_place, state_after_all, count_in, taken_of, taking, sum_by, sum_set, Change, Stepped, IsOffCount}
+use Rattle.fx_lasting.proofs.Words.{Agrees, slots_of, slot_place, state_after_all, count_in, taken_of, taking, sum_set, Change, Stepped, IsOffCount}
 use Rattle.fx_lasting.proofs.Words.{account, range_at_start, step, IsInside, retiring_work, HasNoFile, Whereabouts, IsInStock, as_stocked, as_swapped, first_log}
 use Rattle.fx_lasting.proofs.Words.{name_in, empty_word_of, empty_name_made, empty_file_made, empty_takes_made}
 use Rattle.fx_lasting.specs.SwapSteps.{SwapsOut}

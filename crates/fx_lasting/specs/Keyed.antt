@@ -15,6 +15,7 @@ use Rattle.fx_table.specs.declared.values.Doing.TheVariants.{Idle as DoesNothing
 use Rattle.fx_table.specs.declared.values.Doing.TheVariants.{Retiring as Retires}
 use Rattle.fx_lasting.specs.Agrees.{Names}
 use Rattle.fx_lasting.specs.Ends.{Does}
+use Rattle.fx_lasting.specs.HeldFiles.{IsOneOnItsNode}
 use Rattle.fx_lasting.specs.Parts.{full_name_in}
 use Rattle.fx_lasting.specs.Passes.{Sat, nodes_of, node_of_number, state_after_all}
 use Rattle.fx_lasting.specs.Runs.{Runs}
@@ -58,6 +59,7 @@ abbrev pub HasTakenIf : Start → PassView → ℕ → ℕ → TakenIf → PassV
 HasTakenIf k v slot node (Removed x) w = (f : File) × (x.node ≡ node) × IsOn k node f
     × IsFileRemoval (opening_of k) f x
     × Adds (opening_of k) v ([] ▷ Take slot (Some f)) (Retires f x) no_use w
+    × IsOneOnItsNode k (Some f) w.front
 HasTakenIf k v slot node (Missed miss) w = HasMissed k v slot node miss w
 
 -- the file of a slot was replaced if it was on the node, or the new file comes back
@@ -65,6 +67,7 @@ abbrev pub HasPutIf : Start → PassView → ℕ → ℕ → Identity → PutIf 
 HasPutIf k v slot node file (put.Replaced x) w = (new : File) × (f : File) × (x.node ≡ node)
     × IsOn k node f × IsNewFile (opening_of k) v file new × IsFileRemoval (opening_of k) f x
     × Adds (opening_of k) v ([] ▷ Put slot new (Some f)) (Retires f x) one_number w
+    × IsOneOnItsNode k (Some f) w.front
 HasPutIf k v slot node file (put.Missed miss back) w =
     (back ≡ file) × HasMissed k v slot node miss w
 
@@ -112,6 +115,7 @@ abbrev pub TriedTake : Start → ℕ → ℕ → Sat → Result ℕ Miss → Sat
 TriedTake k slot node m (Ok word) m' = (f : File) × (full_name_in word ≡ node + 1)
     × Names (node_of_number k) word (Some f)
     × Runs m ([] ▷ Take slot (Some f)) (retiring_work k word (Some f)) m.0.glance Outside 4 m'
+    × IsOneOnItsNode k (Some f) (pass_in m').front
 TriedTake k slot node m (Err miss) m' =
     FailedIf k slot node miss m m' × Does m [] m.0.work 4 m'
 
@@ -122,6 +126,7 @@ TriedReplace k slot node own file m (Ok word) m' = (full_name_in word ≡ node +
     → (number : ℕ) × (f : File) × (node_of_number k number ≡ own)
     × Names (node_of_number k) word (Some f)
     × Runs (as_swapped entry node m) ([] ▷ Put slot (numbered number file) (Some f))
-    (retiring_work k word (Some f)) m.0.glance Outside 4 m')
+    (retiring_work k word (Some f)) m.0.glance Outside 4 m'
+    × IsOneOnItsNode k (Some f) (pass_in m').front)
 TriedReplace k slot node own file m (Err miss) m' =
     FailedIf k slot node miss m m' × Does m [] m.0.work 4 m' × (m'.1 ≡ m.1)

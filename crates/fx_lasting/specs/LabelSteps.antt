@@ -2,7 +2,7 @@
 use Rattle.std.specs.Prelude.{◌≡◌, ℕ, []}
 use Rattle.fx_plain.specs.declared.event.File.{File}
 use Rattle.fx_lasting.specs.Labels.{number_of_mark}
-use Rattle.fx_lasting.specs.Passes.{Sat, HoldsOn}
+use Rattle.fx_lasting.specs.Passes.{Sat, HoldsOn, node_of_number}
 use Rattle.fx_lasting.specs.Tells.{At, Goes, pass_in}
 use Rattle.fx_lasting.specs.declared.view.Work.TheVariants.{Placing}
 use Rattle.fx_lasting.specs.declared.view.Written.TheVariants.{Nothing, Tag, Label}
@@ -23,9 +23,12 @@ pub record ReadsTag (st : At) (m : Sat) (found : ℕ) (m' : Sat) : Type 0 where
   pub front : (pass_in m').front ≡ (pass_in m).front
   pub tag : (f : File) (node : ℕ) → HoldsOn m.0.work f node → found ≡ f.identity.tag
 
--- Read, of the number's word of a node: it is the number of the file that the pass holds
+-- Read, of the number's word of a node: it is the number of the file that the pass holds, and that
+-- file is on the node
 pub record ReadsNumber (st : At) (m : Sat) (found : ℕ) (m' : Sat) : Type 0 where
   pub goes : Goes m [] m.0.work m.0.glance m'
   pub front : (pass_in m').front ≡ (pass_in m).front
   pub number : (f : File) (node : ℕ) → HoldsOn m.0.work f node
       → found ≡ number_of_mark f.identity.mark
+  pub node : (f : File) (node : ℕ) → HoldsOn m.0.work f node
+      → node_of_number m.0.start f.number ≡ node

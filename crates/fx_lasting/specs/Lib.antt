@@ -5,6 +5,7 @@ pub mod Counts
 pub mod Deeds
 pub mod Phases
 pub mod Passes
+pub mod HeldFiles
 pub mod Stocks
 pub mod Groups
 pub mod Tells

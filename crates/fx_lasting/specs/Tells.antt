@@ -16,6 +16,7 @@ use Rattle.fx_plain.specs.declared.event.Action.TheVariants.{Look, Release, Put,
 use Rattle.fx_plain.specs.declared.event.Action.TheVariants.{Close, Take}
 use Rattle.fx_words.specs.Words.{entry_in, name_in}
 use Rattle.fx_lasting.specs.Agrees.{Names}
+use Rattle.fx_lasting.specs.HeldFiles.{IsOneOnItsNode}
 use Rattle.fx_lasting.specs.Labels.{label_of}
 use Rattle.fx_lasting.specs.Layout.{slot_lines, list_place, group_of, group_len}
 use Rattle.fx_lasting.specs.Parts.{full_name_in, heat_in, IsHot, count_in, cold_takes, announced}
@@ -408,6 +409,7 @@ pub record TakesIf (st : At) (m : Sat) (found : ℕ) (m' : Sat) : Type 0 where
       → (file : Option File) × Names (node_of_number m.0.start) found file
       × Stepped m ([] ▷ Take (slot_of st.word) file) (retiring_work m.0.start found file)
       m.0.glance (account (range_at_start m.0.start) (slot_of st.word) file) m' × (m'.1 ≡ m.1)
+      × IsOneOnItsNode m.0.start file (pass_in m').front
   pub loses : found ≢ st.first → Sees st m found m'
 
 -- Replace, if the slot's word is the one that the pass saw: the file that the pass places is at the
@@ -422,4 +424,5 @@ pub record Replaces (st : At) (m : Sat) (found : ℕ) (m' : Sat) : Type 0 where
       ([] ▷ Put (slot_of st.word) (numbered number file) replaced)
       (retiring_work m.0.start found replaced) m.0.glance
       (account (range_at_start m.0.start) (slot_of st.word) replaced) m' × (m'.1 ≡ rest m.1)
+      × IsOneOnItsNode m.0.start replaced (pass_in m').front
   pub loses : found ≢ st.first → Sees st m found m'

@@ -7,6 +7,7 @@ ghost use Rattle.fx_table.specs.declared.values.Doing.TheVariants.{Holding};
 ghost use Rattle.fx_lasting.specs.AtWork.{IsAtWork};
 ghost use Rattle.fx_lasting.specs.Ends.{Does};
 ghost use Rattle.fx_lasting.specs.Labels.{number_of_mark};
+ghost use Rattle.fx_lasting.specs.Passes.{node_of_number};
 ghost use Rattle.fx_lasting.specs.Tables.{view_of, steps_taken, IsPassOfTable};
 ghost use Rattle.fx_lasting.specs.declared.view.Work.TheVariants.{Placing};
 ghost use Rattle.fx_lasting.specs.declared.view.Written.TheVariants.{Nothing, Label};
@@ -39,7 +40,7 @@ impl LastingTable {
 
     /// Returns the number of the file that the pass holds, by the `Hold` that it got, in one atomic
     /// step: `k * 2^32 + i` of its mark [`Mark::Registered`], and 0 if a request of a submission
-    /// installed it.
+    /// installed it. The file is on the hold's node.
     #[inline(always)]
     pub fn number_of(&self, pass: &mut LastingPass, hold: &Hold) -> u64
         requires fits { IsPassOfTable self.now pass.old }
@@ -48,6 +49,8 @@ impl LastingTable {
         ensures same { view_of pass.new ≡ view_of pass.old }
         ensures number { (f : File) → (view_of pass.old).doing ≡ Holding f hold.now
             → result ≡ number_of_mark f.identity.mark }
+        ensures node { (f : File) → (view_of pass.old).doing ≡ Holding f hold.now
+            → node_of_number self.now.table.shared.key f.number ≡ hold.now.node }
         ensures steps { steps_taken pass.new ≤ steps_taken pass.old + 1 }
     {
         let place = number_place(self.size, self.passes, hold.node);

@@ -1,4 +1,4 @@
-use Rattle.fx_lasting.proofs.Words.{⊎_elim}
+use Rattle.fx_lasting.proofs.Words.{⊎_elim, ◌≡◌, subst, Start, node_of_number}
 use Rattle.fx_lasting.proofs.Calling.{number_inside, number_word}
 use Rattle.fx_lasting.proofs.Labelling.{reads_number_keep}
 use Rattle.fx_lasting.proofs.Passing.{holds_on}
@@ -18,3 +18,7 @@ load-requires c =
 
 pub returns-clause-number : goal.returns-clause-number
 returns-clause-number c f holding = c.load.ensures.2.number f c.args.hold.now.node (holds_on _ holding)
+
+pub returns-clause-node : goal.returns-clause-node
+returns-clause-node c f holding = subst (λ (k : Start). node_of_number k f.number ≡ c.args.hold.now.node) c.requires.fits.seated.at.pass.0
+    (c.load.ensures.2.node f c.args.hold.now.node (holds_on _ holding))

@@ -113,6 +113,7 @@ returns-in-Ok-try_replace c =
         removal_so found x its.node its.entry its.takes did.0 f k z.3.1,
         subst (λ (y : Retired). Adds (opening_of k) v ([] ▷ Put c.args.slot new (Some f)) (Retires f y) one_number w)
             (value_so found x its.node its.entry its.takes did.0 f z.3.1) adds,
+        z.5,
       );
       tries = tt;
       steps = let few = run.steps in omega arith;

@@ -73,6 +73,7 @@ returns-in-Ok-try_take c =
         removal_so found x its.node its.entry its.takes took.1 f k took.2.1,
         subst (λ (z : Retired). Adds (opening_of k) v ([] ▷ Take c.args.slot (Some f)) (Retires f z) no_use w)
             (value_so found x its.node its.entry its.takes took.1 f took.2.1) (adds_so s run no_use),
+        took.4,
       );
       tries = tt;
       steps = let few = run.steps in omega arith;

@@ -30,7 +30,7 @@ returns-then-found-expected c =
       table = c.compare_exchange-found.ensures.0 ∙ i.table;
       places = won.3 ∙ i.places;
       tried = won_take c.args.node c.compare_exchange-found.result start (ap slot_of c.slot_place-place.ensures ∙ slot_back c.args.slot) i.still
-          (omega (arith, c.loop-test.true)) (ap (λ (z : ℕ). full_name_in z) c.if-found-expected.true ∙ i.named) won.0 won.1 won.2;
+          (omega (arith, c.loop-test.true)) (ap (λ (z : ℕ). full_name_in z) c.if-found-expected.true ∙ i.named) won.0 won.1 won.2 won.4;
     }
 
 pub loop-preserved : goal.loop-preserved
