@@ -1,7 +1,8 @@
-/* The C part of libyachtbanyan: the pointers to values, and the numbers of their keys. A value's
- * tag, which the core keeps with the value's file and returns to exactly one call, is its pointer.
- * The core keeps the number with the file as well. A look-up returns the tag and the number of the
- * file that the worker holds then (fx_server, LooksAs).
+/* The C part of libyachtbanyan: the pointers to values, and their keys. A value's tag, which the
+ * core keeps with the value's file and returns to exactly one call, is its pointer. The core draws
+ * the number of each value's key, none of them twice (numbers_are_drawn_once), and keeps it with
+ * the file as well. A look-up returns the tag and the number of the file that the worker holds then
+ * (fx_server, LooksAs).
  *
  * A call by key holds the file at the key's slot by a second worker, and compares its number with
  * the key's meanwhile. While it is held no other file is on its node (held_nodes_name_files). So
@@ -32,10 +33,9 @@ struct yacht_handle {
     yacht_table *table;
     void *held;      /* or NULL */
     uint64_t number; /* of what it holds */
-    uint64_t next;   /* the number of the next value that it installs, or 0 if all were used */
     uint32_t slot;   /* of what it holds */
     uint32_t begin;  /* where it begins to look for an empty slot */
-    char apart[128 - 4 * sizeof(void *) - 2 * sizeof(uint64_t) - 2 * sizeof(uint32_t)];
+    char apart[128 - 4 * sizeof(void *) - sizeof(uint64_t) - 2 * sizeof(uint32_t)];
 };
 
 struct yacht_table {
@@ -85,7 +85,7 @@ int yacht_open(yacht_table **table, uint32_t slots, uint32_t handles, uint32_t r
     it->drop = drop, it->with = with;
     it->slots = slots, it->handles = handles, it->readers = readers;
     for (uint32_t i = 0; i < handles + readers; i++) {
-        yacht_handle handle = {cores[i], .table = it, .next = i + 1};
+        yacht_handle handle = {cores[i], .table = it};
         if (i < handles) handle.holds = cores[handles + readers + i];
         handle.begin = 67 * i % slots; /* apart from the other handles */
         it->all[i] = handle;
@@ -182,34 +182,24 @@ int yacht_key_of(yacht_handle *handle, yacht_key *key) {
     return YACHT_DONE;
 }
 
-/* the number of the next value, which no other value of the table has: the numbers of two handles
- * differ modulo the number of handles; or 0 if the handle has used all its numbers */
-static uint64_t next_number(yacht_handle *handle) {
-    uint64_t number = handle->next, step = handle->table->handles;
-    handle->next = number && number <= UINT64_MAX - step ? number + step : 0;
-    return number;
-}
-
-/* takes the number of a value that the handle is about to install; returns YACHT_DONE, or why it
- * can't install it */
-static int prepare(yacht_handle *handle, void *value, uint64_t *number) {
+/* returns YACHT_DONE if the handle can install the value, or why it can't */
+static int prepare(yacht_handle *handle, void *value) {
     if (!value) return YACHT_BAD_ARGUMENT;
     if (handle->held) return YACHT_BUSY;
     if (!handle->holds) return YACHT_READER;
-    *number = next_number(handle);
     release(value);
     return YACHT_DONE;
 }
 
 /* makes rounds to install a value at a free slot: one, or until it is installed or refused */
 static int insert(yacht_handle *handle, void *value, yacht_key *key, int once) {
-    uint64_t number;
-    int error = key ? prepare(handle, value, &number) : YACHT_BAD_ARGUMENT;
+    uint64_t number = 0;
+    int error = key ? prepare(handle, value) : YACHT_BAD_ARGUMENT;
     if (error) return error;
-    int64_t answer = yacht_core_put_any(handle->core, tag_of(value), number);
+    int64_t answer = yacht_core_put_any(handle->core, tag_of(value), &number);
     while (answer == YACHT_AGAIN && !once) {
         sched_yield();
-        answer = yacht_core_put_any(handle->core, tag_of(value), number);
+        answer = yacht_core_put_any(handle->core, tag_of(value), &number);
     }
     if (answer >= 0) *key = (yacht_key){number, (uint32_t)answer};
     return (int)answer;
@@ -256,7 +246,7 @@ int yacht_insert_with(yacht_handle *handle, yacht_make *make, void *with, yacht_
             sched_yield();
             continue;
         }
-        its.number = next_number(handle);
+        yacht_core_draw(handle->core, &its.number);
         void *value = make(its, with);
         if (!value) return YACHT_BAD_ARGUMENT;
         release(value);
@@ -270,11 +260,11 @@ int yacht_insert_with(yacht_handle *handle, yacht_make *make, void *with, yacht_
 }
 
 int yacht_replace_at(yacht_handle *handle, uint32_t slot, void *value) {
-    uint64_t closed = 0, number;
-    int error = slot < handle->table->slots ? prepare(handle, value, &number) : YACHT_NO_SLOT;
+    yacht_placed placed;
+    int error = slot < handle->table->slots ? prepare(handle, value) : YACHT_NO_SLOT;
     if (error) return error;
-    int64_t answer = yacht_core_put(handle->core, slot, tag_of(value), number, &closed);
-    if (answer == YACHT_DROPPED) drop_value(handle->table, value_of(closed));
+    int64_t answer = yacht_core_put(handle->core, slot, tag_of(value), &placed);
+    if (answer == YACHT_DROPPED) drop_value(handle->table, value_of(placed.closed));
     return (int)answer;
 }
 
@@ -319,18 +309,18 @@ int yacht_remove(yacht_handle *handle, yacht_key key) {
 }
 
 int yacht_replace(yacht_handle *handle, yacht_key *key, void *value) {
-    uint64_t closed = 0, tag = tag_of(value), number = 0;
+    yacht_placed placed = {0};
     found it;
     if (!key || !value) return YACHT_BAD_ARGUMENT;
     int error = hold(handle, *key, &it);
     if (error) return error;
     uint32_t slot = key->slot, node = (uint32_t)it.answer;
-    int64_t answer = prepare(handle, value, &number);
+    int64_t answer = prepare(handle, value);
     while (answer == YACHT_DONE || answer == YACHT_AGAIN) {
         if (answer == YACHT_AGAIN) sched_yield();
-        answer = yacht_core_put_if(handle->core, slot, node, tag, number, &closed);
+        answer = yacht_core_put_if(handle->core, slot, node, tag_of(value), &placed);
     }
-    if (answer > 0) key->number = number;
+    if (answer > 0) key->number = placed.number;
     return end_hold(handle, it, answer);
 }
 

@@ -11,10 +11,10 @@
 #include "core.h"
 
 int64_t __real_yacht_core_look(yacht_core *, uint32_t, yacht_label *);
-int64_t __real_yacht_core_put(yacht_core *, uint32_t, uint64_t, uint64_t, uint64_t *);
-int64_t __real_yacht_core_put_any(yacht_core *, uint64_t, uint64_t);
+int64_t __real_yacht_core_put(yacht_core *, uint32_t, uint64_t, yacht_placed *);
+int64_t __real_yacht_core_put_any(yacht_core *, uint64_t, uint64_t *);
 int64_t __real_yacht_core_take_if(yacht_core *, uint32_t, uint32_t, uint64_t *);
-int64_t __real_yacht_core_put_if(yacht_core *, uint32_t, uint32_t, uint64_t, uint64_t, uint64_t *);
+int64_t __real_yacht_core_put_if(yacht_core *, uint32_t, uint32_t, uint64_t, yacht_placed *);
 
 static int values[8], dropped[8], rounds_to_refuse, calls_to_refuse;
 static yacht_handle *a, *b, *c;
@@ -43,13 +43,13 @@ int64_t __wrap_yacht_core_look(yacht_core *worker, uint32_t slot, yacht_label *l
     return answer;
 }
 
-int64_t __wrap_yacht_core_put(yacht_core *worker, uint32_t slot, uint64_t tag, uint64_t number, uint64_t *closed) {
-    int64_t answer = __real_yacht_core_put(worker, slot, tag, number, closed);
+int64_t __wrap_yacht_core_put(yacht_core *worker, uint32_t slot, uint64_t tag, yacht_placed *placed) {
+    int64_t answer = __real_yacht_core_put(worker, slot, tag, placed);
     look_from_b(slot);
     return answer;
 }
 
-int64_t __wrap_yacht_core_put_any(yacht_core *worker, uint64_t tag, uint64_t number) {
+int64_t __wrap_yacht_core_put_any(yacht_core *worker, uint64_t tag, uint64_t *number) {
     if (rounds_to_refuse && rounds_to_refuse--) return YACHT_AGAIN;
     int64_t answer = __real_yacht_core_put_any(worker, tag, number);
     if (answer >= 0) look_from_b((uint32_t)answer);
@@ -69,11 +69,10 @@ int64_t __wrap_yacht_core_take_if(yacht_core *worker, uint32_t slot, uint32_t no
     return __real_yacht_core_take_if(worker, slot, node, closed);
 }
 
-int64_t __wrap_yacht_core_put_if(yacht_core *worker, uint32_t slot, uint32_t node, uint64_t tag, uint64_t number,
-                                 uint64_t *closed) {
+int64_t __wrap_yacht_core_put_if(yacht_core *worker, uint32_t slot, uint32_t node, uint64_t tag, yacht_placed *placed) {
     changes_the_slot(slot);
     if (calls_to_refuse && calls_to_refuse--) return YACHT_AGAIN;
-    int64_t answer = __real_yacht_core_put_if(worker, slot, node, tag, number, closed);
+    int64_t answer = __real_yacht_core_put_if(worker, slot, node, tag, placed);
     if (answer >= 0) look_from_b(slot);
     return answer;
 }

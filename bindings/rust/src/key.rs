@@ -49,7 +49,7 @@ impl Key {
 
     // Returns the number, or 0 if there is none.
     #[inline]
-    fn bits_of_number(self) -> u64 {
+    pub(crate) fn bits_of_number(self) -> u64 {
         self.number.map_or(0, NonZeroU64::get)
     }
 

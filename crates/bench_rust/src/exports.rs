@@ -19,6 +19,15 @@ pub(crate) struct Label {
     pub(crate) freed: u64,
 }
 
+/// The number of the file that a call installed, and the tag of one that it closed.
+#[allow(dead_code)]
+#[repr(C)]
+#[derive(Default)]
+pub(crate) struct Placed {
+    pub(crate) number: u64,
+    pub(crate) closed: u64,
+}
+
 const AGAIN: i64 = -7;
 
 /// The fewest workers of a table. A stock has a node for each worker, and the nodes of small stocks
@@ -31,14 +40,8 @@ extern "C" {
     fn yacht_core_close(worker: *mut Worker);
     fn yacht_core_look(worker: *mut Worker, slot: u32, label: *mut Label) -> i64;
     fn yacht_core_release(worker: *mut Worker, closed: *mut u64) -> i64;
-    fn yacht_core_put(
-        worker: *mut Worker,
-        slot: u32,
-        tag: u64,
-        number: u64,
-        closed: *mut u64,
-    ) -> i64;
-    fn yacht_core_put_any(worker: *mut Worker, tag: u64, number: u64) -> i64;
+    fn yacht_core_put(worker: *mut Worker, slot: u32, tag: u64, placed: *mut Placed) -> i64;
+    fn yacht_core_put_any(worker: *mut Worker, tag: u64, number: *mut u64) -> i64;
     fn yacht_core_take(worker: *mut Worker, slot: u32, closed: *mut u64) -> i64;
 }
 
@@ -102,16 +105,16 @@ impl Table for Core {
     }
 
     fn put(&self, worker: &mut *mut Worker, slot: usize, file: File) {
-        let mut closed = 0;
+        let mut placed = Placed::default();
         // SAFETY: one thread uses this worker.
-        unsafe { yacht_core_put(*worker, slot as u32, tag_of(file), 0, &mut closed) };
+        unsafe { yacht_core_put(*worker, slot as u32, tag_of(file), &mut placed) };
     }
 
     fn put_any(&self, worker: &mut *mut Worker, file: File) -> Option<usize> {
-        let tag = tag_of(file);
+        let (tag, mut number) = (tag_of(file), 0);
         loop {
             // SAFETY: one thread uses this worker.
-            let slot = unsafe { yacht_core_put_any(*worker, tag, 0) };
+            let slot = unsafe { yacht_core_put_any(*worker, tag, &mut number) };
             if slot != AGAIN {
                 return usize::try_from(slot).ok();
             }

@@ -1,5 +1,5 @@
 -- The workers of a new table: a pass of the table for each, in their order.
-use Rattle.std.proofs.Common.{◌≡◌, ℕ, List, [], ◌∷◌, ◌++◌, All, Option, ap, subst, slice_index_or, refl, sym, ◌∙◌, length, map, reverse}
+use Rattle.std.proofs.Common.{◌≡◌, ℕ, zero, suc, ◌+◌, arith, length-append, List, [], ◌∷◌, ◌++◌, All, Option, ap, subst, slice_index_or, refl, sym, ◌∙◌, length, map, reverse}
 use Rattle.std.proofs.lemmas.List.{map-append, append_assoc, reverse-append, length-map}
 use Rattle.std.proofs.lemmas.List.Elements.{All-cons, All-head, All-nil, All-push, All-same, All-tail, All-weaker}
 use Rattle.std.specs.Arc.{arc_value}
@@ -10,17 +10,46 @@ use Rattle.fx_table.specs.Opening.{lasting_opening}
 use Rattle.fx_table.specs.Pass.{IsIdle}
 use Rattle.fx_lasting.specs.Tables.{IsPassOfTable, first_passes, opening_of_table, view_of}
 use Rattle.fx_lasting.specs.declared.pass.LastingPass.{LastingPass}
+use Rattle.std.specs.List.{range_with_len}
+use Rattle.fx_server.specs.FileNumbers.{first_numbers, numbers_of_all}
+use Rattle.fx_server.specs.declared.file_numbers.FileNumbers.{FileNumbers}
 use Rattle.fx_server.specs.Opened.{AreDealt, AreOpened, workers_in}
 use Rattle.fx_server.specs.Workers.{DoesAsHeld, IsGood, its_pass, its_table}
 use Rattle.fx_server.specs.declared.shared.Shared.{Shared}
 use Rattle.fx_server.specs.declared.worker.Held.{Held}
 use Rattle.fx_server.specs.declared.worker.TableWorker.{TableWorker}
 
-abbrev pub passes_of : List TableWorker → List LastingPass
-passes_of list = map (λ (w : TableWorker). w.pass) list
-
 workers_push : (xs : List (Box TableWorker)) (b : Box TableWorker) → workers_in (xs ++ b ∷ []) ≡ workers_in xs ++ b.value ∷ []
 workers_push xs b = map-append (λ (it : Box TableWorker). it.value) xs (b ∷ [])
+
+abbrev numbers_in : TableWorker → FileNumbers
+numbers_in w = w.numbers
+
+-- the workers have their first numbers
+abbrev AreNumbered : ℕ → List TableWorker → Type 0
+AreNumbered installing list = map numbers_in list ≡ numbers_of_all installing (length list)
+
+-- one number more in a row
+row_more : (a n : ℕ) → range_with_len a (suc n) ≡ range_with_len a n ++ (a + n) ∷ []
+row_more a zero = let e : a ≡ a + 0 = omega arith in ap (λ (m : ℕ). m ∷ []) e
+row_more a (suc n) = let e : a + 1 + n ≡ a + suc n = omega arith in
+    ap (λ (l : List ℕ). a ∷ l) (row_more (a + 1) n ∙ ap (λ (m : ℕ). range_with_len (a + 1) n ++ m ∷ []) e)
+
+-- one worker more has its first numbers
+pub numbers_pushed : (installing : ℕ) (xs ys : List (Box TableWorker)) (b : Box TableWorker) → ys ≡ xs ++ b ∷ []
+    → b.value.numbers ≡ first_numbers installing (length xs + 1) → AreNumbered installing (workers_in xs) → AreNumbered installing (workers_in ys)
+numbers_pushed installing xs ys b e one was =
+    let its : Box TableWorker → TableWorker = λ it. it.value in
+    let more : suc (length (workers_in xs)) ≡ length (workers_in ys) = omega (arith, length-map xs its, length-map ys its, ap length e, length-append xs (b ∷ [])) in
+    let here : length xs + 1 ≡ 1 + length (workers_in xs) = omega (arith, length-map xs its) in
+    ap (λ (l : List (Box TableWorker)). map numbers_in (workers_in l)) e
+    ∙ (ap (map numbers_in) (workers_push xs b) ∙ (map-append numbers_in (workers_in xs) (b.value ∷ [])
+    ∙ ((λ i. was i ++ (one ∙ ap (first_numbers installing) here) i ∷ [])
+    ∙ (sym (map-append (first_numbers installing) (range_with_len 1 (length (workers_in xs))) ((1 + length (workers_in xs)) ∷ []))
+    ∙ (ap (map (first_numbers installing)) (sym (row_more 1 (length (workers_in xs)))) ∙ ap (numbers_of_all installing) more)))))
+
+abbrev pub passes_of : List TableWorker → List LastingPass
+passes_of list = map (λ (w : TableWorker). w.pass) list
 
 pub all_pushed : (P : TableWorker → Type 0) (xs ys : List (Box TableWorker)) (b : Box TableWorker) → ys ≡ xs ++ b ∷ [] → All P (workers_in xs) → P b.value → All P (workers_in ys)
 all_pushed P xs ys b e all one =
@@ -38,17 +67,18 @@ dealt_one xs ys b left less p all pushed popped same was =
     ∙ ap (λ (it : List LastingPass). passes_of (workers_in xs) ++ it) (sym (ap reverse popped ∙ reverse-append less (p ∷ [])))
     ∙ was
 
-pub count_of : (shared : Shared) (passes : List LastingPass) (items : List (Box TableWorker)) → AreDealt shared passes (workers_in items) → length items ≡ length passes
-count_of shared passes items d =
+pub count_of : (shared : Shared) (passes : List LastingPass) (installing : ℕ) (items : List (Box TableWorker)) → AreDealt shared passes installing (workers_in items)
+    → length items ≡ length passes
+count_of shared passes installing items d =
     sym (length-map items (λ (it : Box TableWorker). it.value)) ∙ sym (length-map (workers_in items) (λ (w : TableWorker). w.pass)) ∙ ap length d.order
 
 views : (list : List TableWorker) → map its_pass list ≡ map view_of (passes_of list)
 views [] = refl
 views (w ∷ ws) = ap (λ it. its_pass w ∷ it) (views ws)
 
-pub opened_of : (shared : Shared) (contents : Contents) (passes : List LastingPass) (list : List TableWorker) (slots workers installing : ℕ) → AreDealt shared passes list
-    → opening_of_table shared.table ≡ lasting_opening contents workers → state_of contents ≡ vacant slots → map view_of passes ≡ first_passes installing workers → AreOpened slots workers installing list
-opened_of shared contents passes list slots workers installing d opening empty new = record {
+pub opened_of : (shared : Shared) (contents : Contents) (passes : List LastingPass) (list : List TableWorker) (slots workers installing : ℕ) → AreDealt shared passes installing list
+    → opening_of_table shared.table ≡ lasting_opening contents workers → state_of contents ≡ vacant slots → length passes ≡ workers → map view_of passes ≡ first_passes installing workers → AreOpened slots workers installing list
+opened_of shared contents passes list slots workers installing d opening empty count new = record {
   table = shared.table;
   contents = contents;
   opening = opening;
@@ -56,15 +86,16 @@ opened_of shared contents passes list slots workers installing d opening empty n
   shares = All-weaker (λ (w : TableWorker). arc_value w.shared ≡ shared) (λ (w : TableWorker). its_table w ≡ shared.table) (λ w same. ap (λ (it : Shared). it.table) same) list d.shares;
   idle = d.idle;
   passes = views list ∙ ap (map view_of) d.order ∙ new;
+  numbers = d.numbers ∙ ap (numbers_of_all installing) (sym (length-map list (λ (w : TableWorker). w.pass)) ∙ (ap length d.order ∙ count));
 }
 
 of_passes : (P : LastingPass → Type 0) (list : List TableWorker) → All P (passes_of list) → All (λ (w : TableWorker). P w.pass) list
 of_passes P [] all = All-nil (λ (w : TableWorker). P w.pass)
 of_passes P (w ∷ ws) all = All-cons (λ (it : TableWorker). P it.pass) w ws (All-head P w.pass (passes_of ws) all) (of_passes P ws (All-tail P w.pass (passes_of ws) all))
 
-pub good_of : (shared : Shared) (passes : List LastingPass) (list : List TableWorker) → AreDealt shared passes list
+pub good_of : (shared : Shared) (passes : List LastingPass) (installing : ℕ) (list : List TableWorker) → AreDealt shared passes installing list
     → All (λ p. IsPassOfTable shared.table p × IsIdle (view_of p)) passes → All IsGood list
-good_of shared passes list d ready k other low =
+good_of shared passes installing list d ready k other low =
     let of : All (λ (w : TableWorker). IsPassOfTable shared.table w.pass × IsIdle (view_of w.pass)) list = of_passes (λ p. IsPassOfTable shared.table p × IsIdle (view_of p)) list (All-same (λ p. IsPassOfTable shared.table p × IsIdle (view_of p)) (passes_of list) passes d.order ready) in
     let w : TableWorker = slice_index_or list k other in
     record {

@@ -1,8 +1,12 @@
 -- The meaning of the numbers that C gets: the result of a worker's call, and its tag.
 use Rattle.std.specs.Prelude.{◌≡◌, ℕ, ℤ, pos, Option, Some, None, Result, Ok, Err}
-use Rattle.fx_server.specs.Workers.{IsGood, LooksUp, ReleasesHeld, Puts, PutsAny, RemovesFrom}
-use Rattle.fx_server.specs.Workers.{RemovesIf, PutsIf, PutsEmpty, ReportsFull}
+use Rattle.fx_server.specs.Installing.{DrawsNone, DrawsOne, PutsNext, PutsAnyNext, PutsIfNext}
+use Rattle.fx_server.specs.Workers.{IsGood, LooksUp, ReleasesHeld, RemovesFrom}
+use Rattle.fx_server.specs.Workers.{RemovesIf, PutsEmpty, ReportsFull}
 use Rattle.fx_server.specs.declared.answers.CoreLabel.{CoreLabel}
+use Rattle.fx_server.specs.declared.answers.CorePlaced.{CorePlaced}
+use Rattle.fx_server.specs.declared.answers.Placed.{Placed}
+use Rattle.fx_server.specs.declared.answers.PlacedAt.{PlacedAt}
 use Rattle.fx_server.specs.declared.answers.FoundFile.{FoundFile}
 use Rattle.fx_server.specs.declared.answers.LookAnswer.{LookAnswer}
 use Rattle.fx_server.specs.declared.answers.ServerRefusal.{ServerRefusal}
@@ -26,10 +30,23 @@ refusal_code refusal.Bad = BAD
 refusal_code refusal.NoMemory = NO_MEMORY
 refusal_code refusal.Other = OTHER
 
--- of a call that returns a slot
-abbrev pub answer_number : Result ℕ ServerRefusal → ℤ
-answer_number (Ok number) = pos number
-answer_number (Err reason) = refusal_code reason
+-- of an installation at any slot: the slot, and the number of the file, or 0
+abbrev pub slot_placed : Result PlacedAt ServerRefusal → ℤ
+slot_placed (Ok placed) = pos placed.slot
+slot_placed (Err reason) = refusal_code reason
+
+abbrev pub slot_number : Result PlacedAt ServerRefusal → ℕ
+slot_number (Ok placed) = placed.number
+slot_number (Err _) = 0
+
+-- of a call that draws a number
+abbrev pub draw_number : Result ℕ ServerRefusal → ℤ
+draw_number (Ok number) = DONE
+draw_number (Err reason) = refusal_code reason
+
+abbrev pub drawn_or_zero : Result ℕ ServerRefusal → ℕ
+drawn_or_zero (Ok number) = number
+drawn_or_zero (Err _) = 0
 
 -- of a call that returns nothing else
 abbrev pub done_number : Result (Unit {0}) ServerRefusal → ℤ
@@ -73,6 +90,17 @@ abbrev pub removal_tag : Result Removal ServerRefusal → ℕ
 removal_tag (Ok (Closed tag)) = tag
 removal_tag _ = 0
 
+-- of an installation at a slot, and what C gets: the number of the file, and the tag of one that
+-- was closed
+abbrev pub placed_number : Result Placed ServerRefusal → ℤ
+placed_number (Ok placed) = removal_number (Ok placed.removal)
+placed_number (Err reason) = refusal_code reason
+
+abbrev pub placed_in : Result Placed ServerRefusal → CorePlaced
+placed_in (Ok placed) =
+    record { number = placed.number; closed = removal_tag (Ok placed.removal) }
+placed_in (Err reason) = record { number = 0; closed = 0 }
+
 -- the label that C gets: that of the file that was found, and the tag of one that was closed
 abbrev pub label_in : LookAnswer → CoreLabel
 label_in look = record {
@@ -87,6 +115,7 @@ pub record LooksAs (w : TableWorker) (slot : ℕ) (answer : ℤ) (label : CoreLa
   pub look : LookAnswer
   pub good : IsGood w'
   pub looked : LooksUp w slot look w'
+  pub numbers : DrawsNone w w'
   pub its_answer : answer ≡ found_node look.found
   pub its_label : label ≡ label_in look
 
@@ -96,25 +125,27 @@ pub record ReleasesAs (w : TableWorker) (answer : ℤ) (closed : ℕ) (w' : Tabl
   pub result : Result (Option ℕ) ServerRefusal
   pub good : IsGood w'
   pub released : ReleasesHeld w result w'
+  pub numbers : DrawsNone w w'
   pub its_answer : answer ≡ release_number result
   pub its_tag : closed ≡ released_tag result
 
 -- of an installation at a slot
-pub record PutsAs (w : TableWorker) (slot tag number : ℕ) (answer : ℤ) (closed : ℕ)
+pub record PutsAs (w : TableWorker) (slot tag : ℕ) (answer : ℤ) (out : CorePlaced)
     (w' : TableWorker) : Type 0 where
-  pub result : Result Removal ServerRefusal
+  pub result : Result Placed ServerRefusal
   pub good : IsGood w'
-  pub placed : Puts w slot tag number result w'
-  pub its_answer : answer ≡ removal_number result
-  pub its_tag : closed ≡ removal_tag result
+  pub placed : PutsNext w slot tag result w'
+  pub its_answer : answer ≡ placed_number result
+  pub its_file : out ≡ placed_in result
 
 -- of a round of an installation at any slot
-pub record PutsAnyAs (w : TableWorker) (tag number : ℕ) (answer : ℤ) (w' : TableWorker)
+pub record PutsAnyAs (w : TableWorker) (tag : ℕ) (answer : ℤ) (number : ℕ) (w' : TableWorker)
     : Type 0 where
-  pub result : Result ℕ ServerRefusal
+  pub result : Result PlacedAt ServerRefusal
   pub good : IsGood w'
-  pub allocated : PutsAny w tag number result w'
-  pub its_answer : answer ≡ answer_number result
+  pub allocated : PutsAnyNext w tag result w'
+  pub its_answer : answer ≡ slot_placed result
+  pub its_number : number ≡ slot_number result
 
 -- of a removal
 pub record RemovesAs (w : TableWorker) (slot : ℕ) (answer : ℤ) (closed : ℕ) (w' : TableWorker)
@@ -122,6 +153,7 @@ pub record RemovesAs (w : TableWorker) (slot : ℕ) (answer : ℤ) (closed : ℕ
   pub result : Result Removal ServerRefusal
   pub good : IsGood w'
   pub removed : RemovesFrom w slot result w'
+  pub numbers : DrawsNone w w'
   pub its_answer : answer ≡ removal_number result
   pub its_tag : closed ≡ removal_tag result
 
@@ -131,17 +163,26 @@ pub record RemovesIfAs (w : TableWorker) (slot node : ℕ) (answer : ℤ) (close
   pub result : Result Removal ServerRefusal
   pub good : IsGood w'
   pub removed : RemovesIf w slot node result w'
+  pub numbers : DrawsNone w w'
   pub its_answer : answer ≡ removal_number result
   pub its_tag : closed ≡ removal_tag result
 
 -- of a replacement if the file is on a node
-pub record PutsIfAs (w : TableWorker) (slot node tag number : ℕ) (answer : ℤ) (closed : ℕ)
+pub record PutsIfAs (w : TableWorker) (slot node tag : ℕ) (answer : ℤ) (out : CorePlaced)
     (w' : TableWorker) : Type 0 where
-  pub result : Result Removal ServerRefusal
+  pub result : Result Placed ServerRefusal
   pub good : IsGood w'
-  pub placed : PutsIf w slot node tag number result w'
-  pub its_answer : answer ≡ removal_number result
-  pub its_tag : closed ≡ removal_tag result
+  pub placed : PutsIfNext w slot node tag result w'
+  pub its_answer : answer ≡ placed_number result
+  pub its_file : out ≡ placed_in result
+
+-- of a draw
+pub record DrawsAs (w : TableWorker) (answer : ℤ) (number : ℕ) (w' : TableWorker) : Type 0 where
+  pub result : Result ℕ ServerRefusal
+  pub good : IsGood w'
+  pub drawn : DrawsOne w result w'
+  pub its_answer : answer ≡ draw_number result
+  pub its_number : number ≡ drawn_or_zero result
 
 -- of an installation at an empty slot
 pub record PutsEmptyAs (w : TableWorker) (slot tag number : ℕ) (answer : ℤ) (w' : TableWorker)
@@ -149,6 +190,7 @@ pub record PutsEmptyAs (w : TableWorker) (slot tag number : ℕ) (answer : ℤ) 
   pub result : Result (Unit {0}) ServerRefusal
   pub good : IsGood w'
   pub placed : PutsEmpty w slot tag number result w'
+  pub numbers : DrawsNone w w'
   pub its_answer : answer ≡ done_number result
 
 -- of the question whether every slot has a file
@@ -156,4 +198,5 @@ pub record ReportsFullAs (w : TableWorker) (code : ℤ) (w' : TableWorker) : Typ
   pub answer : ServerRefusal
   pub good : IsGood w'
   pub told : ReportsFull w answer w'
+  pub numbers : DrawsNone w w'
   pub its_code : code ≡ refusal_code answer

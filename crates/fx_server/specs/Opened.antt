@@ -1,5 +1,5 @@
 -- The workers of a table that was just opened.
-use Rattle.std.specs.Prelude.{◌≡◌, ℕ, List, All, None, map}
+use Rattle.std.specs.Prelude.{◌≡◌, ℕ, List, All, None, map, length}
 use Rattle.std.specs.Arc.{arc_value}
 use Rattle.std.specs.Global.{Box}
 use Rattle.fx_plain.specs.Contents.{Contents, state_of}
@@ -8,6 +8,7 @@ use Rattle.fx_table.specs.Opening.{lasting_opening}
 use Rattle.fx_lasting.specs.Tables.{opening_of_table, first_passes}
 use Rattle.fx_lasting.specs.declared.pass.LastingPass.{LastingPass}
 use Rattle.fx_lasting.specs.declared.table.LastingTable.{LastingTable}
+use Rattle.fx_server.specs.FileNumbers.{numbers_of_all}
 use Rattle.fx_server.specs.Workers.{its_table, its_pass}
 use Rattle.fx_server.specs.declared.shared.Shared.{Shared}
 use Rattle.fx_server.specs.declared.worker.TableWorker.{TableWorker}
@@ -15,15 +16,19 @@ use Rattle.fx_server.specs.declared.worker.TableWorker.{TableWorker}
 abbrev pub workers_in : List (Box TableWorker) → List TableWorker
 workers_in list = map (λ (b : Box TableWorker). b.value) list
 
--- each worker holds nothing and shares this table, and their passes are these, in this order
-pub record AreDealt (shared : Shared) (passes : List LastingPass) (list : List TableWorker)
-    : Type 0 where
+-- each worker holds nothing and shares this table; their passes are these, in this order; and each
+-- has its first numbers
+pub record AreDealt (shared : Shared) (passes : List LastingPass) (installing : ℕ)
+    (list : List TableWorker) : Type 0 where
   pub shares : All (λ (w : TableWorker). arc_value w.shared ≡ shared) list
   pub idle : All (λ (w : TableWorker). w.held ≡ None) list
   pub order : map (λ (w : TableWorker). w.pass) list ≡ passes
+  pub numbers : map (λ (w : TableWorker). w.numbers) list
+      ≡ numbers_of_all installing (length list)
 
 -- the workers share one table, which was opened with `slots` empty slots; each holds nothing; and
--- their passes are those of a new table in their order: the first `installing` install files
+-- their passes are those of a new table in their order: the first `installing` install files, whose
+-- first numbers are their places from 1
 pub record AreOpened (slots workers installing : ℕ) (list : List TableWorker) : Type 0 where
   pub table : LastingTable
   pub contents : Contents
@@ -32,3 +37,4 @@ pub record AreOpened (slots workers installing : ℕ) (list : List TableWorker) 
   pub shares : All (λ (w : TableWorker). its_table w ≡ table) list
   pub idle : All (λ (w : TableWorker). w.held ≡ None) list
   pub passes : map its_pass list ≡ first_passes installing workers
+  pub numbers : map (λ (w : TableWorker). w.numbers) list ≡ numbers_of_all installing workers

@@ -85,6 +85,34 @@ pub struct CoreLabel {
     pub freed: u64,
 }
 
+/// The number of the file that a call installed, and the tag of one that it closed, for C.
+#[repr(C)]
+#[derive(Clone, Copy, Drop)]
+pub struct CorePlaced {
+    /// The number of the file that was installed, or 0.
+    pub number: u64,
+    /// The tag of the file that was closed, or 0.
+    pub closed: u64,
+}
+
+/// The result of an installation at a slot.
+#[derive(Clone, Copy)]
+pub struct Placed {
+    /// What was at the slot.
+    pub removal: Removal,
+    /// The number of the file that was installed.
+    pub number: u64,
+}
+
+/// The result of an installation at any slot.
+#[derive(Clone, Copy)]
+pub struct PlacedAt {
+    /// The slot.
+    pub slot: u32,
+    /// The number of the file that was installed.
+    pub number: u64,
+}
+
 /// The file that a call removed from its slot.
 #[derive(Clone, Copy)]
 pub enum Removal {

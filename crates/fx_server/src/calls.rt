@@ -1,12 +1,12 @@
 //! The calls of a worker, with their numbers and tags for C.
-ghost use Rattle.fx_server.specs.Answers.{LooksAs, PutsAnyAs, PutsAs, PutsIfAs, ReleasesAs, RemovesAs};
+ghost use Rattle.fx_server.specs.Answers.{DrawsAs, LooksAs, PutsAnyAs, PutsAs, PutsIfAs, ReleasesAs, RemovesAs};
 ghost use Rattle.fx_server.specs.Answers.{PutsEmptyAs, RemovesIfAs, ReportsFullAs};
 ghost use Rattle.fx_server.specs.Workers.{IsGood};
 
-use crate::answers::CoreLabel;
+use crate::answers::{CoreLabel, CorePlaced};
 use crate::numbers::{
-    answer_number, done_number, found_node, label_in, release_number, released_tag, removal_number,
-    removal_tag,
+    done_number, draw_number, drawn_or_zero, found_node, label_in, placed_in, placed_number,
+    release_number, released_tag, removal_number, removal_tag, slot_number, slot_placed,
 };
 use crate::worker::TableWorker;
 
@@ -32,24 +32,37 @@ pub fn release(worker: &mut TableWorker, closed: &mut u64) -> i64
     release_number(released)
 }
 
-/// Installs a file with this tag and number at a slot.
+/// Installs a file with this tag at a slot.
 #[inline(always)]
-pub fn put(worker: &mut TableWorker, slot: u32, tag: u64, number: u64, closed: &mut u64) -> i64
+pub fn put(worker: &mut TableWorker, slot: u32, tag: u64, placed: &mut CorePlaced) -> i64
     requires good { IsGood worker.old }
-    ensures placed { PutsAs worker.old slot tag number result closed.new worker.new }
+    ensures placed { PutsAs worker.old slot tag result placed.new worker.new }
 {
-    let put = worker.put(slot, tag, number);
-    *closed = removal_tag(put);
-    removal_number(put)
+    let put = worker.put(slot, tag);
+    *placed = placed_in(put);
+    placed_number(put)
 }
 
-/// Makes one round to install a file with this tag and number at a free slot.
+/// Makes one round to install a file with this tag at a free slot.
 #[inline(always)]
-pub fn put_any(worker: &mut TableWorker, tag: u64, number: u64) -> i64
+pub fn put_any(worker: &mut TableWorker, tag: u64, number: &mut u64) -> i64
     requires good { IsGood worker.old }
-    ensures allocated { PutsAnyAs worker.old tag number result worker.new }
+    ensures allocated { PutsAnyAs worker.old tag result number.new worker.new }
 {
-    answer_number(worker.put_any(tag, number))
+    let put = worker.put_any(tag);
+    *number = slot_number(put);
+    slot_placed(put)
+}
+
+/// Draws the number of a file that `put_empty` installs.
+#[inline(always)]
+pub fn draw(worker: &mut TableWorker, number: &mut u64) -> i64
+    requires good { IsGood worker.old }
+    ensures drawn { DrawsAs worker.old result number.new worker.new }
+{
+    let drawn = worker.draw();
+    *number = drawn_or_zero(drawn);
+    draw_number(drawn)
 }
 
 /// Empties a slot.
@@ -74,22 +87,21 @@ pub fn take_if(worker: &mut TableWorker, slot: u32, node: u32, closed: &mut u64)
     removal_number(taken)
 }
 
-/// Replaces the file of a slot by one with this tag and number, if it is on this node.
+/// Replaces the file of a slot by one with this tag, if it is on this node.
 #[inline(always)]
 pub fn put_if(
     worker: &mut TableWorker,
     slot: u32,
     node: u32,
     tag: u64,
-    number: u64,
-    closed: &mut u64,
+    placed: &mut CorePlaced,
 ) -> i64
     requires good { IsGood worker.old }
-    ensures placed { PutsIfAs worker.old slot node tag number result closed.new worker.new }
+    ensures placed { PutsIfAs worker.old slot node tag result placed.new worker.new }
 {
-    let put = worker.put_if(slot, node, tag, number);
-    *closed = removal_tag(put);
-    removal_number(put)
+    let put = worker.put_if(slot, node, tag);
+    *placed = placed_in(put);
+    placed_number(put)
 }
 
 /// Installs a file with this tag and number at a slot if it is empty.

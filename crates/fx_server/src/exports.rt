@@ -3,7 +3,7 @@
 //! leaves it.
 ghost use Rattle.std.specs.Prelude.{◌≡◌, ◌≢◌, ◌⊎◌, length};
 ghost use types.Logic.{sem};
-ghost use Rattle.fx_server.specs.Answers.{LooksAs, PutsAnyAs, PutsAs, PutsIfAs, ReleasesAs, RemovesAs};
+ghost use Rattle.fx_server.specs.Answers.{DrawsAs, LooksAs, PutsAnyAs, PutsAs, PutsIfAs, ReleasesAs, RemovesAs};
 ghost use Rattle.fx_server.specs.Answers.{PutsEmptyAs, RemovesIfAs, ReportsFullAs};
 ghost use Rattle.fx_server.specs.Handle.{HasWorker, handle_owns};
 ghost use Rattle.fx_server.specs.Places.{OpensAs};
@@ -11,7 +11,7 @@ ghost use Rattle.fx_server.specs.Workers.{IsGood, IsInRange};
 ghost use Rattle.fx_server.specs.declared.codes.TheConstants.{DONE, BAD, NO_MEMORY};
 ghost use Rattle.fx_server.specs.declared.worker.TableWorker.{TableWorker};
 
-use crate::answers::{CoreLabel, ServerRefusal};
+use crate::answers::{CoreLabel, CorePlaced, ServerRefusal};
 use crate::calls;
 use crate::codes::{BAD, DONE, NO_MEMORY};
 use crate::handle::{Handle, Opaque, WorkerPlace};
@@ -81,39 +81,43 @@ pub unsafe extern "C" fn yacht_core_release(worker: *mut Opaque, closed: &mut u6
     calls::release(&mut *(worker as *mut TableWorker), closed)
 }
 
-/// Installs a file with this tag and number at a slot. It returns `DONE`, `CLOSED`, `IN_USE`,
-/// `BUSY`, `NO_SLOT` or `NO_BLOCK`. `closed` is the tag of what was there if that is closed, or 0.
+/// Installs a file with this tag and the worker's next number at a slot. It returns `DONE`,
+/// `CLOSED`, `IN_USE`, `BUSY`, `NO_SLOT` or `NO_BLOCK`. `placed` has the number, and the tag of
+/// what was there if that is closed, or 0.
 #[unsafe(no_mangle)]
 pub unsafe extern "C" fn yacht_core_put(
     worker: *mut Opaque,
     slot: u32,
     tag: u64,
-    number: u64,
-    closed: &mut u64,
+    placed: &mut CorePlaced,
 ) -> i64
     ghost w: { TableWorker }
     requires* good { sem 𝓛 (handle_owns worker w) ∗ ⌜ IsGood w ⌝ }
-    ensures* placed { HasWorker 𝓛 worker (λ after.
-        PutsAs w slot tag number result closed.new after) }
+    ensures* placed { HasWorker 𝓛 worker (λ after. PutsAs w slot tag result placed.new after) }
 {
-    calls::put(
-        &mut *(worker as *mut TableWorker),
-        slot,
-        tag,
-        number,
-        closed,
-    )
+    calls::put(&mut *(worker as *mut TableWorker), slot, tag, placed)
 }
 
-/// Makes one round to install a file with this tag and number at a free slot. It returns the slot,
-/// or `FULL`, `AGAIN`, `BUSY` or `NO_BLOCK`.
+/// Makes one round to install a file with this tag and the worker's next number at a free slot. It
+/// returns the slot, or `FULL`, `AGAIN`, `BUSY` or `NO_BLOCK`. `number` is the file's number, or 0.
 #[unsafe(no_mangle)]
-pub unsafe extern "C" fn yacht_core_put_any(worker: *mut Opaque, tag: u64, number: u64) -> i64
+pub unsafe extern "C" fn yacht_core_put_any(worker: *mut Opaque, tag: u64, number: &mut u64) -> i64
     ghost w: { TableWorker }
     requires* good { sem 𝓛 (handle_owns worker w) ∗ ⌜ IsGood w ⌝ }
-    ensures* allocated { HasWorker 𝓛 worker (λ after. PutsAnyAs w tag number result after) }
+    ensures* allocated { HasWorker 𝓛 worker (λ after. PutsAnyAs w tag result number.new after) }
 {
     calls::put_any(&mut *(worker as *mut TableWorker), tag, number)
+}
+
+/// Draws the worker's next number, for one file that `yacht_core_put_empty` installs. It returns
+/// `DONE` or `NO_BLOCK`.
+#[unsafe(no_mangle)]
+pub unsafe extern "C" fn yacht_core_draw(worker: *mut Opaque, number: &mut u64) -> i64
+    ghost w: { TableWorker }
+    requires* good { sem 𝓛 (handle_owns worker w) ∗ ⌜ IsGood w ⌝ }
+    ensures* drawn { HasWorker 𝓛 worker (λ after. DrawsAs w result number.new after) }
+{
+    calls::draw(&mut *(worker as *mut TableWorker), number)
 }
 
 /// Empties a slot. It returns `CLOSED`, `IN_USE`, `BUSY`, `NO_SLOT` or `EMPTY`. `closed` is the tag
@@ -144,31 +148,23 @@ pub unsafe extern "C" fn yacht_core_take_if(
     calls::take_if(&mut *(worker as *mut TableWorker), slot, node, closed)
 }
 
-/// Replaces the file of a slot by one with this tag and number, if it is on this node. It returns
-/// `CLOSED`, `IN_USE`, `BUSY`, `NO_SLOT`, `NO_BLOCK`, `EMPTY`, `OTHER` or `AGAIN`. `closed` is the
-/// tag of what was there if that is closed, or 0.
+/// Replaces the file of a slot by one with this tag and the worker's next number, if it is on this
+/// node. It returns `CLOSED`, `IN_USE`, `BUSY`, `NO_SLOT`, `NO_BLOCK`, `EMPTY`, `OTHER` or `AGAIN`.
+/// `placed` has the number, and the tag of what was there if that is closed, or 0.
 #[unsafe(no_mangle)]
 pub unsafe extern "C" fn yacht_core_put_if(
     worker: *mut Opaque,
     slot: u32,
     node: u32,
     tag: u64,
-    number: u64,
-    closed: &mut u64,
+    placed: &mut CorePlaced,
 ) -> i64
     ghost w: { TableWorker }
     requires* good { sem 𝓛 (handle_owns worker w) ∗ ⌜ IsGood w ⌝ }
     ensures* placed { HasWorker 𝓛 worker (λ after.
-        PutsIfAs w slot node tag number result closed.new after) }
+        PutsIfAs w slot node tag result placed.new after) }
 {
-    calls::put_if(
-        &mut *(worker as *mut TableWorker),
-        slot,
-        node,
-        tag,
-        number,
-        closed,
-    )
+    calls::put_if(&mut *(worker as *mut TableWorker), slot, node, tag, placed)
 }
 
 /// Installs a file with this tag and number at a slot if it is empty. It returns `DONE`, `BUSY`,

@@ -1,18 +1,53 @@
 //! The numbers of results.
 ghost use Rattle.std.specs.Prelude.{◌≡◌};
-ghost use Rattle.fx_server.specs.Answers.{answer_number, done_number, found_node, label_in, release_number, released_tag, removal_number, removal_tag, tag_or_zero};
+ghost use Rattle.fx_server.specs.Answers.{done_number, draw_number, drawn_or_zero, found_node, label_in, placed_in, placed_number, release_number, released_tag, removal_number, removal_tag, slot_number, slot_placed, tag_or_zero};
 
-use crate::answers::{CoreLabel, FoundFile, LookAnswer, Removal, ServerRefusal};
+use crate::answers::{
+    CoreLabel, CorePlaced, FoundFile, LookAnswer, Placed, PlacedAt, Removal, ServerRefusal,
+};
 use crate::codes::{CLOSED, DONE, IN_USE};
 
-/// Returns the number of a call that returns a slot, or the refusal's.
+/// Returns the slot of an installation at any slot, or the refusal's number.
 #[inline(always)]
-pub fn answer_number(answer: Result<u32, ServerRefusal>) -> i64
-    ensures { result ≡ answer_number answer }
+pub fn slot_placed(placed: Result<PlacedAt, ServerRefusal>) -> i64
+    ensures { result ≡ slot_placed placed }
 {
-    match answer {
-        Ok(number) => number as i64,
+    match placed {
+        Ok(at) => at.slot as i64,
         Err(refusal) => refusal.code(),
+    }
+}
+
+/// Returns the number of the file that an installation at any slot installed, or 0.
+#[inline(always)]
+pub fn slot_number(placed: Result<PlacedAt, ServerRefusal>) -> u64
+    ensures { result ≡ slot_number placed }
+{
+    match placed {
+        Ok(at) => at.number,
+        Err(_) => 0,
+    }
+}
+
+/// Returns the number of a call that draws a number, or the refusal's.
+#[inline(always)]
+pub fn draw_number(drawn: Result<u64, ServerRefusal>) -> i64
+    ensures { result ≡ draw_number drawn }
+{
+    match drawn {
+        Ok(_) => DONE,
+        Err(refusal) => refusal.code(),
+    }
+}
+
+/// Returns the number that was drawn, or 0.
+#[inline(always)]
+pub fn drawn_or_zero(drawn: Result<u64, ServerRefusal>) -> u64
+    ensures { result ≡ drawn_or_zero drawn }
+{
+    match drawn {
+        Ok(number) => number,
+        Err(_) => 0,
     }
 }
 
@@ -113,5 +148,34 @@ pub fn removal_tag(removed: Result<Removal, ServerRefusal>) -> u64
     match removed {
         Ok(Removal::Closed(tag)) => tag,
         _ => 0,
+    }
+}
+
+/// Returns the number of an installation at a slot.
+#[inline(always)]
+pub fn placed_number(placed: Result<Placed, ServerRefusal>) -> i64
+    ensures { result ≡ placed_number placed }
+{
+    match placed {
+        Ok(it) => removal_number(Ok(it.removal)),
+        Err(refusal) => refusal.code(),
+    }
+}
+
+/// Returns the number of the file that an installation at a slot installed, and the tag of one that
+/// it closed.
+#[inline(always)]
+pub fn placed_in(placed: Result<Placed, ServerRefusal>) -> CorePlaced
+    ensures { result ≡ placed_in placed }
+{
+    match placed {
+        Ok(it) => CorePlaced {
+            number: it.number,
+            closed: removal_tag(Ok(it.removal)),
+        },
+        Err(_) => CorePlaced {
+            number: 0,
+            closed: 0,
+        },
     }
 }

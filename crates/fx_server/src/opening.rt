@@ -1,11 +1,13 @@
 //! Opening a table with its workers.
-ghost use Rattle.std.specs.Prelude.{◌≡◌, ◌<◌, All, IfOk, IfErr, Err, None, ◌⊎◌, length};
+ghost use Rattle.std.specs.Prelude.{◌≡◌, ◌<◌, ◌≤◌, All, IfOk, IfErr, Err, None, ◌⊎◌, length};
 ghost use Rattle.std.specs.Arc.{arc_value};
 ghost use Rattle.fx_server.specs.Opened.{AreDealt, AreOpened, workers_in};
 ghost use Rattle.fx_server.specs.Workers.{IsGood, IsInRange};
+ghost use Rattle.fx_lasting.specs.declared.layout.TheConstants.{MOST_PASSES};
 ghost use Rattle.fx_server.specs.declared.answers.ServerRefusal.TheVariants.{Bad, NoMemory as RanOut};
 
 use crate::answers::ServerRefusal;
+use crate::file_numbers::FileNumbers;
 use crate::shared::{Shared, one_file};
 use crate::worker::TableWorker;
 use fx_lasting::{LastingPass, LastingTable, MOST_INSTALLING, MOST_PASSES, MOST_SLOTS};
@@ -44,7 +46,7 @@ pub fn open(
     let Ok((table, passes)) = opened else {
         return Err(ServerRefusal::NoMemory);
     };
-    let list = share(alloc, Shared { table, catalogue }, passes)?;
+    let list = share(alloc, Shared { table, catalogue }, passes, installing)?;
     Ok(list)
 }
 
@@ -53,8 +55,11 @@ fn share(
     alloc: Global,
     shared: Shared,
     passes: Vec<LastingPass>,
+    installing: u32,
 ) -> Result<Vec<Box<TableWorker>>, ServerRefusal>
-    ensures dealt { IfOk result (λ list. AreDealt shared passes.items (workers_in list.items)) }
+    requires few { length passes.items ≤ MOST_PASSES }
+    ensures dealt { IfOk result (λ list.
+        AreDealt shared passes.items installing (workers_in list.items)) }
     ensures memory { IfErr result (λ refusal. refusal ≡ RanOut) }
 {
     let Ok(shared) = Arc::new(alloc, shared) else {
@@ -65,7 +70,7 @@ fn share(
         spend(passes);
         return Err(ServerRefusal::NoMemory);
     };
-    deal(alloc, shared, passes, workers)
+    deal(alloc, shared, passes, installing, workers)
 }
 
 // Turns the passes into workers, in their order.
@@ -73,16 +78,19 @@ fn deal(
     alloc: Global,
     shared: Arc<Shared, Global>,
     mut passes: Vec<LastingPass>,
+    installing: u32,
     mut workers: Vec<Box<TableWorker>>,
 ) -> Result<Vec<Box<TableWorker>>, ServerRefusal>
     requires none { length workers.items ≡ 0 }
+    requires few { length passes.items ≤ MOST_PASSES }
     ensures dealt { IfOk result (λ list.
-        AreDealt (arc_value shared) passes.items (workers_in list.items)) }
+        AreDealt (arc_value shared) passes.items installing (workers_in list.items)) }
     ensures memory { IfErr result (λ refusal. refusal ≡ RanOut) }
 {
     passes.reverse();
     while let Some(pass) = passes.pop() {
-        let Ok(worker) = begin(alloc, &shared, pass) else {
+        let numbers = FileNumbers::first(installing, workers.len() as u32 + 1);
+        let Ok(worker) = begin(alloc, &shared, pass, numbers) else {
             spend(passes);
             return Err(ServerRefusal::NoMemory);
         };
@@ -100,10 +108,12 @@ fn begin(
     alloc: Global,
     shared: &Arc<Shared, Global>,
     pass: LastingPass,
+    numbers: FileNumbers,
 ) -> Result<Box<TableWorker>, AllocError>
     ensures table { IfOk result (λ b. arc_value b.value.shared ≡ arc_value shared.now) }
     ensures pass { IfOk result (λ b. b.value.pass ≡ pass) }
     ensures idle { IfOk result (λ b. b.value.held ≡ None) }
+    ensures numbers { IfOk result (λ b. b.value.numbers ≡ numbers) }
 {
     let Ok(shared) = Arc::try_clone(shared) else {
         pass.abandon();
@@ -113,6 +123,7 @@ fn begin(
         shared,
         pass,
         held: None,
+        numbers,
     };
     let Ok(worker) = Box::new(alloc, worker) else {
         return Err(AllocError);

@@ -2,19 +2,16 @@
 ghost use Rattle.std.specs.Prelude.{◌≡◌, None, Err, IfOk, option_map};
 ghost use Rattle.fx_table.specs.Pass.{IsHoldOf, IsRetiredOf};
 ghost use Rattle.fx_lasting.specs.Tables.{view_of, opening_of_table, IsPassOfTable};
-ghost use Rattle.fx_table.specs.Showing.{Learns};
-ghost use Rattle.fx_lasting.specs.Showing.{IsSeenOf, shown_of};
 ghost use Rattle.fx_server.specs.Workers.{IsGood, LooksUp, Notes, ReleasesHeld, Puts, PutsAny};
-ghost use Rattle.fx_server.specs.Workers.{PutsIf, RemovesFrom, RemovesIf, RetiresAs, its_opening, its_pass};
-ghost use Rattle.fx_server.specs.Workers.{its_table, refusal_for, PutsEmpty, ReportsFull};
+ghost use Rattle.fx_server.specs.Workers.{PutsIf, RemovesFrom, RemovesIf, RetiresAs, refusal_for};
+ghost use Rattle.fx_server.specs.Workers.{PutsEmpty, ReportsFull};
 
 use crate::answers::{FoundFile, LookAnswer, Removal, ServerRefusal};
+use crate::file_numbers::FileNumbers;
 use crate::shared::Shared;
 use fx_base::OpenFile;
-use fx_lasting::{
-    LastingPass, LastingSeen, LastingTable, Miss, PutEmpty, PutIf, TakenIf, TriedPut,
-};
-use fx_table::{Empty, Hold, LookFault as Fault, LookUp, RealTime, Retired};
+use fx_lasting::{LastingPass, LastingTable, Miss, PutEmpty, PutIf, TakenIf, TriedPut};
+use fx_table::{Empty, Hold, LookFault as Fault, LookUp, Retired};
 use std::alloc::Global;
 use std::sync::Arc;
 
@@ -32,6 +29,7 @@ pub struct Held {
 pub struct TableWorker {
     pub shared: Arc<Shared, Global>,
     pub held: Option<Held>,
+    pub numbers: FileNumbers,
     pub pass: LastingPass,
 }
 
@@ -41,6 +39,7 @@ impl Drop for TableWorker {
             shared,
             pass,
             held: _,
+            numbers: _,
         } = self;
         pass.abandon();
         drop(shared);
@@ -54,6 +53,7 @@ impl TableWorker {
         requires good { IsGood self.old }
         ensures good { IsGood self.new }
         ensures table { self.new.shared ≡ self.old.shared }
+        ensures numbers { self.new.numbers ≡ self.old.numbers }
         ensures looked { LooksUp self.old slot result self.new }
     {
         let table = &self.shared.table;
@@ -79,6 +79,7 @@ impl TableWorker {
         requires good { IsGood self.old }
         ensures good { IsGood self.new }
         ensures table { self.new.shared ≡ self.old.shared }
+        ensures numbers { self.new.numbers ≡ self.old.numbers }
         ensures released { ReleasesHeld self.old result self.new }
     {
         let Some(Held { node, entry }) = self.held.take() else {
@@ -89,42 +90,16 @@ impl TableWorker {
         Ok(tag_of(out))
     }
 
-    /// Shows what the worker has seen. It has no bytes, and can go to another thread. The worker
-    /// stays as it is.
-    pub fn show(&mut self) -> LastingSeen
-        requires good { IsGood self.old }
-        ensures good { IsGood self.new }
-        ensures table { self.new.shared ≡ self.old.shared }
-        ensures same { (self.new.held ≡ self.old.held) × (its_pass self.new ≡ its_pass self.old) }
-        ensures here { IsSeenOf (its_table self.old) result }
-        ensures shown { shown_of result ≡ (its_pass self.old).front }
-    {
-        self.shared.table.show(&mut self.pass)
-    }
-
-    /// Adds what another worker of the table showed to what this worker has seen, so that all its
-    /// later events follow it. Nothing else of the worker changes.
-    pub fn learn(&mut self, seen: &LastingSeen)
-        requires good { IsGood self.old }
-        requires here { IsSeenOf (its_table self.old) seen.now }
-        ensures good { IsGood self.new }
-        ensures table { self.new.shared ≡ self.old.shared }
-        ensures held { self.new.held ≡ self.old.held }
-        ensures learns { Learns (its_opening self.old) (shown_of seen.now) (its_pass self.old)
-            (its_pass self.new) }
-    {
-        self.shared.table.learn(&mut self.pass, seen);
-    }
-
     /// Installs a file with this tag and number at a slot. Returns what was there.
     ///
     /// # Errors
     /// `Busy`, `NoSlot`, `NoBlock`, in this order.
     #[inline(always)]
-    pub fn put(&mut self, slot: u32, tag: u64, number: u64) -> Result<Removal, ServerRefusal>
+    pub fn put_as(&mut self, slot: u32, tag: u64, number: u64) -> Result<Removal, ServerRefusal>
         requires good { IsGood self.old }
         ensures good { IsGood self.new }
         ensures table { self.new.shared ≡ self.old.shared }
+        ensures numbers { self.new.numbers ≡ self.old.numbers }
         ensures placed { Puts self.old slot tag number result self.new }
     {
         if self.held.is_some() {
@@ -151,10 +126,11 @@ impl TableWorker {
     /// `Busy`, `NoBlock`, in this order; `Full` if at one step every slot had a file; `Again` if
     /// the round installed nothing, and found no such step.
     #[inline(always)]
-    pub fn put_any(&mut self, tag: u64, number: u64) -> Result<u32, ServerRefusal>
+    pub fn put_any_as(&mut self, tag: u64, number: u64) -> Result<u32, ServerRefusal>
         requires good { IsGood self.old }
         ensures good { IsGood self.new }
         ensures table { self.new.shared ≡ self.old.shared }
+        ensures numbers { self.new.numbers ≡ self.old.numbers }
         ensures allocated { PutsAny self.old tag number result self.new }
     {
         if self.held.is_some() {
@@ -188,6 +164,7 @@ impl TableWorker {
         requires good { IsGood self.old }
         ensures good { IsGood self.new }
         ensures table { self.new.shared ≡ self.old.shared }
+        ensures numbers { self.new.numbers ≡ self.old.numbers }
         ensures removed { RemovesFrom self.old slot result self.new }
     {
         if self.held.is_some() {
@@ -215,6 +192,7 @@ impl TableWorker {
         requires good { IsGood self.old }
         ensures good { IsGood self.new }
         ensures table { self.new.shared ≡ self.old.shared }
+        ensures numbers { self.new.numbers ≡ self.old.numbers }
         ensures removed { RemovesIf self.old slot node result self.new }
     {
         if self.held.is_some() {
@@ -236,7 +214,7 @@ impl TableWorker {
     /// # Errors
     /// `Busy`, `NoSlot`, `NoBlock`, in this order; `Empty`, `Other`, `Again` as of `take_if`.
     #[inline(always)]
-    pub fn put_if(
+    pub fn put_if_as(
         &mut self,
         slot: u32,
         node: u32,
@@ -246,6 +224,7 @@ impl TableWorker {
         requires good { IsGood self.old }
         ensures good { IsGood self.new }
         ensures table { self.new.shared ≡ self.old.shared }
+        ensures numbers { self.new.numbers ≡ self.old.numbers }
         ensures placed { PutsIf self.old slot node tag number result self.new }
     {
         if self.held.is_some() {
@@ -279,6 +258,7 @@ impl TableWorker {
         requires good { IsGood self.old }
         ensures good { IsGood self.new }
         ensures table { self.new.shared ≡ self.old.shared }
+        ensures numbers { self.new.numbers ≡ self.old.numbers }
         ensures placed { PutsEmpty self.old slot tag number result self.new }
     {
         if self.held.is_some() {
@@ -313,6 +293,7 @@ impl TableWorker {
         requires good { IsGood self.old }
         ensures good { IsGood self.new }
         ensures table { self.new.shared ≡ self.old.shared }
+        ensures numbers { self.new.numbers ≡ self.old.numbers }
         ensures told { ReportsFull self.old result self.new }
     {
         if self.held.is_some() {

@@ -1,6 +1,7 @@
 //! The C interface of the verified core (`crates/fx_server`), or the stand-in for it. A worker of
 //! the core is one pass of its table. A value is known to the core by its tag, which it returns to
-//! whoever holds the value or has to drop it, and by a number that this crate draws.
+//! whoever holds the value or has to drop it, and by a number that the core draws, none of them
+//! twice (`numbers_are_drawn_once`).
 #![allow(dead_code)]
 
 /// A worker of the core.
@@ -18,6 +19,15 @@ pub(crate) struct Label {
     pub(crate) tag: u64,
     pub(crate) number: u64,
     pub(crate) freed: u64,
+}
+
+/// The number of the value that a call installed, and the tag of one that it dropped. Each is 0 if
+/// there is no such value.
+#[repr(C)]
+#[derive(Clone, Copy, Default)]
+pub(crate) struct Placed {
+    pub(crate) number: u64,
+    pub(crate) closed: u64,
 }
 
 /// The call is done. If it installs a value, the slot was empty.
@@ -72,10 +82,10 @@ unsafe extern "C" {
         worker: *mut Core,
         slot: u32,
         tag: u64,
-        number: u64,
-        closed: *mut u64,
+        placed: *mut Placed,
     ) -> i64;
-    pub(crate) fn yacht_core_put_any(worker: *mut Core, tag: u64, number: u64) -> i64;
+    pub(crate) fn yacht_core_put_any(worker: *mut Core, tag: u64, number: *mut u64) -> i64;
+    pub(crate) fn yacht_core_draw(worker: *mut Core, number: *mut u64) -> i64;
     pub(crate) fn yacht_core_take(worker: *mut Core, slot: u32, closed: *mut u64) -> i64;
     pub(crate) fn yacht_core_take_if(
         worker: *mut Core,
@@ -88,8 +98,7 @@ unsafe extern "C" {
         slot: u32,
         node: u32,
         tag: u64,
-        number: u64,
-        closed: *mut u64,
+        placed: *mut Placed,
     ) -> i64;
     pub(crate) fn yacht_core_put_empty(worker: *mut Core, slot: u32, tag: u64, number: u64) -> i64;
     pub(crate) fn yacht_core_full(worker: *mut Core) -> i64;

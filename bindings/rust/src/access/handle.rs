@@ -5,14 +5,13 @@ use super::reader::Reader;
 use super::seats::{Installer, Place};
 use super::storage::{self, Spare};
 use super::table::Table;
-use super::values::{New, Round, Values};
+use super::values::{Round, Values};
 use crate::errors::{GetError, NoSeat, NoSlot, Reason, Refused};
 use crate::iter::Iter;
 use crate::key::Key;
 use crate::old::Old;
 use std::cell::Cell;
 use std::fmt;
-use std::num::NonZeroU64;
 
 /// The access of one thread at a time to a [`Table`]: it looks slots up, and installs and removes
 /// values. It is `Send`, but not `Sync`.
@@ -83,20 +82,10 @@ impl<T> Handle<T> {
         (self.reader.table().values(), self.installer.core)
     }
 
-    /// Returns the number of the next value.
-    #[inline]
-    pub(super) fn next_number(&self) -> Option<NonZeroU64> {
-        // SAFETY: the seat is this handle's (one user), and the reader keeps the table.
-        unsafe { self.installer.next_number() }
-    }
-
     /// Stores a value that the handle installs.
     #[inline]
-    pub(super) fn store(&self, value: T) -> New<T> {
-        New {
-            value: storage::put(&self.spare, value),
-            number: self.next_number(),
-        }
+    pub(super) fn store(&self, value: T) -> Box<T> {
+        storage::put(&self.spare, value)
     }
 
     /// Gives a value back that isn't installed.
@@ -148,11 +137,10 @@ impl<T> Handle<T> {
     /// # Ok::<(), Box<dyn std::error::Error>>(())
     /// ```
     pub fn insert(&self, value: T) -> Result<Key, Refused<T>> {
-        let ((values, core), new) = (self.parts(), self.store(value));
-        let number = new.number;
+        let (values, core) = self.parts();
         // SAFETY: the seat is this handle's (one user), and holds nothing between two calls.
-        match unsafe { values.insert(core, new) } {
-            Ok(slot) => Ok(Key::new(slot, number)),
+        match unsafe { values.insert(core, self.store(value)) } {
+            Ok(key) => Ok(key),
             Err(value) => Err(self.refuse(value, values.is_full())),
         }
     }
@@ -178,11 +166,10 @@ impl<T> Handle<T> {
     /// # Ok::<(), Box<dyn std::error::Error>>(())
     /// ```
     pub fn try_insert(&self, value: T) -> Result<Key, Refused<T>> {
-        let ((values, core), new) = (self.parts(), self.store(value));
-        let number = new.number;
+        let (values, core) = self.parts();
         // SAFETY: the seat is this handle's (one user), and holds nothing between two calls.
-        match unsafe { values.try_insert(core, new) } {
-            Ok(slot) => Ok(Key::new(slot, number)),
+        match unsafe { values.try_insert(core, self.store(value)) } {
+            Ok(key) => Ok(key),
             Err((value, Round::Again)) => Err(self.refuse(value, Reason::Again)),
             Err((value, Round::Full)) => Err(self.refuse(value, values.is_full())),
         }
@@ -208,9 +195,9 @@ impl<T> Handle<T> {
     /// ```
     #[inline]
     pub fn replace_at(&self, slot: u32, value: T) -> Result<Old<T>, Refused<T>> {
-        let ((values, core), new) = (self.parts(), self.store(value));
+        let (values, core) = self.parts();
         // SAFETY: the seat is this handle's (one user), and holds nothing between two calls.
-        match unsafe { values.replace_at(core, slot, new) } {
+        match unsafe { values.replace_at(core, slot, self.store(value)) } {
             Ok(old) => Ok(old.map(|it| storage::take(&self.spare, it))),
             Err(value) => Err(self.refuse(value, Reason::NoSlot(values.no_slot(slot)))),
         }

@@ -203,14 +203,13 @@ impl<T> Handle<T> {
             Ok(guard) => guard,
             Err(error) => return Err(Refused::new(value, error.into())),
         };
-        let ((values, core), new) = (self.parts(), self.store(value));
-        let fresh = Key::new(key.slot(), new.number);
+        let ((values, core), value) = (self.parts(), self.store(value));
         // SAFETY: the seat is this handle's (one user), and holds nothing between two calls. The
         // guard's seat holds the file.
-        let replaced = unsafe { values.replace_held(core, key.slot(), guard.node(), new) };
+        let replaced = unsafe { values.replace_held(core, key.slot(), guard.node(), value) };
         let last = guard.end();
         match replaced {
-            Ok(()) => Ok((
+            Ok(fresh) => Ok((
                 fresh,
                 of_hold(last).map(|it| storage::take(&self.spare, it)),
             )),

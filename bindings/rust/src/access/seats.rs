@@ -1,10 +1,8 @@
 //! Seats: the workers of the core, and which of them are free.
 use super::core::{self, Core};
-use super::values::New;
 use crate::errors::{NoSeat, OpenError};
 use crate::options::Options;
 use std::cell::Cell;
-use std::num::NonZeroU64;
 use std::ptr::NonNull;
 use std::sync::atomic::{AtomicU32, AtomicU64, AtomicUsize, Ordering};
 
@@ -15,42 +13,14 @@ pub(super) struct Seat {
     /// The neighbours of this seat in the list of guards of one reader.
     pub(super) next: Cell<Option<u32>>,
     pub(super) previous: Cell<Option<u32>>,
-    pub(super) numbers: Numbers,
-}
-
-/// The numbers of the values that a seat installs.
-pub(super) struct Numbers {
-    /// The next number, or `None` if all were used.
-    pub(super) next: Cell<Option<NonZeroU64>>,
-    /// The number of seats that install.
-    step: u64,
-}
-
-impl Numbers {
-    /// Returns the numbers of a seat, whose place in the list of the `step` seats that install is
-    /// `place`, from 0. So the numbers of two seats differ modulo `step`.
-    fn new(place: u64, step: u64) -> Numbers {
-        let next = Cell::new(NonZeroU64::new(place + 1));
-        Numbers { next, step }
-    }
-
-    /// Returns the number of the next value, which no other value of the table has, or `None` if
-    /// the seat has used all its numbers.
-    #[inline]
-    fn take(&self) -> Option<NonZeroU64> {
-        let number = self.next.get()?;
-        self.next.set(number.checked_add(self.step));
-        Some(number)
-    }
 }
 
 impl Seat {
-    fn new(core: NonNull<Core>, numbers: Numbers) -> Seat {
+    fn new(core: NonNull<Core>) -> Seat {
         Seat {
             core,
             next: Cell::new(None),
             previous: Cell::new(None),
-            numbers,
         }
     }
 
@@ -81,29 +51,16 @@ unsafe impl Send for Place {}
 // SAFETY: as above.
 unsafe impl Sync for Place {}
 
-/// The seat of a handle that installs: its worker of the core, and its numbers.
+/// The seat of a handle that installs: its worker of the core.
 #[derive(Clone, Copy)]
 pub(super) struct Installer {
     pub(super) core: *mut Core,
-    numbers: *const Numbers,
 }
 
-// SAFETY: an installer is two addresses. Each use of them is unsafe, and has its own argument.
+// SAFETY: an installer is an address. Each use of it is unsafe, and has its own argument.
 unsafe impl Send for Installer {}
 // SAFETY: as above.
 unsafe impl Sync for Installer {}
-
-impl Installer {
-    /// Returns the number of the next value, as [`Numbers::take`].
-    ///
-    /// # Safety
-    /// The caller has the seat (one user), whose table is there.
-    #[inline]
-    pub(super) unsafe fn next_number(self) -> Option<NonZeroU64> {
-        // SAFETY: a seat stays where it is until its table is dropped.
-        unsafe { (*self.numbers).take() }
-    }
-}
 
 /// 64 bits on cache lines of their own.
 #[repr(align(128))]
@@ -198,8 +155,7 @@ impl Seats {
         let mut seats: Vec<Seat> = cores
             .into_iter()
             .filter_map(NonNull::new)
-            .zip(0..)
-            .map(|(core, place)| Seat::new(core, Numbers::new(place, options.handles.into())))
+            .map(Seat::new)
             .collect();
         if answer != core::DONE || seats.len() != count {
             return Err(OpenError::NoMemory);
@@ -232,11 +188,8 @@ impl Seats {
 
     /// Returns the installing seat of a handle.
     pub(super) fn installer(&self, number: u32) -> Installer {
-        let seat = &self.installing[number as usize];
-        Installer {
-            core: seat.core(),
-            numbers: &raw const seat.numbers,
-        }
+        let core = self.installing[number as usize].core();
+        Installer { core }
     }
 
     /// Claims the seats of a handle, both of which have the number of the place that is returned.
@@ -316,15 +269,6 @@ impl Call<'_> {
     /// Returns the core's worker that holds a value for the call.
     pub(super) fn looker(&self) -> *mut Core {
         self.seats.looking[self.number as usize].core()
-    }
-
-    /// Stores a value that the call installs.
-    pub(super) fn store<T>(&self, value: T) -> New<T> {
-        let seat = &self.seats.installing[self.number as usize];
-        New {
-            value: Box::new(value),
-            number: seat.numbers.take(),
-        }
     }
 }
 

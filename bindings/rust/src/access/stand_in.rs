@@ -6,8 +6,8 @@
 //! is 0 where the node is free, `BORN` less what was released while its file is in a slot, and 1
 //! and what is still held after that.
 use super::core::{
-    Core, Label, AGAIN, BAD, BUSY, CLOSED, DONE, EMPTY, FULL, IDLE, IN_USE, NO_BLOCK, NO_SLOT,
-    OTHER,
+    Core, Label, Placed, AGAIN, BAD, BUSY, CLOSED, DONE, EMPTY, FULL, IDLE, IN_USE, NO_BLOCK,
+    NO_SLOT, OTHER,
 };
 use super::core::{MOST_INSTALLING, MOST_SLOTS, MOST_WORKERS};
 use std::cell::UnsafeCell;
@@ -42,6 +42,9 @@ struct Worker {
     // the worker's block of nodes, if it installs
     first: Option<usize>,
     next: Option<usize>,
+    // the number of the next file, or 0 if all were used, and the distance to the one after it
+    number: u64,
+    step: u64,
     held: Option<usize>,
     // the slots that the worker emptied last, and the one after that which it filled last
     emptied: VecDeque<usize>,
@@ -127,6 +130,16 @@ impl Worker {
                 .find(|&it| self.table.nodes[it].load(SeqCst) == 0);
         }
         self.next
+    }
+
+    // Draws the number of a file that is installed.
+    fn draw(&mut self) -> u64 {
+        let number = self.number;
+        self.number = match number {
+            0 => 0,
+            _ => number.checked_add(self.step).unwrap_or(0),
+        };
+        number
     }
 
     // Makes a node for the tag and the number. Returns the word that installs it.
@@ -248,6 +261,8 @@ pub(crate) unsafe fn yacht_core_open(
             table: Arc::clone(&table),
             first,
             next: None,
+            number: if first.is_some() { at as u64 + 1 } else { 0 },
+            step: installing.into(),
             held: None,
             emptied: VecDeque::new(),
             // apart from the other workers, as in the core
@@ -291,37 +306,59 @@ pub(crate) unsafe fn yacht_core_put(
     handle: *mut Core,
     slot: u32,
     tag: u64,
-    number: u64,
-    closed: *mut u64,
+    placed: *mut Placed,
 ) -> i64 {
-    let it = unsafe { worker(handle) };
-    let word = match it.begin_at(slot, tag, number) {
+    let (it, placed) = unsafe { (worker(handle), &mut *placed) };
+    *placed = Placed::default();
+    let word = match it.begin_at(slot, tag, it.number) {
         Ok(word) => word,
         Err(number) => return number,
     };
     it.next = None;
+    placed.number = it.draw();
     it.table.changes.fetch_add(1, SeqCst);
     match it.table.slots[slot as usize].swap(word, SeqCst) {
         old if old >> 32 == 0 => DONE,
-        old => answer(it.table.retire(old), IN_USE, unsafe { &mut *closed }),
+        old => answer(it.table.retire(old), IN_USE, &mut placed.closed),
     }
 }
 
-pub(crate) unsafe fn yacht_core_put_any(handle: *mut Core, tag: u64, number: u64) -> i64 {
-    let it = unsafe { worker(handle) };
+pub(crate) unsafe fn yacht_core_put_any(handle: *mut Core, tag: u64, number: *mut u64) -> i64 {
+    let (it, number) = unsafe { (worker(handle), &mut *number) };
+    *number = 0;
     if it.held.is_some() {
         return BUSY;
     }
-    let Some(word) = it.begin(tag, number) else {
+    let Some(word) = it.begin(tag, it.number) else {
         return NO_BLOCK;
     };
     let slot = it.round(word);
     if slot >= 0 {
         it.next = None;
+        *number = it.draw();
     } else {
         it.take_back(word);
     }
     slot
+}
+
+pub(crate) unsafe fn yacht_core_draw(handle: *mut Core, number: *mut u64) -> i64 {
+    let (it, number) = unsafe { (worker(handle), &mut *number) };
+    *number = 0;
+    if it.first.is_none() {
+        return NO_BLOCK;
+    }
+    *number = it.draw();
+    DONE
+}
+
+/// Makes this the next number of a worker.
+///
+/// # Safety
+/// As of the core's functions.
+#[cfg(test)]
+pub(super) unsafe fn draw_next(handle: *mut Core, number: u64) {
+    unsafe { worker(handle) }.number = number;
 }
 
 pub(crate) unsafe fn yacht_core_take(handle: *mut Core, slot: u32, closed: *mut u64) -> i64 {
@@ -368,11 +405,11 @@ pub(crate) unsafe fn yacht_core_put_if(
     slot: u32,
     node: u32,
     tag: u64,
-    number: u64,
-    closed: *mut u64,
+    placed: *mut Placed,
 ) -> i64 {
-    let it = unsafe { worker(handle) };
-    let word = match it.begin_at(slot, tag, number) {
+    let (it, placed) = unsafe { (worker(handle), &mut *placed) };
+    *placed = Placed::default();
+    let word = match it.begin_at(slot, tag, it.number) {
         Ok(word) => word,
         Err(number) => return number,
     };
@@ -383,7 +420,8 @@ pub(crate) unsafe fn yacht_core_put_if(
         }
         Ok(old) => {
             it.next = None;
-            answer(it.table.retire(old), IN_USE, unsafe { &mut *closed })
+            placed.number = it.draw();
+            answer(it.table.retire(old), IN_USE, &mut placed.closed)
         }
     }
 }

@@ -172,11 +172,9 @@ impl<T> Table<T> {
             Ok(call) => call,
             Err(error) => return Err(Refused::new(value, Reason::NoSeat(error))),
         };
-        let new = call.store(value);
-        let number = new.number;
         // SAFETY: the seat is this call's (one user).
-        match unsafe { self.values.insert(call.core(), new) } {
-            Ok(slot) => Ok(Key::new(slot, number)),
+        match unsafe { self.values.insert(call.core(), Box::new(value)) } {
+            Ok(key) => Ok(key),
             Err(value) => Err(Refused::new(*value, self.values.is_full())),
         }
     }
@@ -203,7 +201,7 @@ impl<T> Table<T> {
             Err(error) => return Err(Refused::new(value, Reason::NoSeat(error))),
         };
         // SAFETY: the seat is this call's (one user).
-        match unsafe { self.values.replace_at(call.core(), slot, call.store(value)) } {
+        match unsafe { self.values.replace_at(call.core(), slot, Box::new(value)) } {
             Ok(old) => Ok(old.map(|it| *it)),
             Err(value) => {
                 let reason = Reason::NoSlot(self.values.no_slot(slot));

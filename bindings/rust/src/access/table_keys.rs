@@ -58,14 +58,12 @@ impl<T> Table<T> {
             Ok(hold) => hold,
             Err(error) => return Err(Refused::new(value, error.into())),
         };
-        let new = hold.call.store(value);
-        let fresh = Key::new(key.slot(), new.number);
-        let (core, node) = (hold.call.core(), hold.held.node);
+        let (core, node, value) = (hold.call.core(), hold.held.node, Box::new(value));
         // SAFETY: the seats are this call's (one user), and its other seat holds the file.
-        let replaced = unsafe { self.values().replace_held(core, key.slot(), node, new) };
+        let replaced = unsafe { self.values().replace_held(core, key.slot(), node, value) };
         let last = hold.end();
         match replaced {
-            Ok(()) => Ok((fresh, of_hold(last).map(|it| *it))),
+            Ok(fresh) => Ok((fresh, of_hold(last).map(|it| *it))),
             Err((value, error)) => {
                 let refused = Refused::new(*value, error.into());
                 drop_last(last);

@@ -2,7 +2,6 @@
 //! change within a call by key. And of a seat that has used its numbers up.
 use crate::{GetError, Handle, Key, Old, Options, Reason, RemoveError, Table};
 use std::cell::{Cell, RefCell};
-use std::num::NonZeroU64;
 use std::sync::atomic::{AtomicUsize, Ordering::SeqCst};
 use std::sync::Arc;
 use std::time::Duration;
@@ -225,12 +224,14 @@ fn a_value_is_made_again_if_its_empty_slot_changes() {
     assert_eq!(keys.len(), 4);
 }
 
+#[cfg(yachtbanyan_stand_in)]
 #[test]
 fn a_seat_that_has_used_its_numbers_up_uses_none_again() {
     let table = Options::new(1).handles(2).open().unwrap();
     let handle = table.handle().unwrap();
-    let seats = &table.values().seats.installing;
-    seats[0].numbers.next.set(NonZeroU64::new(u64::MAX - 1));
+    let core = table.values().seats.installing[0].core();
+    // SAFETY: no call uses the worker meanwhile.
+    unsafe { super::stand_in::draw_next(core, u64::MAX - 1) };
     let last = handle.insert(7).unwrap();
     assert_eq!((*handle.get(last).unwrap(), last.to_bits()), (7, None));
     for number in 8..11 {

@@ -1,7 +1,8 @@
 //! The values of a table, and the calls of the core on them.
-use super::core::{self, Core, Label};
+use super::core::{self, Core, Label, Placed};
 use super::seats::Seats;
 use crate::errors::{Full, GetError, NoSlot, OpenError, Reason};
+use crate::key::Key;
 use crate::old::Old;
 use crate::options::Options;
 use std::marker::PhantomData;
@@ -26,12 +27,6 @@ pub(super) struct Held<T> {
 pub(super) struct Looked<T> {
     pub(super) found: Result<Held<T>, i64>,
     pub(super) freed: Option<Box<T>>,
-}
-
-/// A value that a call is about to install, with its number.
-pub(super) struct New<T> {
-    pub(super) value: Box<T>,
-    pub(super) number: Option<NonZeroU64>,
 }
 
 /// The reason why a round of an installation at any slot installed nothing.
@@ -61,18 +56,17 @@ pub(super) fn drop_last<T>(freed: Option<Box<T>>) {
 /// never installed.
 unsafe fn value_of<T>(tag: u64) -> Box<T> {
     order::acquire(tag);
-    // SAFETY: the tag is the address of a box (`label_of`), and no other call gets it
+    // SAFETY: the tag is the address of a box (`tag_of`), and no other call gets it
     // (`closed_at_most_once`, `has_one_history`).
     unsafe { Box::from_raw(tag as usize as *mut T) }
 }
 
-// Returns the tag and the number of a value that is about to be installed. The tag is the address
-// of its box.
+// Returns the tag of a value that is about to be installed, which is the address of its box.
 #[inline]
-fn label_of<T>(new: New<T>) -> (u64, u64) {
-    let tag = Box::into_raw(new.value) as usize as u64;
+fn tag_of<T>(value: Box<T>) -> u64 {
+    let tag = Box::into_raw(value) as usize as u64;
     order::release(tag);
-    (tag, new.number.map_or(0, NonZeroU64::get))
+    tag
 }
 
 impl<T> Values<T> {
@@ -183,17 +177,17 @@ impl<T> Values<T> {
         &self,
         core: *mut Core,
         slot: u32,
-        new: New<T>,
+        value: Box<T>,
     ) -> Result<Old<Box<T>>, Box<T>> {
         if slot >= self.slots {
-            return Err(new.value);
+            return Err(value);
         }
-        let (tag, number) = label_of(new);
-        let mut closed = 0;
+        let tag = tag_of(value);
+        let mut placed = Placed::default();
         // SAFETY: no other call uses the core's worker meanwhile.
-        match unsafe { core::yacht_core_put(core, slot, tag, number, &mut closed) } {
+        match unsafe { core::yacht_core_put(core, slot, tag, &mut placed) } {
             // SAFETY: the core closed this file in this call (`placed`).
-            core::CLOSED => Ok(Old::Unused(unsafe { value_of(closed) })),
+            core::CLOSED => Ok(Old::Unused(unsafe { value_of(placed.closed) })),
             core::IN_USE => Ok(Old::InUse),
             core::DONE => Ok(Old::None),
             // SAFETY: the core refused the file, so the value was never installed (`placed`).
@@ -201,7 +195,7 @@ impl<T> Values<T> {
         }
     }
 
-    /// Makes one round to install a value at a free slot. Returns the slot, or the value and the
+    /// Makes one round to install a value at a free slot. Returns its key, or the value and the
     /// reason.
     ///
     /// # Safety
@@ -209,13 +203,13 @@ impl<T> Values<T> {
     pub(super) unsafe fn try_insert(
         &self,
         core: *mut Core,
-        new: New<T>,
-    ) -> Result<u32, (Box<T>, Round)> {
-        let (tag, number) = label_of(new);
+        value: Box<T>,
+    ) -> Result<Key, (Box<T>, Round)> {
+        let (tag, mut number) = (tag_of(value), 0);
         // SAFETY: no other call uses the core's worker meanwhile.
-        let answer = unsafe { core::yacht_core_put_any(core, tag, number) };
+        let answer = unsafe { core::yacht_core_put_any(core, tag, &mut number) };
         if answer >= 0 {
-            return Ok(answer as u32);
+            return Ok(Key::new(answer as u32, NonZeroU64::new(number)));
         }
         let reason = if answer == core::AGAIN {
             Round::Again
@@ -226,19 +220,19 @@ impl<T> Values<T> {
         Err((unsafe { value_of(tag) }, reason))
     }
 
-    /// Installs a value at a free slot. Returns the slot, or the value if at one moment every slot
+    /// Installs a value at a free slot. Returns its key, or the value if at one moment every slot
     /// had one.
     ///
     /// # Safety
     /// As of `replace_at`.
     #[inline]
-    pub(super) unsafe fn insert(&self, core: *mut Core, new: New<T>) -> Result<u32, Box<T>> {
-        let (tag, number) = label_of(new);
+    pub(super) unsafe fn insert(&self, core: *mut Core, value: Box<T>) -> Result<Key, Box<T>> {
+        let (tag, mut number) = (tag_of(value), 0);
         loop {
             // SAFETY: no other call uses the core's worker meanwhile.
-            let answer = unsafe { core::yacht_core_put_any(core, tag, number) };
+            let answer = unsafe { core::yacht_core_put_any(core, tag, &mut number) };
             if answer >= 0 {
-                return Ok(answer as u32);
+                return Ok(Key::new(answer as u32, NonZeroU64::new(number)));
             }
             if answer != core::AGAIN {
                 // SAFETY: the core installed nothing, so the value is still this call's
@@ -249,18 +243,29 @@ impl<T> Values<T> {
         }
     }
 
-    /// Installs a value at a slot if it is empty. Returns the value if it isn't, or if it changed
-    /// meanwhile.
+    /// Returns the key of a value that `insert_at` then installs at this slot.
     ///
     /// # Safety
-    /// As of `replace_at`. The slot is one of the table.
+    /// As of `replace_at`.
+    pub(super) unsafe fn draw(&self, core: *mut Core, slot: u32) -> Key {
+        let mut number = 0;
+        // SAFETY: no other call uses the core's worker meanwhile.
+        unsafe { core::yacht_core_draw(core, &mut number) };
+        Key::new(slot, NonZeroU64::new(number))
+    }
+
+    /// Installs a value at the slot of its key if that is empty. Returns the value if it isn't, or
+    /// if it changed meanwhile.
+    ///
+    /// # Safety
+    /// As of `replace_at`. The slot is one of the table, and the key is of `draw`, for this call.
     pub(super) unsafe fn insert_at(
         &self,
         core: *mut Core,
-        slot: u32,
-        new: New<T>,
+        key: Key,
+        value: Box<T>,
     ) -> Result<(), Box<T>> {
-        let (tag, number) = label_of(new);
+        let (slot, number, tag) = (key.slot(), key.bits_of_number(), tag_of(value));
         // SAFETY: no other call uses the core's worker meanwhile.
         match unsafe { core::yacht_core_put_empty(core, slot, tag, number) } {
             core::DONE => Ok(()),
@@ -327,8 +332,8 @@ impl<T> Values<T> {
     }
 
     /// Installs a value at a slot if it still has the value that another seat of the caller holds,
-    /// on this node. Returns the value and an error if the slot is empty, or has another value. It
-    /// tries again while other threads count look-ups at the slot.
+    /// on this node. Returns the new value's key; or the value and an error if the slot is empty,
+    /// or has another value. It tries again while other threads count look-ups at the slot.
     ///
     /// # Safety
     /// As of `remove_held`, and the core's worker installs.
@@ -338,19 +343,21 @@ impl<T> Values<T> {
         core: *mut Core,
         slot: u32,
         node: u32,
-        new: New<T>,
-    ) -> Result<(), (Box<T>, GetError)> {
-        let (tag, number) = label_of(new);
+        value: Box<T>,
+    ) -> Result<Key, (Box<T>, GetError)> {
+        let tag = tag_of(value);
         #[cfg(test)]
         super::tests::meanwhile();
         loop {
-            let mut closed = 0;
+            let mut placed = Placed::default();
             // SAFETY: no other call uses the core's worker meanwhile.
-            let answer =
-                unsafe { core::yacht_core_put_if(core, slot, node, tag, number, &mut closed) };
+            let answer = unsafe { core::yacht_core_put_if(core, slot, node, tag, &mut placed) };
             if answer != core::AGAIN {
-                // SAFETY: if the core refused the file, it was never installed (`placed`).
-                return of_held(answer, slot).map_err(|error| (unsafe { value_of(tag) }, error));
+                return match of_held(answer, slot) {
+                    Ok(()) => Ok(Key::new(slot, NonZeroU64::new(placed.number))),
+                    // SAFETY: the core refused the file, so it was never installed (`placed`).
+                    Err(error) => Err((unsafe { value_of(tag) }, error)),
+                };
             }
             std::thread::yield_now();
         }

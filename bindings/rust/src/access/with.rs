@@ -1,7 +1,6 @@
 //! Installations of a value that is made from its key.
 use super::handle::Handle;
 use super::storage;
-use super::values::New;
 use crate::errors::Full;
 use crate::key::Key;
 
@@ -53,12 +52,13 @@ impl<T> Handle<T> {
                 std::thread::yield_now();
                 continue;
             };
-            let number = self.next_number();
-            let key = Key::new(slot, number);
-            let value = storage::put(&self.spare, make(key));
             let (values, core) = self.parts();
-            // SAFETY: as above. The slot was looked up, so it is one of the table.
-            match unsafe { values.insert_at(core, slot, New { value, number }) } {
+            // SAFETY: as above.
+            let key = unsafe { values.draw(core, slot) };
+            let value = self.store(make(key));
+            // SAFETY: as above. The slot was looked up, so it is one of the table, and the key was
+            // drawn for this call.
+            match unsafe { values.insert_at(core, key, value) } {
                 Ok(()) => {
                     self.begin.set((slot + 1) % values.slots());
                     return Ok(key);

@@ -7,6 +7,7 @@ returns c = record {
     answer = c.full.result;
     good = c.full.ensures.good;
     told = c.full.ensures.told;
+    numbers = c.full.ensures.numbers;
     its_code = search rules;
   };
 }

@@ -7,6 +7,7 @@ returns c = record {
     look = c.look-look.result;
     good = c.look-look.ensures.good;
     looked = c.look-look.ensures.looked;
+    numbers = c.look-look.ensures.numbers;
     its_answer = search rules;
     its_label = c.label_in.ensures;
   };

@@ -8,6 +8,6 @@ returns c = record {
     good = c.put-put.ensures.good;
     placed = c.put-put.ensures.placed;
     its_answer = search rules;
-    its_tag = c.removal_tag.ensures;
+    its_file = c.placed_in.ensures;
   };
 }

@@ -7,6 +7,7 @@ returns c = record {
     result = c.put_empty.result;
     good = c.put_empty.ensures.good;
     placed = c.put_empty.ensures.placed;
+    numbers = c.put_empty.ensures.numbers;
     its_answer = search rules;
   };
 }

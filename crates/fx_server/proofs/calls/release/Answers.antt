@@ -7,6 +7,7 @@ returns c = record {
     result = c.release-released.result;
     good = c.release-released.ensures.good;
     released = c.release-released.ensures.released;
+    numbers = c.release-released.ensures.numbers;
     its_answer = search rules;
     its_tag = c.released_tag.ensures;
   };

@@ -7,6 +7,7 @@ returns c = record {
     result = c.take-taken.result;
     good = c.take-taken.ensures.good;
     removed = c.take-taken.ensures.removed;
+    numbers = c.take-taken.ensures.numbers;
     its_answer = search rules;
     its_tag = c.removal_tag.ensures;
   };

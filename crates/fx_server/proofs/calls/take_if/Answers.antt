@@ -7,6 +7,7 @@ returns c = record {
     result = c.take_if-taken.result;
     good = c.take_if-taken.ensures.good;
     removed = c.take_if-taken.ensures.removed;
+    numbers = c.take_if-taken.ensures.numbers;
     its_answer = search rules;
     its_tag = c.removal_tag.ensures;
   };

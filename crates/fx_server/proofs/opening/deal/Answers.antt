@@ -1,7 +1,8 @@
 use Rattle.std.specs.Arc.{arc_value}
-use Rattle.std.proofs.Common.{◌≡◌, None}
+use Rattle.std.proofs.Common.{◌≡◌, [], ◌∷◌, None, ap, ◌∙◌, arith, length, length-append}
 use Rattle.fx_server.specs.declared.worker.TableWorker.{TableWorker}
-use Rattle.fx_server.proofs.Dealing.{all_pushed, dealt_one}
+use Rattle.fx_server.proofs.Dealing.{all_pushed, dealt_one, numbers_pushed}
+use Rattle.fx_server.specs.FileNumbers.{first_numbers}
 use Rattle.fx_server.proofs.opening.deal.Goals as goal
 
 pub loop-pass-preserved : goal.loop-pass-preserved
@@ -12,5 +13,16 @@ loop-pass-preserved c =
       shares = all_pushed (λ (w : TableWorker). arc_value w.shared ≡ arc_value c.args.shared) _ _ c.in-Ok.worker pushed was.shares (rw (← was.same) c.in-Ok.ensures.table);
       idle = all_pushed (λ (w : TableWorker). w.held ≡ None) _ _ c.in-Ok.worker pushed was.idle c.in-Ok.ensures.idle;
       same = was.same;
+      numbers = numbers_pushed c.args.installing _ _ c.in-Ok.worker pushed
+          (c.in-Ok.ensures.numbers ∙ (c.first-numbers.ensures ∙ ap (first_numbers c.args.installing) (omega (arith, c.len.ensures, was.count, c.requires.few))))
+          was.numbers;
+      count = omega (
+        arith,
+        was.count,
+        ap length pushed,
+        length-append c.loop-pass.workers.items (c.in-Ok.worker ∷ []),
+        ap length c.in-Some.ensures.items,
+        length-append c.pop.new.self.items (c.in-Some.pass ∷ []),
+      );
       passes = dealt_one _ _ c.in-Ok.worker _ _ c.in-Some.pass _ pushed c.in-Some.ensures.items c.in-Ok.ensures.pass was.passes;
     }

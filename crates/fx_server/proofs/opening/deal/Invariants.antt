@@ -1,5 +1,6 @@
-use Rattle.std.proofs.Common.{◌≡◌, ◌++◌, All, None, length, map, reverse}
+use Rattle.std.proofs.Common.{◌≡◌, ◌+◌, ◌++◌, All, None, length, map, reverse}
 use Rattle.std.specs.Arc.{arc_value}
+use Rattle.fx_server.specs.FileNumbers.{numbers_of_all}
 use Rattle.fx_server.specs.Opened.{workers_in}
 use Rattle.fx_server.specs.declared.worker.TableWorker.{TableWorker}
 use Rattle.fx_server.proofs.opening.deal.Given as goal
@@ -10,6 +11,8 @@ invariant-loop-pass l = record {
   shares : All (λ (w : TableWorker). arc_value w.shared ≡ arc_value l.fn.shared) (workers_in l.workers.items);
   idle : All (λ (w : TableWorker). w.held ≡ None) (workers_in l.workers.items);
   same : l.shared ≡ l.fn.shared;
+  numbers : map (λ (w : TableWorker). w.numbers) (workers_in l.workers.items) ≡ numbers_of_all l.fn.installing (length (workers_in l.workers.items));
+  count : length l.workers.items + length l.passes.items ≡ length l.fn.passes.items;
   passes : map (λ (w : TableWorker). w.pass) (workers_in l.workers.items) ++ reverse l.passes.items ≡ l.fn.passes.items;
 }
 

@@ -22,6 +22,6 @@ returns-clause-looked c =
     let w = c.args.self.now in
     let call = c.look_up-found in
     let noted = c.note-found.ensures in
-    looks w (record { shared = w.shared; pass = c.note-found.new.pass; held = c.note-found.new.held }) c.args.slot call.result.found call.result.freed
+    looks w (record { shared = w.shared; held = c.note-found.new.held; numbers = w.numbers; pass = c.note-found.new.pass }) c.args.slot call.result.found call.result.freed
     c.note-found.result c.tag_of-freed.result (view_of call.new.pass) noted.same noted.notes call.ensures.never_spent c.tag_of-freed.ensures
     (rw (← c.deref.ensures) call.ensures.looked)

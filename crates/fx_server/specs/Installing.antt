@@ -1,0 +1,49 @@
+-- The calls of a worker that draw the number of the file that they install.
+use Rattle.std.specs.Prelude.{◌≡◌, ℕ, Result, Ok, Err}
+use Rattle.fx_server.specs.FileNumbers.{after_draw}
+use Rattle.fx_server.specs.Workers.{HasNoBlock, Puts, PutsAny, PutsIf}
+use Rattle.fx_server.specs.declared.answers.Placed.{Placed}
+use Rattle.fx_server.specs.declared.answers.PlacedAt.{PlacedAt}
+use Rattle.fx_server.specs.declared.answers.ServerRefusal.{ServerRefusal}
+use Rattle.fx_server.specs.declared.answers.ServerRefusal.TheVariants.{NoBlock}
+use Rattle.fx_server.specs.declared.worker.TableWorker.{TableWorker}
+
+-- the worker has drawn this number, its next one, and nothing else
+abbrev pub UsesNumber : TableWorker → ℕ → TableWorker → Type 0
+UsesNumber w number w' = (number ≡ w.numbers.next) × (w'.numbers ≡ after_draw w.numbers)
+
+-- the worker has drawn no number
+abbrev pub DrawsNone : TableWorker → TableWorker → Type 0
+DrawsNone w w' = w'.numbers ≡ w.numbers
+
+-- an installation at a slot: the file has the number that was drawn, and only a file that is
+-- installed uses one up
+abbrev pub PutsNext : TableWorker → (slot tag : ℕ) → Result Placed ServerRefusal → TableWorker
+    → Type 0
+PutsNext w slot tag (Ok placed) w' = UsesNumber w placed.number w'
+    × Puts w slot tag placed.number (Ok placed.removal) w'
+PutsNext w slot tag (Err reason) w' = DrawsNone w w'
+    × Puts w slot tag w.numbers.next (Err reason) w'
+
+-- one round of an installation
+abbrev pub PutsAnyNext : TableWorker → (tag : ℕ) → Result PlacedAt ServerRefusal → TableWorker
+    → Type 0
+PutsAnyNext w tag (Ok placed) w' = UsesNumber w placed.number w'
+    × PutsAny w tag placed.number (Ok placed.slot) w'
+PutsAnyNext w tag (Err reason) w' = DrawsNone w w'
+    × PutsAny w tag w.numbers.next (Err reason) w'
+
+-- a replacement of the file of a node
+abbrev pub PutsIfNext : TableWorker → (slot node tag : ℕ) → Result Placed ServerRefusal
+    → TableWorker → Type 0
+PutsIfNext w slot node tag (Ok placed) w' = UsesNumber w placed.number w'
+    × PutsIf w slot node tag placed.number (Ok placed.removal) w'
+PutsIfNext w slot node tag (Err reason) w' = DrawsNone w w'
+    × PutsIf w slot node tag w.numbers.next (Err reason) w'
+
+-- a number is drawn for a file that is installed later
+abbrev pub DrawsOne : TableWorker → Result ℕ ServerRefusal → TableWorker → Type 0
+DrawsOne w (Ok number) w' = (number ≡ w.numbers.next)
+    × (w' ≡ record w { numbers = after_draw w.numbers })
+DrawsOne w (Err NoBlock) w' = HasNoBlock w w'
+DrawsOne w (Err _) w' = ⊥

@@ -1,0 +1,39 @@
+//! The numbers of the files that a worker installs. A key of the bindings is a slot and such a
+//! number.
+ghost use Rattle.std.specs.Prelude.{◌≡◌};
+ghost use Rattle.fx_server.specs.FileNumbers.{first_numbers, after_draw};
+
+/// The next number of a worker, or 0 if it has used all its numbers or doesn't install files. The
+/// number after it is `step` greater.
+#[derive(Clone, Copy, Drop)]
+pub struct FileNumbers {
+    pub next: u64,
+    pub step: u64,
+}
+
+impl FileNumbers {
+    /// Returns the numbers of a new worker, by its place from 1 in the list of a table's workers.
+    /// The first `installing` ones install files.
+    pub fn first(installing: u32, place: u32) -> FileNumbers
+        ensures { result ≡ first_numbers installing place }
+    {
+        let next = if installing < place { 0 } else { place as u64 };
+        let step = installing as u64;
+        FileNumbers { next, step }
+    }
+
+    /// Returns the next number, or 0 if there is none.
+    #[inline(always)]
+    pub fn draw(&mut self) -> u64
+        ensures number { result ≡ self.old.next }
+        ensures drawn { self.new ≡ after_draw self.old }
+    {
+        let number = self.next;
+        self.next = if number == 0 || self.step > u64::MAX - number {
+            0
+        } else {
+            number + self.step
+        };
+        number
+    }
+}
