@@ -45,7 +45,7 @@ numbers_pushed installing xs ys b e one was =
     ap (λ (l : List (Box TableWorker)). map numbers_in (workers_in l)) e
     ∙ (ap (map numbers_in) (workers_push xs b) ∙ (map-append numbers_in (workers_in xs) (b.value ∷ [])
     ∙ ((λ i. was i ++ (one ∙ ap (first_numbers installing) here) i ∷ [])
-    ∙ (sym (map-append (first_numbers installing) (range_with_len 1 (length (workers_in xs))) (1 + length (workers_in xs) ∷ []))
+    ∙ (sym (map-append (first_numbers installing) (range_with_len 1 (length (workers_in xs))) ((1 + length (workers_in xs)) ∷ []))
     ∙ (ap (map (first_numbers installing)) (sym (row_more 1 (length (workers_in xs)))) ∙ ap (numbers_of_all installing) more)))))
 
 abbrev pub passes_of : List TableWorker → List LastingPass

@@ -1,9 +1,7 @@
 -- A call of a worker, after which the worker draws a number: its pass stays as it is.
-use Rattle.std.proofs.Common.{◌≡◌, ℕ, Ok, sym, subst}
-use Rattle.fx_lasting.specs.Tables.{view_of}
-use Rattle.fx_lasting.specs.declared.pass.LastingPass.{LastingPass}
+use Rattle.std.proofs.Common.{ℕ, Ok}
 use Rattle.fx_server.specs.FileNumbers.{after_draw}
-use Rattle.fx_server.specs.Workers.{IsGood, Puts, PutsAny, PutsIf, RetiresAs, RetiresAny, its_opening}
+use Rattle.fx_server.specs.Workers.{IsGood, Puts, PutsAny, PutsIf}
 use Rattle.fx_server.specs.declared.answers.Removal.{Removal}
 use Rattle.fx_server.specs.declared.worker.TableWorker.{TableWorker}
 

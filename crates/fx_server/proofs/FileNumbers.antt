@@ -1,8 +1,9 @@
 -- The numbers that workers draw: each is the worker's place, and a step more for each draw before.
-use Rattle.std.proofs.Common.{◌≡◌, ◌≢◌, ◌==◌, ℕ, zero, suc, ◌+◌, ◌-◌, ◌*◌, ◌/◌, ◌^◌, ◌<◌, ◌≤◌, Bool, true, false, cond, refl, sym, ap, ◌∙◌, subst, arith}
-use Rattle.std.proofs.Common.{nat_lt, dite, suc-mul, lt-ltb, le-ltb, ne_eqb}
+use Rattle.std.proofs.Common.{◌≡◌, ◌≢◌, ◌==◌, ℕ, zero, suc, ◌+◌, ◌-◌, ◌*◌, ◌/◌, ◌^◌, ◌<◌, ◌≤◌, Bool, false, cond, refl, sym, ap, ◌∙◌, arith}
+use Rattle.std.proofs.Common.{nat_lt, suc-mul, lt-ltb, le-ltb, ne_eqb}
 use Rattle.std.proofs.Math.Nat.{zero-mul}
-use native.Mathlib.Decide.{dec_le}
+use Rattle.std.proofs.Math.Decide.{dec_le}
+use Rattle.std.proofs.Math.Logic.{dite}
 use Rattle.std.proofs.lemmas.Nat.{div-mul-add}
 use Rattle.fx_lasting.specs.declared.layout.TheConstants.{MOST_INSTALLING}
 use Rattle.fx_server.specs.FileNumbers.{number_after, after_draws, first_numbers, number_drawn, NumbersAreDrawnOnce, NumbersLast}
@@ -25,7 +26,7 @@ after_some : (step n : ℕ) → 0 < n → number_after step n ≡ bounded (n + s
 after_some step n low = ap (λ (b : Bool). cond b 0 (bounded (n + step))) (not_zero n low)
 
 -- the next number after some draws, from this one on
-reach : (step first : ℕ) → ℕ → ℕ
+abbrev reach : (step first : ℕ) → ℕ → ℕ
 reach step first zero = first
 reach step first (suc draws) = number_after step (reach step first draws)
 

@@ -1,5 +1,5 @@
 -- The numbers of the files that workers install.
-use Rattle.std.specs.Prelude.{◌≡◌, ◌≢◌, ◌==◌, ℕ, zero, suc, ◌+◌, ◌*◌, ◌^◌, ◌<◌, ◌≤◌, nat_lt}
+use Rattle.std.specs.Prelude.{◌≡◌, ◌≢◌, ◌==◌, ℕ, zero, suc, ◌+◌, ◌*◌, ◌^◌, ◌≤◌, nat_lt}
 use Rattle.std.specs.Prelude.{if◌then◌else◌, List, map}
 use Rattle.std.specs.List.{range_with_len}
 use Rattle.fx_lasting.specs.declared.layout.TheConstants.{MOST_INSTALLING}

@@ -3,8 +3,8 @@ ghost use Rattle.std.specs.Prelude.{◌≡◌, None, Err, IfOk, option_map};
 ghost use Rattle.fx_table.specs.Pass.{IsHoldOf, IsRetiredOf};
 ghost use Rattle.fx_lasting.specs.Tables.{view_of, opening_of_table, IsPassOfTable};
 ghost use Rattle.fx_server.specs.Workers.{IsGood, LooksUp, Notes, ReleasesHeld, Puts, PutsAny};
-ghost use Rattle.fx_server.specs.Workers.{PutsIf, RemovesFrom, RemovesIf, RetiresAs, its_opening, its_pass};
-ghost use Rattle.fx_server.specs.Workers.{its_table, refusal_for, PutsEmpty, ReportsFull};
+ghost use Rattle.fx_server.specs.Workers.{PutsIf, RemovesFrom, RemovesIf, RetiresAs, refusal_for};
+ghost use Rattle.fx_server.specs.Workers.{PutsEmpty, ReportsFull};
 
 use crate::answers::{FoundFile, LookAnswer, Removal, ServerRefusal};
 use crate::file_numbers::FileNumbers;
