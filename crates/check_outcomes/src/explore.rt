@@ -5,7 +5,7 @@ use crate::found::{FoundStates, FoundStep, key_of};
 use crate::parts::part_numbers;
 use crate::state::{PlayState, accesses_of, next_state, start};
 use crate::submission::{PlayedSubmission, Progress};
-use crate::turns::{turn_at, waits};
+use crate::turns::{ChainTurn, turn_at, waits};
 use check_search::Limits;
 use fx_base::{Closed, NoMemory};
 use fx_chain::{Completion, Place, Request};
@@ -68,18 +68,15 @@ struct Search {
 impl Search {
     // Notes a state, unless it is known, and the step that led to it. Whether there was room.
     fn add(&mut self, state: PlayState, from: Option<FoundStep>) -> Result<bool, NoMemory> {
-        let found = &mut self.found;
-        let key = key_of(found.alloc, &state)?;
-        if found.keys.contains(&key) {
-            return Ok(true);
+        let key = key_of(self.found.alloc, &state)?;
+        let number = self.found.states.len();
+        let is_known = self.found.keys.contains(&key);
+        if is_known || number >= self.most {
+            return Ok(is_known);
         }
-        let number = found.states.len();
-        if number >= self.most {
-            return Ok(false);
-        }
-        found.keys.insert(key)?;
-        found.states.push(state)?;
-        found.from.push(from)?;
+        self.found.states.push(state)?;
+        self.found.keys.insert(key)?;
+        self.found.from.push(from)?;
         self.open.push(number)?;
         Ok(true)
     }
@@ -91,11 +88,10 @@ impl Search {
         recorded: Vec<Completion>,
         by: Option<FoundStep>,
     ) -> Result<(), NoMemory> {
-        let found = &mut self.found;
         for c in recorded {
-            if place == Some(c.place) && !found.answers.contains(&c) {
-                found.answers.push(c)?;
-                found.by.push(by)?;
+            if place == Some(c.place) && !self.found.answers.contains(&c) {
+                self.found.answers.push(c)?;
+                self.found.by.push(by)?;
             }
         }
         Ok(())
@@ -159,16 +155,29 @@ impl Search {
         };
         let turn = turn_at(submission, &self.found.numbers, here);
         for chain in 0..submission.chains.len() {
-            let Some(here) = self.found.states.get(state) else {
-                return Ok(true);
-            };
-            let is_left = waits(&self.found.numbers, turn, chain)
-                || here.is_idle(submission, chain);
-            if !is_left && !self.follow(submission, state, chain)? {
+            if self.is_next(submission, state, turn, chain)
+                && !self.follow(submission, state, chain)?
+            {
                 return Ok(false);
             }
         }
         Ok(true)
+    }
+
+    // Checks whether it is a chain's turn in a state, and the chain isn't idle there.
+    fn is_next(
+        &self,
+        submission: &PlayedSubmission<'_>,
+        state: usize,
+        turn: Option<ChainTurn>,
+        chain: usize,
+    ) -> bool {
+        let Some(here) = self.found.states.get(state) else {
+            return false;
+        };
+        chain < submission.chains.len()
+            && !waits(&self.found.numbers, turn, chain)
+            && !here.is_idle(submission, chain)
     }
 
     // Looks at the states that were met last first, so that ends are met early. Whether there was
@@ -183,6 +192,22 @@ impl Search {
             }
         }
         Ok(self.open.is_empty())
+    }
+
+    // Looks for all states, beginning with the first one of a submission at these slots.
+    fn run_from(
+        &mut self,
+        submission: &PlayedSubmission<'_>,
+        slots: &Slots,
+    ) -> Result<(), NoMemory> {
+        let mut recorded = Vec::new(submission.alloc);
+        let first = start(submission, slots, &mut recorded)?;
+        let has_room = self.add(first, None)?;
+        for own in recorded {
+            self.note(submission.asked, own, None)?;
+        }
+        self.found.is_whole = has_room && self.run(submission)?;
+        Ok(())
     }
 }
 
@@ -199,12 +224,6 @@ pub(crate) fn explore(
         open: Vec::new(alloc),
         most: room_for(submission, limits),
     };
-    let mut recorded = Vec::new(alloc);
-    let first = start(submission, slots, &mut recorded)?;
-    for own in recorded {
-        search.note(submission.asked, own, None)?;
-    }
-    let is_whole = search.add(first, None)? && search.run(submission)?;
-    search.found.is_whole = is_whole;
+    search.run_from(submission, slots)?;
     Ok(search.found)
 }

@@ -181,6 +181,35 @@ fn are_all_recorded(
     true
 }
 
+// Returns the reports that a search met, and whether these are all.
+fn reports_in(
+    submission: &PlayedSubmission<'_>,
+    slots: &Slots,
+    found: &FoundStates,
+) -> Result<PossibleReports, NoMemory>
+    ensures each { IfOk result (λ found.
+        All (IsPossibleIn submission.now slots.now) found.reports.items) }
+    ensures ends { IfOk result (λ found. IsTrue found.are_all → OfEach submission.now slots.now
+        (λ old requests. HasEachEnd old requests found.reports.items)) }
+    ensures all { IfOk result (λ found. IsTrue found.are_all → IsTrue submission.now.tells
+        → OfEach submission.now slots.now
+        (λ old requests. HasEachReport old requests found.reports.items)) }
+{
+    let reports = all_confirmed(submission, slots, found)?;
+    let claimed = Claimed {
+        submission,
+        found,
+        answers: &[],
+    };
+    let are_recorded = are_all_recorded(submission, &found.states, &reports);
+    let are_all = are_recorded && are_all_states(&claimed, slots)?;
+    Ok(PossibleReports {
+        reports,
+        are_all,
+        states: found.states.len(),
+    })
+}
+
 // Returns the reports of a submission at these slots.
 fn reports_of(
     submission: &PlayedSubmission<'_>,
@@ -196,20 +225,7 @@ fn reports_of(
         (λ old requests. HasEachReport old requests found.reports.items)) }
 {
     let found = explore(submission, slots, limits)?;
-    let reports = all_confirmed(submission, slots, &found)?;
-    let claimed = Claimed {
-        submission,
-        found: &found,
-        answers: &[],
-    };
-    let are_recorded = are_all_recorded(submission, &found.states, &reports);
-    let are_all = are_recorded && are_all_states(&claimed, slots)?;
-    let states = found.states.len();
-    Ok(PossibleReports {
-        reports,
-        are_all,
-        states,
-    })
+    reports_in(submission, slots, &found)
 }
 
 /// Returns reports that the submission can produce if no allocation fails, starting from `slots`
@@ -321,6 +337,30 @@ fn all_answers(
     Ok(answers)
 }
 
+// Returns the answers that a search met at the place that the submission asks for, and whether
+// these are all.
+fn answers_in(
+    submission: &PlayedSubmission<'_>,
+    slots: &Slots,
+    place: Place,
+    found: &FoundStates,
+) -> Result<PossibleAnswers, NoMemory>
+    requires { submission.now.asked ≡ Some place }
+    ensures each { IfOk result (λ found.
+        All (IsAnswerIn submission.now slots.now place) found.answers.items) }
+    ensures all { IfOk result (λ found. IsTrue found.are_all → OfEach submission.now slots.now
+        (λ old requests. HasEachAnswer old requests place found.answers.items)) }
+{
+    let answers = all_answers(submission, slots, found, place)?;
+    let claimed = Claimed {
+        submission,
+        found,
+        answers: &answers,
+    };
+    let are_all = are_all_states(&claimed, slots)?;
+    Ok(PossibleAnswers { answers, are_all })
+}
+
 // Returns the answers at the place that the submission asks for.
 fn answers_of(
     submission: &PlayedSubmission<'_>,
@@ -335,14 +375,7 @@ fn answers_of(
         (λ old requests. HasEachAnswer old requests place found.answers.items)) }
 {
     let found = explore(submission, slots, limits)?;
-    let answers = all_answers(submission, slots, &found, place)?;
-    let claimed = Claimed {
-        submission,
-        found: &found,
-        answers: &answers,
-    };
-    let are_all = are_all_states(&claimed, slots)?;
-    Ok(PossibleAnswers { answers, are_all })
+    answers_in(submission, slots, place, &found)
 }
 
 /// Returns answers that the request at a place of the submission can give if no allocation fails,

@@ -65,12 +65,24 @@ impl Player {
         access: Access,
     ) -> Result<bool, NoMemory> {
         let mut recorded = Vec::new(submission.alloc);
-        let Some(next) = next_state(submission, &self.state, chain, &access, &mut recorded)? else {
+        let next = next_state(submission, &self.state, chain, &access, &mut recorded)?;
+        let Some(next) = next else {
             return Ok(false);
         };
         self.state = next;
+        self.note(chain, access, &mut recorded)?;
+        Ok(true)
+    }
+
+    // Notes an access of a chain, its answers, and the file that it removed.
+    fn note(
+        &mut self,
+        chain: usize,
+        access: Access,
+        recorded: &mut Vec<Completion>,
+    ) -> Result<(), NoMemory> {
         if let Some(own) = self.recorded.get_mut(chain) {
-            own.append(&mut recorded)?;
+            own.append(recorded)?;
         }
         if let Some(file) = access.removed() {
             self.closes.push(file)?;
@@ -79,7 +91,7 @@ impl Player {
             chain: (chain.min(u32::MAX as usize - 1) + 1) as u32,
             access,
         })?;
-        Ok(true)
+        Ok(())
     }
 
     // Makes the first access that a chain may make next.
@@ -99,8 +111,9 @@ impl Player {
         Ok(false)
     }
 
-    // Makes the accesses of these steps.
-    fn play_steps(
+    // Makes the accesses of these steps, and goes on to the end of each chain, one chain after
+    // another.
+    fn play_all(
         &mut self,
         submission: &PlayedSubmission<'_>,
         steps: &[FoundStep],
@@ -108,11 +121,6 @@ impl Player {
         for step in steps {
             self.play(submission, step.chain, step.access)?;
         }
-        Ok(())
-    }
-
-    // Goes on to the end of each chain, one chain after another.
-    fn play_on(&mut self, submission: &PlayedSubmission<'_>) -> Result<(), NoMemory> {
         for chain in 0..submission.chains.len() {
             for _ in 0..MOST_ACCESSES {
                 if !self.play_first(submission, chain)? {
@@ -142,6 +150,10 @@ pub(crate) fn play_to(
     last: Option<FoundStep>,
 ) -> Result<OrderPlay, NoMemory> {
     let alloc = submission.alloc;
+    let steps = match last {
+        Some(last) => steps_to(submission, found, last)?,
+        None => Vec::new(alloc),
+    };
     let mut recorded = Vec::new(alloc);
     let state = start(submission, slots, &mut recorded)?;
     let mut player = Player {
@@ -150,16 +162,12 @@ pub(crate) fn play_to(
         recorded,
         closes: Vec::new(alloc),
     };
-    if let Some(last) = last {
-        player.play_steps(submission, &steps_to(submission, found, last)?)?;
-    }
-    player.play_on(submission)?;
-    let mut closes = player.closes;
-    sort_by_mark(&mut closes);
+    player.play_all(submission, &steps)?;
+    sort_by_mark(&mut player.closes);
     Ok(OrderPlay {
-        order: player.order,
         completions: joined(alloc, player.recorded)?,
-        closes,
+        order: player.order,
+        closes: player.closes,
     })
 }
 

@@ -19,10 +19,7 @@ fn part_at(
     let mut turn: Option<usize> = None;
     for i in 0..submission.chains.len() {
         let own = numbers.part_of(i);
-        let is_later = match turn {
-            Some(part) => part <= own,
-            None => false,
-        };
+        let is_later = matches!(turn, Some(part) if part <= own);
         if state.is_idle(submission, i) || is_later {
             continue;
         }

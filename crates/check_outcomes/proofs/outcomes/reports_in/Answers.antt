@@ -1,7 +1,7 @@
 use Rattle.check_outcomes.proofs.Words.{◌∙◌, false≢true, sym}
 use Rattle.check_outcomes.proofs.AllReports.{reports_by, ends_by}
-use Rattle.check_outcomes.proofs.outcomes.reports_of.Goals.{then-are_recorded+in_ok-are_all, else-are_recorded}
-use Rattle.check_outcomes.proofs.outcomes.reports_of.Goals as goal
+use Rattle.check_outcomes.proofs.outcomes.reports_in.Goals.{then-are_recorded+in_ok-are_all, else-are_recorded}
+use Rattle.check_outcomes.proofs.outcomes.reports_in.Goals as goal
 
 pub returns-clause-ends : goal.returns-clause-ends
 returns-clause-ends c = elim c.if-are_recorded.branch [
