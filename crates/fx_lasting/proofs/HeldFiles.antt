@@ -1,7 +1,7 @@
 -- The file at a slot is the one that passes hold on its node.
-use Rattle.fx_lasting.proofs.Words.{◌≡◌, ◌≢◌, ℕ, ◌+◌, ◌<◌, ◌≤◌, List, [], ◌∷◌, sym, refl, ap, ◌∙◌, subst, arith, Option, Some, None, cond, Bool}
-use Rattle.fx_lasting.proofs.Words.{⊎_elim, File, Event, Action, Start, Shared, Log, Work, View, Agrees, WorkAgrees, HoldsAt, NodeAgrees, Phase, Counted, Guarded, Yielding}
-use Rattle.fx_lasting.proofs.Words.{held_in, held_by, held_after, part_of_pass, state_after_all, slots_of, nodes_of, node_of_number, seated, file_in, by_equality, once_is}
+use Rattle.fx_lasting.proofs.Words.{◌≡◌, ℕ, ◌<◌, List, [], ◌∷◌, sym, refl, ap, ◌∙◌, subst, Option, Some, None}
+use Rattle.fx_lasting.proofs.Words.{⊎_elim, File, Event, Start, Shared, Work, Agrees, WorkAgrees, HoldsAt, Counted, Guarded, Yielding}
+use Rattle.fx_lasting.proofs.Words.{held_in, held_by, held_after, part_of_pass, state_after_all, slots_of, node_of_number, file_in, once_is}
 use Rattle.fx_lasting.proofs.Words.{IsSeated, eq-eqb, ne_eqb, dite, ℕ_discrete}
 use Rattle.fx_lasting.specs.HeldFiles.{IsOneOnItsNode}
 use Rattle.fx_lasting.proofs.Holds.{on_node}
