@@ -55,5 +55,7 @@ pub mod Rounds
 pub mod WordBounds
 pub mod Holds
 pub mod HeldFiles
+pub mod ByKey
+pub mod KeyLemmas
 pub mod Showing
 pub mod WholeHistory

@@ -32,4 +32,5 @@ pub mod Firsts
 pub mod Tries
 pub mod Keyed
 pub mod Vacant
+pub mod Keys
 pub mod Showing

@@ -4,6 +4,7 @@ ghost use Rattle.std.specs.Prelude.{◌≡◌, ◌≤◌, ℕ};
 ghost use Rattle.fx_words.specs.Words.{last_node};
 ghost use Rattle.fx_lasting.specs.Bounds.{WordsAreBounded};
 ghost use Rattle.fx_lasting.specs.Holds.{NodesAreOfOneFile, HeldNodesNameFiles};
+ghost use Rattle.fx_lasting.specs.Keys.{KeysAreOfOneFile, KeysComeBack};
 ghost use Rattle.fx_lasting.specs.Layout.{PlacesAreInside, PlacesAreApart, LabelsAreApart, NodesAreInOneLine};
 ghost use Rattle.fx_lasting.specs.Opens.{OpeningKeeps};
 ghost use Rattle.fx_lasting.specs.WholeHistory.{HasOneHistory, RemovedFilesHaveUsers};
@@ -292,6 +293,14 @@ pub fn nodes_are_of_one_file()
 /// the held file or nothing.
 pub fn held_nodes_name_files()
     ensures { HeldNodesNameFiles }
+{}
+
+/// If no two of some files have the same mark, a key names at most one of them. Nothing else is
+/// assumed of the files: the caller of `fx_base::Catalogue::open` chooses the marks. The key of the
+/// bits that `Key::to_bits` returns is the key that they were made of.
+pub fn keys_are_of_one_file()
+    ensures files { KeysAreOfOneFile }
+    ensures bits { KeysComeBack }
 {}
 
 /// While the rule holds, one legal history is that of all passes: what a pass has seen is a

@@ -1,0 +1,36 @@
+use Rattle.fx_lasting.proofs.Words.{sym, subst, Start, opening_of, view_of}
+use Rattle.std.specs.Prelude.{Result}
+use Rattle.fx_table.specs.Pass.{PassView}
+use Rattle.fx_table.specs.Showing.{Learns}
+use Rattle.fx_table.specs.declared.values.Hold.{Hold}
+use Rattle.fx_table.specs.declared.values.Retired.{Retired}
+use Rattle.fx_lasting.specs.Keys.{LookedByKey, TakesByKey}
+use Rattle.fx_lasting.specs.declared.key_answers.KeyFault.{KeyFault}
+use Rattle.fx_lasting.proofs.ByKey.{takes_so}
+use Rattle.fx_lasting.proofs.table.LastingTable.take_key.Goals as goal
+
+pub take_if-taken-requires-clause-slot : goal.take_if-taken-requires-clause-slot
+take_if-taken-requires-clause-slot c =
+    let k : Start = c.args.self.now.table.shared.key in
+    let look = subst (λ (r : Result Hold KeyFault). LookedByKey k (view_of c.args.holder.now) c.args.key r c.look_key-found.result.freed
+    c.look_key-found.result.released (view_of c.look_key-found.new.pass)) c.in-Ok.is c.look_key-found.ensures.looked in
+    look.2.inside
+
+pub returns-clause-taken : goal.returns-clause-taken
+returns-clause-taken c =
+    let k : Start = c.args.self.now.table.shared.key in
+    let vh = view_of c.args.holder.now in
+    let v = view_of c.args.pass.now in
+    let key = c.args.key in
+    let freed = c.look_key-found.result.freed in
+    let other = c.look_key-found.result.released in
+    let b = view_of c.look_key-found.new.pass in
+    let w = view_of c.take_if-taken.new.pass in
+    let b' = view_of c.hear-2.new.pass in
+    let released = c.release-released.result in
+    let wh = view_of c.release-released.new.pass in
+    let look = subst (λ (r : Result Hold KeyFault). LookedByKey k vh key r freed other b) c.in-Ok.is c.look_key-found.ensures.looked in
+    let hears = subst (λ (z : PassView). Learns (opening_of k) w.front z b') c.hear.ensures.same c.hear-2.ensures.learns in
+    subst (λ (z : Result Retired KeyFault × PassView). TakesByKey k vh v key z.0 freed released wh z.1) (λ i. (sym c.taken_answer.ensures i, sym c.hear-2.ensures.same i))
+    (takes_so k vh v key c.in-Ok.hold freed other b (view_of c.hear.new.pass) w b' released wh look c.look_key-found.ensures.fits.front
+    c.hear.ensures.learns hears c.release-released.ensures.released c.take_if-taken.result c.take_if-taken.ensures.taken)
