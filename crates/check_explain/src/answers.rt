@@ -57,8 +57,12 @@ fn add_content(
     Ok(there.push((content, by))?)
 }
 
-// Adds the contents that requests leave at each slot.
-fn add_contents(facts: &Facts<'_>, left: &mut [Vec<Left>]) -> Result<(), AllocError> {
+/// Returns for each slot the contents that requests leave there, each once.
+pub(crate) fn left_at_slots(facts: &Facts<'_>) -> Result<Vec<Vec<Left>>, AllocError> {
+    let mut left: Vec<Vec<Left>> = Vec::new(facts.case.alloc);
+    for _ in 0..facts.case.size() {
+        left.push(Vec::new(facts.case.alloc))?;
+    }
     for act in &facts.acts {
         let Some(content) = content_after(act) else {
             continue;
@@ -74,16 +78,6 @@ fn add_contents(facts: &Facts<'_>, left: &mut [Vec<Left>]) -> Result<(), AllocEr
             }
         }
     }
-    Ok(())
-}
-
-/// Returns for each slot the contents that requests leave there, each once.
-pub(crate) fn left_at_slots(facts: &Facts<'_>) -> Result<Vec<Vec<Left>>, AllocError> {
-    let mut left: Vec<Vec<Left>> = Vec::new(facts.case.alloc);
-    for _ in 0..facts.case.size() {
-        left.push(Vec::new(facts.case.alloc))?;
-    }
-    add_contents(facts, &mut left)?;
     Ok(left)
 }
 

@@ -199,22 +199,16 @@ impl ClaimsView<'_> {
         Ok(cells)
     }
 
-    // Adds for each slot the strand that empties it once more.
-    fn add_sweeps(&self, cells: &[Cell], strands: &mut Vec<Strand>) -> Result<(), AllocError> {
-        for cell in cells {
-            let sweep = Claim::At(cell.slot, Wants::Anything, Leaves::Empty);
-            let claims = vec![in self.facts.case.alloc; sweep]?;
-            strands.push(Strand { chain: 0, claims })?;
-        }
-        Ok(())
-    }
-
     /// Returns the slots that are looked at, as they are before the submission, and the claims of
     /// each chain about them.
     pub(crate) fn question(&self) -> Result<(Vec<Cell>, Vec<Strand>), NoMemory> {
         let (cells, mut strands) = (self.cells()?, self.strands()?);
         if matches!(self.stays, Stays::Swept) {
-            self.add_sweeps(&cells, &mut strands)?;
+            for cell in &cells {
+                let sweep = Claim::At(cell.slot, Wants::Anything, Leaves::Empty);
+                let claims = vec![in self.facts.case.alloc; sweep]?;
+                strands.push(Strand { chain: 0, claims })?;
+            }
         }
         Ok((cells, strands))
     }

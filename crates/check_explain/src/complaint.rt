@@ -36,16 +36,6 @@ impl Complaint {
 }
 
 impl Facts<'_> {
-    // Looks for the first invalid lines, and says why they are. Returns whether there are any.
-    fn complains(&self, slot: Option<u32>, out: &mut Complaint) -> Result<bool, NoMemory> {
-        Ok(
-            wrong_answer(self, out)?
-                || wrong_close(self, out)?
-                || wrong_count(self, out)?
-                || no_order(self, slot, out)?,
-        )
-    }
-
     /// Looks for the first invalid lines of the submission. `slot`: the slot that the judge blames,
     /// if it blames one.
     ///
@@ -58,9 +48,13 @@ impl Facts<'_> {
             expected: Words::new(alloc),
             why: Words::new(alloc),
         };
-        match self.complains(slot, &mut out)? {
-            true => Ok(Some(out)),
-            false => Ok(None),
+        if wrong_answer(self, &mut out)?
+            || wrong_close(self, &mut out)?
+            || wrong_count(self, &mut out)?
+            || no_order(self, slot, &mut out)?
+        {
+            return Ok(Some(out));
         }
+        Ok(None)
     }
 }

@@ -4,7 +4,7 @@ use crate::claims::{ClaimsView, Stays};
 use crate::complaint::Complaint;
 use crate::facts::Facts;
 use crate::words::Words;
-use check_search::{Cell, Claim, Found, Limits, Steps, Strand, components, explore};
+use check_search::{Claim, Found, Limits, Steps, components, explore};
 use fx_base::NoMemory;
 use fx_chain::Intent;
 use std::alloc::{AllocError, Global};
@@ -73,32 +73,21 @@ impl<'a> Contradiction<'a> {
     // `None` if the search reaches a limit.
     fn search(&mut self, stays: Stays) -> Result<Option<bool>, NoMemory> {
         self.view.stays = stays;
-        let (cells, strands) = self.view.question()?;
-        let (met, has_none) = self.explored(&cells, &strands)?;
-        self.states = self.states.saturating_sub(met.max(self.view.out.len()));
-        Ok(has_none)
-    }
-
-    // Searches for an order of claims. Returns the number of states that the search met, and true
-    // if no order exists, or `None` if the search reaches a limit.
-    fn explored(
-        &self,
-        cells: &[Cell],
-        strands: &[Strand],
-    ) -> Result<(usize, Option<bool>), NoMemory> {
         let alloc = self.view.facts.case.alloc;
-        let steps = Steps::new(alloc, strands, cells)?;
+        let (cells, strands) = self.view.question()?;
+        let steps = Steps::new(alloc, &strands, &cells)?;
         let limits = Limits {
             states: self.states.min(MOST_STATES),
             bytes: BYTES,
         };
         let (rows, found) = explore(alloc, &steps, limits)?;
-        let has_none = match found {
+        let spent = rows.len().max(self.view.out.len());
+        self.states = self.states.saturating_sub(spent);
+        Ok(match found {
             Found::NoEnd => Some(true),
             Found::Order(_) => Some(false),
             Found::Stopped(_) => None,
-        };
-        Ok((rows.len(), has_none))
+        })
     }
 
     // Returns for each slot the numbers of its files, or none if it isn't looked at.
@@ -163,21 +152,14 @@ impl<'a> Contradiction<'a> {
         Ok(true)
     }
 
-    // Returns the claims of each chain.
-    fn chains(&self) -> Result<Vec<Vec<Claim>>, NoMemory> {
-        let (_, strands) = self.view.question()?;
-        let mut chains: Vec<Vec<Claim>> = Vec::new(self.view.facts.case.alloc);
-        for it in strands {
-            chains.push(it.claims)?;
-        }
-        Ok(chains)
-    }
-
     // Looks at the first slots that chains join and at which the lines have no order. Returns
     // whether there are such slots.
     fn look_at_parts(&mut self) -> Result<bool, NoMemory> {
         let case = self.view.facts.case;
-        let chains = self.chains()?;
+        let mut chains: Vec<Vec<Claim>> = Vec::new(case.alloc);
+        for it in self.view.question()?.1 {
+            chains.push(it.claims)?;
+        }
         for part in &components(case.alloc, case.size(), case.slots.range, &chains)? {
             if part.len() > 1 && self.look_at(part)? {
                 return Ok(true);

@@ -244,15 +244,6 @@ impl<'a> Facts<'a> {
         Ok(())
     }
 
-    // Adds the files and the requests, and reads the lines of the report.
-    fn fill(&mut self) -> Result<(), NoMemory> {
-        self.add_files()?;
-        if self.add_requests()? {
-            self.take_closes()?;
-        }
-        Ok(())
-    }
-
     /// Returns the facts of a case.
     ///
     /// # Errors
@@ -271,7 +262,10 @@ impl<'a> Facts<'a> {
                 taken: 0,
             },
         };
-        facts.fill()?;
+        facts.add_files()?;
+        if facts.add_requests()? {
+            facts.take_closes()?;
+        }
         Ok(facts)
     }
 

@@ -198,17 +198,18 @@ fn unread(
     Ok(())
 }
 
-// Looks whether the line of a request with these answers is wrong. `severed`: the line of the
-// member that severed its chain.
-fn is_none_of(
+// Looks whether the line of a request is wrong. `severed`: the line of the member that severed its
+// chain.
+fn is_wrong(
     facts: &Facts<'_>,
-    answers: &Answers<'_>,
+    left: &[Vec<Left>],
     severed: Option<usize>,
     (at, row): (usize, &Row<'_>),
     out: &mut Complaint,
 ) -> Result<bool, NoMemory> {
+    let answers = Answers::new(facts, left, severed.is_some(), row)?;
     let Some(it) = facts.completions.get(at) else {
-        unread(facts, row, answers, at, out)?;
+        unread(facts, row, &answers, at, out)?;
         return Ok(true);
     };
     let is_canceled = it.is_refusal(row.place, Errno::ECANCELED);
@@ -225,32 +226,18 @@ fn is_none_of(
     if answers.have(it)? {
         return Ok(false);
     }
-    expect(row, answers, at, out)?;
+    expect(row, &answers, at, out)?;
     why_not(facts, row, it, &mut out.why)?;
     Ok(true)
 }
 
-// Looks whether the line of a request is wrong.
-fn is_wrong(
-    facts: &Facts<'_>,
-    left: &[Vec<Left>],
-    severed: Option<usize>,
-    (at, row): (usize, &Row<'_>),
-    out: &mut Complaint,
-) -> Result<bool, NoMemory> {
-    let answers = Answers::new(&*facts, left, severed.is_some(), &*row)?;
-    is_none_of(facts, &answers, severed, (at, row), out)
-}
-
-// Looks for the first wrong line. `left`: the contents that requests leave at the slots.
-fn is_one_wrong(
-    facts: &Facts<'_>,
-    left: &[Vec<Left>],
-    out: &mut Complaint,
-) -> Result<bool, NoMemory> {
+/// Looks for the first line that isn't the completion of its request, or has one that the request
+/// can't have or that contradicts an earlier one of its chain. Returns whether there is one.
+pub(crate) fn wrong_answer(facts: &Facts<'_>, out: &mut Complaint) -> Result<bool, NoMemory> {
+    let left = left_at_slots(facts)?;
     let mut severed = None;
     for (at, row) in facts.rows.iter().enumerate() {
-        if is_wrong(facts, left, severed, (at, row), out)? {
+        if is_wrong(facts, &left, severed, (at, row), out)? {
             return Ok(true);
         }
         if !row.request.links() {
@@ -263,11 +250,4 @@ fn is_one_wrong(
         }
     }
     Ok(false)
-}
-
-/// Looks for the first line that isn't the completion of its request, or has one that the request
-/// can't have or that contradicts an earlier one of its chain. Returns whether there is one.
-pub(crate) fn wrong_answer(facts: &Facts<'_>, out: &mut Complaint) -> Result<bool, NoMemory> {
-    let left = left_at_slots(facts)?;
-    is_one_wrong(facts, &left, out)
 }

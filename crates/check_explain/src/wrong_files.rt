@@ -29,9 +29,8 @@ fn is_wrong(
     let mut line = Words::new(facts.case.alloc);
     line.say("closed ");
     line.file(facts.case.catalogue, known.file);
-    let expected = line.text()?;
-    if without_end(close.line) != expected.as_bytes() {
-        out.wrong(at, expected, "");
+    if without_end(close.line) != line.text()?.as_bytes() {
+        out.wrong(at, line.text()?, "");
         out.why.mark(mark);
         out.why.say(" is ");
         out.why.say(name_of(facts.case.catalogue, known.file.entry));
@@ -89,20 +88,6 @@ fn wrong_tags(
     Ok(false)
 }
 
-// Looks whether the line after the `closed` lines is one completion too many.
-fn is_one_more(facts: &Facts<'_>, out: &mut Complaint) -> Result<bool, NoMemory> {
-    let mut front = Words::new(facts.case.alloc);
-    front.count("", u64::from(facts.case.submissions.saturating_add(1)), ".");
-    let is_more = facts.rest.rest.starts_with(front.text()?.as_bytes());
-    if is_more {
-        let expected = "a closed file, or the next command's line";
-        out.wrong(facts.rest.taken, expected, "the submission has ");
-        let count = facts.rows.len() as u64;
-        out.why.count("", count, " requests, and this is one more");
-    }
-    Ok(is_more)
-}
-
 /// Looks for the first wrong line after a submission's completions. Returns whether a line is
 /// wrong.
 pub(crate) fn wrong_close(facts: &Facts<'_>, out: &mut Complaint) -> Result<bool, NoMemory> {
@@ -110,7 +95,16 @@ pub(crate) fn wrong_close(facts: &Facts<'_>, out: &mut Complaint) -> Result<bool
         return Ok(true);
     }
     let mut rest = facts.rest;
-    if is_one_more(facts, out)? || wrong_tags(facts, &mut rest, out)? {
+    let mut front = Words::new(facts.case.alloc);
+    front.count("", u64::from(facts.case.submissions.saturating_add(1)), ".");
+    if rest.rest.starts_with(front.text()?.as_bytes()) {
+        let expected = "a closed file, or the next command's line";
+        out.wrong(rest.taken, expected, "the submission has ");
+        let count = facts.rows.len() as u64;
+        out.why.count("", count, " requests, and this is one more");
+        return Ok(true);
+    }
+    if wrong_tags(facts, &mut rest, out)? {
         return Ok(true);
     }
     let is_more = rest.rest.starts_with(b"tag ") || rest.rest.starts_with(b"closed ");
