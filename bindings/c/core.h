@@ -17,7 +17,8 @@ typedef struct yacht_label {
     uint64_t freed;
 } yacht_label;
 
-/* the number of the value that a call installed, or 0, and the tag of one that it dropped */
+/* the number of the value that a call installed, and the tag of one that it dropped; each is 0 if
+ * there is none */
 typedef struct yacht_placed {
     uint64_t number;
     uint64_t closed;
@@ -29,7 +30,7 @@ int64_t yacht_core_look(yacht_core *worker, uint32_t slot, yacht_label *label);
 int64_t yacht_core_release(yacht_core *worker, uint64_t *closed);
 int64_t yacht_core_put(yacht_core *worker, uint32_t slot, uint64_t tag, yacht_placed *placed);
 int64_t yacht_core_put_any(yacht_core *worker, uint64_t tag, uint64_t *number);
-/* draws the number of a value that yacht_core_put_empty of the same worker then installs, once */
+/* draws a number, to be passed once to yacht_core_put_empty of the same worker */
 int64_t yacht_core_draw(yacht_core *worker, uint64_t *number);
 int64_t yacht_core_take(yacht_core *worker, uint32_t slot, uint64_t *closed);
 int64_t yacht_core_take_if(yacht_core *worker, uint32_t slot, uint32_t node, uint64_t *closed);

@@ -3,10 +3,10 @@
 //! does of cold files. It is never part of a library that is handed out
 //! (`--cfg yachtbanyan_stand_in`).
 //!
-//! A slot's word has a node, shifted by 32 bits, also if the slot is empty; a bit that says whether
-//! the node's file is there; and the number of takes. A node's word is 0 where the node is free,
-//! `BORN` less what was released while its file is in a slot, and 1 and what is still held after
-//! that.
+//! A slot's word names a node in its upper 32 bits, whether or not the slot has a file. A bit says
+//! whether the node's file is there. The other bits are the number of takes. A node's word is 0 if
+//! the node is free. While its file is in a slot, the word is `BORN` less the number of releases.
+//! After that it is 1 and the number of holds.
 use super::core::{
     Core, Label, Placed, AGAIN, BAD, BUSY, CLOSED, DONE, EMPTY, FULL, IDLE, IN_USE, NO_BLOCK,
     NO_SLOT, OTHER,
@@ -99,8 +99,8 @@ impl Table {
         }
     }
 
-    // Exchanges the word of a slot once, for one that is made of it, if `refused` names no reason
-    // against it. Returns the old word, or the number of the reason.
+    // Exchanges the word of a slot once for `word` of it, unless `refused` returns a reason.
+    // Returns the old word, or the number of the reason.
     fn exchange(
         &self,
         slot: u32,
@@ -140,9 +140,9 @@ impl Worker {
         number
     }
 
-    // Makes a free node of the stock one for the tag and the number. Returns the word that installs
-    // it, or nothing if the worker has no stock. The other workers work with one node each, so one
-    // is free.
+    // Makes a file with the tag and the number on a free node of the stock. Returns the word that
+    // installs it, or `None` if the worker has no stock. The other workers work with one node each,
+    // so one of the stock is free.
     fn begin(&mut self, tag: u64, number: u64) -> Option<u64> {
         let count = self.stock.len();
         let is_free = |it: &usize| self.table.nodes[self.stock[*it]].load(SeqCst) == 0;
@@ -156,13 +156,13 @@ impl Worker {
         Some((node as u64) << 32 | FILE)
     }
 
-    // Ends an installation that found this word at its slot: its node goes into the stock, in place
-    // of the node that is at the slot now.
+    // Ends an installation that found this word at its slot. The word's node goes into the stock,
+    // in place of the node that the slot names now.
     fn end(&mut self, old: u64) {
         self.stock[self.free] = node_of(old);
     }
 
-    // Makes a node for the tag and the number, to be installed at a slot. Returns the word that
+    // Makes a file with the tag and the number, to be installed at a slot. Returns the word that
     // installs it, or the number of the reason why there is none.
     fn begin_at(&mut self, slot: u32, tag: u64, number: u64) -> Result<u64, i64> {
         if self.held.is_some() {
