@@ -1,5 +1,5 @@
--- The load by which a retirement finds that everybody has let its file go already: nobody can reach
--- the file then, so nothing is left to subtract.
+-- The load by which a retirement finds that all takes and marks of its file were dropped: nobody
+-- can reach the file then, so nothing is left to subtract.
 use Rattle.std.specs.Prelude.{◌≡◌, ◌≢◌, ℕ, ◌+◌, []}
 use Rattle.fx_plain.specs.declared.event.File.{File}
 use Rattle.fx_lasting.specs.Parts.{retirement_amount}
@@ -8,7 +8,7 @@ use Rattle.fx_lasting.specs.Tells.{At, Goes, TakesOut}
 use Rattle.fx_lasting.specs.declared.view.Round.{Round}
 use Rattle.fx_lasting.specs.declared.view.Work.TheVariants.{Retiring}
 
--- Finish, of the node's word: where all takes and marks were dropped, the file is closed
+-- Finish, of the node's word: if all takes and marks were dropped, the file is closed
 pub record Finishes (st : At) (m : Sat) (found : ℕ) (m' : Sat) : Type 0 where
   pub waits : (f : File) (node takes : ℕ) (round : Round) (marks : ℕ)
       → m.0.work ≡ Retiring f node takes round marks

@@ -60,7 +60,7 @@ key_of_bits bits =
     if bits % 2 == 0 then record { slot = bits / 2 % 4096; number = bits / 2 ^ 13 }
     else record { slot = bits / 2 % 2 ^ 20; number = bits / 2 ^ 21 }
 
--- the bits of a key are those of no other key
+-- the key of a key's bits is that key
 abbrev pub KeysComeBack : Type 0
 KeysComeBack = (key : Key) (bits : ℕ) → bits_of_key key ≡ Some bits → key_of_bits bits ≡ key
 
@@ -88,7 +88,7 @@ pub record HoldsAtKey (k : Start) (v : PassView) (key : Key) (f : File) (hold : 
   pub node : IsOn k hold.node f
   pub inside : key.slot < slots_of k
 
--- the file at the slot had another number: the pass held it, and released it at once
+-- the key doesn't name the file at the slot: the pass held it, and released it at once
 pub record WasOther (k : Start) (v : PassView) (key : Key) (freed released : Option Identity)
     (w : PassView) : Type 0 where
   pub file : File
@@ -134,8 +134,8 @@ abbrev pub put_answer : PutIf → PutOverKey
 put_answer (put.Replaced x) = Replaced x
 put_answer (put.Missed miss file) = Missed (fault_for miss) file
 
--- at a moment after the holder's look-up the slot was empty, or had a file on another node than the
--- held file; or its word changed before each try. It was left as it is
+-- at a moment after the holder's look-up the slot was empty; or had a file on another node than the
+-- held file; or, for `Again`, had the file on that node. It was left as it is
 pub record LeftIt (k : Start) (v between : PassView) (slot node : ℕ) (fault : KeyFault)
     (w : PassView) : Type 0 where
   pub miss : Miss

@@ -149,11 +149,11 @@ ReadsNumberKeep tells = (k : Start) (slots id i node : ℕ) (f : File) (m : Sat)
     → HasPass k m x → HoldsOn m.0.work f node → i ≡ number_word_of k node
     → Allows (Agrees k) slots id m i (λ word. word) (tells (step slots i 0 0 none) m)
 
--- the node's place is with the pass, whose file is closed or was placed in vain
+-- the node's place is with the pass, whose file is closed or was not installed
 abbrev pub HasItsPlace : Work → ℕ → Type 0
 HasItsPlace w node = (w ≡ Emptying node) ⊎ ((written : Written) × (w ≡ Placing node written))
 
--- a pass stores 0 in the word of a node whose file is closed, or which was placed in vain
+-- a pass stores 0 in the word of a node whose file is closed or was not installed
 abbrev pub RestsKeep : Kind → Type 0
 RestsKeep tells = (k : Start) (slots id i n : ℕ) (m : Sat) (x : Log) → HasPass k m x
     → HasItsPlace m.0.work n → m.1 ≡ (n, None) ∷ [] → i ≡ word_of k n

@@ -59,7 +59,8 @@ abbrev pub IsListedIn : ℕ → ℕ → Type 0
 IsListedIn word pass = bit_at word (bit_of pass) ≡ 1
 
 -- the word of a node: 0 while it is free; from its birth on this, less what was dropped; 1 and the
--- holds that are left, when its file was retired. When its file is closed, what it was then
+-- holds that are left, when its file was retired; after the close, the word that the closing step
+-- left
 abbrev pub birth_word : ℕ
 birth_word = 2 ^ 32 + 1
 

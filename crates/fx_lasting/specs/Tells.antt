@@ -228,7 +228,7 @@ pub record Births (st : At) (m : Sat) (found : ℕ) (m' : Sat) : Type 0 where
       → Stepped m [] (Placing node Unlabelled) m.0.glance m.0.change m'
       × (m'.1 ≡ (node, None) ∷ m.1)
 
--- what a pass does after a rest: a node that it placed in vain is free
+-- what a pass does after a rest: a node whose file was not installed is free
 abbrev pub rested : Work → Work
 rested (Placing node written) = Searching node
 rested _ = Idle

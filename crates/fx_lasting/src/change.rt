@@ -73,7 +73,7 @@ impl LastingTable {
     }
 
     // Adds a slot that was empty to its group's count, if it is in the range: it is full now, or
-    // was taken off the count in vain.
+    // was taken off the count although it was empty.
     #[inline(always)]
     pub(crate) fn raise(
         &self,

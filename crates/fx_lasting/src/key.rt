@@ -3,6 +3,7 @@ ghost use Rattle.std.specs.Prelude.{◌≡◌};
 ghost use Rattle.fx_lasting.specs.Keys.{bits_of_key, key_at, key_of_bits};
 
 use crate::labels::number_of_mark;
+use crate::layout::MOST_SLOTS;
 use fx_base::Mark;
 
 /// The name of a file of a table: its slot, and the number of its mark (`LastingTable::number_of`).
@@ -39,13 +40,13 @@ impl Key {
     {
         let slot = u64::from(self.slot);
         if self.slot < 4096 {
-            if self.number < 2251799813685248 {
-                return Some(self.number * 8192 + slot * 2);
+            if self.number < 1 << 51 {
+                return Some(self.number * (1 << 13) + slot * 2);
             }
             return None;
         }
-        if self.slot < 1048576 && self.number < 8796093022208 {
-            return Some(self.number * 2097152 + slot * 2 + 1);
+        if self.slot < MOST_SLOTS && self.number < 1 << 43 {
+            return Some(self.number * (1 << 21) + slot * 2 + 1);
         }
         None
     }
@@ -58,12 +59,12 @@ impl Key {
         if bits % 2 == 0 {
             return Key {
                 slot: (bits / 2 % 4096) as u32,
-                number: bits / 8192,
+                number: bits / (1 << 13),
             };
         }
         Key {
-            slot: (bits / 2 % 1048576) as u32,
-            number: bits / 2097152,
+            slot: (bits / 2 % (1 << 20)) as u32,
+            number: bits / (1 << 21),
         }
     }
 }

@@ -22,8 +22,8 @@ pub struct KeyLook {
     pub found: Result<Hold, KeyFault>,
     /// A removed file that the look-up was the last to use, to be closed.
     pub freed: Option<OpenFile>,
-    /// A file of another number, if it was removed while the call held it and nobody else uses it
-    /// now, to be closed. It is `None` unless `found` is `Other`.
+    /// A file that isn't that of the key, if it was removed while the call held it and nobody else
+    /// uses it now, to be closed. It is `None` unless `found` is `Other`.
     pub released: Option<OpenFile>,
 }
 

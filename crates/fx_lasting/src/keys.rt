@@ -1,6 +1,6 @@
-//! The calls by key. A look-up by key compares the number of the file that it holds. A removal and
-//! a replacement hold the file by a second pass meanwhile. So no other file is on its node, and the
-//! call by node (`keyed.rt`) changes the slot of that file or nothing.
+//! The calls by key. A look-up by key compares the number of the file that it holds. A second pass
+//! holds the file during a removal or a replacement. So no other file is on its node, and the call
+//! by node (`keyed.rt`) changes the slot of that file or nothing.
 ghost use Rattle.std.specs.Prelude.{◌≡◌, ◌+◌, ◌<◌, ◌≤◌};
 ghost use Rattle.fx_table.specs.Calls.{Allocated, Placed};
 ghost use Rattle.fx_table.specs.Opening.{size_of};
@@ -26,7 +26,7 @@ impl LastingTable {
     /// the slot has another file, the pass releases that at once, and is idle again.
     ///
     /// # Errors
-    /// In `found`: `NoSlot`, `Empty`, or `Other` if the file at the slot has another number.
+    /// In `found`: `NoSlot`, `Empty`, or `Other` if the file at the slot isn't that of the key.
     pub fn look_key(&self, pass: &mut LastingPass, key: Key) -> KeyLook
         requires fits { IsPassOfTable self.now pass.old }
         requires idle { IsIdle (view_of pass.old) }
@@ -66,9 +66,9 @@ impl LastingTable {
         }
     }
 
-    /// Empties the slot of the file of a key for a close, for an idle pass, with an idle holder
-    /// (`is_idle`) that holds the file meanwhile (io_uring_prep_close(3),
-    /// `io_uring_prep_close_direct`). The holder makes at most 15 atomic steps and is idle again,
+    /// Empties the slot of the file of a key for a close (io_uring_prep_close(3),
+    /// `io_uring_prep_close_direct`). The pass and the holder are idle (`is_idle`), and the holder
+    /// holds the file during the call. The holder makes at most 15 atomic steps and is idle again,
     /// and the pass makes at most nine. The removed file is the one that the holder found by the
     /// key, and is to be retired. Otherwise the slot is left as it is.
     pub fn take_key(&self, holder: &mut LastingPass, pass: &mut LastingPass, key: Key) -> KeyTaken
@@ -112,12 +112,13 @@ impl LastingTable {
         }
     }
 
-    /// Installs a file in place of the file of a key, under a number that no file has had, for an
-    /// idle pass that installs files (`numbers_left`), with an idle holder (`is_idle`) that holds
-    /// the file of the key meanwhile (io_uring_prep_openat(3), `io_uring_prep_openat_direct`). The
-    /// holder makes at most 15 atomic steps and is idle again, and the pass makes at most nine more
-    /// than the table has passes. The replaced file is the one that the holder found by the key,
-    /// and is to be retired. Otherwise the slot is left as it is, and the new file comes back.
+    /// Installs a file in place of the file of a key, under a number that no file has had
+    /// (io_uring_prep_openat(3), `io_uring_prep_openat_direct`). The pass and the holder are idle
+    /// (`is_idle`), the pass installs files (`numbers_left`), and the holder holds the file of the
+    /// key during the call. The holder makes at most 15 atomic steps and is idle again, and the
+    /// pass makes at most nine more than the table has passes. The replaced file is the one that
+    /// the holder found by the key, and is to be retired. Otherwise the slot is left as it is, and
+    /// the new file comes back.
     pub fn put_over_key(
         &self,
         holder: &mut LastingPass,
@@ -216,7 +217,7 @@ impl LastingTable {
         }
     }
 
-    // Adds all that the one pass has seen to what the other one has seen, in no step.
+    // Adds all that `from` has seen to what `pass` has seen, in no step.
     #[inline(always)]
     fn hear(&self, pass: &mut LastingPass, from: &mut LastingPass)
         requires fits { IsPassOfTable self.now pass.old }

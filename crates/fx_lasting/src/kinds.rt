@@ -213,8 +213,8 @@ impl Play<Option<OpenFile>, View> for Marking {
     ghost then = { Marks };
 }
 
-/// Finish: a pass that removed a file reads whether everybody has let it go. If so, the file goes
-/// to the pass.
+/// Finish: a pass that removed a file reads whether all its takes and marks were dropped. If so,
+/// the file goes to the pass.
 pub struct Finishing;
 
 impl Play<Option<OpenFile>, View> for Finishing {
@@ -290,7 +290,7 @@ impl Play<Option<OpenFile>, View> for Replacing {
     ghost then = { Replaces };
 }
 
-/// And: a slot is emptied for an update. Its word names the node still.
+/// And: a pass without a stock empties a slot for an update. Its word names the node still.
 pub struct Clearing;
 
 impl Play<Option<OpenFile>, View> for Clearing {
@@ -300,7 +300,7 @@ impl Play<Option<OpenFile>, View> for Clearing {
     ghost then = { Removes Clear };
 }
 
-/// And: a slot is emptied for a close. Its word names the node still.
+/// And: a pass without a stock empties a slot for a close. Its word names the node still.
 pub struct TakingOut;
 
 impl Play<Option<OpenFile>, View> for TakingOut {
@@ -360,7 +360,7 @@ impl Play<Option<OpenFile>, View> for Breaking {
 }
 
 /// Raise: a group's word counts one full slot more, after the pass filled that slot, or took it off
-/// the count in vain, since it was empty.
+/// the count although the slot was empty.
 pub struct Raising;
 
 impl Play<Option<OpenFile>, View> for Raising {

@@ -120,8 +120,8 @@ pub fn read_number_keeps_rule()
     ensures { ReadsNumberKeep ⟦<ReadingNumber as Play<Option<OpenFile>, View>>⟧.then }
 {}
 
-/// A pass that stores 0 in the word of a node whose file is closed, or which it placed in vain,
-/// keeps the rule.
+/// A pass that stores 0 in the word of a node whose file is closed or was not installed keeps the
+/// rule.
 pub fn rest_keeps_rule()
     ensures { RestsKeep ⟦<Resting as Play<Option<OpenFile>, View>>⟧.then }
 {}
@@ -143,8 +143,8 @@ pub fn mark_keeps_rule()
 {}
 
 /// A pass that removed a file, has visited all passes that it has to, and loads the word of the
-/// file's node keeps the rule. Where nobody has still to let the file go, it is closed and with the
-/// pass.
+/// file's node keeps the rule. If all takes and marks of the file were dropped, it is closed and
+/// with the pass.
 pub fn finish_keeps_rule()
     ensures { FinishesKeep ⟦<Finishing as Play<Option<OpenFile>, View>>⟧.then }
 {}

@@ -5,7 +5,7 @@ use Rattle.std.specs.List.{range_with_len}
 use Rattle.fx_lasting.specs.declared.layout.TheConstants.{MOST_INSTALLING}
 use Rattle.fx_server.specs.declared.file_numbers.FileNumbers.{FileNumbers}
 
--- the number after one of a worker: nothing wraps, and after 0 there is 0 alone
+-- the number after one of a worker: no addition overflows, and the number after 0 is 0
 abbrev pub number_after : (step number : ℕ) → ℕ
 number_after step number = if number == 0 then 0
     else if nat_lt (number + step) (2 ^ 64) then number + step else 0
@@ -33,8 +33,8 @@ after_draws numbers (suc draws) = after_draw (after_draws numbers draws)
 abbrev pub number_drawn : (installing worker draws : ℕ) → ℕ
 number_drawn installing worker draws = (after_draws (first_numbers installing worker) draws).next
 
--- No two files of a table have one number, so that no key names two of them: a number but 0 that
--- two draws return was drawn by one worker, in one draw
+-- No number but 0 is drawn twice, so that no key names two files: one that two draws return was
+-- drawn by one worker, in one draw
 abbrev pub NumbersAreDrawnOnce : Type 0
 NumbersAreDrawnOnce = (installing worker other draws others : ℕ)
     → installing ≤ MOST_INSTALLING → 1 ≤ worker → 1 ≤ other
@@ -42,7 +42,7 @@ NumbersAreDrawnOnce = (installing worker other draws others : ℕ)
     → number_drawn installing worker draws ≡ number_drawn installing other others
     → (worker ≡ other) × (draws ≡ others)
 
--- a worker that installs draws its numbers as long as they have 64 bits, and then 0 for ever
+-- a worker that installs draws its numbers below 2^64, and then only 0
 abbrev pub NumbersLast : Type 0
 NumbersLast = (installing worker draws : ℕ) → installing ≤ MOST_INSTALLING → 1 ≤ worker
     → worker ≤ installing → number_drawn installing worker draws

@@ -1,5 +1,5 @@
-//! The numbers of the files that a worker installs. A key of the bindings is a slot and such a
-//! number.
+//! The numbers of the files that a worker installs. A key of the bindings is a slot and the number
+//! of its file.
 ghost use Rattle.std.specs.Prelude.{◌≡◌};
 ghost use Rattle.fx_server.specs.FileNumbers.{first_numbers, after_draw};
 

@@ -42,8 +42,8 @@ impl TableWorker {
         Ok(PlacedAt { slot, number })
     }
 
-    /// Replaces the file of a slot by one with this tag and the worker's next number, if it is on
-    /// this node. Returns what was there, which is not `Nothing`, and the number.
+    /// If the file of a slot is on this node, replaces it by one with this tag and the worker's
+    /// next number. Returns what was there, which is not `Nothing`, and the number.
     ///
     /// # Errors
     /// `Busy`, `NoSlot`, `NoBlock`, in this order; `Empty`, `Other`, `Again` as of `take_if`.
