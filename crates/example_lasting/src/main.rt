@@ -1,14 +1,17 @@
 //! A table that never has to be closed. One thread replaces a file 100,000 times, and another one
-//! looks it up 100,000 times.
+//! looks it up 100,000 times. Afterwards a file of another table is named by its key (`keys.rt`).
 #![tactic(auto)]
 
 ghost use Rattle.std.specs.Prelude.{◌≡◌, ◌<◌, All, IfOk, length};
 ghost use Rattle.fx_table.specs.Opening.{size_of};
 ghost use Rattle.fx_table.specs.Pass.{IsIdle};
 
+mod keys;
+
 use fx_base::{AddFault, Catalogue, Mark, NoMemory, OpenFile};
 use fx_lasting::LastingTable;
 use fx_table::{LookUp, SharedTable};
+use keys::share_by_key;
 use std::alloc::Global;
 use std::sync::Wait;
 use std::sync::atomic::{AtomicU32, Ordering};
@@ -167,5 +170,9 @@ fn main(rt: HostRuntime) -> Result<(), AddFault> {
     let by_threads = closed.load(Ordering::SeqCst);
     // A line that can't be written changes nothing.
     let _ = println!(&rt; "closed by the threads: {by_threads}, at the end: {at_end}");
+    let Ok(at_end) = share_by_key(&rt, rt.alloc(), &catalogue) else {
+        return Err(AddFault::NoMemory);
+    };
+    let _ = println!(&rt; "files left under keys: {at_end}");
     Ok(())
 }

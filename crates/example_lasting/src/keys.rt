@@ -1,0 +1,162 @@
+//! A server that names a file by its key. Once the file is removed, the key finds nothing, even if
+//! another file is at its slot.
+ghost use Rattle.std.specs.Prelude.{◌≡◌, ◌<◌, All, length};
+ghost use Rattle.fx_lasting.specs.Tables.{IsPassOfTable, view_of};
+ghost use Rattle.fx_table.specs.Pass.{IsIdle};
+
+use crate::{discard, discard_all};
+use fx_base::{Catalogue, Mark, NoMemory};
+use fx_lasting::{Key, KeyFault, KeyLook, KeyTaken, LastingPass, LastingTable};
+use std::alloc::Global;
+use std::sync::Wait;
+use std::sync::atomic::{AtomicU32, Ordering};
+
+// Opens entry 0 with a mark of its own, and puts the file at any slot. Returns the key in 64 bits.
+// Returns `None` if the pass may not install files, no slot is empty, or the key has more bits.
+fn publish<R: Wait>(
+    rt: &R,
+    catalogue: &Catalogue,
+    table: &LastingTable,
+    pass: &mut LastingPass,
+    i: u32,
+) -> Option<u64>
+    requires ready { IsPassOfTable table.now pass.old × IsIdle (view_of pass.old) }
+    requires entry { 0 < length catalogue.now }
+    ensures ready { IsPassOfTable table.now pass.new × IsIdle (view_of pass.new) }
+{
+    if table.numbers_left(pass) == 0 {
+        return None;
+    }
+    let file = catalogue.open(0, Mark::Registered { k: 1, i }, 0);
+    match table.put_any_key(rt, pass, file) {
+        Ok(key) => key.to_bits(),
+        Err(file) => {
+            file.discard();
+            None
+        }
+    }
+}
+
+// Looks up the file of a key, and releases it. Returns its entry.
+fn find(
+    table: &LastingTable,
+    pass: &mut LastingPass,
+    bits: u64,
+    closed: &AtomicU32,
+) -> Result<u8, KeyFault>
+    requires ready { IsPassOfTable table.now pass.old × IsIdle (view_of pass.old) }
+    ensures ready { IsPassOfTable table.now pass.new × IsIdle (view_of pass.new) }
+{
+    let KeyLook {
+        found,
+        freed,
+        released,
+    } = table.look_key(pass, Key::from_bits(bits));
+    discard(freed, closed);
+    discard(released, closed);
+    let hold = found?;
+    let entry = hold.entry;
+    discard(table.release(pass, hold), closed);
+    Ok(entry)
+}
+
+// Removes the file of a key, which the holder holds meanwhile, and retires it.
+fn remove(
+    table: &LastingTable,
+    holder: &mut LastingPass,
+    pass: &mut LastingPass,
+    bits: u64,
+    closed: &AtomicU32,
+) -> Result<(), KeyFault>
+    requires holder { IsPassOfTable table.now holder.old × IsIdle (view_of holder.old) }
+    requires pass { IsPassOfTable table.now pass.old × IsIdle (view_of pass.old) }
+    ensures holder { IsPassOfTable table.now holder.new × IsIdle (view_of holder.new) }
+    ensures pass { IsPassOfTable table.now pass.new × IsIdle (view_of pass.new) }
+{
+    let KeyTaken {
+        taken,
+        freed,
+        released,
+    } = table.take_key(holder, pass, Key::from_bits(bits));
+    discard(freed, closed);
+    discard(released, closed);
+    let removed = taken?;
+    discard(table.retire(pass, removed), closed);
+    Ok(())
+}
+
+// Puts a file, removes it by its key, and puts another file at its slot. Prints what is found by
+// the keys. Stops early if a file can't be put.
+fn use_keys<R: Wait + Print>(
+    rt: &R,
+    catalogue: &Catalogue,
+    table: &LastingTable,
+    holder: &mut LastingPass,
+    pass: &mut LastingPass,
+) -> Option<()>
+    requires holder { IsPassOfTable table.now holder.old × IsIdle (view_of holder.old) }
+    requires pass { IsPassOfTable table.now pass.old × IsIdle (view_of pass.old) }
+    requires entry { 0 < length catalogue.now }
+    ensures holder { IsPassOfTable table.now holder.new × IsIdle (view_of holder.new) }
+    ensures pass { IsPassOfTable table.now pass.new × IsIdle (view_of pass.new) }
+{
+    let closed = AtomicU32::new(0);
+    let old = publish(rt, catalogue, table, pass, 1)?;
+    let _ = println!(rt; "put: {:?}, in 64 bits {old}", Key::from_bits(old));
+    let found = find(table, holder, old, &closed);
+    let _ = println!(rt; "looked up by the key: {found:?}");
+    let removed = remove(table, holder, pass, old, &closed);
+    let count = closed.load(Ordering::SeqCst);
+    let _ = println!(rt; "removed by the key: {removed:?}, files closed: {count}");
+    let new = publish(rt, catalogue, table, pass, 2)?;
+    let _ = println!(rt; "put: {:?}, in 64 bits {new}", Key::from_bits(new));
+    let stale = find(table, holder, old, &closed);
+    let found = find(table, holder, new, &closed);
+    let _ = println!(rt; "looked up by the old key: {stale:?}, by the new key: {found:?}");
+    Some(())
+}
+
+// Uses keys by the two passes of a list, the first of which may install files.
+fn use_keys_between<R: Wait + Print>(
+    rt: &R,
+    catalogue: &Catalogue,
+    table: &LastingTable,
+    passes: &mut Vec<LastingPass>,
+)
+    requires two { length passes.old.items ≡ 2 }
+    requires ready { All (λ p. IsPassOfTable table.now p × IsIdle (view_of p)) passes.old.items }
+    requires entry { 0 < length catalogue.now }
+    ensures two { length passes.new.items ≡ 2 }
+    ensures ready { All (λ p. IsPassOfTable table.now p × IsIdle (view_of p)) passes.new.items }
+{
+    let mut holder = passes.pop().unwrap();
+    let mut pass = passes.pop().unwrap();
+    use_keys(rt, catalogue, table, &mut holder, &mut pass);
+    passes.push_reserved(pass);
+    passes.push_reserved(holder);
+}
+
+/// Opens a table of one slot for two passes, the first of which may install files, and uses keys.
+/// Returns the number of files that were left at the end.
+///
+/// # Errors
+/// `NoMemory` if an allocation fails.
+pub fn share_by_key<R: Wait + Print>(
+    rt: &R,
+    alloc: Global,
+    catalogue: &Catalogue,
+) -> Result<usize, NoMemory>
+    requires entry { 0 < length catalogue.now }
+{
+    let room = Vec::with_capacity(alloc, 1)?;
+    match LastingTable::open_sparse(alloc, 1, (0, 1), 2, 1) {
+        Ok((table, mut passes)) => {
+            use_keys_between(rt, catalogue, &table, &mut passes);
+            Ok(discard_all(table.close(passes, room)))
+        }
+        Err(refused) => {
+            room.destroy_empty();
+            Err(refused)
+        }
+    }
+}
