@@ -1,7 +1,6 @@
 //! One line of a script.
-ghost use Rattle.std.specs.Prelude.{◌≡◌, true};
+ghost use Rattle.std.specs.Prelude.{◌≡◌, ◌∷◌, true};
 ghost use Rattle.std.specs.List.{list_all};
-ghost use Rattle.fx_language.specs.Cursor.{GivesExpected};
 ghost use Rattle.fx_language.specs.Line.{file_of, sparse_of, register_of, unregister_of, range_line_of, regupdate_of, submit_of, line_of};
 ghost use Rattle.fx_language.specs.LineView.{line_in};
 ghost use Rattle.fx_language.specs.Lines.{is_printable, words};
@@ -30,12 +29,12 @@ pub enum Line<'a> {
     Submit,
 }
 
-fn file<'a>(late: bool, words: &mut Parts<'a>) -> Result<Line<'a>, ScriptFault>
+fn file<'a>(late: bool, words: &mut Parts<'a>) -> Result<Line<'a>, LineError>
     requires { list_all is_printable (parts_left words.old) ≡ true }
-    ensures { GivesExpected line_in result (file_of late (parts_left words.old)) }
+    ensures { GivesOrFails line_in result (file_of late (parts_left words.old)) }
 {
     if late {
-        return Err(ScriptFault::LateFile);
+        return Err(LineError::Fault(ScriptFault::LateFile));
     }
     let name = text(word(words)?);
     let hex = word(words)?;
@@ -43,8 +42,8 @@ fn file<'a>(late: bool, words: &mut Parts<'a>) -> Result<Line<'a>, ScriptFault>
     Ok(Line::File { name, hex })
 }
 
-fn sparse<'a>(words: &mut Parts<'a>) -> Result<Line<'a>, ScriptFault>
-    ensures { GivesExpected line_in result (sparse_of (parts_left words.old)) }
+fn sparse<'a>(words: &mut Parts<'a>) -> Result<Line<'a>, LineError>
+    ensures { GivesOrFails line_in result (sparse_of (parts_left words.old)) }
 {
     let n = word(words)?;
     end(words)?;
@@ -61,15 +60,15 @@ fn register<'a>(alloc: Global, words: &mut Parts<'a>) -> Result<Line<'a>, LineEr
     Ok(Line::Command(Command::Register(list, tags)))
 }
 
-fn unregister<'a>(words: &mut Parts<'a>) -> Result<Line<'a>, ScriptFault>
-    ensures { GivesExpected line_in result (unregister_of (parts_left words.old)) }
+fn unregister<'a>(words: &mut Parts<'a>) -> Result<Line<'a>, LineError>
+    ensures { GivesOrFails line_in result (unregister_of (parts_left words.old)) }
 {
     end(words)?;
     Ok(Line::Command(Command::Unregister))
 }
 
-fn range<'a>(words: &mut Parts<'a>) -> Result<Line<'a>, ScriptFault>
-    ensures { GivesExpected line_in result (range_line_of (parts_left words.old)) }
+fn range<'a>(words: &mut Parts<'a>) -> Result<Line<'a>, LineError>
+    ensures { GivesOrFails line_in result (range_line_of (parts_left words.old)) }
 {
     let off = word(words)?;
     let len = word(words)?;
@@ -91,11 +90,40 @@ fn regupdate<'a>(alloc: Global, words: &mut Parts<'a>) -> Result<Line<'a>, LineE
     Ok(Line::Command(Command::Update(off, list, tags)))
 }
 
-fn submit<'a>(words: &mut Parts<'a>) -> Result<Line<'a>, ScriptFault>
-    ensures { GivesExpected line_in result (submit_of (parts_left words.old)) }
+fn submit<'a>(words: &mut Parts<'a>) -> Result<Line<'a>, LineError>
+    ensures { GivesOrFails line_in result (submit_of (parts_left words.old)) }
 {
     end(words)?;
     Ok(Line::Submit)
+}
+
+// Parses the words after a line's first one, which is its command.
+fn after_command<'a>(
+    alloc: Global,
+    command: &[u8],
+    words: &mut Parts<'a>,
+    late: bool,
+) -> Result<Line<'a>, LineError>
+    requires { list_all is_printable (parts_left words.old) ≡ true }
+    ensures { GivesOrFails line_in result (line_of late (command.now ∷ parts_left words.old)) }
+{
+    if command == b"file".as_slice() {
+        file(late, words)
+    } else if command == b"sparse".as_slice() {
+        sparse(words)
+    } else if command == b"register".as_slice() {
+        register(alloc, words)
+    } else if command == b"unregister".as_slice() {
+        unregister(words)
+    } else if command == b"range".as_slice() {
+        range(words)
+    } else if command == b"regupdate".as_slice() {
+        regupdate(alloc, words)
+    } else if command == b"submit".as_slice() {
+        submit(words)
+    } else {
+        Ok(Line::Request(request(alloc, command, words)?))
+    }
 }
 
 // Parses a line that isn't skipped, or returns its fault. Requests, lists and tags are allocated,
@@ -109,22 +137,5 @@ pub fn parse(alloc: Global, line: &[u8], late: bool) -> Result<Line<'_>, LineErr
     let Some(command) = words.next() else {
         return Err(LineError::Fault(ScriptFault::UnknownCommand));
     };
-    let words = &mut words;
-    if command == b"file".as_slice() {
-        Ok(file(late, words)?)
-    } else if command == b"sparse".as_slice() {
-        Ok(sparse(words)?)
-    } else if command == b"register".as_slice() {
-        register(alloc, words)
-    } else if command == b"unregister".as_slice() {
-        Ok(unregister(words)?)
-    } else if command == b"range".as_slice() {
-        Ok(range(words)?)
-    } else if command == b"regupdate".as_slice() {
-        regupdate(alloc, words)
-    } else if command == b"submit".as_slice() {
-        Ok(submit(words)?)
-    } else {
-        Ok(Line::Request(request(alloc, command, words)?))
-    }
+    after_command(alloc, command, &mut words, late)
 }
