@@ -11,6 +11,7 @@ use fx_base::CloseList;
 use fx_baton::BatonTable;
 use fx_counted::CountedTable;
 use fx_ring::Report;
+use fx_table::FileTable;
 use std::alloc::Global;
 use std::fmt::Debug;
 use std::io::Read;
@@ -61,20 +62,33 @@ fn print_report<R: Print>(rt: &R, call: &str, report: &Report) {
     print_closes(rt, &report.closes);
 }
 
+// Makes a call on a shared table, as `make` does.
+fn make_on<T: FileTable, R: Threads + Wait + Print + Sync>(
+    rt: &R,
+    alloc: Global,
+    call: &str,
+    count: u32,
+) -> Option<()> {
+    match call {
+        "open" => tables::open::<T, R>(rt, alloc, count),
+        "submit" => rings::submit::<T, R>(rt, alloc, count),
+        "submit_open" => rings::submit_open::<T, R>(rt, alloc),
+        _ => None,
+    }
+}
+
 // Makes the call. Returns `None` if an allocation before it fails, or if there is no such call.
 fn make<R: Threads + Wait + Print + Sync>(rt: &R, alloc: Global, asked: Asked<'_>) -> Option<()> {
     let (call, table, count) = asked;
-    match (call, table) {
-        ("add", _) => tables::add(rt, alloc, count),
-        ("prepare", _) => tables::prepare(rt, alloc, count),
-        ("open", "words") => tables::open::<CountedTable, R>(rt, alloc, count),
-        ("open", "baton") => tables::open::<BatonTable, R>(rt, alloc, count),
-        ("tags", _) => rings::tags(rt, alloc),
-        ("submit", "words") => rings::submit::<CountedTable, R>(rt, alloc, count),
-        ("submit", "baton") => rings::submit::<BatonTable, R>(rt, alloc, count),
-        ("submit_open", "words") => rings::submit_open::<CountedTable, R>(rt, alloc),
-        ("submit_open", "baton") => rings::submit_open::<BatonTable, R>(rt, alloc),
-        _ => None,
+    match call {
+        "add" => tables::add(rt, alloc, count),
+        "prepare" => tables::prepare(rt, alloc, count),
+        "tags" => rings::tags(rt, alloc),
+        _ => match table {
+            "words" => make_on::<CountedTable, R>(rt, alloc, call, count),
+            "baton" => make_on::<BatonTable, R>(rt, alloc, call, count),
+            _ => None,
+        },
     }
 }
 

@@ -11,16 +11,19 @@ use std::sync::Wait;
 use std::sync::atomic::{AtomicU32, Ordering};
 use std::thread::Threads;
 
+// Adds a file to a catalogue. Returns `None` if an allocation fails.
+fn add(alloc: Global, catalogue: &mut Catalogue, name: &str, bytes: &[u8]) -> Option<()> {
+    let name = String::from_str(alloc, name).ok()?;
+    catalogue.add(name, bytes.to_vec(alloc).ok()?).ok()
+}
+
 // Creates a ring whose catalogue has `a.txt`, with the bytes `hello`, and `b.txt`, with `hi`. Its
 // table has two slots: slot 0 has `a.txt` with tag 7, and slot 1 is the allocation range. Returns
 // `None` if an allocation fails.
 fn ring_of_two_files(alloc: Global) -> Option<Ring> {
     let mut catalogue = Catalogue::new(alloc);
-    for (name, bytes) in [("a.txt", "hello"), ("b.txt", "hi")] {
-        let name = String::from_str(alloc, name).ok()?;
-        let bytes = bytes.as_bytes().to_vec(alloc).ok()?;
-        catalogue.add(name, bytes).ok()?;
-    }
+    add(alloc, &mut catalogue, "a.txt", b"hello")?;
+    add(alloc, &mut catalogue, "b.txt", b"hi")?;
     let mut ring = Ring::new(alloc, catalogue);
     if ring.register_tagged(alloc, &[0, -1], &[7, 0]).is_err() || ring.alloc_range(1, 1).is_err() {
         ring.abandon();
@@ -34,13 +37,20 @@ fn ring_of_two_files(alloc: Global) -> Option<Ring> {
 fn requests(alloc: Global) -> Option<Vec<Request>> {
     let (name, target) = (String::from_str(alloc, "b.txt").ok()?, Target::Any);
     let (slot, off, len) = (0, 0, 5);
-    let linked = SqeFlags::FIXED_FILE.union(SqeFlags::IO_LINK);
     let requests = [
-        (Op::Read { slot, off, len }, linked),
-        (Op::Close { slot }, SqeFlags::empty()),
-        (Op::Open { name, target }, SqeFlags::empty()),
-    ]
-    .map(|(op, flags)| Request { op, flags });
+        Request {
+            op: Op::Read { slot, off, len },
+            flags: SqeFlags::FIXED_FILE.union(SqeFlags::IO_LINK),
+        },
+        Request {
+            op: Op::Close { slot },
+            flags: SqeFlags::empty(),
+        },
+        Request {
+            op: Op::Open { name, target },
+            flags: SqeFlags::empty(),
+        },
+    ];
     Vec::from_array(alloc, requests).ok()
 }
 
@@ -74,8 +84,13 @@ fn end<R: Print>(rt: &R, alloc: Global, mut ring: Ring) {
 
 /// Lists the completion of the tag of a closed file.
 pub(crate) fn tags<R: Print>(rt: &R, alloc: Global) -> Option<()> {
-    let torn_down = ring_of_two_files(alloc)?.tear_down(alloc);
-    let closes = torn_down.map_err(|(ring, NoMemory)| ring.abandon()).ok()?;
+    let closes = match ring_of_two_files(alloc)?.tear_down(alloc) {
+        Ok(closes) => closes,
+        Err((ring, NoMemory)) => {
+            ring.abandon();
+            return None;
+        }
+    };
     for _ in 0..ATTEMPTS {
         match closes.tags(alloc) {
             Ok(tags) => {
