@@ -3,7 +3,7 @@
 //! program is `example_first`. Begin with `tasks.rt`.
 #![tactic(auto)]
 
-ghost use Rattle.std.specs.Prelude.{◌≡◌, ◌<◌, All, IfOk, length};
+ghost use Rattle.std.specs.Prelude.{◌≡◌, ◌<◌, ◌+◌, All, IfOk, OnOk, length};
 ghost use Rattle.fx_table.specs.Opening.{size_of};
 ghost use Rattle.fx_table.specs.Pass.{IsIdle};
 
@@ -25,15 +25,20 @@ const TAG: u64 = 7;
 // The number of chains. Each gives its pass numbers for 64 new files.
 const CHAINS: u32 = 20;
 
+// Adds a file to a catalogue.
+fn add(alloc: Global, catalogue: &mut Catalogue, name: &str, bytes: &[u8]) -> Result<(), AddFault>
+    ensures { OnOk result (length catalogue.new ≡ length catalogue.old + 1) }
+{
+    catalogue.add(String::from_str(alloc, name)?, bytes.to_vec(alloc)?)
+}
+
 // Makes a catalogue of two files. The first has five bytes, the second none.
 fn two_files(alloc: Global) -> Result<Catalogue, AddFault>
     ensures { IfOk result (λ catalogue. length catalogue ≡ 2) }
 {
     let mut catalogue = Catalogue::new(alloc);
-    let first = String::from_str(alloc, "first.txt")?;
-    catalogue.add(first, b"hello".to_vec(alloc)?)?;
-    let second = String::from_str(alloc, "second.txt")?;
-    catalogue.add(second, Vec::new(alloc))?;
+    add(alloc, &mut catalogue, "first.txt", b"hello")?;
+    add(alloc, &mut catalogue, "second.txt", b"")?;
     Ok(catalogue)
 }
 
@@ -56,10 +61,13 @@ fn shared_table<T: FileTable>(
         return Err(refused);
     }
     plain.put_back(0, catalogue.open(0, Mark::Registered { k: 1, i: 0 }, TAG));
-    T::open(alloc, plain, CHAINS, 2).map_err(|(plain, refused)| {
-        plain.abandon();
-        refused
-    })
+    match T::open(alloc, plain, CHAINS, 2) {
+        Ok(opened) => Ok(opened),
+        Err((plain, refused)) => {
+            plain.abandon();
+            Err(refused)
+        }
+    }
 }
 
 // Reads the file while it is replaced, and then opens files until the table is full.
@@ -119,15 +127,18 @@ fn print_closed<R: Print>(
 }
 
 // Does the three things, the last one first and with a table of its own, and prints the results.
+// Each list has room for one file.
 fn serve<R: Threads + Wait + Sync + Print>(
     rt: &R,
     alloc: Global,
     catalogue: &Catalogue,
+    by_reader: &mut CloseList,
+    by_writer: &mut CloseList,
 ) -> Result<(), NoMemory>
-    requires { 1 < length catalogue.now }
+    requires entry { 1 < length catalogue.now }
+    requires reader { 0 < by_reader.old.room }
+    requires writer { 0 < by_writer.old.room }
 {
-    let mut by_reader = CloseList::with_room(alloc, 1)?;
-    let mut by_writer = CloseList::with_room(alloc, 1)?;
     let closed = serve_under_load::<CountedTable, R>(rt, alloc, catalogue)?;
     let (gone, opened) = serve_by_name::<CountedTable, R>(rt, alloc, catalogue)?;
     let Some(
@@ -146,7 +157,7 @@ fn serve<R: Threads + Wait + Sync + Print>(
     if let Some(file) = retired {
         by_writer.close(file);
     }
-    print_closed(rt, alloc, bytes?.len(), &by_reader, &by_writer)?;
+    print_closed(rt, alloc, bytes?.len(), by_reader, by_writer)?;
     let _ = println!(rt;
         "files opened at any slot until no slot was free: {opened}\n\
          files that were replaced and closed under load: {closed}"
@@ -154,7 +165,23 @@ fn serve<R: Threads + Wait + Sync + Print>(
     Ok(())
 }
 
+// Makes the lists of closed files, and serves.
+fn serve_with_lists<R: Threads + Wait + Sync + Print>(
+    rt: &R,
+    alloc: Global,
+    catalogue: &Catalogue,
+) -> Result<(), NoMemory>
+    requires { 1 < length catalogue.now }
+{
+    let mut by_reader = CloseList::with_room(alloc, 1)?;
+    let mut by_writer = CloseList::with_room(alloc, 1)?;
+    serve(rt, alloc, catalogue, &mut by_reader, &mut by_writer)
+}
+
 fn main(rt: HostRuntime) -> Result<(), AddFault> {
     let catalogue = two_files(rt.alloc())?;
-    serve(&rt, rt.alloc(), &catalogue).map_err(|_refused| AddFault::NoMemory)
+    match serve_with_lists(&rt, rt.alloc(), &catalogue) {
+        Ok(()) => Ok(()),
+        Err(NoMemory) => Err(AddFault::NoMemory),
+    }
 }
