@@ -1,4 +1,4 @@
-/* The C interface of the verified core (crates/fx_server), for this library alone: the shared
+/* The C interface of the verified core (crates/fx_server_c), for this library alone: the shared
  * library does not export its functions. A worker of the core is one pass of its table. The
  * functions return the numbers of yachtbanyan.h: where that says YACHT_DROPPED, the core has
  * returned the tag of a value that nobody uses any more; and where it says YACHT_STALE, the slot's

@@ -4,6 +4,4 @@ pub mod Drawing
 pub mod FileNumbers
 pub mod FromEnd
 pub mod Keyed
-pub mod Lending
 pub mod Looking
-pub mod Steps

@@ -1,9 +1,14 @@
-//! The workers of a table in their places.
-ghost use Rattle.std.specs.Prelude.{◌≡◌, Some, length, map};
+//! The workers of a new table in their places.
+ghost use Rattle.std.specs.Prelude.{◌≡◌, ◌≢◌, ◌⊎◌, Some, length, map};
 ghost use Rattle.fx_server.specs.Opened.{workers_in};
-ghost use Rattle.fx_server.specs.Places.{workers_at};
+ghost use Rattle.fx_server.specs.Places.{OpensAs, workers_at};
+ghost use Rattle.fx_server.specs.Workers.{IsInRange};
+ghost use Rattle.fx_server.specs.declared.codes.TheConstants.{DONE, BAD, NO_MEMORY};
 
+use crate::answers::ServerRefusal;
+use crate::codes::{BAD, DONE, NO_MEMORY};
 use crate::handle::WorkerPlace;
+use crate::opening::open;
 use crate::worker::TableWorker;
 use std::alloc::Global;
 
@@ -14,5 +19,27 @@ pub fn place_all(mut workers: Vec<Box<TableWorker, Global>>, places: &mut [Worke
 {
     while let Some(worker) = workers.pop() {
         places[workers.len()] = WorkerPlace::of(worker);
+    }
+}
+
+/// Opens a table of 1 to 1,048,576 empty slots, with a worker for each place of `workers`, 1 to
+/// 1,024, of which the first `installing`, 1 to 64, install files. It returns `DONE`; or `BAD` or
+/// `NO_MEMORY`, and writes nothing.
+pub fn open_places(alloc: Global, slots: u32, installing: u32, workers: &mut [WorkerPlace]) -> i64
+    ensures opened { result ≡ DONE → OpensAs slots installing workers.new }
+    ensures nothing { result ≢ DONE → workers.new ≡ workers.old }
+    ensures out_of_range { result ≡ BAD → IsInRange slots (length workers.old) installing → ⊥ }
+    ensures numbers { (result ≡ DONE) ⊎ (result ≡ BAD) ⊎ (result ≡ NO_MEMORY) }
+{
+    if workers.len() > 1024 {
+        return BAD;
+    }
+    match open(alloc, slots, workers.len() as u32, installing) {
+        Ok(list) => {
+            place_all(list, workers);
+            DONE
+        }
+        Err(ServerRefusal::Bad) => BAD,
+        Err(_) => NO_MEMORY,
     }
 }

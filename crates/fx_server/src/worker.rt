@@ -95,7 +95,12 @@ impl TableWorker {
     /// # Errors
     /// `Busy`, `NoSlot`, `NoBlock`, in this order.
     #[inline(always)]
-    pub fn put_as(&mut self, slot: u32, tag: u64, number: u64) -> Result<Removal, ServerRefusal>
+    pub(crate) fn put_as(
+        &mut self,
+        slot: u32,
+        tag: u64,
+        number: u64,
+    ) -> Result<Removal, ServerRefusal>
         requires good { IsGood self.old }
         ensures good { IsGood self.new }
         ensures table { self.new.shared ≡ self.old.shared }
@@ -126,7 +131,7 @@ impl TableWorker {
     /// `Busy`, `NoBlock`, in this order; `Full` if at one step every slot had a file; `Again` if
     /// the round installed nothing, and found no such step.
     #[inline(always)]
-    pub fn put_any_as(&mut self, tag: u64, number: u64) -> Result<u32, ServerRefusal>
+    pub(crate) fn put_any_as(&mut self, tag: u64, number: u64) -> Result<u32, ServerRefusal>
         requires good { IsGood self.old }
         ensures good { IsGood self.new }
         ensures table { self.new.shared ≡ self.old.shared }
@@ -214,7 +219,7 @@ impl TableWorker {
     /// # Errors
     /// `Busy`, `NoSlot`, `NoBlock`, in this order; `Empty`, `Other`, `Again` as of `take_if`.
     #[inline(always)]
-    pub fn put_if_as(
+    pub(crate) fn put_if_as(
         &mut self,
         slot: u32,
         node: u32,

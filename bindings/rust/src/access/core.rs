@@ -1,4 +1,4 @@
-//! The C interface of the verified core (`crates/fx_server`), or the stand-in for it. A worker of
+//! The C interface of the verified core (`crates/fx_server_c`), or the stand-in for it. A worker of
 //! the core is one pass of its table. A value is known to the core by its tag, which it returns to
 //! whoever holds the value or has to drop it, and by a number that the core draws, none of them
 //! twice (`numbers_are_drawn_once`).

@@ -1,15 +1,15 @@
 -- `yacht_core_full` lends the worker to `full`.
-use Rattle.fx_server.proofs.Steps.{ℕ, ℤ, [], ◌∷◌, refl, w64, proved, full_share, id⊢, ftrue, flft, named, vptr, fact, tables, WpFn, ‵, raw, ◌⊛◌, some, later, prop, ◌$◌, ◌∵◌, !, qed, done, move, keep, use1, use3, split, join, fsplit, fjoin, pick, await, regoal, suffices, group, enter, of_opd, addr, stop, no_more, and_then, returns, alloc_all, pass_all, free_all, look_at, get, through, sets, lands_as, lft_new, lft_end, i64, yes, Is, shows, sint_Lawful, Ptr, RawPtr, block_ptr, in_a_block, rawptr_vals, rawptr_Tells, plain, nothing, heard, peeks, calls_at, lasts, triple_of, framed, Stays, walk_of, says, stay_dropped, Goes-dropped, ends_at}
-use Rattle.fx_server.proofs.Lending.{R, ref_own, kept, never_null, returned}
+use Rattle.fx_server_c.proofs.Steps.{ℕ, ℤ, [], ◌∷◌, refl, w64, proved, full_share, id⊢, ftrue, flft, named, vptr, fact, tables, WpFn, ‵, raw, ◌⊛◌, some, later, prop, ◌$◌, ◌∵◌, !, qed, done, move, keep, use1, use3, split, join, fsplit, fjoin, pick, await, regoal, suffices, group, enter, of_opd, addr, stop, no_more, and_then, returns, alloc_all, pass_all, free_all, look_at, get, through, sets, lands_as, lft_new, lft_end, i64, yes, Is, shows, sint_Lawful, Ptr, RawPtr, block_ptr, in_a_block, rawptr_vals, rawptr_Tells, plain, nothing, heard, peeks, calls_at, lasts, triple_of, framed, Stays, walk_of, says, stay_dropped, Goes-dropped, ends_at}
+use Rattle.fx_server_c.proofs.Lending.{R, ref_own, kept, never_null, returned}
 use denote.Lend.{lends_ref, ref_back}
 use denote.Memory.{part_at}
 use Rattle.fx_server.specs.Answers.{ReportsFullAs}
 use Rattle.fx_server.specs.Handle.{HasWorker, handle_owns}
 use Rattle.fx_server.specs.Workers.{IsGood}
 use Rattle.fx_server.specs.declared.worker.TableWorker.{TableWorker}
-use Rattle.fx_server.specs.contracts.exports.yacht_core_full as f
-use Rattle.fx_server.proofs.exports.yacht_core_full.Statement.{statement}
-use Rattle.fx_server.proofs.exports.yacht_core_full.Code as code
+use Rattle.fx_server_c.specs.contracts.exports.yacht_core_full as f
+use Rattle.fx_server_c.proofs.exports.yacht_core_full.Statement.{statement}
+use Rattle.fx_server_c.proofs.exports.yacht_core_full.Code as code
 use Rattle.fx_server.specs.contracts.calls.full as g
 use Rattle.fx_server.proofs.calls.full.Met.{met}
 

@@ -1,6 +1,6 @@
 -- `yacht_core_take_if` lends the worker to `take_if`.
-use Rattle.fx_server.proofs.Steps.{ℕ, ℤ, [], ◌∷◌, ◌++◌, refl, w32, w64, proved, full_share, id⊢, ftrue, flft, named, vint, vptr, fact, tables, WpFn, ‵, raw, ◌⊛◌, some, later, prop, ◌$◌, ◌∵◌, !, qed, done, move, keep, drop, use1, use3, split, split3, join, fsplit, fjoin, pick, await, regoal, suffices, group, enter, of_opd, addr, stop, no_more, and_then, returns, alloc_all, pass_all, free_all, look_at, get, through, sets, lands_as, lft_new, lft_end, u32, u64, i64, yes, Is, shows, uint_vals, uint_Tells, sint_Lawful, Ptr, RawPtr, block_ptr, in_a_block, rawptr_vals, rawptr_Tells, MutRef, mut_vals, mut_Tells, plain, nothing, heard, peeks, calls_at, lasts, triple_of, framed, Stays, walk_of, says, stay_dropped, gave_ref, Goes-dropped, Goes-gave_ref, ends_at}
-use Rattle.fx_server.proofs.Lending.{R, ref_own, kept, never_null, returned}
+use Rattle.fx_server_c.proofs.Steps.{ℕ, ℤ, [], ◌∷◌, ◌++◌, refl, w32, w64, proved, full_share, id⊢, ftrue, flft, named, vint, vptr, fact, tables, WpFn, ‵, raw, ◌⊛◌, some, later, prop, ◌$◌, ◌∵◌, !, qed, done, move, keep, drop, use1, use3, split, split3, join, fsplit, fjoin, pick, await, regoal, suffices, group, enter, of_opd, addr, stop, no_more, and_then, returns, alloc_all, pass_all, free_all, look_at, get, through, sets, lands_as, lft_new, lft_end, u32, u64, i64, yes, Is, shows, uint_vals, uint_Tells, sint_Lawful, Ptr, RawPtr, block_ptr, in_a_block, rawptr_vals, rawptr_Tells, MutRef, mut_vals, mut_Tells, plain, nothing, heard, peeks, calls_at, lasts, triple_of, framed, Stays, walk_of, says, stay_dropped, gave_ref, Goes-dropped, Goes-gave_ref, ends_at}
+use Rattle.fx_server_c.proofs.Lending.{R, ref_own, kept, never_null, returned}
 use base.Fml.{Fml}
 use denote.Lend.{lends_ref, ref_back}
 use denote.Memory.{part_at}
@@ -8,9 +8,9 @@ use Rattle.fx_server.specs.Answers.{RemovesIfAs}
 use Rattle.fx_server.specs.Handle.{HasWorker, handle_owns}
 use Rattle.fx_server.specs.Workers.{IsGood}
 use Rattle.fx_server.specs.declared.worker.TableWorker.{TableWorker}
-use Rattle.fx_server.specs.contracts.exports.yacht_core_take_if as f
-use Rattle.fx_server.proofs.exports.yacht_core_take_if.Statement.{statement}
-use Rattle.fx_server.proofs.exports.yacht_core_take_if.Code as code
+use Rattle.fx_server_c.specs.contracts.exports.yacht_core_take_if as f
+use Rattle.fx_server_c.proofs.exports.yacht_core_take_if.Statement.{statement}
+use Rattle.fx_server_c.proofs.exports.yacht_core_take_if.Code as code
 use Rattle.fx_server.specs.contracts.calls.take_if as g
 use Rattle.fx_server.proofs.calls.take_if.Met.{met}
 

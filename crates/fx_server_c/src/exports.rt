@@ -11,18 +11,12 @@ ghost use Rattle.fx_server.specs.Workers.{IsGood, IsInRange};
 ghost use Rattle.fx_server.specs.declared.codes.TheConstants.{DONE, BAD, NO_MEMORY};
 ghost use Rattle.fx_server.specs.declared.worker.TableWorker.{TableWorker};
 
-use crate::answers::{CoreLabel, CorePlaced, ServerRefusal};
-use crate::calls;
-use crate::codes::{BAD, DONE, NO_MEMORY};
-use crate::handle::{Handle, Opaque, WorkerPlace};
-use crate::opening::open;
-use crate::placing::place_all;
-use crate::worker::TableWorker;
+use fx_server::{
+    CoreLabel, CorePlaced, Handle, Opaque, TableWorker, WorkerPlace, calls, open_places,
+};
 use std::alloc::Global;
 
-/// Opens a table of 1 to 1,048,576 empty slots, with a worker for each place of `workers`, 1 to
-/// 1,024, of which the first `installing`, 1 to 64, install files. It returns `DONE`; or `BAD` or
-/// `NO_MEMORY`, and writes nothing.
+/// Opens a table with its workers: `fx_server::open_places`.
 #[unsafe(no_mangle)]
 pub extern "C" fn yacht_core_open(
     alloc: Global,
@@ -35,17 +29,7 @@ pub extern "C" fn yacht_core_open(
     ensures out_of_range { result ≡ BAD → IsInRange slots (length workers.old) installing → ⊥ }
     ensures numbers { (result ≡ DONE) ⊎ (result ≡ BAD) ⊎ (result ≡ NO_MEMORY) }
 {
-    if workers.len() > 1024 {
-        return BAD;
-    }
-    match open(alloc, slots, workers.len() as u32, installing) {
-        Ok(list) => {
-            place_all(list, workers);
-            DONE
-        }
-        Err(ServerRefusal::Bad) => BAD,
-        Err(_) => NO_MEMORY,
-    }
+    open_places(alloc, slots, installing, workers)
 }
 
 /// Ends a worker. With the last one the table ends.

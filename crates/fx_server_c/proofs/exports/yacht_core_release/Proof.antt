@@ -1,24 +1,24 @@
--- `yacht_core_draw` lends the worker to `draw`.
-use Rattle.fx_server.proofs.Steps.{ℕ, ℤ, [], ◌∷◌, ◌++◌, refl, w64, proved, full_share, id⊢, ftrue, flft, named, vptr, fact, tables, WpFn, ‵, raw, ◌⊛◌, some, later, prop, ◌$◌, ◌∵◌, !, qed, done, move, keep, use1, use3, split, split3, join, fsplit, fjoin, pick, await, regoal, suffices, group, enter, of_opd, addr, stop, no_more, and_then, returns, alloc_all, pass_all, free_all, look_at, get, through, sets, lands_as, lft_new, lft_end, u64, i64, yes, Is, shows, sint_Lawful, Ptr, RawPtr, block_ptr, in_a_block, rawptr_vals, rawptr_Tells, MutRef, mut_vals, mut_Tells, plain, nothing, heard, peeks, calls_at, lasts, triple_of, framed, Stays, walk_of, says, stay_dropped, gave_ref, Goes-dropped, Goes-gave_ref, ends_at}
-use Rattle.fx_server.proofs.Lending.{R, ref_own, kept, never_null, returned}
+-- `yacht_core_release` lends the worker to `release`.
+use Rattle.fx_server_c.proofs.Steps.{ℕ, ℤ, [], ◌∷◌, ◌++◌, refl, w64, proved, full_share, id⊢, ftrue, flft, named, vptr, fact, tables, WpFn, ‵, raw, ◌⊛◌, some, later, prop, ◌$◌, ◌∵◌, !, qed, done, move, keep, use1, use3, split, split3, join, fsplit, fjoin, pick, await, regoal, suffices, group, enter, of_opd, addr, stop, no_more, and_then, returns, alloc_all, pass_all, free_all, look_at, get, through, sets, lands_as, lft_new, lft_end, u64, i64, yes, Is, shows, sint_Lawful, Ptr, RawPtr, block_ptr, in_a_block, rawptr_vals, rawptr_Tells, MutRef, mut_vals, mut_Tells, plain, nothing, heard, peeks, calls_at, lasts, triple_of, framed, Stays, walk_of, says, stay_dropped, gave_ref, Goes-dropped, Goes-gave_ref, ends_at}
+use Rattle.fx_server_c.proofs.Lending.{R, ref_own, kept, never_null, returned}
 use base.Fml.{Fml}
 use denote.Lend.{lends_ref, ref_back}
 use denote.Memory.{part_at}
-use Rattle.fx_server.specs.Answers.{DrawsAs}
+use Rattle.fx_server.specs.Answers.{ReleasesAs}
 use Rattle.fx_server.specs.Handle.{HasWorker, handle_owns}
 use Rattle.fx_server.specs.Workers.{IsGood}
 use Rattle.fx_server.specs.declared.worker.TableWorker.{TableWorker}
-use Rattle.fx_server.specs.contracts.exports.yacht_core_draw as f
-use Rattle.fx_server.proofs.exports.yacht_core_draw.Statement.{statement}
-use Rattle.fx_server.proofs.exports.yacht_core_draw.Code as code
-use Rattle.fx_server.specs.contracts.calls.draw as g
-use Rattle.fx_server.proofs.calls.draw.Met.{met}
+use Rattle.fx_server_c.specs.contracts.exports.yacht_core_release as f
+use Rattle.fx_server_c.proofs.exports.yacht_core_release.Statement.{statement}
+use Rattle.fx_server_c.proofs.exports.yacht_core_release.Code as code
+use Rattle.fx_server.specs.contracts.calls.release as g
+use Rattle.fx_server.proofs.calls.release.Met.{met}
 
 abbrev stayed : Stays f.ended.signature.params f.ended.kept
 stayed = (stay_dropped _ yes, (gave_ref (0 ∷ []) tt (plain (λ _. u64)), tt))
 
-pub yacht_core_draw_spec : {M : Type 1} → statement M
-yacht_core_draw_spec 𝓤 𝓛 𝓜 𝓡 wired =
+pub yacht_core_release_spec : {M : Type 1} → statement M
+yacht_core_release_spec 𝓤 𝓛 𝓜 𝓡 wired =
     let c = f.clauses 𝓛 𝓜.mem 𝓡.returns in let W = walk_of 𝓛 f.ended stayed c in let 𝓣 = tables 𝓤 𝓛.H 𝓜 𝓡 𝓡.env in
     let G = triple_of 𝓛 g.signature (g.spec 𝓛 𝓜.mem 𝓡.returns) in
     proved 𝓛 f.ended stayed c 𝓜 𝓡
@@ -42,14 +42,14 @@ yacht_core_draw_spec 𝓤 𝓛 𝓜 𝓡 wired =
     nothing ! $ move ! (5 ∷ 0 ∷ []) $ join ! $ move ! (3 ∷ 0 ∷ []) $ join ! $ join ! $
     let z : G.Ghost = (((α ∷ [], (κ, tt)), (full_share, (q, tt)), tt, (record { ref_ptr = (b, o); ghost_name = δ; now = w }, (out, tt)), (vptr b o ∷ [], (mut_vals out, tt))), tt) in
     use1 𝓛 (raw (G.pre z)) (qed 𝓛 (((‵ (flft (α ∷ []) full_share) ⊛ ‵ (flft κ q) ⊛ ‵ ftrue) ⊛ ‵ (ref_own α δ b o w) ⊛ ‵ of_out ⊛ ‵ ftrue) ∷ []) ∵ says ! good $ done !) $
-    calls_at ! (framed 𝓤 𝓛.H 𝓜 𝓣) G (met 𝓤 𝓛 𝓜 𝓡 (code.calls-fx_server::calls::draw 𝓡.env wired)) z
+    calls_at ! (framed 𝓤 𝓛.H 𝓜 𝓣) G (met 𝓤 𝓛 𝓜 𝓡 (code.calls-fx_server::calls::release 𝓡.env wired)) z
     (and_then ! (get ! refl) (and_then ! (get ! refl) (no_more !))) (λ v.
     use1 𝓛 (later (some (λ (r : ℤ). ((‵ (flft (α ∷ []) full_share) ⊛ ‵ (flft κ q) ⊛ ‵ ftrue) ⊛ ‵ (i64.own_val r (v ∷ []))) ⊛
-    some (λ (ws : TableWorker × (ℕ × Unit {0})). ‵ (lasts g.ended z.0.0 z.0.3 ws) ⊛ raw (fact 𝓤 (DrawsAs w r ws.1.0 ws.0)))))) (id⊢ 𝓤 _) $
+    some (λ (ws : TableWorker × (ℕ × Unit {0})). ‵ (lasts g.ended z.0.0 z.0.3 ws) ⊛ raw (fact 𝓤 (ReleasesAs w r ws.1.0 ws.0)))))) (id⊢ 𝓤 _) $
     await ! tt $ pick ! (λ r. split ! $ split ! $ split3 ! $ lft_end ! tt $ move ! (4 ∷ []) $ pick ! (λ ws. split ! $ move ! (1 ∷ []) $ heard ! _ (λ known.
     fsplit ! $ fsplit ! $ move ! (3 ∷ 7 ∷ 0 ∷ []) $ use3 𝓛 (later (‵ (part_at R full_share ws.0 b o))) (ref_back 𝓛 R (α ∷ []) δ ws.0 b o) $ await ! tt $ move ! (0 ∷ 6 ∷ []) $ fjoin ! $
     move ! (5 ∷ []) $ peeks ! i64 (Is i64) (shows 𝓛 i64) r (v ∷ []) (λ is. lands_as ! refl refl ((sint_Lawful 𝓛 w64).typed r _ is).0 $
     returns ! (look_at ! 0 refl) $ free_all ! refl $
     suffices ! _ (ends_at 𝓛 f.ended stayed c (y (block_ptr b o)) v r (tt, (ws.1.0, tt)) (tt, (tt, tt))) $
-    move ! (1 ∷ []) $ use1 𝓛 (raw (HasWorker 𝓛 (block_ptr b o) (λ after. DrawsAs w r ws.1.0 after))) (returned 𝓛 (block_ptr b o) ws.0 (λ after. DrawsAs w r ws.1.0 after) known) $
+    move ! (1 ∷ []) $ use1 𝓛 (raw (HasWorker 𝓛 (block_ptr b o) (λ after. ReleasesAs w r ws.1.0 after))) (returned 𝓛 (block_ptr b o) ws.0 (λ after. ReleasesAs w r ws.1.0 after) known) $
     keep ! (3 ∷ 4 ∷ 1 ∷ 0 ∷ []) $ nothing ! $ join ! $ nothing ! $ move ! (2 ∷ 0 ∷ []) $ join ! $ group ! 3 $ done !)))))))))))
