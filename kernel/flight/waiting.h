@@ -2,13 +2,14 @@
 #ifndef WAITING_H
 #define WAITING_H
 
-#include <liburing.h>
+#include "chain.h"
 
 /* The last call that the following makes. */
 enum { LAST_OF_WAITING = 4 };
 
 /* Installs a pipe with a tag at slot 0, starts a read of it, empties the slot, and then feeds the
- * pipe. The kernel has time to close the pipe, or to post its tag, before it is fed. */
-void play_waiting_read(struct io_uring *ring);
+ * pipe. The kernel has time to close the pipe, or to post its tag, before it is fed. `reap` takes
+ * the completions, that of the read by its chain. */
+void play_waiting_read(struct io_uring *ring, struct chain **chains, void (*reap)(void));
 
 #endif
