@@ -6,16 +6,12 @@
 
 static unsigned long long *told;
 static size_t count, room;
-static int mistakes_next;
-
-void mistake_first_tag(void) { mistakes_next = 1; }
 
 void keep_tag(const struct io_uring_cqe *cqe) {
 	if (cqe->res || cqe->flags)
 		die_of("the completion of a tag has a result or flags");
 	told = with_room(told, count, &room, sizeof *told);
-	told[count++] = cqe->user_data + mistakes_next;
-	mistakes_next = 0;
+	told[count++] = cqe->user_data;
 }
 
 void wait_for_tags(struct io_uring *ring, unsigned wanted) {
