@@ -148,7 +148,8 @@ static void hold_until_release(struct pass *it, enum step step) {
     it->slot = it->node = 0;
 }
 
-/* Goes on with a look-up or an allocation that had a node to drop or to rest, or ends another call. */
+/* Goes on with a look-up or an allocation that had a node to drop or to rest, or ends another
+ * call. */
 static void end_node(struct pass *it) {
     if (it->call == LOOK) {
         it->step = TAKE;

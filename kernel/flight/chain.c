@@ -30,15 +30,6 @@ void fill_list(struct list *list, struct member_name of, char *text) {
 
 unsigned long long data_of(int call, int place) { return (unsigned long long)call << PLACE_BITS | (unsigned)place; }
 
-void update_ring(struct io_uring *ring, int call, const char *words, int slot, int count, const int *files, const __u64 *tags) {
-	append("call %d regupdate %s", call, words);
-	int res = tags ? io_uring_register_files_update_tag(ring, slot, files, tags, count)
-		: io_uring_register_files_update(ring, slot, files, count);
-	if (res < 0)
-		leave_out_closes((struct member_name){ call, 1 });
-	append("done %d.1 %d", call, res);
-}
-
 void close_list(struct list *list) {
 	for (int at = 0; at < list->count; at++)
 		if (list->descriptors[at] >= 0)

@@ -39,9 +39,6 @@ void fill_list(struct list *list, struct member_name of, char *text);
 /* Returns the user data of a member's completion, or, without TAG_BIT, of a tag. */
 unsigned long long data_of(int call, int place);
 
-/* Makes an update of the ring with the words `SLOT LIST`, and appends its lines. `tags` may be NULL. */
-void update_ring(struct io_uring *ring, int call, const char *words, int slot, int count, const int *files, const __u64 *tags);
-
 /* Closes this process's descriptors of a list. */
 void close_list(struct list *list);
 
