@@ -17,11 +17,7 @@ void keep_tag(const struct io_uring_cqe *cqe) {
 void wait_for_tags(struct io_uring *ring, unsigned wanted) {
 	struct __kernel_timespec second = { .tv_sec = 1 };
 	struct io_uring_cqe *cqe;
-	while (count < wanted && !io_uring_wait_cqe_timeout(ring, &cqe, &second)) {
-		keep_tag(cqe);
-		io_uring_cqe_seen(ring, cqe);
-	}
-	while (!io_uring_peek_cqe(ring, &cqe)) {
+	while (!(count < wanted ? io_uring_wait_cqe_timeout(ring, &cqe, &second) : io_uring_peek_cqe(ring, &cqe))) {
 		keep_tag(cqe);
 		io_uring_cqe_seen(ring, cqe);
 	}
