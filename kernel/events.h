@@ -18,8 +18,8 @@ int links_folder(void);
 /* Makes a file with these bytes in the catalogue. */
 void make_file(const char *name, const void *bytes, size_t size);
 
-/* Makes a link to a file of the catalogue, opens it as a descriptor of this process, for a list, and
- * removes it. */
+/* Makes a link to a file of the catalogue; opens it as a descriptor of this process, for a
+ * list; and removes it. */
 void link_file(const char *name, const char *link);
 int open_link(const char *link);
 void remove_link(const char *link);
