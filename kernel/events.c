@@ -94,8 +94,8 @@ void read_events(void (*note)(const struct inotify_event *event)) {
 	}
 }
 
-/* The list in /proc/self/fdinfo is between the lines `UserFiles:` and `UserBufs:`. Each of its lines
- * has a slot and a path. */
+/* The list in /proc/self/fdinfo is between the lines `UserFiles:` and `UserBufs:`. Each of its
+ * lines has a slot and a path. */
 int read_table(int ring, void (*note)(const char *link)) {
 	char path[64], line[2 * PATH_MAX];
 	int is_listed = 0;

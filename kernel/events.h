@@ -27,8 +27,8 @@ void remove_link(const char *link);
 /* Calls `note` for each event that is there of a link. Ends the program if events were lost. */
 void read_events(void (*note)(const struct inotify_event *event));
 
-/* Calls `note` for the link of each file in the table of a ring. Returns 0 while the kernel works on
- * the ring: there is no list then. */
+/* Calls `note` for the link of each file in the table of a ring. Returns 0 if there is no list,
+ * since the kernel works on the ring. */
 int read_table(int ring, void (*note)(const char *link));
 
 /* Waits until each opened file is in the table of the ring or is closed, as `is_settled` says. */

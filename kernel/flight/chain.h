@@ -42,8 +42,8 @@ unsigned long long data_of(int call, int place);
 /* Closes this process's descriptors of a list. */
 void close_list(struct list *list);
 
-/* Prepares the requests of a random chain, and writes its words: fewer than LINE_BYTES. With `pipes`
- * it is one request. */
+/* Prepares the requests of a random chain, and writes its words: fewer than LINE_BYTES. With
+ * `pipes` it is one request. */
 struct chain *prepare_chain(struct io_uring *ring, int pipes, int call, char *text);
 
 /* Appends the answer of a member, from 1 on. Returns 1 if it was the chain's last one, else 0. */

@@ -73,7 +73,8 @@ static void reap(void) {
 	}
 }
 
-/* Makes an update of the ring with the words `SLOT LIST`, and appends its lines. `tags` may be NULL. */
+/* Makes an update of the ring with the words `SLOT LIST`, and appends its lines. `tags` may be
+ * NULL. */
 static void update(int call, const char *words, int slot, int count, const int *files, const __u64 *tags) {
 	append("call %d regupdate %s", call, words);
 	int res = tags ? io_uring_register_files_update_tag(&ring, slot, files, tags, count)
