@@ -1,18 +1,11 @@
-#define _GNU_SOURCE
 #include "files.h"
 
 #include "events.h"
 #include "tags.h"
 
-#include <fcntl.h>
-#include <limits.h>
 #include <stdio.h>
 #include <stdlib.h>
-#include <string.h>
 #include <unistd.h>
-
-/* A close that takes more than ten seconds is an error. */
-enum { TURNS = 50000, TURN_MICROSECONDS = 200 };
 
 struct installation {
 	struct mark mark;
@@ -25,8 +18,6 @@ struct installation {
 	int is_finished;	/* it is closed, and its line is written */
 };
 
-static char folder[PATH_MAX];
-static int catalogue = -1, links = -1, events = -1;
 static struct installation *installations;
 static size_t count, room;
 static size_t first;		/* all before it are finished */
@@ -39,59 +30,14 @@ void name_of_link(size_t installation, char name[NAME_BYTES]) {
 	snprintf(name, NAME_BYTES, "%zu", installation);
 }
 
-int links_folder(void) { return links; }
-
-static void remove_links(void) {
-	char name[NAME_BYTES];
-	for (size_t at = first; at < count; at++) {
-		name_of_link(at, name);
-		unlinkat(links, name, 0);
-	}
-}
-
-static void remove_folder(void) {
-	char name[NAME_BYTES];
-	if (links >= 0)
-		remove_links();
-	for (unsigned at = 0; catalogue >= 0 && at < MOST_FILES; at++) {
-		name_of_entry(at, name);
-		unlinkat(catalogue, name, 0);
-	}
-	int parent = open(folder, O_PATH | O_DIRECTORY);
-	unlinkat(parent, "catalogue", AT_REMOVEDIR);
-	unlinkat(parent, "links", AT_REMOVEDIR);
-	close(parent);
-	rmdir(folder);
-}
-
-static int fresh_folder(const char *name) {
-	char path[PATH_MAX + 16];
-	snprintf(path, sizeof path, "%s/%s", folder, name);
-	int opened = make_folder(path);
-	if (!strcmp(name, "links"))
-		watch_folder(events, path);
-	return opened;
-}
-
-static void write_entry(unsigned entry, const struct entry *file) {
-	char name[NAME_BYTES];
-	name_of_entry(entry, name);
-	make_file(catalogue, name, file->bytes, file->size);
-}
-
 int open_files(const struct script *script) {
-	const char *where = getenv("TMPDIR");
-	events = inotify_init1(IN_NONBLOCK | IN_CLOEXEC);
-	if (events < 0)
+	char name[NAME_BYTES];
+	if (!make_folders("play-on-kernel"))
 		return 0;
-	snprintf(folder, sizeof folder, "%s/play-on-kernel-XXXXXX", where && *where ? where : "/tmp");
-	if (!mkdtemp(folder))
-		die(folder);
-	atexit(remove_folder);
-	catalogue = fresh_folder("catalogue");
-	links = fresh_folder("links");
-	for (unsigned at = 0; at < script->file_count; at++)
-		write_entry(at, &script->files[at]);
+	for (unsigned at = 0; at < script->file_count; at++) {
+		name_of_entry(at, name);
+		make_file(name, script->files[at].bytes, script->files[at].size);
+	}
 	return 1;
 }
 
@@ -103,8 +49,7 @@ size_t add_installation(struct mark mark, int entry, unsigned long long tag) {
 	if (entry >= 0) {
 		name_of_entry(entry, file);
 		name_of_link(count, link);
-		if (linkat(catalogue, file, links, link, 0))
-			die("a link for an installation");
+		link_file(file, link);
 	}
 	return count++;
 }
@@ -113,10 +58,8 @@ int open_descriptor(size_t installation) {
 	char name[NAME_BYTES];
 	struct installation *it = &installations[installation];
 	name_of_link(installation, name);
-	it->descriptor = openat(links, name, O_RDONLY | O_CLOEXEC);
+	it->descriptor = open_link(name);
 	it->is_installed = 0;
-	if (it->descriptor < 0)
-		die("a descriptor for a list");
 	return it->descriptor;
 }
 
@@ -135,38 +78,10 @@ static void note_event(const struct inotify_event *event) {
 	installations[installation].was_closed |= (event->mask & IN_CLOSE) != 0;
 }
 
-static FILE *ring_information(int ring) {
-	char path[64];
-	snprintf(path, sizeof path, "/proc/self/fdinfo/%d", ring);
-	FILE *information = fopen(path, "r");
-	if (!information)
-		die(path);
-	return information;
-}
-
-/* Notes which files are in the table, by the kernel's list in /proc/self/fdinfo. Returns whether
- * there is such a list: it is between the lines `UserFiles:` and `UserBufs:`, which are missing
- * while the kernel works on the ring. Each of its lines has a slot and a path. */
-static int read_table(int ring) {
-	char line[2 * PATH_MAX];
-	int is_listed = 0;
-	for (size_t at = first; at < count; at++)
-		installations[at].is_in_table = 0;
-	if (ring < 0)
-		return 1;
-	FILE *information = ring_information(ring);
-	while (fgets(line, sizeof line, information)) {
-		const char *name = strrchr(line, '/');
-		if (!strncmp(line, "UserFiles:", 10))
-			is_listed = 1;
-		if (!strncmp(line, "UserBufs:", 9))
-			break;
-		size_t installation = is_listed && name ? strtoul(name + 1, NULL, 10) : count;
-		if (installation < count)
-			installations[installation].is_in_table = 1;
-	}
-	fclose(information);
-	return is_listed;
+static void note_file(const char *link) {
+	size_t installation = strtoul(link, NULL, 10);
+	if (installation < count)
+		installations[installation].is_in_table = 1;
 }
 
 static int is_open(const struct installation *it) { return it->was_opened && !it->was_closed; }
@@ -179,10 +94,12 @@ int is_any_open(void) {
 }
 
 static int is_settled(int ring) {
-	read_events(events, note_event);
+	read_events(note_event);
+	for (size_t at = first; at < count; at++)
+		installations[at].is_in_table = 0;
 	if (!is_any_open())
 		return 1;
-	if (!read_table(ring))
+	if (ring >= 0 && !read_table(ring, note_file))
 		return 0;
 	for (size_t at = first; at < count; at++)
 		if (is_open(&installations[at]) && !installations[at].is_in_table)
@@ -190,14 +107,7 @@ static int is_settled(int ring) {
 	return 1;
 }
 
-void settle(int ring) {
-	for (int turn = 0; turn < TURNS; turn++) {
-		if (is_settled(ring))
-			return;
-		usleep(TURN_MICROSECONDS);
-	}
-	die_of("a file that isn't in the table stays open");
-}
+void settle(int ring) { wait_until(is_settled, ring); }
 
 static void write_close(const struct script *script, struct installation *it) {
 	const unsigned *n = it->mark.numbers;
@@ -213,7 +123,7 @@ static void finish(size_t installation) {
 	struct installation *it = &installations[installation];
 	name_of_link(installation, name);
 	if (it->entry >= 0)
-		unlinkat(links, name, 0);
+		remove_link(name);
 	it->is_finished = 1;
 }
 

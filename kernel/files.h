@@ -1,8 +1,5 @@
-/* The catalogue as real files in a new folder, and the installations that a script makes or tries
- * to make.
- *
- * Each installation has a hard link of its own to its catalogue file, in a folder that inotify(7)
- * watches. So the events IN_OPEN and IN_CLOSE have the name of a single installation. */
+/* The installations that a script makes or tries to make. Each has a hard link of its own to its
+ * catalogue file (events.h), so that an event has the name of a single installation. */
 #ifndef FILES_H
 #define FILES_H
 
@@ -19,8 +16,7 @@ struct mark {
  * inotify. */
 int open_files(const struct script *script);
 
-/* Return the descriptor of the links' folder, and the name of an installation's link in it. */
-int links_folder(void);
+/* Writes the name of an installation's link. */
 void name_of_link(size_t installation, char name[NAME_BYTES]);
 
 /* Adds an installation of an entry with its tag, or 0 for none, and returns its number. The entry

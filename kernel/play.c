@@ -32,9 +32,6 @@
  * chains of a submission run concurrently. Without it a kernel runs the first requests of all
  * chains in their order.
  *
- * With the argument --mistake the first tag is taken for the next number. The text must differ
- * then, or the tags are not read from the completions.
- *
  * What can't be observed: when within a command a file was closed, in which order, and by whom; who
  * holds it meanwhile; and whether an open was started that failed before it opened its file. A file
  * that is opened and closed without having been in the table has a closed line like any other,
@@ -164,12 +161,9 @@ static void play_script(struct play *play) {
 
 int main(int count, char **words) {
 	static struct play play;
-	for (int at = 1; at < count; at++) {
+	for (int at = 1; at < count; at++)
 		if (!strcmp(words[at], "--async"))
 			start_in_threads();
-		if (!strcmp(words[at], "--mistake"))
-			mistake_first_tag();
-	}
 	if (!read_script(&play.script)) {
 		fprintf(stderr, "play-on-kernel: line %ld: not in the language\n", play.script.bad_line);
 		return BAD_SCRIPT;

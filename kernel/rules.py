@@ -45,20 +45,24 @@ class Linux(Player):
             self.closed.append((submitted(place, 0), self.names.index(file), 0))
         return res
 
+    def has_bad_tag(self, listed, tags):
+        """Whether an entry has a bad tag. A list of another length than its tags can't be given to the kernel."""
+        return has_bad_tags(listed, tags) and len(tags) == len(listed)
+
     def first_bad(self, listed, tags, least):
         """Returns the place of the first entry that is bad or has a bad tag."""
         return next(nth for nth, it in enumerate(listed) if not least <= it < len(self.names) or it < 0 and tags and tags[nth])
 
     def register(self, listed, tags=None):
         refusal = super().register(listed, tags)
-        if refusal == -EINVAL and has_bad_tags(listed, tags):
+        if refusal == -EINVAL and self.has_bad_tag(listed, tags):
             at = self.first_bad(listed, tags, -1)
             if listed[at] != -1 and self.meets("bad_entry_in_front_of_a_bad_tag"):
                 return -EBADF
         return refusal
 
     def stops_at_a_bad_entry(self, off, listed, tags=None):
-        if has_bad_tags(listed, tags) and self.refusal_of_list(off, listed) in (0, -EBADF):
+        if self.has_bad_tag(listed, tags) and self.refusal_of_list(off, listed) in (0, -EBADF):
             return self.meets("update_up_to_a_bad_tag")
         return self.refusal_of_list(off, listed, tags) == -EBADF and self.meets("update_up_to_a_bad_entry")
 

@@ -6,6 +6,7 @@
 #include <stdio.h>
 #include <stdlib.h>
 
+#include "events.h"
 #include "files.h"
 #include "tags.h"
 

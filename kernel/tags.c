@@ -6,26 +6,18 @@
 
 static unsigned long long *told;
 static size_t count, room;
-static int mistakes_next;
-
-void mistake_first_tag(void) { mistakes_next = 1; }
 
 void keep_tag(const struct io_uring_cqe *cqe) {
 	if (cqe->res || cqe->flags)
 		die_of("the completion of a tag has a result or flags");
 	told = with_room(told, count, &room, sizeof *told);
-	told[count++] = cqe->user_data + mistakes_next;
-	mistakes_next = 0;
+	told[count++] = cqe->user_data;
 }
 
 void wait_for_tags(struct io_uring *ring, unsigned wanted) {
 	struct __kernel_timespec second = { .tv_sec = 1 };
 	struct io_uring_cqe *cqe;
-	while (count < wanted && !io_uring_wait_cqe_timeout(ring, &cqe, &second)) {
-		keep_tag(cqe);
-		io_uring_cqe_seen(ring, cqe);
-	}
-	while (!io_uring_peek_cqe(ring, &cqe)) {
+	while (!(count < wanted ? io_uring_wait_cqe_timeout(ring, &cqe, &second) : io_uring_peek_cqe(ring, &cqe))) {
 		keep_tag(cqe);
 		io_uring_cqe_seen(ring, cqe);
 	}

@@ -7,9 +7,6 @@
 /* Keeps the tag of a completion that belongs to no request. */
 void keep_tag(const struct io_uring_cqe *cqe);
 
-/* Takes the next tag for the next number, as if the kernel had posted a wrong one. */
-void mistake_first_tag(void);
-
 /* Waits at most a second until `count` tags are kept that weren't written, and then keeps all that
  * are there. */
 void wait_for_tags(struct io_uring *ring, unsigned count);

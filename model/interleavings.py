@@ -2,13 +2,10 @@
 its own. No state is remembered and no order is left out; a member that doesn't reach the table takes a turn like any other. So it is
 for tiny scripts. Nothing answers -12 here. tests/check-outcomes compares the lists of fixcheck with it."""
 from model import ECANCELED, Player, Script, chains_of, completion_line, severs
+from orders import TooManyOrders
 
 # the most orders of a script; with more it is left out
 MOST_ORDERS = 20_000
-
-
-class TooManyOrders(Exception):
-    """The script has more orders than are played."""
 
 
 class Interleavings:

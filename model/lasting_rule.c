@@ -62,7 +62,7 @@ static int marks_owed(const struct state *s, int node) {
     for (int who = 0; who < family->passes; who++) {
         const struct pass *it = &s->pass[who];
         owed += s->hold[who] == (node | MARK);
-        owed += (it->step == DROP_OWED || it->step == DROP_YIELDED) && it->node == node;
+        owed += it->step == DROP && it->node == node;
     }
     return owed;
 }
@@ -73,8 +73,7 @@ static const struct pass *worker_of(const struct state *s, int node, bool retire
     for (int who = 0; who < family->passes; who++) {
         const struct pass *it = &s->pass[who];
         bool is_retiring = (it->call == RETIREMENT && it->step != REST) || it->step == LOWER_LATE;
-        bool has_place = it->step == REST || it->step == REST_OF_LOOK || it->step == REST_UNUSED;
-        if (it->node == node && (retires ? is_retiring : has_place)) {
+        if (it->node == node && (retires ? is_retiring : it->step == REST)) {
             return it;
         }
     }

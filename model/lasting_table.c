@@ -148,27 +148,42 @@ static void hold_until_release(struct pass *it, enum step step) {
     it->slot = it->node = 0;
 }
 
+/* Goes on with a look-up or an allocation that had a node to drop or to rest, or ends another
+ * call. */
+static void end_node(struct pass *it) {
+    if (it->call == LOOK) {
+        it->step = TAKE;
+    } else if (it->call == PUT_ANY) {
+        it->node = 0;
+        it->step = BEGIN;
+    } else {
+        begin_call(it, 0, IDLE);
+    }
+}
+
 /* Drops a take or a mark from a node's word. If the word was 2, the file is closed. */
-static void drop(struct state *s, struct pass *it, enum step rest, enum step otherwise) {
+static void drop(struct state *s, struct pass *it) {
     int last = wrong == free_word_of_a_closed_file ? LAST - 1 : wrong == closed_one_too_early ? LAST + 1
         : wrong == closed_one_too_late ? LAST - 1 : LAST;
     int found = s->word[it->node];
     want(found > 0, "a node word falls below 0");
     s->word[it->node] = found - 1;
+    it->holds = 0;
     if (found == last) {
         close_file(s, it->node);
-        it->step = rest;
-    } else if (otherwise == IDLE) {
-        begin_call(it, 0, IDLE);
+        it->step = REST;
     } else {
-        it->step = otherwise;
+        end_node(it);
     }
 }
 
-static void rest(struct state *s, const struct pass *it) {
+/* Frees a node whose file was closed, or was placed for nothing. */
+static void rest(struct state *s, struct pass *it) {
     want(s->place[it->node] == WITH_PASS, "a place is returned that no pass has");
+    s->file[it->node] = NO_FILE;
     s->place[it->node] = NOTHING;
     s->word[it->node] = FREE;
+    end_node(it);
 }
 
 /* A look-up */
@@ -420,7 +435,7 @@ static void birth(struct state *s, struct pass *it) {
 
 void begin_installation(struct pass *it) { it->step = stock ? SEEK : after_birth(it); }
 
-enum step after_scan(void) { return stock ? REST_UNUSED : BEGIN; }
+enum step after_scan(void) { return stock ? REST : BEGIN; }
 
 static void peek(struct state *s, struct pass *it, int who) {
     if (s->is_full[it->slot]) {
@@ -479,7 +494,7 @@ static void miss(struct pass *it) {
     bool is_counted = !family->group_len || wrong == missed_removal_is_not_raised || wrong == lower_after_the_exchange;
     it->takes = UINT8_MAX;
     it->key = 0;
-    it->step = it->call == PUT_IF ? REST_UNUSED : RAISE;
+    it->step = it->call == PUT_IF ? REST : RAISE;
     if (it->step == RAISE && is_counted) {
         begin_call(it, 0, IDLE);
     }
@@ -580,35 +595,20 @@ bool take_step(void *state, int who, int nth) {
     case LIST: list(s, it, who); break;
     case ANNOUNCE: announce(s, it, who); break;
     case CONFIRM: confirm(s, it, who); break;
-    case WITHDRAW: it->step = empty_hold(s, it, who, withdrawal_by_a_store) ? DROP_OWED : TAKE; break;
-    case DROP_OWED: drop(s, it, REST_OF_LOOK, TAKE); break;
-    case REST_OF_LOOK: rest(s, it); it->step = TAKE; break;
+    case WITHDRAW: it->step = empty_hold(s, it, who, withdrawal_by_a_store) ? DROP : TAKE; break;
     case TAKE: take(s, it); break;
     case HEAT: heat(s, it); break;
     case GUARDED:
         if (empty_hold(s, it, who, release_by_a_store)) {
-            it->step = DROP_YIELDED;
+            it->step = DROP;
         } else {
             it->holds = 0;
             begin_call(it, 0, IDLE);
         }
         break;
     case COUNTED:
-    case DROP_YIELDED: it->holds = 0; drop(s, it, REST, IDLE); break;
-    case REST:
-        s->file[it->node] = NO_FILE;
-        rest(s, it);
-        begin_call(it, 0, IDLE);
-        break;
-    case REST_UNUSED:
-        s->file[it->node] = NO_FILE;
-        rest(s, it);
-        it->node = 0;
-        it->step = BEGIN;
-        if (it->call == PUT_IF) {
-            begin_call(it, 0, IDLE);
-        }
-        break;
+    case DROP: drop(s, it); break;
+    case REST: rest(s, it); break;
     case SEEK: seek(s, it, who); break;
     case BIRTH: birth(s, it); break;
     case SWAP:

@@ -3,60 +3,21 @@
 
 #include <fcntl.h>
 #include <stdio.h>
-#include <stdlib.h>
 #include <string.h>
 #include <unistd.h>
 
+#include "../events.h"
 #include "../script.h"
-
-enum { BAD_ARGUMENT = 2 };
-
-static int *place_of(struct options *options, const char *word) {
-	struct { const char *word; int *place; } places[] = {
-		{ "--chains", &options->chains }, { "--slots", &options->slots }, { "--open", &options->most_open },
-		{ "--updates", &options->updates }, { "--settle", &options->settle },
-	};
-	for (size_t at = 0; at < sizeof places / sizeof *places; at++)
-		if (!strcmp(word, places[at].word))
-			return places[at].place;
-	return NULL;
-}
-
-int read_options(struct options *options, int count, char **words) {
-	int at = 2;
-	for (; at < count; at++) {
-		int *place = place_of(options, words[at]);
-		if (!strcmp(words[at], "--pipes"))
-			options->pipes = 1;
-		else if (!strcmp(words[at], "--inline"))
-			options->is_inline = 1;
-		else if (!strcmp(words[at], "--waiting-read"))
-			options->waiting_read = 1;
-		else if (place && at + 1 < count)
-			*place = atoi(words[++at]);
-		else
-			break;
-	}
-	if (count < 2 || at < count || options->slots < 1 || options->slots > MOST_SLOTS) {
-		fprintf(stderr, "record: the arguments are SEED [--chains N] [--slots N] [--open N] [--updates N]"
-			" [--settle N] [--pipes] [--inline] [--waiting-read]\n");
-		exit(BAD_ARGUMENT);
-	}
-	return atoi(words[1]);
-}
 
 static void open_entry(struct list *list, struct member_name of, int at) {
 	char path[PATH_BYTES];
 	make_link(path, of, at, list->entries[at]);
-	list->descriptors[at] = openat(links_folder(), path, O_RDONLY | O_CLOEXEC);
-	if (list->descriptors[at] < 0)
-		die("a descriptor for a list");
+	list->descriptors[at] = open_link(path);
 }
 
-void fill_list(struct list *list, const struct options *options, struct member_name of, char *text) {
-	int most = options->slots < LONGEST_LIST ? options->slots : LONGEST_LIST;
-	list->count = 1 + (int)below(most);
-	list->slot = (int)below(options->slots - list->count + 1);
+void fill_list(struct list *list, struct member_name of, char *text) {
+	list->count = 1 + (int)below(LONGEST_LIST);
+	list->slot = (int)below(SLOTS - list->count + 1);
 	int size = sprintf(text, "%d ", list->slot);
 	for (int at = 0; at < list->count; at++) {
 		int entry = (int)below(4) - 2;
@@ -66,6 +27,8 @@ void fill_list(struct list *list, const struct options *options, struct member_n
 		size += sprintf(text + size, "%s%d", at ? "," : "", list->entries[at]);
 	}
 }
+
+unsigned long long data_of(int call, int place) { return (unsigned long long)call << PLACE_BITS | (unsigned)place; }
 
 void close_list(struct list *list) {
 	for (int at = 0; at < list->count; at++)
@@ -92,23 +55,22 @@ static void prepare_read(struct io_uring_sqe *sqe, struct member *it, int slot, 
 	sprintf(text, "read %d 0 %u", slot, size);
 }
 
-static void prepare_update(struct io_uring_sqe *sqe, struct member *it, const struct options *options,
-			   char *text) {
+static void prepare_update(struct io_uring_sqe *sqe, struct member *it, char *text) {
 	it->is_update = 1;
 	memcpy(text, "update ", 8);
-	fill_list(&it->list, options, it->name, text + 7);
+	fill_list(&it->list, it->name, text + 7);
 	io_uring_prep_files_update(sqe, it->list.descriptors, it->list.count, it->list.slot);
 }
 
 /* One slot in eight may be the one past the table's end. A pipe is opened for lists alone, since an
  * open of a pipe may wait. */
-static void prepare(struct io_uring_sqe *sqe, struct member *it, const struct options *options, char *text) {
-	int slot = (int)below(options->slots + !below(8));
-	char kind = options->pipes ? "rrrucr"[below(6)] : "oorrruca"[below(8)];
+static void prepare(struct io_uring_sqe *sqe, struct member *it, int pipes, char *text) {
+	int slot = (int)below(SLOTS + !below(8));
+	char kind = pipes ? "rrrucr"[below(6)] : "oorrruca"[below(8)];
 	if (kind == 'r') {
-		prepare_read(sqe, it, slot, options->pipes, text);
+		prepare_read(sqe, it, slot, pipes, text);
 	} else if (kind == 'u') {
-		prepare_update(sqe, it, options, text);
+		prepare_update(sqe, it, text);
 	} else if (kind == 'c') {
 		io_uring_prep_close(sqe, 0);
 		sqe->file_index = (unsigned)slot + 1;
@@ -118,24 +80,24 @@ static void prepare(struct io_uring_sqe *sqe, struct member *it, const struct op
 	}
 }
 
-struct chain *prepare_chain(struct io_uring *ring, const struct options *options, int call, char *text) {
+struct chain *prepare_chain(struct io_uring *ring, int pipes, int call, char *text) {
 	struct chain *chain = memory_of(sizeof *chain);
 	char words[LINE_BYTES];
 	*text = 0;
-	chain->count = chain->left = options->pipes ? 1 : 1 + (int)below(LONGEST_CHAIN);
+	chain->count = chain->left = pipes ? 1 : 1 + (int)below(LONGEST_CHAIN);
 	for (int at = 0; at < chain->count; at++) {
 		struct io_uring_sqe *sqe = io_uring_get_sqe(ring);
 		struct member *it = &chain->members[at];
 		it->name = (struct member_name){ call, at + 1 };
-		prepare(sqe, it, options, words);
+		prepare(sqe, it, pipes, words);
 		strcat(text, words);
 		if (at + 1 < chain->count) {
 			int is_hard = !below(3);
 			sqe->flags |= is_hard ? IOSQE_IO_HARDLINK : IOSQE_IO_LINK;
 			strcat(text, is_hard ? " hardlink ; " : " link ; ");
 		}
-		sqe->flags |= options->is_inline ? 0 : IOSQE_ASYNC;
-		sqe->user_data = (unsigned long long)call << PLACE_BITS | (unsigned)(at + 1);
+		sqe->flags |= IOSQE_ASYNC;
+		sqe->user_data = data_of(call, at + 1);
 	}
 	return chain;
 }

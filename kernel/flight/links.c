@@ -4,7 +4,6 @@
 #include <fcntl.h>
 #include <pthread.h>
 #include <stdio.h>
-#include <stdlib.h>
 #include <string.h>
 #include <sys/ioctl.h>
 #include <sys/stat.h>
@@ -15,8 +14,6 @@
 
 enum { NAME_BYTES = 16, MOST_FED = 255 };
 
-static char folder[] = "/tmp/record-in-flight-XXXXXX";
-static int entries = -1, links = -1, events = -1;
 static int with_pipes;
 static pthread_mutex_t lock = PTHREAD_MUTEX_INITIALIZER;	/* of the pipes */
 static int pipe_count, pipes[MOST_PIPES];
@@ -43,35 +40,13 @@ const char *name_of(int entry) {
 	return name;
 }
 
-static int new_folder(const char *name) {
-	char path[PATH_BYTES];
-	snprintf(path, sizeof path, "%s/%s", folder, name);
-	return make_folder(path);
-}
-
 int make_catalogue(int pipes) {
-	char path[PATH_BYTES];
 	with_pipes = pipes;
-	events = inotify_init1(IN_NONBLOCK | IN_CLOEXEC);
-	if (events < 0)
+	if (!make_folders("record-in-flight"))
 		return 0;
-	if (!mkdtemp(folder))
-		die(folder);
-	atexit(remove_catalogue);
-	entries = new_folder("entries");
-	links = new_folder("links");
-	snprintf(path, sizeof path, "%s/links", folder);
-	watch_folder(events, path);
 	for (int entry = 0; !pipes && entry < FILES; entry++)
-		make_file(entries, name_of(entry), contents[entry], strlen(contents[entry]));
+		make_file(name_of(entry), contents[entry], strlen(contents[entry]));
 	return 1;
-}
-
-void remove_catalogue(void) {
-	char command[2 * PATH_BYTES];
-	snprintf(command, sizeof command, "rm -rf '%s'", folder);
-	if (system(command))
-		fprintf(stderr, "record: %s could not be removed\n", folder);
 }
 
 /* Opens its pipe for reading too, so that no open and no write waits. */
@@ -79,9 +54,9 @@ static int new_pipe(void) {
 	if (pipe_count == MOST_PIPES)
 		return -1;
 	const char *name = name_of(pipe_count);
-	if (mkfifoat(entries, name, 0600))
+	if (mkfifoat(catalogue_folder(), name, 0600))
 		die("a pipe");
-	pipes[pipe_count] = openat(entries, name, O_RDWR | O_CLOEXEC);
+	pipes[pipe_count] = openat(catalogue_folder(), name, O_RDWR | O_CLOEXEC);
 	if (pipes[pipe_count] < 0)
 		die("a pipe");
 	return pipe_count++;
@@ -96,12 +71,9 @@ int pick_entry(void) {
 	return entry;
 }
 
-int links_folder(void) { return links; }
-
 void make_link(char path[PATH_BYTES], struct member_name of, int in_list, int entry) {
 	snprintf(path, PATH_BYTES, "%d.%d.%d_%s", of.call, of.member, in_list, name_of(entry));
-	if (linkat(entries, name_of(entry), links, path, 0))
-		die("a link for an installation");
+	link_file(name_of(entry), path);
 }
 
 /* Keeps the name of a close until its line is appended. */
@@ -117,7 +89,7 @@ static void note_event(const struct inotify_event *event) {
 }
 
 void read_closes(void (*reap)(void)) {
-	read_events(events, note_event);
+	read_events(note_event);
 	reap();
 	for (size_t at = 0; at < seen_count; at++) {
 		struct member_name of;
@@ -125,7 +97,7 @@ void read_closes(void (*reap)(void)) {
 		if (sscanf(link, "%d.%d", &of.call, &of.member) != 2)
 			die_of("a link that was not made here");
 		append_close(of, "closed %.*s %s", (int)(name - link), link, name + 1);
-		unlinkat(links, link, 0);
+		remove_link(link);
 	}
 	seen_count = 0;
 }

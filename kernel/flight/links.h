@@ -1,5 +1,5 @@
-/* The catalogue as real files or named pipes in a new folder, with a hard link for each
- * installation. inotify(7) watches the links, so that a close names a single installation. */
+/* The catalogue as real files or named pipes (events.h), with a link for each installation, so that
+ * a close names a single installation. */
 #ifndef LINKS_H
 #define LINKS_H
 
@@ -11,9 +11,6 @@ enum { FILES = 4, MOST_PIPES = 64, PATH_BYTES = 64 };
  * system has no inotify. */
 int make_catalogue(int pipes);
 
-/* Removes the folder. */
-void remove_catalogue(void);
-
 /* Returns a random entry of the catalogue; of pipes a new one, or -1 if there are MOST_PIPES. */
 int pick_entry(void);
 
@@ -22,9 +19,6 @@ const char *name_of(int entry);
 
 /* Makes the link for entry `in_list` of what a member installs, and writes its path. */
 void make_link(char path[PATH_BYTES], struct member_name of, int in_list, int entry);
-
-/* Returns the descriptor of the links' folder. */
-int links_folder(void);
 
 /* Reads the closes that inotify has seen, then calls `reap`, and then appends a line for each
  * close. The kernel posts a completion before it releases the request's file. So the line of an

@@ -4,7 +4,6 @@
 #include <pthread.h>
 #include <stdarg.h>
 #include <stdio.h>
-#include <stdlib.h>
 
 #include "../script.h"
 
@@ -19,28 +18,17 @@ static size_t count, room;
 static struct member_name *left_out;
 static size_t left_out_count, left_out_room;
 
-static void append_line(struct member_name of, const char *format, va_list words) {
+void append_close(struct member_name of, const char *format, ...) {
 	char *text;
+	va_list words;
+	va_start(words, format);
 	if (vasprintf(&text, format, words) < 0)
 		die_of("out of memory");
+	va_end(words);
 	pthread_mutex_lock(&lock);
 	lines = with_room(lines, count, &room, sizeof *lines);
 	lines[count++] = (struct line){ .text = text, .of = of };
 	pthread_mutex_unlock(&lock);
-}
-
-void append(const char *format, ...) {
-	va_list words;
-	va_start(words, format);
-	append_line((struct member_name){ 0, 0 }, format, words);
-	va_end(words);
-}
-
-void append_close(struct member_name of, const char *format, ...) {
-	va_list words;
-	va_start(words, format);
-	append_line(of, format, words);
-	va_end(words);
 }
 
 void leave_out_closes(struct member_name of) {

@@ -7,11 +7,12 @@ struct member_name {
 	int call, member;
 };
 
-/* Appends a line. Threads may append at once; one lock orders their lines. */
-void append(const char *format, ...) __attribute__((format(printf, 1, 2)));
-
-/* Appends the line of a close of a file that this member installs or tried to install. */
+/* Appends the line of a close of a file that this member installs or tried to install. Threads may
+ * append at once; one lock orders their lines. */
 void append_close(struct member_name of, const char *format, ...) __attribute__((format(printf, 2, 3)));
+
+/* Appends another line. */
+#define append(...) append_close((struct member_name){ 0, 0 }, __VA_ARGS__)
 
 /* Leaves out the closes of this member's files. Linux opens and closes the file of a refused open,
  * and files of a refused update never were in the table. */

@@ -1,16 +1,15 @@
 /* Plays random chains on the io_uring of the running kernel without waiting for them, and writes a
  * log of docs/FLIGHT.md.
  *
- *   record SEED [--chains N] [--slots N] [--open N] [--updates N] [--settle N] [--pipes] [--inline]
+ *   record SEED [--chains N] [--pipes]
  *   record SEED --waiting-read
  *
- * One thread submits chains while at most --open of them are in flight, reaps completions and reads
- * inotify(7) events. Each request has IOSQE_ASYNC, unless --inline is given. A second thread makes
- * --updates calls of io_uring_register_files_update_tag(3), some of them with tags. With --pipes
- * the files are named pipes, and each chain is one request: a read waits until the first thread
- * feeds its pipe. With --settle the program waits, each time after so many chains, until nothing is
- * in flight and every file is in the table or closed. With --waiting-read it plays no chains at
- * random: a read waits on a pipe while the pipe leaves its slot (waiting.h).
+ * One thread submits chains while at most three of them are in flight, reaps completions and reads
+ * inotify(7) events. Each request has IOSQE_ASYNC. A second thread makes three calls of
+ * io_uring_register_files_update_tag(3), some of them with tags. With --pipes the files are named
+ * pipes, and each chain is one request: a read waits until the first thread feeds its pipe. With
+ * --waiting-read it plays no chains at random: a read waits on a pipe while the pipe leaves its
+ * slot.
  *
  * At the end an update empties all slots. A `call` line is appended before its system call, and a
  * `done` line after its answer was seen. So a call whose answer was seen before another call began
@@ -23,32 +22,41 @@
 #include <string.h>
 #include <unistd.h>
 
+#include "../events.h"
 #include "../script.h"
 #include "chain.h"
 #include "links.h"
 #include "log.h"
-#include "waiting.h"
 
-enum { NO_IO_URING = 77, ENTRIES = 256, TURNS = 50000, TURN_MICROSECONDS = 200, IDLE = 50 };
+enum { BAD_ARGUMENT = 2, NO_IO_URING = 77, ENTRIES = 256, MOST_OPEN = 3, UPDATES = 3, TURN_MICROSECONDS = 200, IDLE = 50 };
+/* In a waiting read the kernel has a tenth of a second to do too much, and so has the observer to
+ * see it. */
+enum { LOOKS = 100, LOOK_MICROSECONDS = 1000 };
 
 static struct io_uring ring;
-static struct options options = { .chains = 6, .slots = 3, .most_open = 3, .updates = 3 };
+static struct { int chains, pipes, waiting_read; } options = { .chains = 6 };
 static int last_call = 1;	/* 1 is the registration of the table */
 static struct chain **chains;
-static int in_flight;
-static volatile int updater_waits, updater_has_ended;
+static int in_flight, in_table;
+static volatile int updater_has_ended;
 
 static int next_call(void) { return __atomic_add_fetch(&last_call, 1, __ATOMIC_SEQ_CST); }
 
-static void start_chain(void) {
-	int call = next_call();
-	char text[LINE_BYTES];
-	chains[call] = prepare_chain(&ring, &options, call, text);
+/* Submits the chain of a call, which is prepared and has these words. */
+static void submit(int call, const char *text) {
 	append("call %d %s", call, text);
 	int submitted = io_uring_submit(&ring);
 	errno = submitted < 0 ? -submitted : 0;
 	if (submitted != chains[call]->count)
 		die("the kernel did not take a chain");
+	in_flight++;
+}
+
+static void start_chain(void) {
+	int call = next_call();
+	char text[LINE_BYTES];
+	chains[call] = prepare_chain(&ring, options.pipes, call, text);
+	submit(call, text);
 }
 
 /* Reaps all completions that are there. */
@@ -65,28 +73,33 @@ static void reap(void) {
 	}
 }
 
+/* Makes an update of the ring with the words `SLOT LIST`, and appends its lines. `tags` may be
+ * NULL. */
+static void update(int call, const char *words, int slot, int count, const int *files, const __u64 *tags) {
+	append("call %d regupdate %s", call, words);
+	int res = tags ? io_uring_register_files_update_tag(&ring, slot, files, tags, count)
+		: io_uring_register_files_update(&ring, slot, files, count);
+	if (res < 0)
+		leave_out_closes((struct member_name){ call, 1 });
+	append("done %d.1 %d", call, res);
+}
+
 static void update_table(void) {
 	char text[LINE_BYTES];
 	__u64 tags[LONGEST_LIST] = { 0 };
 	struct list list;
 	struct member_name of = { next_call(), 1 };
-	fill_list(&list, &options, of, text);
+	fill_list(&list, of, text);
 	for (int at = 0; at < list.count; at++)
 		if (list.entries[at] >= 0 && below(2))
-			tags[at] = TAG_BIT | (unsigned long long)of.call << PLACE_BITS | (unsigned)at;
-	append("call %d regupdate %s", of.call, text);
-	int res = io_uring_register_files_update_tag(&ring, list.slot, list.descriptors, tags, list.count);
-	if (res < 0)
-		leave_out_closes(of);
-	append("done %d.1 %d", of.call, res);
+			tags[at] = TAG_BIT | data_of(of.call, at);
+	update(of.call, text, list.slot, list.count, list.descriptors, tags);
 	close_list(&list);
 }
 
 static void *make_updates(void *seed) {
 	seed_random(*(int *)seed * 77ull + 5);
-	for (int at = 0; at < options.updates; at++) {
-		while (updater_waits)
-			usleep(TURN_MICROSECONDS);
+	for (int at = 0; at < UPDATES; at++) {
 		update_table();
 		if (below(3))
 			usleep(below(TURN_MICROSECONDS));
@@ -95,78 +108,86 @@ static void *make_updates(void *seed) {
 	return NULL;
 }
 
-/* Returns the number of files in the table, by the kernel's list in /proc/self/fdinfo: between the
- * lines `UserFiles:` and `UserBufs:`. Returns -1 while the kernel works on the ring. */
-static int files_in_table(void) {
-	char path[PATH_BYTES], line[512];
-	int is_listed = 0, count = 0;
-	snprintf(path, sizeof path, "/proc/self/fdinfo/%d", ring.ring_fd);
-	FILE *information = fopen(path, "r");
-	while (information && fgets(line, sizeof line, information)) {
-		if (!strncmp(line, "UserBufs:", 9))
-			break;
-		count += is_listed && strchr(line, '/');
-		is_listed |= !strncmp(line, "UserFiles:", 10);
-	}
-	if (information)
-		fclose(information);
-	return is_listed ? count : -1;
+static void count_file(const char *link) {
+	(void)link;
+	in_table++;
+}
+
+static int is_settled(int number) {
+	read_closes(reap);
+	in_table = 0;
+	return read_table(number, count_file) && in_table == open_count();
 }
 
 /* Waits until each opened file is in the table or closed. No call is open. */
 static void settle(void) {
-	for (int turn = 0; turn < TURNS; turn++) {
-		read_closes(reap);
-		if (open_count() == files_in_table()) {
-			read_closes(reap);
-			append("settled");
-			return;
-		}
-		usleep(TURN_MICROSECONDS);
-	}
-	die_of("a file that isn't in the table stays open");
-}
-
-/* Waits for the updater to be between two calls. */
-static void settle_meanwhile(void) {
-	usleep(10 * TURN_MICROSECONDS);
-	settle();
+	wait_until(is_settled, ring.ring_fd);
+	read_closes(reap);
+	append("settled");
 }
 
 static void play(void) {
-	int left = options.chains, since = 0, idle = 0;
+	int left = options.chains, idle = 0;
 	while (left || in_flight || !updater_has_ended) {
 		int before = in_flight;
 		read_closes(reap);
 		idle = in_flight < before ? 0 : idle + 1;
-		updater_waits = options.settle && since >= options.settle;
-		if (left && in_flight < options.most_open && !updater_waits && below(3)) {
+		if (left && in_flight < MOST_OPEN && below(3)) {
 			start_chain();
-			in_flight++, left--, since++;
+			left--;
 		} else if (!below(4)) {
 			usleep(below(TURN_MICROSECONDS / 2));
 		}
 		if (options.pipes && (!below(6) || idle > IDLE))
 			feed_a_pipe();
-		if (updater_waits && !in_flight) {
-			settle_meanwhile();
-			since = 0;
-		}
 	}
 }
 
 /* Empties all slots by an update of the ring. */
 static void empty_table(void) {
-	char text[LINE_BYTES];
-	int *none = memory_of(options.slots * sizeof *none), size = 0;
-	int call = options.waiting_read ? LAST_OF_WAITING + 1 : next_call();
-	for (int at = 0; at < options.slots; at++) {
-		none[at] = -1;
-		size += sprintf(text + size, "%s-1", at ? "," : "");
+	int none[SLOTS] = { -1, -1, -1 };
+	update(next_call(), "0 -1,-1,-1", 0, SLOTS, none, NULL);
+}
+
+static void look_around(void) {
+	for (int look = 0; look < LOOKS; look++) {
+		read_closes(reap);
+		usleep(LOOK_MICROSECONDS);
 	}
-	append("call %d regupdate 0 %s", call, text);
-	append("done %d.1 %d", call, io_uring_register_files_update(&ring, 0, none, options.slots));
-	free(none);
+}
+
+/* Installs a pipe with a tag at slot 0. */
+static void install_pipe(struct member_name of) {
+	char path[PATH_BYTES];
+	__u64 tag = TAG_BIT | data_of(of.call, 0);
+	make_link(path, of, 0, pick_entry());
+	int file = open_link(path);
+	update(of.call, "0 0", 0, 1, &file, &tag);
+	close(file);
+}
+
+static void start_read(struct member_name of) {
+	struct chain *chain = memory_of(sizeof *chain);
+	*chain = (struct chain){ .count = 1, .left = 1, .members = { { .name = of, .is_read = 1 } } };
+	struct io_uring_sqe *sqe = io_uring_get_sqe(&ring);
+	io_uring_prep_read(sqe, 0, chain->members[0].buffer, 1, -1);
+	sqe->flags |= IOSQE_FIXED_FILE;
+	sqe->user_data = data_of(of.call, of.member);
+	chains[of.call] = chain;
+	submit(of.call, "read 0 0 1");
+}
+
+/* Starts a read of a pipe, empties its slot, and then feeds the pipe. The kernel has time to close
+ * the pipe, or to post its tag, before it is fed. */
+static void play_waiting_read(void) {
+	int none = -1;
+	install_pipe((struct member_name){ next_call(), 1 });
+	start_read((struct member_name){ next_call(), 1 });
+	look_around();
+	update(next_call(), "0 -1", 0, 1, &none, NULL);
+	look_around();
+	feed_a_pipe();
+	look_around();
 }
 
 static void play_beside_updates(int *seed) {
@@ -177,19 +198,39 @@ static void play_beside_updates(int *seed) {
 	pthread_join(updater, NULL);
 }
 
+/* Reads the arguments and returns the seed. */
+static int read_options(int count, char **words) {
+	int at = 2;
+	for (; at < count; at++) {
+		if (!strcmp(words[at], "--pipes"))
+			options.pipes = 1;
+		else if (!strcmp(words[at], "--waiting-read"))
+			options.waiting_read = 1;
+		else if (!strcmp(words[at], "--chains") && at + 1 < count)
+			options.chains = atoi(words[++at]);
+		else
+			break;
+	}
+	if (count < 2 || at < count) {
+		fprintf(stderr, "record: the arguments are SEED [--chains N] [--pipes] [--waiting-read]\n");
+		exit(BAD_ARGUMENT);
+	}
+	return atoi(words[1]);
+}
+
 int main(int count, char **words) {
-	int seed = read_options(&options, count, words);
+	int seed = read_options(count, words);
 	seed_random(seed);
-	chains = memory_of((options.chains + options.updates + 3) * sizeof *chains);
+	chains = memory_of((options.chains + UPDATES + 3) * sizeof *chains);
 	errno = -io_uring_queue_init(ENTRIES, &ring, IORING_SETUP_SUBMIT_ALL);
 	if (errno || !make_catalogue(options.pipes || options.waiting_read)) {
 		fprintf(stderr, "record: no io_uring of Linux 5.18 or later, or no inotify: %s\n", strerror(errno));
 		return NO_IO_URING;
 	}
-	append("call 1 sparse %d", options.slots);
-	append("done 1.1 %d", io_uring_register_files_sparse(&ring, options.slots));
+	append("call 1 sparse %d", SLOTS);
+	append("done 1.1 %d", io_uring_register_files_sparse(&ring, SLOTS));
 	if (options.waiting_read)
-		play_waiting_read(&ring);
+		play_waiting_read();
 	else
 		play_beside_updates(&seed);
 	settle();

@@ -30,9 +30,9 @@ pub(crate) struct Placed {
 
 const AGAIN: i64 = -7;
 
-/// The fewest workers of a table. A stock has a node for each worker, and the nodes of small stocks
-/// would share cache lines.
-const WORKERS: usize = 16;
+/// The fewest workers of a table. A stock has a node for each worker. After the first 4,096 nodes two
+/// share a cache line, and so would those of small stocks.
+pub const WORKERS: usize = 16;
 
 extern "C" {
     fn yacht_core_open(slots: u32, installing: u32, workers: *mut *mut Worker, count: usize)

@@ -16,7 +16,7 @@ mod words;
 mod work;
 
 use bindings::{Lasting, LastingKeys};
-use exports::Core;
+use exports::{Core, WORKERS};
 use lasting_words::LastingWords;
 use locked::Locked;
 use others::{Epochs, Swaps};
@@ -47,7 +47,7 @@ fn round(name: &str, words: &str, row: Row, threads: usize) {
     let times = [
         ("lasting", proved::time("lasting", words, threads)),
         ("Rust crate", time::<Lasting>(row, threads)),
-        ("lasting words", time::<LastingWords>(row, threads)),
+        ("lasting words", time::<LastingWords<1>>(row, threads)),
         ("counted", proved::time("counted", words, threads)),
         ("counted words", time::<Words>(row, threads)),
         ("arc-swap load", time::<Swaps<false>>(row, threads)),
@@ -69,7 +69,7 @@ fn large_round(name: &str, _: &str, row: Row, threads: usize) {
         ("lasting", time::<Core>(row, threads)),
         ("Rust crate", time::<Lasting>(row, threads)),
         ("Rust crate keys", time::<LastingKeys>(row, threads)),
-        ("lasting words", time::<LastingWords>(row, threads)),
+        ("lasting words", time::<LastingWords<WORKERS>>(row, threads)),
         ("sharded-slab keys", time::<Keys>(row, threads)),
         ("sharded-slab", time::<Slabs>(row, threads)),
     ];

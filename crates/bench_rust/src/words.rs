@@ -1,7 +1,7 @@
 //! The words of the counted table, in plain, unproved Rust: the proved table is measured against
 //! it. A slot's word has the number of its file and its takes, and a file's word its releases; the
 //! thread that brings it to 0 gets the file.
-use crate::table::{read_entry, File, Line, Shape, Table};
+use crate::table::{read_entry, File, Line, Shape, Table, FILE};
 use std::cell::UnsafeCell;
 use std::sync::atomic::{AtomicU64, Ordering::SeqCst};
 
@@ -143,7 +143,7 @@ impl Table for Words {
             }),
             node: AtomicU64::new(BORN),
         };
-        let place = |n| UnsafeCell::new((n < full).then_some(File { entry: 0, mark: 0 }));
+        let place = |n| UnsafeCell::new((n < full).then_some(FILE));
         Words {
             pairs: (0..slots).map(pair).collect(),
             nodes: (slots..numbers).map(|_| AtomicU64::new(0)).collect(),
