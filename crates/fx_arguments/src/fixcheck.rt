@@ -1,5 +1,5 @@
 //! The command line of `fixcheck`.
-use crate::{Refusal, with};
+use crate::{Refusal, number_option, option, with};
 use clap::{Arg, ArgAction, ArgMatches, Command, value_parser};
 use std::alloc::{AllocError, Global};
 use std::convert::AsStr;
@@ -68,56 +68,46 @@ pub struct Settings<'a> {
     pub asked: Asked<'a>,
 }
 
-fn option<'a>(alloc: Global, name: &'a str) -> Arg<'a> {
-    Arg::new(alloc, name).long(name)
-}
-
-fn flag<'a>(alloc: Global, name: &'a str) -> Arg<'a> {
-    option(alloc, name).action(ArgAction::SetTrue)
-}
-
-fn number<'a>(alloc: Global, name: &'a str, help: &'a str) -> Arg<'a> {
-    option(alloc, name)
-        .value_name("N")
-        .value_parser(value_parser!(u32))
+fn flag<'a>(alloc: Global, name: &'a str, help: &'a str) -> Arg<'a> {
+    Arg::new(alloc, name)
+        .long(name)
+        .action(ArgAction::SetTrue)
         .help(help)
 }
 
 fn states<'a>(alloc: Global) -> Arg<'a> {
     let help = "Largest number of states of a part of a submission; with more it is undecided";
-    number(alloc, "states", help).default_value("1000000")
+    option(alloc, "states", "N", help)
+        .value_parser(value_parser!(u32))
+        .default_value("1000000")
 }
 
 fn memory<'a>(alloc: Global) -> Arg<'a> {
-    option(alloc, "memory")
-        .value_name("MIB")
-        .value_parser(value_parser!(u32).range(1..=MOST_MEMORY))
-        .default_value("1024")
-        .help("Largest number of MiB of these states; with more it is undecided")
+    let help = "Largest number of MiB of these states; with more it is undecided";
+    number_option(alloc, "memory", "MIB", MOST_MEMORY, help).default_value("1024")
 }
 
 fn history<'a>(alloc: Global) -> Arg<'a> {
-    flag(alloc, "history").help(
-        "Prints instead of the orders a whole legal history that gives the text",
-    )
+    let help = "Prints instead of the orders a whole legal history that gives the text";
+    flag(alloc, "history", help)
 }
 
 fn keep_going<'a>(alloc: Global) -> Result<Arg<'a>, AllocError> {
-    flag(alloc, "keep-going")
-        .help("Goes on after a break from the ring that the text shows, and prints every break")
+    let help = "Goes on after a break from the ring that the text shows, and prints every break";
+    flag(alloc, "keep-going", help)
         .conflicts_with("may")?
         .conflicts_with("all")
 }
 
 fn may<'a>(alloc: Global) -> Arg<'a> {
-    flag(alloc, "may").help(
-        "Lists the answers of the request whose place, as 1.1.2, follows instead of TEXT",
-    )
+    let help = "Lists the answers of the request whose place, as 1.1.2, follows instead of TEXT";
+    flag(alloc, "may", help)
 }
 
 fn all<'a>(alloc: Global) -> Result<Arg<'a>, AllocError> {
     let help = "Lists every text of the script, the first N of them; by default 100";
-    number(alloc, "all", help)
+    option(alloc, "all", "N", help)
+        .value_parser(value_parser!(u32))
         .num_args(0..=1)
         .require_equals(true)
         .default_missing_value("100")
@@ -144,14 +134,12 @@ fn command<'a>(alloc: Global) -> Result<Command<'a>, AllocError> {
     let command = Command::new(alloc, "fixcheck")
         .version(VERSION)
         .about(ABOUT)
-        .after_help(STATUSES);
-    let command = with(Ok(command), Ok(states(alloc)));
-    let command = with(command, Ok(memory(alloc)));
-    let command = with(command, Ok(history(alloc)));
-    let command = with(command, keep_going(alloc));
-    let command = with(command, Ok(may(alloc)));
-    let command = with(command, all(alloc));
-    let command = with(command, Ok(script(alloc)));
+        .after_help(STATUSES)
+        .arg(states(alloc))?
+        .arg(memory(alloc))?
+        .arg(history(alloc))?;
+    let command = with(command, keep_going(alloc))?.arg(may(alloc))?;
+    let command = with(command, all(alloc))?.arg(script(alloc))?;
     with(command, text(alloc))
 }
 
@@ -166,23 +154,20 @@ fn asked_in<'a>(
         (Some(_), Some(_)) if script.parse::<u32>().is_ok() => {
             Err(Refusal::NumberWithAll(script.to_owned(alloc)?))
         }
-        (Some(_), Some(_)) => Err(Refusal::TextWithAll),
-        (None, None) => Err(Refusal::NoPlaceGiven),
-        (None, Some(text)) if script == "-" && text == "-" => Err(Refusal::TwoInputs),
+        (Some(_), Some(_)) => Err(Refusal::Because("--all takes no TEXT")),
+        (None, None) => Err(Refusal::Because(
+            "--may needs the place of a request after SCRIPT, as 1.1.2",
+        )),
+        (None, Some(text)) if script == "-" && text == "-" => Err(Refusal::Because(
+            "the script and the text can't both be standard input",
+        )),
         (None, Some(place)) if matches.get_flag("may") => Ok(Asked::Answers(place)),
         (None, Some(text)) => Ok(Asked::Verdict(text)),
     }
 }
 
-/// Returns what the words of a command line ask for.
-///
-/// # Errors
-/// Those of clap: help or the version is requested, an argument is unknown, missing or invalid, or
-/// an allocation fails. Of this program's own: `TextWithAll` or `NumberWithAll` if a text follows
-/// the script of `--all`, `NoPlaceGiven` if no place follows that of `--may`, and `TwoInputs` if
-/// both the script and the text are `-`.
-pub fn settings_in<'a, S: AsStr>(alloc: Global, words: &'a [S]) -> Result<Settings<'a>, Refusal> {
-    let matches = command(alloc)?.try_get_matches_from(words)?;
+// Returns the settings that the words gave.
+fn settings_of<'a>(alloc: Global, matches: &ArgMatches<'a>) -> Result<Settings<'a>, Refusal> {
     let script = matches.get_str("script").unwrap_or("-");
     // the numbers have defaults
     Ok(Settings {
@@ -191,6 +176,17 @@ pub fn settings_in<'a, S: AsStr>(alloc: Global, words: &'a [S]) -> Result<Settin
         history: matches.get_flag("history"),
         keep_going: matches.get_flag("keep-going"),
         script,
-        asked: asked_in(alloc, &matches, script)?,
+        asked: asked_in(alloc, matches, script)?,
     })
+}
+
+/// Returns what the words of a command line ask for.
+///
+/// # Errors
+/// Those of clap: help or the version is requested, an argument is unknown, missing or invalid, or
+/// an allocation fails. Of this program's own: a text follows the script of `--all`, no place
+/// follows that of `--may`, or both the script and the text are `-`.
+pub fn settings_in<'a, S: AsStr>(alloc: Global, words: &'a [S]) -> Result<Settings<'a>, Refusal> {
+    let matches = command(alloc)?.try_get_matches_from(words)?;
+    settings_of(alloc, &matches)
 }

@@ -2,9 +2,9 @@
 ghost use Rattle.std.specs.Prelude.{◌≤◌, IfOk};
 ghost use Rattle.fx_table.specs.declared.limits.TheConstants.{MAX_PASSES};
 
-use crate::{Refusal, with, words};
+use crate::{Refusal, number_option, option, words};
 use clap::error::ErrorKind;
-use clap::{Arg, ArgMatches, Command, Error, value_parser};
+use clap::{Arg, ArgMatches, Command, Error};
 use std::alloc::{AllocError, Global};
 use std::convert::AsStr;
 use std::str::FromStr;
@@ -71,32 +71,26 @@ pub struct Settings {
 }
 
 fn workers_option<'a>(alloc: Global) -> Arg<'a> {
-    Arg::new(alloc, "workers")
-        .long("workers")
-        .value_name("N")
-        .value_parser(value_parser!(u32).range(1..=16))
-        .default_value("1")
-        .help("How many threads play a submission, 1 to 16")
+    let help = "How many threads play a submission, 1 to 16";
+    number_option(alloc, "workers", "N", 16, help).default_value("1")
 }
 
 fn table_option<'a>(alloc: Global) -> Arg<'a> {
-    Arg::new(alloc, "table")
-        .long("table")
-        .value_name("NAME")
+    let help = "Which table they share: `words` has no lock, `baton` is guarded by one word";
+    option(alloc, "table", "NAME", help)
         .value_parser(TABLES)
         .default_value("words")
-        .help("Which table they share: `words` has no lock, `baton` is guarded by one word")
 }
 
 fn command<'a>(alloc: Global) -> Result<Command<'a>, AllocError> {
-    let command = Command::new(alloc, "fixfiles")
+    Command::new(alloc, "fixfiles")
         .about(ABOUT)
         .after_help(SCRIPTS_AND_STATUSES)
-        .override_usage("fixfiles [OPTIONS] < SCRIPT");
-    let command = with(Ok(command), Ok(workers_option(alloc)));
-    let command = with(command, Ok(table_option(alloc)));
-    // no script is an argument; one that is given is refused with a tip
-    with(command, Ok(Arg::new(alloc, "script").hide(true)))
+        .override_usage("fixfiles [OPTIONS] < SCRIPT")
+        .arg(workers_option(alloc))?
+        .arg(table_option(alloc))?
+        // no script is an argument; one that is given is refused with a tip
+        .arg(Arg::new(alloc, "script").hide(true))
 }
 
 // Returns the error of a script that is given as an argument.

@@ -6,35 +6,21 @@ pub mod fixcheck;
 pub mod fixfiles;
 
 use clap::error::ErrorKind;
-use clap::{Arg, Command};
-use std::alloc::AllocError;
+use clap::{Arg, Command, value_parser};
+use std::alloc::{AllocError, Global};
 use std::{env, io};
-use thiserror::Error;
 
 /// The reason why the words of a command line are refused.
-#[derive(Debug, Drop, Error)]
+#[derive(Drop)]
 pub enum Refusal {
     /// Help or the version was requested, or the arguments are invalid.
-    #[error("{0}")]
     Arguments(clap::Error),
-    /// An argument isn't UTF-8.
-    #[error("an argument is no text")]
-    NoText,
-    /// Both the script and the text would be standard input.
-    #[error("the script and the text can't both be standard input")]
-    TwoInputs,
-    /// A text follows the script of `--all`.
-    #[error("--all takes no TEXT")]
-    TextWithAll,
     /// A text follows the script of `--all`; the number in the script's place, which may be meant
     /// as that of `--all`.
-    #[error("--all takes no TEXT; its number is written as --all={0}")]
     NumberWithAll(String),
-    /// No place follows the script of `--may`.
-    #[error("--may needs the place of a request after SCRIPT, as 1.1.2")]
-    NoPlaceGiven,
+    /// Another reason, in words.
+    Because(&'static str),
     /// An allocation for the arguments failed.
-    #[error("out of memory")]
     NoMemory,
 }
 
@@ -72,27 +58,53 @@ impl Refusal {
     pub fn print(&self, rt: &HostRuntime, program: &str) -> io::Result<()> {
         match self {
             Refusal::Arguments(error) => error.print(rt),
-            refusal => eprintln!(rt; "{program}: {refusal}"),
+            Refusal::NumberWithAll(number) => eprintln!(rt;
+                "{program}: --all takes no TEXT; its number is written as --all={number}"
+            ),
+            Refusal::Because(words) => eprintln!(rt; "{program}: {words}"),
+            Refusal::NoMemory => eprintln!(rt; "{program}: out of memory"),
         }
     }
 }
 
-// Adds an argument to a command, unless an allocation for one of them failed.
+// Returns an option that takes a value, which the help calls `value`.
+fn option<'a>(alloc: Global, name: &'a str, value: &'a str, help: &'a str) -> Arg<'a> {
+    Arg::new(alloc, name)
+        .long(name)
+        .value_name(value)
+        .help(help)
+}
+
+// Returns an option that takes a number from 1 to `most`.
+fn number_option<'a>(
+    alloc: Global,
+    name: &'a str,
+    value: &'a str,
+    most: i64,
+    help: &'a str,
+) -> Arg<'a> {
+    option(alloc, name, value, help).value_parser(value_parser!(u32).range(1..=most))
+}
+
+// Adds an argument to a command, unless an allocation for the argument failed.
 fn with<'a>(
-    command: Result<Command<'a>, AllocError>,
+    command: Command<'a>,
     arg: Result<Arg<'a>, AllocError>,
 ) -> Result<Command<'a>, AllocError> {
-    command?.arg(arg?)
+    match arg {
+        Ok(arg) => command.arg(arg),
+        Err(refused) => Err(refused),
+    }
 }
 
 /// Returns the words of the command line, the program's name first.
 ///
 /// # Errors
-/// `NoMemory` if an allocation fails, `NoText` if an argument isn't UTF-8.
+/// `NoMemory` if an allocation fails, and `Because` if an argument isn't UTF-8.
 pub fn words(rt: &HostRuntime) -> Result<Vec<String>, Refusal> {
     match env::args(rt) {
         Ok(args) => Ok(args.collect(rt.alloc())?),
         Err(error) if error.kind() == io::ErrorKind::OutOfMemory => Err(Refusal::NoMemory),
-        Err(_) => Err(Refusal::NoText),
+        Err(_) => Err(Refusal::Because("an argument is no text")),
     }
 }
