@@ -49,6 +49,7 @@ pub mod EmptySlots
 pub mod Taking
 pub mod Retiring
 pub mod Finishing
+pub mod KeptNodes
 pub mod Visiting
 pub mod Skimming
 pub mod Rounds

@@ -9,7 +9,7 @@ use Rattle.std.specs.Prelude.{option_map, Result, Ok, Err, ok_or, is_err, is_som
 use Rattle.std.proofs.lemmas.Bool.{not-false, not-true}
 use Rattle.fx_table.specs.Calls.{Use, no_use, one_number, one_look, Adds, IsNewFile, Placed, Cleared, Taken, ReleasesFile, LookedAfter, LookedUp}
 use Rattle.fx_table.proofs.Calls.{adds_then, adds_nothing}
-use Rattle.fx_lasting.proofs.Words.{Owing, Yielding, Searching, Placing, Emptying, HoldsOn}
+use Rattle.fx_lasting.proofs.Words.{Owing, Yielding, Searching, Placing, Emptying, Keeping, HoldsOn}
 use Rattle.fx_lasting.proofs.Words.{new_round, LooksByTake, LetsMarkGo, Announced, first_visit, heat_in, cond, inl, inr}
 use Rattle.fx_table.specs.Opening.{Opening}
 use Rattle.fx_table.specs.Pass.{PassView, IsIdle, IsFileRemoval}
@@ -142,6 +142,7 @@ holds_on (Searching n) is = absurd (cc is)
 holds_on (Placing n l) is = absurd (cc is)
 holds_on (Retiring g n t nx m) is = absurd (cc is)
 holds_on (Emptying n) is = absurd (cc is)
+holds_on (Keeping n) is = absurd (cc is)
 
 -- a pass that looks nothing up, outside a change
 pub at_rest : {id : TableId} {k : Start} {p : LastingPass} → IsPassOf id k p → {m' : Sat} {xs : List Action} {w : Work} {n : ℕ}
