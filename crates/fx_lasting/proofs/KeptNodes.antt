@@ -1,9 +1,9 @@
 -- A pass keeps the node of a closed file, takes its place again, or frees it.
-use Rattle.fx_lasting.proofs.Words.{◌≡◌, ◌≢◌, ℕ, ◌+◌, ◌<◌, List, [], ◌∷◌, set, sym, refl, ap, ◌∙◌, subst, arith, Option, Some, None, none, some}
+use Rattle.fx_lasting.proofs.Words.{◌≡◌, ℕ, ◌<◌, List, [], ◌∷◌, set, sym, refl, ap, ◌∙◌, subst, arith, Option, Some, None, none, some}
 use Rattle.fx_lasting.proofs.Words.{keeps, takes, gives, rest, set_here, set_else, Closed, WorkAgrees, nodes_of, word_of, if_file, taken_of, taking}
 use Rattle.fx_lasting.proofs.Words.{held_in, placed, free, kept, emptied, owner, file_in, removed_in, changed_here, Work, Idle, Placing, Emptying, Keeping}
-use Rattle.fx_lasting.proofs.Words.{Parks, Resumes, Settles, ParksKeep, ResumesKeep, SettlesKeep, birth_word, step, inl, inr, dite, ℕ_discrete}
-use Rattle.fx_lasting.proofs.Words.{sum_set, length-set, Agrees, Unlabelled, IsInStock, hold_word_of}
+use Rattle.fx_lasting.proofs.Words.{Parks, Resumes, SettlesNode, ParksKeep, ResumesKeep, SettlesKeep, birth_word, step, inr, dite, ℕ_discrete}
+use Rattle.fx_lasting.proofs.Words.{sum_set, length-set, Agrees, Unlabelled, IsInStock}
 use Rattle.fx_lasting.proofs.Histories.{grows_none, each_changed}
 use Rattle.fx_lasting.proofs.Frames.{busy, does_now}
 use Rattle.fx_lasting.proofs.Keeping.{Turn, turn_of, After, Homes, word_at, Made, by_turn, its_log, its_work, in_range, tells, tells_less, w, end}
@@ -220,7 +220,7 @@ module _ (turn : Turn) (n : ℕ) where
         } o.seen o.own
 
     pub settles : (slots : ℕ) (carried : List (ℕ × Option Closed))
-        → Made turn carried (word_of v.start n) (λ _. 0) (λ _. Settles (step slots (word_of v.start n) 0 0 none) (v, carried) 0)
+        → Made turn carried (word_of v.start n) (λ _. 0) (λ _. SettlesNode (step slots (word_of v.start n) 0 0 none) (v, carried) 0)
     settles slots carried = (
       w turn free_after,
       keeps,
@@ -242,7 +242,7 @@ resumes_keep k slots id i n m x has works place = by_turn slots (λ _. Unit {0})
     (λ i. Resumes (step slots i 0 0 none) m) has tt place
     (λ st r here _ fits. resumes (turn_of m x has.1 id st r here) n works slots m.1)
 
-pub settles_keep : SettlesKeep Settles
+pub settles_keep : SettlesKeep SettlesNode
 settles_keep k slots id i n m x has works place = by_turn slots (λ _. Unit {0}) (λ k. word_of k n) (λ _. 0)
-    (λ i _. Settles (step slots i 0 0 none) m 0) has tt place
+    (λ i _. SettlesNode (step slots i 0 0 none) m 0) has tt place
     (λ st r here _ fits. settles (turn_of m x has.1 id st r here) n works slots m.1)

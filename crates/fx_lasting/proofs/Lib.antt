@@ -41,6 +41,7 @@ pub mod Running
 pub mod Calling
 pub mod Sought
 pub mod Passing
+pub mod Settled
 pub mod Removals
 pub mod Questions
 pub mod Trying

@@ -1,6 +1,6 @@
--- The steps by which a pass keeps the node of a closed file for its next one. Where no take and no
--- mark of the file was lost, the node's word is that of a birth still: neither a rest nor a birth
--- has to store it.
+-- The steps by which a pass keeps the node of a closed file for its next one. If the file had no
+-- takes and no marks, the node's word is still that of a birth: no rest has to store 0, and no
+-- birth has to store that word.
 use Rattle.std.specs.Prelude.{◌≡◌, ◌≢◌, ℕ, [], ◌∷◌, None}
 use Rattle.atomic_table.specs.Table.{rest}
 use Rattle.fx_lasting.specs.Parts.{birth_word}
@@ -23,6 +23,6 @@ pub record Resumes (st : At) (m : Sat) (found : ℕ) (m' : Sat) : Type 0 where
       × (m'.1 ≡ (node, None) ∷ m.1)
 
 -- Settle: the node that the pass kept is free, and the pass has seen what it had seen
-pub record Settles (st : At) (m : Sat) (found : ℕ) (m' : Sat) : Type 0 where
+pub record SettlesNode (st : At) (m : Sat) (found : ℕ) (m' : Sat) : Type 0 where
   pub goes : Goes m [] Idle m.0.glance m'
   pub front : (pass_in m').front ≡ (pass_in m).front

@@ -208,9 +208,9 @@ impl Play<Option<OpenFile>, View> for Resuming {
 pub struct Settling;
 
 impl Play<Option<OpenFile>, View> for Settling {
-    ghost use Rattle.fx_lasting.specs.KeepSteps.{Settles};
+    ghost use Rattle.fx_lasting.specs.KeepSteps.{SettlesNode};
 
-    ghost then = { Settles };
+    ghost then = { SettlesNode };
 }
 
 /// Skim: a pass that removed a hot file reads which of 64 passes are listed, and so may announce

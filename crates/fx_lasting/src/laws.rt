@@ -126,8 +126,8 @@ pub fn rest_keeps_rule()
     ensures { RestsKeep ⟦<Resting as Play<Option<OpenFile>, View>>⟧.then }
 {}
 
-/// A pass that took the closed file of a node of its stock out, and loads the node's word, keeps the
-/// rule. If the word is that of a birth, the pass keeps the node.
+/// A pass that took the closed file of a node of its stock out, and loads the node's word, keeps
+/// the rule. If the word is that of a birth, the pass keeps the node.
 pub fn park_keeps_rule()
     ensures { ParksKeep ⟦<Parking as Play<Option<OpenFile>, View>>⟧.then }
 {}
