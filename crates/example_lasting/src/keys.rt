@@ -6,7 +6,7 @@ ghost use Rattle.fx_table.specs.Pass.{IsIdle};
 
 use crate::{discard, discard_all};
 use fx_base::{Catalogue, Mark, NoMemory};
-use fx_lasting::{Key, KeyFault, KeyLook, KeyTaken, LastingPass, LastingTable};
+use fx_lasting::{Key, KeyFault, KeyLook, KeyPut, KeyTaken, LastingPass, LastingTable, PutOverKey};
 use std::alloc::Global;
 use std::sync::Wait;
 use std::sync::atomic::{AtomicU32, Ordering};
@@ -85,6 +85,70 @@ fn remove(
     Ok(())
 }
 
+// Puts a file over that of a key, which the holder holds meanwhile, and retires the old file.
+// Returns `None` if the pass may not install files.
+fn put_over(
+    catalogue: &Catalogue,
+    table: &LastingTable,
+    holder: &mut LastingPass,
+    pass: &mut LastingPass,
+    bits: u64,
+    i: u32,
+    closed: &AtomicU32,
+) -> Option<Result<(), KeyFault>>
+    requires holder { IsPassOfTable table.now holder.old × IsIdle (view_of holder.old) }
+    requires pass { IsPassOfTable table.now pass.old × IsIdle (view_of pass.old) }
+    requires entry { 0 < length catalogue.now }
+    ensures holder { IsPassOfTable table.now holder.new × IsIdle (view_of holder.new) }
+    ensures pass { IsPassOfTable table.now pass.new × IsIdle (view_of pass.new) }
+{
+    if table.numbers_left(pass) == 0 {
+        return None;
+    }
+    let file = catalogue.open(0, Mark::Registered { k: 1, i }, 0);
+    let KeyPut {
+        put,
+        freed,
+        released,
+    } = table.put_over_key(holder, pass, Key::from_bits(bits), file);
+    discard(freed, closed);
+    discard(released, closed);
+    match put {
+        PutOverKey::Replaced(old) => {
+            discard(table.retire(pass, old), closed);
+            Some(Ok(()))
+        }
+        PutOverKey::Missed(fault, file) => {
+            file.discard();
+            Some(Err(fault))
+        }
+    }
+}
+
+// Puts a file at slot 0, whatever the slot has, and retires the file that was there. Returns the
+// new file's key, or `None` if the pass may not install files or the table has no slot.
+fn put_at_first(
+    catalogue: &Catalogue,
+    table: &LastingTable,
+    pass: &mut LastingPass,
+    i: u32,
+    closed: &AtomicU32,
+) -> Option<Key>
+    requires ready { IsPassOfTable table.now pass.old × IsIdle (view_of pass.old) }
+    requires entry { 0 < length catalogue.now }
+    ensures ready { IsPassOfTable table.now pass.new × IsIdle (view_of pass.new) }
+{
+    if table.numbers_left(pass) == 0 || table.size() == 0 {
+        return None;
+    }
+    let file = catalogue.open(0, Mark::Registered { k: 1, i }, 0);
+    let (key, replaced) = table.put_key(pass, 0, file);
+    if let Some(old) = replaced {
+        discard(table.retire(pass, old), closed);
+    }
+    Some(key)
+}
+
 // Puts a file, removes it by its key, and puts another file at its slot. Prints what is found by
 // the keys. Stops early if a file can't be put.
 fn use_keys<R: Wait + Print>(
@@ -113,6 +177,34 @@ fn use_keys<R: Wait + Print>(
     let stale = find(table, holder, old, &closed);
     let found = find(table, holder, new, &closed);
     let _ = println!(rt; "looked up by the old key: {stale:?}, by the new key: {found:?}");
+    replace_by_key(rt, catalogue, table, holder, pass, new)
+}
+
+// Replaces the file of a key twice, by the key and by its slot. Prints what is found by the keys.
+// Stops early if a file can't be put.
+fn replace_by_key<R: Print>(
+    rt: &R,
+    catalogue: &Catalogue,
+    table: &LastingTable,
+    holder: &mut LastingPass,
+    pass: &mut LastingPass,
+    bits: u64,
+) -> Option<()>
+    requires holder { IsPassOfTable table.now holder.old × IsIdle (view_of holder.old) }
+    requires pass { IsPassOfTable table.now pass.old × IsIdle (view_of pass.old) }
+    requires entry { 0 < length catalogue.now }
+    ensures holder { IsPassOfTable table.now holder.new × IsIdle (view_of holder.new) }
+    ensures pass { IsPassOfTable table.now pass.new × IsIdle (view_of pass.new) }
+{
+    let closed = AtomicU32::new(0);
+    let replaced = put_over(catalogue, table, holder, pass, bits, 3, &closed)?;
+    let count = closed.load(Ordering::SeqCst);
+    let _ = println!(rt; "replaced by the key: {replaced:?}, files closed: {count}");
+    let again = put_over(catalogue, table, holder, pass, bits, 4, &closed)?;
+    let _ = println!(rt; "replaced by the same key again: {again:?}");
+    let key = put_at_first(catalogue, table, pass, 5, &closed)?;
+    let count = closed.load(Ordering::SeqCst);
+    let _ = println!(rt; "put at the slot: {key:?}, files closed: {count}");
     Some(())
 }
 

@@ -2,7 +2,7 @@
 use Rattle.fx_lasting.proofs.Words.{◌≡◌, ◌≢◌, ℕ, ◌+◌, ◌<◌, ◌≤◌, List, [], ◌∷◌, set, sym, refl, ap, ◌∙◌, subst, arith, Option, Some, None}
 use Rattle.fx_lasting.proofs.Words.{none, some, keeps, takes, gives, rest, set_here, set_else, Closed, WorkAgrees, MayBeUnmarked}
 use Rattle.fx_lasting.proofs.Words.{nodes_of, word_of, hold_word_of, held_in, if_file, taken_of, taking, owed, Phase, free, placed, seated, leaving}
-use Rattle.fx_lasting.proofs.Words.{retired, emptied, owner, file_in, removed_in, changed_here, Log, Work, Idle, Searching, Placing, Emptying, Seeks}
+use Rattle.fx_lasting.proofs.Words.{retired, emptied, kept, owner, file_in, removed_in, changed_here, Log, Work, Idle, Searching, Placing, Emptying, Seeks}
 use Rattle.fx_lasting.proofs.Words.{Births, Rests, SeeksKeep, BirthsKeep, RestsKeep, birth_word, step, inl, inr, ⊎_elim, dite, ℕ_discrete, sum_by}
 use Rattle.fx_lasting.proofs.Words.{sum_set, length-set, Start, Agrees, first_log}
 use Rattle.fx_lasting.proofs.Histories.{grows_none, each_changed}
@@ -36,6 +36,7 @@ module _ (turn : Turn) where
       go (leaving j t nx m f) at o = let a = o.counts in let b = o.few_takes in let c = o.few_marks in let d = o.few_visits in absurd (omega arith)
       go (retired f) at o = let a = o.counts in absurd (omega arith)
       go (emptied j) at o = let a = o.counts in absurd (omega arith)
+      go (kept j) at o = let a = o.counts in absurd (omega arith)
 
   free_zero : {n : ℕ} → n < nodes_of v.start → r.phase n ≡ free → word_at st.words (word_of v.start n) ≡ 0
   free_zero l is = (in_phase turn l is).counts

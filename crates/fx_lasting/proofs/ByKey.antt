@@ -1,5 +1,5 @@
 -- A pass that holds a file by a key, while another pass changes the slot.
-use Rattle.fx_lasting.proofs.Words.{◌≡◌, ℕ, ◌+◌, List, [], ◌∷◌, ◌++◌, map, length, length-append, sym, refl, ap, ◌∙◌, subst, arith, Option, Some, None}
+use Rattle.fx_lasting.proofs.Words.{◌≡◌, ℕ, List, [], ◌∷◌, ◌++◌, map, length, length-append, sym, refl, ap, ◌∙◌, subst, arith, Option, Some, None}
 use Rattle.fx_lasting.proofs.Words.{File, Event, Action, Look, Close, ◌▷◌, IsSeenBy, part_of_pass, held_by, Closed, Start, opening_of}
 use Rattle.fx_lasting.proofs.Words.{Put, Take, inr}
 use Rattle.std.specs.Prelude.{Ok, Err}

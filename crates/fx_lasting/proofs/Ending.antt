@@ -4,7 +4,7 @@ use Rattle.fx_lasting.specs.Passes.{contents_of}
 use Rattle.fx_lasting.proofs.Words.{◌≡◌, ℕ, suc, ◌<◌, ◌≤◌, map, sym, ap, ◌∙◌, subst, arith, Option, Some, None, sum_by, dite, some, dec_le, get_elem?}
 use Rattle.fx_lasting.proofs.Words.{Closed, State, IsSettled, File, sum_zero_at, ℕ_discrete, Does, OwnerAgrees, NodeAgrees, Agrees, Shared, slots_of}
 use Rattle.fx_lasting.proofs.Words.{nodes_of, word_of, state_after_all, state_at_start, held_of, if_file, taken_of, owed, count_in, Phase, free}
-use Rattle.fx_lasting.proofs.Words.{placed, seated, leaving, retired, emptied, removed_in, Start, View, Work, HasNoFile, IsSeated, action_of, refl}
+use Rattle.fx_lasting.proofs.Words.{placed, seated, leaving, retired, emptied, kept, removed_in, Start, View, Work, HasNoFile, IsSeated, action_of, refl}
 use Rattle.fx_lasting.proofs.Choosing.{no_file, no_take, not_busy, holds_none}
 use Rattle.fx_lasting.proofs.Frames.{busy}
 use Rattle.fx_plain.proofs.Prepared.{inside_behind, opens_inside}
@@ -45,6 +45,7 @@ module _ {k : Start} {s : Shared} (r : Agrees k s) (all_idle : (i : ℕ) (u : Vi
   removed_none m n (placed i l) a o = refl
   removed_none m n (seated i f) a o = refl
   removed_none m n (emptied i) a o = refl
+  removed_none m n (kept i) a o = refl
 
   pub settled_end : IsSettled end
   settled_end = record {
@@ -71,6 +72,7 @@ module _ {k : Start} {s : Shared} (r : Agrees k s) (all_idle : (i : ℕ) (u : Vi
   home_by {n} (leaving i t nx z f) a o = let bad = nobody i o in absurd (omega arith)
   home_by {n} (retired f) a o = let w = a.somebody in let h = untaken n in let q = unowed n in absurd (omega arith)
   home_by {n} (emptied i) a o = let bad = nobody i o in absurd (omega arith)
+  home_by {n} (kept i) a o = let bad = nobody i o in absurd (omega arith)
 
   pub home_file : {n : ℕ} → n < nodes_of k → (x : Option Closed) × (get_elem? s.homes n ≡ some (some x)) × AtItsSlot n x
   home_file {n} l = home_by (r.phase n) (r.each_node n l) (r.each_owner n l)

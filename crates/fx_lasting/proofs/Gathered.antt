@@ -1,7 +1,7 @@
 -- Passes as they are dealt out, and all of them in one seat again: what the one history says of
 -- each.
 use Rattle.fx_lasting.proofs.Words.{pass_in, ◌≡◌, ◌≢◌, ℕ, ◌+◌, ◌≤◌, List, [], ◌∷◌, sym, refl, ap, ◌∙◌, subst, arith, Option, All, TableId, take, drop}
-use Rattle.fx_lasting.proofs.Words.{map, length, reverse, Closed, Sat, new_log, pass_of, view_of, IsPassOf, IsSeatOf, IsBetweenCalls, LastingPass}
+use Rattle.fx_lasting.proofs.Words.{map, length, reverse, Closed, Sat, new_log, pass_of, view_of, IsPassOf, IsSeatOf, Knows, LastingPass}
 use Rattle.fx_lasting.proofs.Words.{Log, Start, View, IsNewPass, dealt, numbers_of_pass, first_stock, some, get_elem?, Contains, sum_by}
 use Rattle.fx_lasting.proofs.Words.{Contents, state_of, IsSettled, contains_head, contains_map, Agrees, LogAgrees, logs_in, Shared, opening_of}
 use Rattle.fx_lasting.proofs.Words.{state_after_all, first_log, Event, HasNoFile, inl, IsAtWork, IsHistory, lengths, one_if, eqb, true, false}
@@ -88,7 +88,7 @@ module _ {id : TableId} (k : Start) {p : ℕ} (low : 1 ≤ p) (high : p ≤ k.pa
     record {
       seated = seated;
       calm = ap (λ (m : Sat). m.0.glance) me;
-      knows = subst (IsBetweenCalls k.passes x.idle x.guarded x.next_visit) (sym (ap (λ (m : Sat). m.0.work) me)) new.flag;
+      knows = subst (Knows k.passes x) (sym (ap (λ (m : Sat). m.0.work) me)) (new.flag, new.unkept);
       front = rw me record { legal = legal; mine = refl };
     },
     ap (λ (m : Sat). record (pass_of m.0) { numbers_left = 0 }) me,

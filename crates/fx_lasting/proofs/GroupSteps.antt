@@ -8,7 +8,7 @@ use Rattle.fx_lasting.proofs.Words.{hold_word_of, slots_of, list_place, state_af
 use Rattle.fx_lasting.proofs.Words.{Shared, IsInside, Goes, Stepped, Lowers, Raises, Counts, as_asked}
 use Rattle.fx_lasting.proofs.Words.{LowersKeep, RaisesKeep, CountsKeep, IsGroup, length-set}
 use Rattle.fx_lasting.proofs.Words.{inl, held_by, Idle, Announced, Counted, Guarded, Owing, Yielding, Survey, Covered, Contains}
-use Rattle.fx_lasting.proofs.Words.{Searching, Placing, Retiring, Emptying, State, Phase, contains_only, part_of_pass}
+use Rattle.fx_lasting.proofs.Words.{Searching, Placing, Retiring, Emptying, Keeping, State, Phase, contains_only, part_of_pass}
 use Rattle.fx_lasting.proofs.Histories.{Grows, grows_none, grows_one, legal_more, held_mine, same_shape}
 use Rattle.fx_lasting.proofs.Counts.{bit_few}
 use Rattle.fx_lasting.proofs.Frames.{sees_same, guards_same, covers_same}
@@ -36,6 +36,7 @@ is_inside k phase seat (Searching n) o = o.0
 is_inside k phase seat (Placing n w) o = o.0
 is_inside k phase seat (Retiring f n t nx m) o = o.0
 is_inside k phase seat (Emptying n) o = o.0
+is_inside k phase seat (Keeping n) o = o.0
 
 module _ (k : Start) (s : Shared) (r : Agrees k s) where
   -- a seat without a pass owes nothing

@@ -41,6 +41,7 @@ pub mod Running
 pub mod Calling
 pub mod Sought
 pub mod Passing
+pub mod Settled
 pub mod Removals
 pub mod Questions
 pub mod Trying
@@ -49,6 +50,7 @@ pub mod EmptySlots
 pub mod Taking
 pub mod Retiring
 pub mod Finishing
+pub mod KeptNodes
 pub mod Visiting
 pub mod Skimming
 pub mod Rounds

@@ -1,5 +1,5 @@
 -- A step that sets a pass's bit in the list keeps the rule.
-use Rattle.fx_lasting.proofs.Words.{ℕ, ◌≤◌, ◌^◌, List, Option, Closed, refl, inl, inr, arith, none, keeps, Idle, Announced, Counted, Guarded, Owing, Yielding, Searching, Placing, Retiring, Emptying, true, bit_or, bit_of, list_place}
+use Rattle.fx_lasting.proofs.Words.{ℕ, ◌≤◌, ◌^◌, List, Option, Closed, refl, inl, inr, arith, none, keeps, Idle, Announced, Counted, Guarded, Owing, Yielding, Searching, Placing, Retiring, Emptying, Keeping, true, bit_or, bit_of, list_place}
 use Rattle.fx_lasting.proofs.Words.{step, length-set, dite, ℕ_discrete, Work, IsAllowed, Lists, ListsKeep, [], Bool}
 use Rattle.fx_lasting.proofs.Histories.{grows_none}
 use Rattle.fx_lasting.proofs.Frames.{guards_same, covers_same, sees_same}
@@ -24,6 +24,7 @@ allowed_more stock l (Owing n) ok = tt
 allowed_more stock l (Yielding f n) ok = tt
 allowed_more stock l (Retiring f n t nx m) ok = tt
 allowed_more stock l (Emptying n) ok = tt
+allowed_more stock l (Keeping n) ok = ok
 
 module _ (turn : Turn) (not_yet : turn.x.listed ≡ false) (fits : word_at turn.st.words (list_place turn.x.number) < 18446744073709551616) where
   open turn use {st, v, r, id, x, here, one}

@@ -5,7 +5,7 @@ use Rattle.fx_lasting.proofs.Words.{get_elem?, held_by, changed_at, File, Event,
 use Rattle.fx_lasting.proofs.Words.{slots_of, nodes_of, IsHistory, state_after_all, held_in, held_of, taken_of, taking, owed, Phase, free}
 use Rattle.fx_lasting.proofs.Words.{seated, owner, file_in, removed_in, View, Work, ⊎_elim, ◌⊎◌, inr, word_of, hold_word_of, count_in}
 use Rattle.fx_lasting.proofs.Words.{name_in, full_name_in, IsInStock, in_stock, sum_by, sum_set, HoldAgrees, GuardAgrees, MayBeUnmarked, Glance}
-use Rattle.fx_lasting.proofs.Words.{inl, list_place}
+use Rattle.fx_lasting.proofs.Words.{inl, list_place, IsSeenBy, part_of_pass}
 use Rattle.fx_lasting.proofs.Histories.{Grows, each_changed}
 use Rattle.fx_lasting.proofs.Frames.{busy, owner_stays, slot_same, node_same, Leaves, keeps_other}
 use Rattle.fx_lasting.proofs.Frames.{sees_same, covers_same, guards_same}
@@ -14,14 +14,14 @@ use Rattle.fx_lasting.proofs.Keeping.{LabelSame, labels_same}
 use Rattle.fx_lasting.proofs.Words.{Labels, written_in}
 use Rattle.fx_lasting.proofs.Groups.{CountAlike, counts_same}
 
-module _ (turn : Turn) (q : ℕ) (its : q < nodes_of turn.v.start) (ph : Phase) (h' : List Event) (words' : List ℕ) (homes' : Homes)
+module _ (turn : Turn) (q : ℕ) (its : q < nodes_of turn.v.start) (ph : Phase) (h' front : List Event) (words' : List ℕ) (homes' : Homes)
     (debt' : ℕ → ℕ) (d : Work) (g : Glance) where
   open turn use {st, v, r, id, x, here, one}
 
-  abbrev pub after : After turn
-  after = record {
+  abbrev pub after_seen : After turn
+  after_seen = record {
     h = h';
-    front = h';
+    front = front;
     words = words';
     homes = homes';
     phase = changed_at r.phase q ph;
@@ -42,7 +42,7 @@ module _ (turn : Turn) (q : ℕ) (its : q < nodes_of turn.v.start) (ph : Phase) 
   before = (state_after_all v.start r.history).at
 
   -- what the step has to keep
-  pub record NodeStep : Type 0 where
+  pub record NodeStepSeen : Type 0 where
     pub words : length words' ≡ length st.words
     pub homes : length homes' ≡ length st.homes
     pub grows : Grows x.number r.history h'
@@ -71,22 +71,22 @@ module _ (turn : Turn) (q : ℕ) (its : q < nodes_of turn.v.start) (ph : Phase) 
         → HoldAgrees (word_at st.words (hold_word_of v.start p)) (r.debt p) e → GuardAgrees (slot_word st.words) r.phase p (r.debt p) e
         → HoldAgrees (word_at words' (hold_word_of v.start p)) (debt' p) e × GuardAgrees (slot_word words') (changed_at r.phase q ph) p (debt' p) e
     pub node : NodeAgrees before (slots_of v.start) (λ s. count_in (slot_word st.words s)) r.node_of r.next_number q
-        (word_at words' (word_of v.start q)) (sum_by (taken_of q) (set st.views id (w turn after))) (owed debt' v.start.passes q)
+        (word_at words' (word_of v.start q)) (sum_by (taken_of q) (set st.views id (w turn after_seen))) (owed debt' v.start.passes q)
         (get_elem? homes' q) ph
-    pub known : OwnerAgrees (set st.views id (w turn after)) q ph
+    pub known : OwnerAgrees (set st.views id (w turn after_seen)) q ph
     pub label : Labels v.start words' q (written_in ph)
     -- the pass
     pub held : held_by h' x.number ≡ held_in d
     pub allowed : IsAllowed x.stock x.listed d
-    pub its_own : Keeps turn after id x.number d g
-    pub holds : (n : ℕ) → (state_after_all v.start h').holds n + held_of n v ≡ (state_after_all v.start r.history).holds n + held_of n (w turn after)
+    pub its_own : Keeps turn after_seen id x.number d g
+    pub holds : (n : ℕ) → (state_after_all v.start h').holds n + held_of n v ≡ (state_after_all v.start r.history).holds n + held_of n (w turn after_seen)
 
   -- The pass itself, where no slot's word has changed and it sees what it saw
-  pub own_keeps : ((s : ℕ) → s < slots_of v.start → slot_word words' s ≡ slot_word st.words s) → v.glance ≡ g
+  pub own_keeps_seen : ((s : ℕ) → s < slots_of v.start → slot_word words' s ≡ slot_word st.words s) → v.glance ≡ g
       → HoldAgrees (word_at words' (hold_word_of v.start x.number)) (debt' x.number) d
       → GuardAgrees (slot_word words') (changed_at r.phase q ph) x.number (debt' x.number) d → WorkAgrees v.start (changed_at r.phase q ph) id d
-      → Keeps turn after id x.number d g
-  own_keeps same is hold guard work = let o = its_log turn in record {
+      → Keeps turn after_seen id x.number d g
+  own_keeps_seen same is hold guard work = let o = its_log turn in record {
     hold = hold;
     guarded = guard;
     sees = sees_same v.start (λ s. r.deed s x.number) same g (rw is at o.sees);
@@ -95,20 +95,20 @@ module _ (turn : Turn) (q : ℕ) (its : q < nodes_of turn.v.start) (ph : Phase) 
   }
 
   -- another pass, whose hold word and debt have not changed
-  pub guards_else : ((s : ℕ) → s < slots_of v.start → slot_word words' s ≡ slot_word st.words s) → (p : ℕ) (e : Work)
+  pub guards_else_seen : ((s : ℕ) → s < slots_of v.start → slot_word words' s ≡ slot_word st.words s) → (p : ℕ) (e : Work)
       → word_at words' (hold_word_of v.start p) ≡ word_at st.words (hold_word_of v.start p) → debt' p ≡ r.debt p
       → (MayBeUnmarked (slot_word st.words) p (r.phase q) → MayBeUnmarked (slot_word words') p ph)
       → HoldAgrees (word_at st.words (hold_word_of v.start p)) (r.debt p) e → GuardAgrees (slot_word st.words) r.phase p (r.debt p) e
       → HoldAgrees (word_at words' (hold_word_of v.start p)) (debt' p) e × GuardAgrees (slot_word words') (changed_at r.phase q ph) p (debt' p) e
-  guards_else same p e held owes here = guards_same turn after p e held owes (λ n. each_changed
+  guards_else_seen same p e held owes here = guards_same turn after_seen p e held owes (λ n. each_changed
       (λ m z. MayBeUnmarked (slot_word st.words) p (r.phase m) → MayBeUnmarked (slot_word words') p z) r.phase
       (λ is may. here (rw is at may)) (λ _. covers_same turn words' same p n))
 
-  module _ (s : NodeStep) where
+  module _ (s : NodeStepSeen) where
     at_is : (slot : ℕ) → (state_after_all v.start h').at slot ≡ before slot
     at_is slot = ap (λ (f : ℕ → Option File). f slot) s.at
 
-    leaves : Leaves turn after
+    leaves : Leaves turn after_seen
     leaves = record {
       guards = s.guards;
       owned = λ n some not_mine. each_changed (λ m z. z ≡ r.phase m) r.phase
@@ -128,29 +128,30 @@ module _ (turn : Turn) (q : ℕ) (its : q < nodes_of turn.v.start) (ph : Phase) 
       slots = λ i p l other. inr (refl, ap full_name_in (s.slot_words i l), λ hot. rw (s.slot_words i l) hot);
     }
 
-    pub node_kept : Agrees v.start (end turn after)
-    node_kept = step_kept turn after record {
+    -- the pass may see no more than before
+    pub node_kept_seen : IsSeenBy front h' → part_of_pass x.number h' ≡ part_of_pass x.number front → Agrees v.start (end turn after_seen)
+    node_kept_seen seen own = step_kept turn after_seen record {
       words = s.words;
       homes = s.homes;
       grows = s.grows;
       legal = s.legal;
-      seen = ([], refl);
-      own = refl;
+      seen = seen;
+      own = own;
       slots = λ i l. slot_same (s.slot_words i l) (at_is i) (λ q low high. refl)
           (λ f there seat. each_changed (λ m z. z ≡ r.phase m) r.phase
           (λ same. let e = ap r.phase (sym same) ∙ seat in s.at_slot i f e ∙ (sym e ∙ ap r.phase (sym same))) (λ _. refl))
           (r.each_slot i l);
       nodes = λ n l. each_changed (λ n z. NodeAgrees (state_after_all v.start h').at (slots_of v.start)
           (λ i. count_in (slot_word words' i)) r.node_of r.next_number n (word_at words' (word_of v.start n))
-          (sum_by (taken_of n) (set st.views id (w turn after))) (owed debt' v.start.passes n) (get_elem? homes' n) z) r.phase
+          (sum_by (taken_of n) (set st.views id (w turn after_seen))) (owed debt' v.start.passes n) (get_elem? homes' n) z) r.phase
           (λ same. rw same (node_same (slots_of v.start) r.node_of q (omega arith) refl refl refl refl ph
           (λ i f is there. (at_is i, ap count_in (s.slot_words i (inside i f is)))) s.node))
           (λ other. node_same (slots_of v.start) r.node_of n (omega arith) (s.node_words n l other)
-          (let t = sum_set (taken_of n) st.views id v (w turn after) here in let e = s.taken_else n other in omega arith)
+          (let t = sum_set (taken_of n) st.views id v (w turn after_seen) here in let e = s.taken_else n other in omega arith)
           (s.owed_else n other) (s.home_else n l other) (r.phase n)
           (λ i f is there. (at_is i, ap count_in (s.slot_words i (inside_else n l i f is)))) (r.each_node n l));
-      owners = λ n l. each_changed (OwnerAgrees (set st.views id (w turn after))) r.phase
-          (λ same. rw same s.known) (λ other. owner_stays st.views id v (w turn after) here n (s.free_else n other) (r.phase n) (r.each_owner n l));
+      owners = λ n l. each_changed (OwnerAgrees (set st.views id (w turn after_seen))) r.phase
+          (λ same. rw same s.known) (λ other. owner_stays st.views id v (w turn after_seen) here n (s.free_else n other) (r.phase n) (r.each_owner n l));
       labels = λ n l. each_changed (λ n z. Labels v.start words' n (written_in z)) r.phase (λ same. rw same s.label)
           (λ other. labels_same v.start _ _ _ (written_in (r.phase n)) (s.label_else n other) (r.each_label n l));
       removed = s.removed;
@@ -159,7 +160,7 @@ module _ (turn : Turn) (q : ℕ) (its : q < nodes_of turn.v.start) (ph : Phase) 
       named = names_on turn _ (λ i l. ap name_in (s.slot_words i l));
       stock = its_stock turn;
       stocks = λ n p e other at. at;
-      others = λ j u z other there at n range o work. keeps_other turn after leaves j u z other there at n range o work;
+      others = λ j u z other there at n range o work. keeps_other turn after_seen leaves j u z other there at n range o work;
       held = s.held;
       allowed = s.allowed;
       lists = λ p few. inl (s.lists p few);
@@ -167,15 +168,42 @@ module _ (turn : Turn) (q : ℕ) (its : q < nodes_of turn.v.start) (ph : Phase) 
       its_bit = λ l. inl l;
       its = s.its_own;
       holds = s.holds;
-      counts = counts_same id (w turn after) here r.counts (few_slots turn) s.at s.alike refl (asks_alike turn after refl);
+      counts = counts_same id (w turn after_seen) here r.counts (few_slots turn) s.at s.alike refl (asks_alike turn after_seen refl);
     }
       where
         inside : (i : ℕ) (f : File) → ph ≡ seated i f → i < slots_of v.start
         inside i f is = (subst (NodeAgrees before (slots_of v.start) (λ s. count_in (slot_word st.words s)) r.node_of r.next_number q
-            (word_at words' (word_of v.start q)) (sum_by (taken_of q) (set st.views id (w turn after))) (owed debt' v.start.passes q)
+            (word_at words' (word_of v.start q)) (sum_by (taken_of q) (set st.views id (w turn after_seen))) (owed debt' v.start.passes q)
             (get_elem? homes' q)) is s.node).inside
 
         inside_else : (n : ℕ) → n < nodes_of v.start → (i : ℕ) (f : File) → r.phase n ≡ seated i f → i < slots_of v.start
         inside_else n l i f is = (subst (NodeAgrees before (slots_of v.start) (λ s. count_in (slot_word st.words s)) r.node_of r.next_number n
             (word_at st.words (word_of v.start n)) (sum_by (taken_of n) st.views) (owed r.debt v.start.passes n)
             (get_elem? st.homes n)) is (r.each_node n l)).inside
+
+-- a step after which the pass has seen the whole history
+module _ (turn : Turn) (q : ℕ) (its : q < nodes_of turn.v.start) (ph : Phase) (h' : List Event) (words' : List ℕ) (homes' : Homes)
+    (debt' : ℕ → ℕ) (d : Work) (g : Glance) where
+  open turn use {st, v, r, id, x}
+
+  abbrev pub after : After turn
+  after = after_seen turn q its ph h' h' words' homes' debt' d g
+
+  abbrev pub NodeStep : Type 0
+  NodeStep = NodeStepSeen turn q its ph h' h' words' homes' debt' d g
+
+  pub own_keeps : ((s : ℕ) → s < slots_of v.start → slot_word words' s ≡ slot_word st.words s) → v.glance ≡ g
+      → HoldAgrees (word_at words' (hold_word_of v.start x.number)) (debt' x.number) d
+      → GuardAgrees (slot_word words') (changed_at r.phase q ph) x.number (debt' x.number) d → WorkAgrees v.start (changed_at r.phase q ph) id d
+      → Keeps turn after id x.number d g
+  own_keeps = own_keeps_seen turn q its ph h' h' words' homes' debt' d g
+
+  pub guards_else : ((s : ℕ) → s < slots_of v.start → slot_word words' s ≡ slot_word st.words s) → (p : ℕ) (e : Work)
+      → word_at words' (hold_word_of v.start p) ≡ word_at st.words (hold_word_of v.start p) → debt' p ≡ r.debt p
+      → (MayBeUnmarked (slot_word st.words) p (r.phase q) → MayBeUnmarked (slot_word words') p ph)
+      → HoldAgrees (word_at st.words (hold_word_of v.start p)) (r.debt p) e → GuardAgrees (slot_word st.words) r.phase p (r.debt p) e
+      → HoldAgrees (word_at words' (hold_word_of v.start p)) (debt' p) e × GuardAgrees (slot_word words') (changed_at r.phase q ph) p (debt' p) e
+  guards_else = guards_else_seen turn q its ph h' h' words' homes' debt' d g
+
+  pub node_kept : NodeStep → Agrees v.start (end turn after)
+  node_kept s = node_kept_seen turn q its ph h' h' words' homes' debt' d g s ([], refl) refl

@@ -1,15 +1,15 @@
 -- A pass between two calls, and what a call adds to it.
-use Rattle.fx_lasting.proofs.Words.{as_listed}
+use Rattle.fx_lasting.proofs.Words.{as_listed, get_elem?, some}
 use Rattle.fx_lasting.proofs.Words.{◌≡◌, ℕ, ◌+◌, ◌-◌, ◌≤◌, ◌<◌, ◌^◌, ◌⊎◌, List, [], sym, refl, ap, ◌∙◌, subst, arith, Bool, true, false, Option, Some, None}
 use Rattle.fx_lasting.proofs.Words.{Start, Sat, Work, Glance, Change, Nothing, Outside, Runs, IsAtWork, as_swapped, nodes_of, set}
-use Rattle.fx_lasting.proofs.Words.{part_of_pass, TableId, Idle, Counted, Guarded, Retiring, LastingPass, LastingTable, IsSeatOf, IsPassOf, IsPassOfTable, IsBetweenCalls}
+use Rattle.fx_lasting.proofs.Words.{part_of_pass, TableId, Idle, Counted, Guarded, Retiring, Keeping, LastingPass, LastingTable, IsSeatOf, IsPassOf, IsPassOfTable, IsBetweenCalls, Knows, MayPlace}
 use Rattle.fx_lasting.proofs.Words.{opening_of, view_of, pass_of, pass_in, numbers_of_pass, doing_in, hold_at, retired_at, retiring_work, IsHistory}
 use Rattle.fx_lasting.proofs.Words.{Action, ◌▷◌, Put, Clear, Take, Release, Close, Look, File, Closed, numbered, full_name_in, count_in, LetsFileGo}
 use Rattle.std.specs.Prelude.{option_map, Result, Ok, Err, ok_or, is_err, is_some, not, ◌==◌, ◌≢◌}
 use Rattle.std.proofs.lemmas.Bool.{not-false, not-true}
 use Rattle.fx_table.specs.Calls.{Use, no_use, one_number, one_look, Adds, IsNewFile, Placed, Cleared, Taken, ReleasesFile, LookedAfter, LookedUp}
 use Rattle.fx_table.proofs.Calls.{adds_then, adds_nothing}
-use Rattle.fx_lasting.proofs.Words.{Owing, Yielding, Searching, Placing, Emptying, HoldsOn}
+use Rattle.fx_lasting.proofs.Words.{Owing, Yielding, Placing, Emptying, HoldsOn}
 use Rattle.fx_lasting.proofs.Words.{new_round, LooksByTake, LetsMarkGo, Announced, first_visit, heat_in, cond, inl, inr}
 use Rattle.fx_table.specs.Opening.{Opening}
 use Rattle.fx_table.specs.Pass.{PassView, IsIdle, IsFileRemoval}
@@ -65,11 +65,11 @@ module _ {id : TableId} {k : Start} {p : LastingPass} (seated : IsSeatOf id k p)
 
   pub still_pass : (q : LastingPass) {xs : List Action} {w : Work} {n : ℕ} → Runs p.seat.me xs w Nothing Outside n q.seat.me
       → (q.number ≡ p.number) × ◌≡◌ {A = Bool × Bool} (q.listed, q.sure) (p.listed, p.sure) → q.seat.table_id ≡ p.seat.table_id → q.seat.me.1 ≡ []
-      → (q.stock.items ≡ p.stock.items) × (q.number ≤ k.installing → q.next_entry < k.passes) → IsBetweenCalls k.passes q.idle q.guarded q.next_visit w → IsPassOf id k q
+      → (q.stock.items ≡ p.stock.items) × (q.number ≤ k.installing → q.next_entry < k.passes) → Knows k.passes q w → IsPassOf id k q
   still_pass q r same table places stocked knows = record {
     seated = still_seat q r same table places stocked;
     calm = r.glance;
-    knows = subst (IsBetweenCalls k.passes q.idle q.guarded q.next_visit) (sym r.work) knows;
+    knows = subst (Knows k.passes q) (sym r.work) knows;
     front = (adds_so r no_use).front;
   }
 
@@ -82,7 +82,7 @@ module _ {id : TableId} {k : Start} {p : LastingPass} (seated : IsSeatOf id k p)
   pub swapped_pass : (q : LastingPass) {xs : List Action} {w : Work} {n : ℕ} → Runs (as_swapped entry node p.seat.me) xs w Nothing Outside n q.seat.me
       → (q.number ≡ p.number) × ◌≡◌ {A = Bool × Bool} (q.listed, q.sure) (p.listed, p.sure) → q.seat.table_id ≡ p.seat.table_id → q.seat.me.1 ≡ []
       → (q.stock.items ≡ set p.stock.items entry node) × (q.number ≤ k.installing → q.next_entry < k.passes)
-      → IsBetweenCalls k.passes q.idle q.guarded q.next_visit w → IsPassOf id k q
+      → Knows k.passes q w → IsPassOf id k q
   swapped_pass q r same table places stocked knows = record {
     seated = record {
       table = table ∙ seated.table;
@@ -95,7 +95,7 @@ module _ {id : TableId} {k : Start} {p : LastingPass} (seated : IsSeatOf id k p)
       sure = λ is. r.asked ∙ seated.sure (sym (ap (λ (z : Bool × Bool). z.1) same.1) ∙ is);
     };
     calm = r.glance;
-    knows = subst (IsBetweenCalls k.passes q.idle q.guarded q.next_visit) (sym r.work) knows;
+    knows = subst (Knows k.passes q) (sym r.work) knows;
     front = (adds_swapped r no_use).front;
   }
 
@@ -142,6 +142,7 @@ holds_on (Searching n) is = absurd (cc is)
 holds_on (Placing n l) is = absurd (cc is)
 holds_on (Retiring g n t nx m) is = absurd (cc is)
 holds_on (Emptying n) is = absurd (cc is)
+holds_on (Keeping n) is = absurd (cc is)
 
 -- a pass that looks nothing up, outside a change
 pub at_rest : {id : TableId} {k : Start} {p : LastingPass} → IsPassOf id k p → {m' : Sat} {xs : List Action} {w : Work} {n : ℕ}
@@ -155,71 +156,113 @@ IsToRetire passes visit f retired w = (w ≡ Retiring f retired.node retired.tak
     × ((visit ≡ 1) ⊎ (visit ≡ passes + 1))
 
 -- The work of a pass between two calls, by its activity
-module _ (passes visit : ℕ) (idle guarded : Bool) where
-  work_idle : (w : Work) → IsBetweenCalls passes idle guarded visit w → doing_in w ≡ DoesNothing → HasNoFile w
-  work_idle Idle knows is = inl refl
-  work_idle (Searching n) knows is = inr (n, refl)
-  work_idle (Counted f n) knows is = absurd (cc is)
-  work_idle (Guarded f n) knows is = absurd (cc is)
-  work_idle (Retiring f n t nx m) knows is = absurd (cc is)
-  work_idle _ knows is = absurd knows
+module _ (passes visit entry : ℕ) (idle guarded keeps : Bool) (stock : List ℕ) where
+  abbrev Is : Work → Type 0
+  Is = IsBetweenCalls passes idle guarded keeps visit stock entry
 
-  work_flag : (w : Work) → IsBetweenCalls passes idle guarded visit w → doing_in w ≡ DoesNothing → idle ≡ true
-  work_flag Idle knows is = knows
-  work_flag (Searching n) knows is = knows
+  work_may : (w : Work) → Is w → doing_in w ≡ DoesNothing → MayPlace keeps stock entry w
+  work_may Idle knows is = rw knows.1 (inl refl)
+  work_may (Searching n) knows is = rw knows.1 (inr (n, refl))
+  work_may (Keeping n) knows is = rw knows.1 (n, refl, knows.2)
+  work_may (Counted f n) knows is = absurd (cc is)
+  work_may (Guarded f n) knows is = absurd (cc is)
+  work_may (Retiring f n t nx m) knows is = absurd (cc is)
+  work_may _ knows is = absurd knows
+
+  work_flag : (w : Work) → Is w → doing_in w ≡ DoesNothing → idle ≡ true
+  work_flag Idle knows is = knows.0
+  work_flag (Searching n) knows is = knows.0
+  work_flag (Keeping n) knows is = knows.0
   work_flag (Counted f n) knows is = absurd (cc is)
   work_flag (Guarded f n) knows is = absurd (cc is)
   work_flag (Retiring f n t nx m) knows is = absurd (cc is)
   work_flag _ knows is = absurd knows
 
+  -- a pass with a file keeps no node
+  work_unkept : (w : Work) → Is w → (doing_in w ≡ DoesNothing → ⊥) → keeps ≡ false
+  work_unkept Idle knows busy = knows.1
+  work_unkept (Searching n) knows busy = knows.1
+  work_unkept (Keeping n) knows busy = absurd (busy refl)
+  work_unkept (Counted f n) knows busy = knows.1
+  work_unkept (Guarded f n) knows busy = knows.1
+  work_unkept (Retiring f n t nx m) knows busy = knows.1
+  work_unkept _ knows busy = absurd knows
+
+  -- a pass that keeps a node is idle, and the node is at its next entry
+  work_kept : (w : Work) → Is w → keeps ≡ true → (n : ℕ) × (w ≡ Keeping n) × (idle ≡ true) × (get_elem? stock entry ≡ some n)
+  work_kept Idle knows is = let bad : true ≡ false = sym is ∙ knows.1 in absurd (cc bad)
+  work_kept (Searching n) knows is = let bad : true ≡ false = sym is ∙ knows.1 in absurd (cc bad)
+  work_kept (Keeping n) knows is = (n, refl, knows.0, knows.2)
+  work_kept (Counted f n) knows is = let bad : true ≡ false = sym is ∙ knows.1 in absurd (cc bad)
+  work_kept (Guarded f n) knows is = let bad : true ≡ false = sym is ∙ knows.1 in absurd (cc bad)
+  work_kept (Retiring f n t nx m) knows is = let bad : true ≡ false = sym is ∙ knows.1 in absurd (cc bad)
+  work_kept _ knows is = absurd knows
+
   module _ (f : File) (hold : Hold) where
-    work_guarded : (w : Work) → IsBetweenCalls passes idle guarded visit w → doing_in w ≡ Holding f hold → guarded ≡ true → w ≡ Guarded f hold.node
+    work_guarded : (w : Work) → Is w → doing_in w ≡ Holding f hold → guarded ≡ true → w ≡ Guarded f hold.node
     work_guarded Idle knows is guards = absurd (cc is)
     work_guarded (Searching n) knows is guards = absurd (cc is)
-    work_guarded (Counted g n) knows is guards = let bad : false ≡ true = sym knows.1 ∙ guards in absurd (cc bad)
+    work_guarded (Keeping n) knows is guards = absurd (cc is)
+    work_guarded (Counted g n) knows is guards = let bad : false ≡ true = sym knows.2 ∙ guards in absurd (cc bad)
     work_guarded (Guarded g n) knows is guards = let same : g ≡ f = cc is in let value : hold_at g n ≡ hold = cc is in
         λ i. Guarded (same i) (ap (λ (h : Hold). h.node) value i)
     work_guarded (Retiring g n t nx m) knows is guards = absurd (cc is)
     work_guarded _ knows is guards = absurd knows
 
-    work_counted : (w : Work) → IsBetweenCalls passes idle guarded visit w → doing_in w ≡ Holding f hold → guarded ≡ false → w ≡ Counted f hold.node
+    work_counted : (w : Work) → Is w → doing_in w ≡ Holding f hold → guarded ≡ false → w ≡ Counted f hold.node
     work_counted Idle knows is guards = absurd (cc is)
     work_counted (Searching n) knows is guards = absurd (cc is)
+    work_counted (Keeping n) knows is guards = absurd (cc is)
     work_counted (Counted g n) knows is guards = let same : g ≡ f = cc is in let value : hold_at g n ≡ hold = cc is in
         λ i. Counted (same i) (ap (λ (h : Hold). h.node) value i)
-    work_counted (Guarded g n) knows is guards = let bad : false ≡ true = sym guards ∙ knows.1 in absurd (cc bad)
+    work_counted (Guarded g n) knows is guards = let bad : false ≡ true = sym guards ∙ knows.2 in absurd (cc bad)
     work_counted (Retiring g n t nx m) knows is guards = absurd (cc is)
     work_counted _ knows is guards = absurd knows
 
-  work_retiring : (f : File) (retired : Retired) (w : Work) → IsBetweenCalls passes idle guarded visit w → doing_in w ≡ Retires f retired
-      → IsToRetire passes visit f retired w
+  work_retiring : (f : File) (retired : Retired) (w : Work) → Is w → doing_in w ≡ Retires f retired → IsToRetire passes visit f retired w
   work_retiring f retired Idle knows is = absurd (cc is)
   work_retiring f retired (Searching n) knows is = absurd (cc is)
+  work_retiring f retired (Keeping n) knows is = absurd (cc is)
   work_retiring f retired (Counted g n) knows is = absurd (cc is)
   work_retiring f retired (Guarded g n) knows is = absurd (cc is)
   work_retiring f retired (Retiring g n t nx m) knows is = let same : g ≡ f = cc is in let value : retired_at g n t ≡ retired = cc is in (
-    λ i. Retiring (same i) (ap (λ (r : Retired). r.node) value i) (ap (λ (r : Retired). r.takes) value i) (knows.1 i) (knows.2 i),
-    subst (λ (z : ℕ). z < 2 ^ 20) (ap (λ (r : Retired). r.takes) value) knows.3,
-    knows.4,
+    λ i. Retiring (same i) (ap (λ (r : Retired). r.node) value i) (ap (λ (r : Retired). r.takes) value i) (knows.2 i) (knows.3 i),
+    subst (λ (z : ℕ). z < 2 ^ 20) (ap (λ (r : Retired). r.takes) value) knows.4,
+    knows.5,
   )
   work_retiring f retired _ knows is = absurd knows
 
+-- a pass that keeps no node may look for one
+looks_for : (stock : List ℕ) (entry : ℕ) (w : Work) {keeps : Bool} → MayPlace keeps stock entry w → keeps ≡ false → HasNoFile w
+looks_for stock entry w may unkept = subst (λ (b : Bool). MayPlace b stock entry w) unkept may
+
 module _ {id : TableId} {k : Start} {p : LastingPass} (fits : IsPassOf id k p) where
-  pub its_idle : IsIdle (view_of p) → HasNoFile p.seat.me.0.work
-  its_idle = work_idle k.passes p.next_visit p.idle p.guarded p.seat.me.0.work fits.knows
+  pub its_place : IsIdle (view_of p) → MayPlace p.keeps p.stock.items p.next_entry p.seat.me.0.work
+  its_place = work_may k.passes p.next_visit p.next_entry p.idle p.guarded p.keeps p.stock.items p.seat.me.0.work fits.knows
+
+  pub its_idle : IsIdle (view_of p) → p.keeps ≡ false → HasNoFile p.seat.me.0.work
+  its_idle idle unkept = looks_for p.stock.items p.next_entry p.seat.me.0.work (its_place idle) unkept
 
   pub its_flag : IsIdle (view_of p) → p.idle ≡ true
-  its_flag = work_flag k.passes p.next_visit p.idle p.guarded p.seat.me.0.work fits.knows
+  its_flag = work_flag k.passes p.next_visit p.next_entry p.idle p.guarded p.keeps p.stock.items p.seat.me.0.work fits.knows
+
+  pub its_unkept : ((view_of p).doing ≡ DoesNothing → ⊥) → p.keeps ≡ false
+  its_unkept = work_unkept k.passes p.next_visit p.next_entry p.idle p.guarded p.keeps p.stock.items p.seat.me.0.work fits.knows
+
+  pub its_kept : p.keeps ≡ true
+      → (n : ℕ) × (p.seat.me.0.work ≡ Keeping n) × (p.idle ≡ true) × (get_elem? p.stock.items p.next_entry ≡ some n)
+  its_kept = work_kept k.passes p.next_visit p.next_entry p.idle p.guarded p.keeps p.stock.items p.seat.me.0.work fits.knows
 
   pub its_guarded : {f : File} {hold : Hold} → (view_of p).doing ≡ Holding f hold → p.guarded ≡ true → p.seat.me.0.work ≡ Guarded f hold.node
-  its_guarded {f} {hold} = work_guarded k.passes p.next_visit p.idle p.guarded f hold p.seat.me.0.work fits.knows
+  its_guarded {f} {hold} = work_guarded k.passes p.next_visit p.next_entry p.idle p.guarded p.keeps p.stock.items f hold p.seat.me.0.work fits.knows
 
   pub its_counted : {f : File} {hold : Hold} → (view_of p).doing ≡ Holding f hold → p.guarded ≡ false → p.seat.me.0.work ≡ Counted f hold.node
-  its_counted {f} {hold} = work_counted k.passes p.next_visit p.idle p.guarded f hold p.seat.me.0.work fits.knows
+  its_counted {f} {hold} = work_counted k.passes p.next_visit p.next_entry p.idle p.guarded p.keeps p.stock.items f hold p.seat.me.0.work fits.knows
 
   pub its_retiring : {f : File} {retired : Retired} → (view_of p).doing ≡ Retires f retired
       → IsToRetire k.passes p.next_visit f retired p.seat.me.0.work
-  its_retiring {f} {retired} = work_retiring k.passes p.next_visit p.idle p.guarded f retired p.seat.me.0.work fits.knows
+  its_retiring {f} {retired} =
+      work_retiring k.passes p.next_visit p.next_entry p.idle p.guarded p.keeps p.stock.items f retired p.seat.me.0.work fits.knows
 
 -- The results of calls that empty or replace a slot
 module _ (k : Start) (v : PassView) (slot found : ℕ) (w : PassView) where
@@ -280,11 +323,12 @@ module _ {id : TableId} {k : Start} {p : LastingPass} (seated : IsSeatOf id k p)
   looked_so (Err EmptySlot) t = adds_so seated t one_look
 
   -- it is one run of steps, and the pass knows how it ended
-  pub took_run : (r : Result Hold LookFault) → LooksByTake slot p.seat.me r m' → (idle : Bool) → is_err r ≡ idle → (passes visit : ℕ)
-      → (xs : List Action) × (w : Work) × Runs p.seat.me xs w Nothing p.seat.me.0.change 2 m' × IsBetweenCalls passes idle false visit w
-  took_run (Ok hold) t idle is passes visit = ([] ▷ Look slot (Some t.0), Counted t.0 hold.node, t.2, (sym is, refl))
-  took_run (Err Spent) t idle is passes visit = absurd t
-  took_run (Err EmptySlot) t idle is passes visit = ([] ▷ Look slot None, Idle, t, sym is)
+  pub took_run : (r : Result Hold LookFault) → LooksByTake slot p.seat.me r m' → (idle : Bool) → is_err r ≡ idle → (passes visit entry : ℕ) (stock : List ℕ)
+      → p.keeps ≡ false → (xs : List Action) × (w : Work) × Runs p.seat.me xs w Nothing p.seat.me.0.change 2 m'
+      × IsBetweenCalls passes idle false p.keeps visit stock entry w
+  took_run (Ok hold) t idle is passes visit entry stock unkept = ([] ▷ Look slot (Some t.0), Counted t.0 hold.node, t.2, (sym is, unkept, refl))
+  took_run (Err Spent) t idle is passes visit entry stock unkept = absurd t
+  took_run (Err EmptySlot) t idle is passes visit entry stock unkept = ([] ▷ Look slot None, Idle, t, (sym is, unkept))
 
   pub never_spent : (r : Result Hold LookFault) → LooksByTake slot p.seat.me r m' → r ≢ Err Spent
   never_spent (Ok hold) t is = cc is
@@ -342,12 +386,13 @@ marks_run m m' n None lets = ([], lets)
 marks_run m m' n (Some file) lets = ([] ▷ Close lets.0, lets.2)
 
 -- a removal, and a pass that knows of it
-pub knows_removed : (k : Start) (found : ℕ) (file : Option File) (removed : Option Retired) (idle guarded : Bool) (visit : ℕ)
-    → removed ≡ option_map (λ (f : File). retired_at f (full_name_in found - 1) (count_in found)) file → is_some removed ≡ not idle
-    → visit ≡ first_visit k.passes found → IsBetweenCalls k.passes idle guarded visit (retiring_work k found file)
-knows_removed k found None removed idle guarded visit is says first = not-false idle (sym says ∙ ap is_some is)
-knows_removed k found (Some f) removed idle guarded visit is says first = (
+pub knows_removed : (k : Start) (found : ℕ) (file : Option File) (removed : Option Retired) (idle guarded keeps : Bool) (visit entry : ℕ) (stock : List ℕ)
+    → keeps ≡ false → removed ≡ option_map (λ (f : File). retired_at f (full_name_in found - 1) (count_in found)) file → is_some removed ≡ not idle
+    → visit ≡ first_visit k.passes found → IsBetweenCalls k.passes idle guarded keeps visit stock entry (retiring_work k found file)
+knows_removed k found None removed idle guarded keeps visit entry stock unkept is says first = (not-false idle (sym says ∙ ap is_some is), unkept)
+knows_removed k found (Some f) removed idle guarded keeps visit entry stock unkept is says first = (
   not-true idle (sym says ∙ ap is_some is),
+  unkept,
   ap new_round (sym first),
   refl,
   omega arith,
@@ -391,13 +436,13 @@ may_install {k = k} {p = p} seated some_left = dite (dec_le p.number k.installin
     let same : (view_of p).numbers_left ≡ numbers_of_pass k.installing p.number = λ i. numbers_of_pass (seated.at.pass.0 i).installing (number_is seated.at i) in
     absurd (omega (arith, some_left, same, none_left)))
 
--- the seat of an idle pass
-pub idle_seat : (t : LastingTable) {p : LastingPass} → IsPassOfTable t p → IsIdle (view_of p) → IsIdleSeatOf t p.seat
-idle_seat t fits idle = record {
+-- the seat of an idle pass that keeps no node
+pub idle_seat : (t : LastingTable) {p : LastingPass} → IsPassOfTable t p → IsIdle (view_of p) → p.keeps ≡ false → IsIdleSeatOf t p.seat
+idle_seat t fits idle unkept = record {
   table = fits.seated.table;
   places = fits.seated.places;
   start = fits.seated.at.pass.0;
-  work = its_idle fits idle;
+  work = its_idle fits idle unkept;
   glance = fits.calm;
   change = fits.seated.change;
 }

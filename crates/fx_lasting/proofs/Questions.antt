@@ -1,6 +1,6 @@
 -- A pass that asks whether the range is full: what its steps leave, one after another.
 use Rattle.fx_lasting.proofs.Words.{◌≡◌, ℕ, ◌+◌, [], ◌▷◌, Full, subst, Bool, true, false, Sat, Work, Glance, Change, Runs, Survey, Covered, as_asked, sym, ◌∙◌, ap}
-use Rattle.fx_lasting.proofs.Words.{IsAtWork, Start, LastingTable, LastingPass, IsPassOfTable, IsBetweenCalls, groups_in, range_at_start, opening_of}
+use Rattle.fx_lasting.proofs.Words.{IsAtWork, Start, LastingTable, LastingPass, IsPassOfTable, Knows, groups_in, range_at_start, opening_of}
 use Rattle.fx_lasting.proofs.Words.{view_of, Option, Closed, View, List, Action, arith, HasQuestionOf, pass_in}
 use Rattle.atomic_table.specs.declared.shared.Seat.{Seat}
 use Rattle.fx_table.proofs.Calls.{adds_nothing}
@@ -82,7 +82,7 @@ module _ (t : LastingTable) {p : LastingPass} (fits : IsPassOfTable t p) (seat :
         sure = λ is. run.asked ∙ its is;
       };
       calm = run.glance ∙ fits.calm;
-      knows = subst (IsBetweenCalls k.passes p.idle p.guarded p.next_visit) (sym run.work) fits.knows;
+      knows = subst (Knows k.passes (q b)) (sym run.work) fits.knows;
       front = adds.front;
     }
 

@@ -2,7 +2,7 @@
 use Rattle.fx_lasting.proofs.Words.{◌≡◌, ◌≤◌, ◌<◌, ℕ, ◌+◌, ◌-◌, List, [], set, sym, refl, ap, ◌∙◌, subst, Option, Bool, get_elem?, some}
 use Rattle.fx_lasting.proofs.Words.{Action, ◌▷◌, ◌▷▷◌, Sat, Start, Work, Glance, Change, Runs, IsAtWork, IsStockOf, Log, first_log, TableId, File, At}
 use Rattle.fx_lasting.proofs.Words.{as_stocked, pass_in, name_in, nodes_of, empty_word_of, retiring_work, account, range_at_start}
-use Rattle.fx_lasting.proofs.Words.{slot_of, slot_place, Nothing, Outside, LastingPass, IsSeatOf, IsPassOf, IsBetweenCalls, opening_of, view_of, pass_of}
+use Rattle.fx_lasting.proofs.Words.{slot_of, slot_place, Nothing, Outside, LastingPass, IsSeatOf, IsPassOf, Knows, opening_of, view_of, pass_of}
 use Rattle.fx_lasting.proofs.Words.{doing_in, IsHistory}
 use Rattle.fx_table.specs.Calls.{Use, no_use, Adds}
 use Rattle.fx_lasting.specs.SwapSteps.{SwapsOut, HasEmptied}
@@ -73,7 +73,7 @@ module _ {id : TableId} {k : Start} {p : LastingPass} (seated : IsSeatOf id k p)
   pub stocked_pass : IsStockOf k p.number s → (q : LastingPass) {xs : List Action} {w : Work} {n : ℕ} → Runs (as_stocked s p.seat.me) xs w Nothing Outside n q.seat.me
       → (q.number ≡ p.number) × ◌≡◌ {A = Bool × Bool} (q.listed, q.sure) (p.listed, p.sure) → q.seat.table_id ≡ p.seat.table_id → q.seat.me.1 ≡ []
       → (q.stock.items ≡ s) × (q.number ≤ k.installing → q.next_entry < k.passes)
-      → IsBetweenCalls k.passes q.idle q.guarded q.next_visit w → IsPassOf id k q
+      → Knows k.passes q w → IsPassOf id k q
   stocked_pass its q r same table places stocked knows = record {
     seated = record {
       table = table ∙ seated.table;
@@ -86,6 +86,6 @@ module _ {id : TableId} {k : Start} {p : LastingPass} (seated : IsSeatOf id k p)
       sure = λ is. r.asked ∙ seated.sure (sym (ap (λ (z : Bool × Bool). z.1) same.1) ∙ is);
     };
     calm = r.glance;
-    knows = subst (IsBetweenCalls k.passes q.idle q.guarded q.next_visit) (sym r.work) knows;
+    knows = subst (Knows k.passes q) (sym r.work) knows;
     front = (adds_stocked r no_use).front;
   }

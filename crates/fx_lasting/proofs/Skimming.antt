@@ -2,7 +2,7 @@
 -- nothing of the node that isn't marked.
 use Rattle.fx_lasting.proofs.Words.{◌≡◌, ◌≢◌, ℕ, ◌+◌, ◌*◌, ◌<◌, ◌≤◌, List, [], sym, refl, ap, ◌∙◌, subst, arith, Option, none, keeps, Closed, File}
 use Rattle.fx_lasting.proofs.Words.{HoldAgrees, GuardAgrees, MayBeUnmarked, hold_word_of, leaving, Work, Idle, Announced, Counted, Guarded, Owing}
-use Rattle.fx_lasting.proofs.Words.{Yielding, Searching, Placing, Retiring, Emptying, step, dite, dec_le, ⊎_elim, set-get_or, Round, round_from}
+use Rattle.fx_lasting.proofs.Words.{Yielding, Searching, Placing, Retiring, Emptying, Keeping, step, dite, dec_le, ⊎_elim, set-get_or, Round, round_from}
 use Rattle.fx_lasting.proofs.Words.{IsToVisit, IsPassed, IsListedIn, list_place, Skims, SkimsKeep, Goes, changed_at, true, Bool, IsAllowed}
 use Rattle.fx_lasting.proofs.Histories.{each_changed}
 use Rattle.fx_lasting.proofs.Keeping.{Turn, turn_of, word_at, slot_word, Made, by_turn, w, find_pass}
@@ -20,6 +20,7 @@ speaks stock l debt (Searching n) some hold allowed = absurd (some hold.0)
 speaks stock l debt (Placing n w) some hold allowed = absurd (some hold.0)
 speaks stock l debt (Retiring f n t nx m) some hold allowed = absurd (some hold.0)
 speaks stock l debt (Emptying n) some hold allowed = absurd (some hold.0)
+speaks stock l debt (Keeping n) some hold allowed = absurd (some hold.0)
 
 module _ (turn : Turn) (f : File) (n t : ℕ) (nx : Round) (m : ℕ) (works : turn.v.work ≡ Retiring f n t nx m) (index : ℕ) (inside : index < 16)
     (low : nx.next ≤ 64 * index + 1) (between : (p : ℕ) → nx.next ≤ p → p ≤ 64 * index → IsPassed turn.x.number nx p) where
@@ -63,6 +64,7 @@ module _ (turn : Turn) (f : File) (n t : ℕ) (nx : Round) (m : ℕ) (works : tu
   guard_on p (Placing k w) ne range hold guard = tt
   guard_on p (Retiring h k a b c) ne range hold guard = tt
   guard_on p (Emptying k) ne range hold guard = tt
+  guard_on p (Keeping k) ne range hold guard = tt
 
   skimmed : Visited turn f n t nx m works st.words r.debt nx' m
   skimmed = let a = (node turn f n t nx m works).few_marks in record {

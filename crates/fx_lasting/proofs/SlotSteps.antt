@@ -2,7 +2,7 @@
 use Rattle.fx_lasting.proofs.Words.{inl, true, Deed, untouched, has_acted, has_heated, heat_in}
 use Rattle.fx_lasting.proofs.Words.{◌≡◌, ◌≢◌, ℕ, ◌+◌, ◌<◌, ◌≤◌, List, [], set, sym, refl, ap, ◌∙◌, subst, arith, Option, Some, None, Bool, held_by, File}
 use Rattle.fx_lasting.proofs.Words.{Event, NodeAgrees, IsAllowed, SlotAgrees, Names, Agrees, slots_of, nodes_of, IsHistory, state_after_all}
-use Rattle.fx_lasting.proofs.Words.{held_in, held_of, taken_of, taking, Phase, free, placed, seated, leaving, retired, emptied, Work, Glance, ⊎_elim}
+use Rattle.fx_lasting.proofs.Words.{held_in, held_of, taken_of, taking, Phase, free, placed, seated, leaving, retired, emptied, kept, Work, Glance, ⊎_elim}
 use Rattle.fx_lasting.proofs.Words.{◌⊎◌, inr, dite, ℕ_discrete, slot_place, word_of, count_in, name_in, full_name_in, entry_in, IsHot, cold_takes, tally, birth_word}
 use Rattle.fx_lasting.proofs.Words.{owed, sum_set, sum_by, get_elem?, length-set, MayBeUnmarked, dec_le, suc}
 use Rattle.fx_lasting.proofs.Histories.{Grows}
@@ -86,6 +86,7 @@ module _ (turn : Turn) (s : ℕ) (inside : s < slots_of turn.v.start) (new : ℕ
       go (placed j l) o m = absurd m
       go (retired f) o m = absurd m
       go (emptied j) o m = absurd m
+      go (kept j) o m = absurd m
 
   module _ (p : SlotStep) where
     at_is : (i : ℕ) → (state_after_all v.start h').at i ≡ (state_after_all v.start r.history).at i
@@ -159,6 +160,7 @@ module _ (turn : Turn) (s : ℕ) (inside : s < slots_of turn.v.start) (new : ℕ
     node_now n l (leaving j t nx m f) is = same_else n l (leaving j t nx m f) is (λ h bad. cc bad)
     node_now n l (retired f) is = same_else n l (retired f) is (λ h bad. cc bad)
     node_now n l (emptied j) is = same_else n l (emptied j) is (λ h bad. cc bad)
+    node_now n l (kept j) is = same_else n l (kept j) is (λ h bad. cc bad)
 
     pub slot_kept : Agrees v.start (end turn slot_after)
     slot_kept = step_kept turn slot_after record {

@@ -7,7 +7,7 @@ use Rattle.fx_lasting.proofs.Words.{State, held_by, with_removed, changed_at, ch
 use Rattle.fx_lasting.proofs.Words.{SlotAgrees, Names, IsSeated, HoldAgrees, GuardAgrees, MayBeUnmarked, IsAllowed, RangeCounts, Nodes}
 use Rattle.fx_lasting.proofs.Words.{IsHistory, state_after_all, slots_of, nodes_of, range_at_start, slot_place, word_of, hold_word_of, count_in}
 use Rattle.fx_lasting.proofs.Words.{full_name_in, heat_in, IsHot, Deed, untouched, has_heated, owed, taken_of, taking, held_in, if_file, sum_by, sum_set, Phase, free, placed, seated}
-use Rattle.fx_lasting.proofs.Words.{leaving, retired, emptied, owner, file_in, removed_in, first_visit, retiring_work, Found, Work, Change, Idle, Retiring}
+use Rattle.fx_lasting.proofs.Words.{leaving, retired, emptied, kept, owner, file_in, removed_in, first_visit, retiring_work, Found, Work, Change, Idle, Retiring}
 use Rattle.fx_lasting.proofs.Words.{length-set}
 use Rattle.fx_lasting.proofs.Counts.{tally_same, tally_none}
 use Rattle.fx_lasting.proofs.Histories.{Grows, each_changed}
@@ -232,6 +232,7 @@ module _ (turn : Turn) (s : ℕ) (inside : s < slots_of turn.v.start) where
             go apart (placed j l) is m = absurd m
             go apart (retired f) is m = absurd m
             go apart (emptied j) is m = absurd m
+            go apart (kept j) is m = absurd m
 
         slots_on : (q i : ℕ) → SlotGoesOn (slot_word st.words i) (slot_word (slot_words turn s inside new_word) i) (r.deed i q) (deed' i q)
         slots_on q i = dite (ℕ_discrete i s)

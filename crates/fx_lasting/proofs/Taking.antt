@@ -7,7 +7,7 @@ use Rattle.fx_lasting.proofs.Words.{Deed, untouched, over, heated, has_acted, ha
 use Rattle.fx_lasting.proofs.Words.{Nothing, Takes, HeatTells, TakesOnceKeep, HeatsKeep, IsHot, heat_in, name_in, full_name_in, same_full_name, entry_in, count_in, cold_takes}
 use Rattle.fx_lasting.proofs.Words.{glance_after, heat_unit, slot_place, step, inl, inr, ⊎_elim, dite, ℕ_discrete, dec_le, one_more_at, Bool, true}
 use Rattle.fx_lasting.proofs.Words.{false, cond, lt-ltb, le-ltb, tally, sum_set, changed_at, changed_here, changed_else, one_if, bit_here, bit_else}
-use Rattle.fx_lasting.proofs.Words.{IsInside, Announced, Owing, Guarded, Yielding, Searching, Placing, Retiring, Emptying}
+use Rattle.fx_lasting.proofs.Words.{IsInside, Announced, Owing, Guarded, Yielding, Searching, Placing, Retiring, Emptying, Keeping}
 use Rattle.fx_lasting.proofs.Counts.{tally_few, tally_one, tally_room, bit_few, few_cold}
 use Rattle.fx_lasting.proofs.Histories.{grows_none, grows_one, legal_more, part_mine, held_mine}
 use Rattle.fx_lasting.proofs.Frames.{busy, guards_same}
@@ -350,6 +350,7 @@ module _ (turn : Turn) (s : ℕ) (inside : s < slots_of turn.v.start) where
         go (Placing n w) o = o.0
         go (Retiring f n t nx m) o = o.0
         go (Emptying n) o = o.0
+        go (Keeping n) o = o.0
 
     pub heats_up : (slots : ℕ) (carried : List (ℕ × Option Closed))
         → Made turn carried (slot_place s) (λ word. (word + heat_unit) % 2 ^ 64) (HeatTells (step slots (slot_place s) heat_unit 0 none) (v, carried))

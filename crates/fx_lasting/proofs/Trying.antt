@@ -1,10 +1,10 @@
 -- A pass that looks for an empty slot: what its steps leave, one after another.
 use Rattle.fx_lasting.proofs.Words.{◌≡◌, ℕ, ◌+◌, ◌*◌, ◌<◌, ◌≤◌, [], ◌∷◌, sym, ap, ◌∙◌, subst, arith, Some, none, step, rest, Closed, ◌▷◌}
 use Rattle.fx_lasting.proofs.Words.{numbered, Allocate, Sat, Work, Glance, Change, Placing, Idle, Outside, Inside, Runs, Goes, Exchanges, slot_of}
-use Rattle.fx_lasting.proofs.Words.{Stepped, LastingTable, IsInRange, List, Action, Start, Searching, group_of, range_at_start}
+use Rattle.fx_lasting.proofs.Words.{Stepped, LastingTable, IsInRange, List, Action, Start, group_of, range_at_start}
 use Rattle.fx_lasting.specs.Passes.{node_of_number}
 use Rattle.fx_lasting.proofs.Words.{◌▷▷◌, ◌-◌, IsAtWork, IsInStock, NamesANode, as_swapped, pass_in, name_in, nodes_of, get_elem?, some}
-use Rattle.fx_lasting.proofs.Words.{Written, label_of}
+use Rattle.fx_lasting.proofs.Words.{label_of}
 use Rattle.fx_lasting.specs.Tries.{IsPlacing, HasAllocated, StillPlaces, group_steps}
 use Rattle.fx_lasting.proofs.Groups.{by_size}
 use Rattle.fx_lasting.proofs.Running.{runs_one, runs_goes, runs_within, turns_then, does_then, swapped_then, at_swapped, still_at_work}
@@ -127,10 +127,6 @@ is_placing stock m {n = n} e run its at place = record {
   place = place;
   stocked = (e, ap (λ (l : List ℕ). get_elem? l e) (run.stock ∙ sym its) ∙ at);
 }
-
-pub until_put : {m m₂ m₃ : Sat} {n most : ℕ} {l : Written} → Runs m [] (Searching n) m.0.glance m.0.change most m₂
-    → Runs m₂ [] (Placing n l) m₂.0.glance m₂.0.change 3 m₃ → Runs m [] (Placing n l) m.0.glance m.0.change (most + 3) m₃
-until_put sought born = does_then sought born
 
 -- The steps of a search through some groups
 pub group_more : (len count most : ℕ) → most ≤ count * group_steps len → most + group_steps len ≤ (count + 1) * group_steps len

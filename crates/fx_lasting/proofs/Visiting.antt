@@ -4,7 +4,7 @@ use Rattle.fx_lasting.proofs.Words.{Round, round_at, IsToVisit, IsPassed, list_p
 use Rattle.fx_lasting.proofs.Words.{◌≡◌, ◌≢◌, ℕ, ◌+◌, ◌^◌, ◌<◌, ◌≤◌, List, [], set, length, sym, refl, ap, ◌∙◌, subst, arith, Option, none, keeps}
 use Rattle.fx_lasting.proofs.Words.{Closed, File, WorkAgrees, HoldAgrees, GuardAgrees, MayBeUnmarked, slots_of, nodes_of, word_of, hold_word_of, held_in}
 use Rattle.fx_lasting.proofs.Words.{if_file, taken_of, taking, owed, Phase, leaving, owner, file_in, removed_in, changed_at, changed_here}
-use Rattle.fx_lasting.proofs.Words.{changed_else, Work, Idle, Announced, Counted, Guarded, Owing, Yielding, Searching, Placing, Retiring, Emptying}
+use Rattle.fx_lasting.proofs.Words.{changed_else, Work, Idle, Announced, Counted, Guarded, Owing, Yielding, Searching, Placing, Retiring, Emptying, Keeping}
 use Rattle.fx_lasting.proofs.Words.{Visits, Marks, VisitsKeep, MarksKeep, step, inr, ⊎_elim, dite, ℕ_discrete, eqb, one_if, announced, mark}
 use Rattle.fx_lasting.proofs.Words.{set-get_or, exchanged, bit_here, bit_else, Goes, length-set, sum_set, Start, dec_le, Agrees}
 use prog.Atomic.{either}
@@ -134,6 +134,7 @@ module _ (turn : Turn) (f : File) (n t : ℕ) (nx : Round) (m : ℕ) (works : tu
     guard_else words' m' same p (Placing k w) ne not_pass guard = tt
     guard_else words' m' same p (Retiring h k a b c) ne not_pass guard = tt
     guard_else words' m' same p (Emptying k) ne not_pass guard = tt
+    guard_else words' m' same p (Keeping k) ne not_pass guard = tt
 
     -- this pass holds nothing of the node that isn't marked, if its word doesn't name it
     guard_here : word ≢ announced n → (e : Work) → HoldAgrees word (r.debt pass) e → GuardAgrees (slot_word st.words) r.phase pass (r.debt pass) e
@@ -151,6 +152,7 @@ module _ (turn : Turn) (f : File) (n t : ℕ) (nx : Round) (m : ℕ) (works : tu
     guard_here not_so (Placing k w) hold guard = tt
     guard_here not_so (Retiring h k a b c) hold guard = tt
     guard_here not_so (Emptying k) hold guard = tt
+    guard_here not_so (Keeping k) hold guard = tt
 
     unnamed : word ≢ announced n → Visited st.words r.debt (round_at nx pass) m
     unnamed not_so = let guards : (p : ℕ) (e : Work) → p ≢ x.number → (0 < p) × (p ≤ v.start.passes)
@@ -195,6 +197,7 @@ module _ (turn : Turn) (f : File) (n t : ℕ) (nx : Round) (m : ℕ) (works : tu
     clean_debt (Placing k w) hold is = hold.1
     clean_debt (Retiring h k a b c) hold is = hold.1
     clean_debt (Emptying k) hold is = hold.1
+    clean_debt (Keeping k) hold is = hold.1
 
     -- the marked word, and the debt
     now_marked : (e : Work) → HoldAgrees word (r.debt pass) e → word ≡ announced n → HoldAgrees (announced n + mark) (n + 1) e
@@ -212,6 +215,7 @@ module _ (turn : Turn) (f : File) (n t : ℕ) (nx : Round) (m : ℕ) (works : tu
     now_marked (Placing k w) hold is = absurd (let a = hold.0 in omega arith)
     now_marked (Retiring h k a b c) hold is = absurd (let a = hold.0 in omega arith)
     now_marked (Emptying k) hold is = absurd (let a = hold.0 in omega arith)
+    now_marked (Keeping k) hold is = absurd (let a = hold.0 in omega arith)
 
     -- a pass that owes is excused
     excused : (slot_word' : ℕ → ℕ) (phase' : ℕ → Phase) (e : Work) → GuardAgrees slot_word' phase' pass (n + 1) e
@@ -225,6 +229,7 @@ module _ (turn : Turn) (f : File) (n t : ℕ) (nx : Round) (m : ℕ) (works : tu
     excused sw phase' (Placing k w) = tt
     excused sw phase' (Retiring h k a b c) = tt
     excused sw phase' (Emptying k) = tt
+    excused sw phase' (Keeping k) = tt
 
     abbrev debt₁ : ℕ → ℕ
     debt₁ = changed_at r.debt pass (n + 1)

@@ -3,8 +3,8 @@ use Rattle.fx_lasting.specs.Passes.{contents_of}
 use Rattle.fx_lasting.proofs.Words.{Contains, contains_head, ◌≡◌, ℕ, suc, ◌+◌, ◌<◌, ◌≤◌, List, [], ◌∷◌, length, sym, refl, ap, ◌∙◌, subst, arith}
 use Rattle.fx_lasting.proofs.Words.{Some, None, some, get_elem?, ⊎_elim, dite, dec_le, eqb, Bool, true, false, cond, at_index, found_sum}
 use Rattle.fx_lasting.proofs.Words.{File, Agrees, NodeAgrees, WorkAgrees, HoldAgrees, HoldsAt, OwnerAgrees, Shared, Start, View, Work, Log, Phase}
-use Rattle.fx_lasting.proofs.Words.{Idle, Announced, Counted, Guarded, Owing, Yielding, Searching, Placing, Retiring, Emptying}
-use Rattle.fx_lasting.proofs.Words.{free, placed, seated, leaving, retired, emptied, file_in, removed_in, file_if_numbered, eq-eqb, taken_of, taking, owed, count_in, sum_by, bit_else}
+use Rattle.fx_lasting.proofs.Words.{Idle, Announced, Counted, Guarded, Owing, Yielding, Searching, Placing, Retiring, Emptying, Keeping}
+use Rattle.fx_lasting.proofs.Words.{free, placed, seated, leaving, retired, emptied, kept, file_in, removed_in, file_if_numbered, eq-eqb, taken_of, taking, owed, count_in, sum_by, bit_else}
 use Rattle.fx_lasting.proofs.Words.{slots_of, nodes_of, word_of, state_after_all, state_at_start, node_of_number}
 use Rattle.fx_lasting.proofs.Words.{state_of, lt-ltb, ℕ_discrete}
 use Rattle.std.proofs.Common.{not}
@@ -71,6 +71,7 @@ module _ (k : Start) (s : Shared) (r : Agrees k s) where
   is_there n f free at o is = absurd (cc is)
   is_there n f (placed seat l) at o is = absurd (cc is)
   is_there n f (emptied seat) at o is = absurd (cc is)
+  is_there n f (kept seat) at o is = absurd (cc is)
 
   -- so no file of its number was closed
   unclosed : (n : ℕ) (f : File) → HoldsAt k r.phase f n → closes_of f.number r.history ≡ []
@@ -111,6 +112,7 @@ module _ (k : Start) (s : Shared) (r : Agrees k s) where
         go (Placing m w) is at = absurd (omega arith)
         go (Retiring g m t rd k) is at = absurd (omega arith)
         go (Emptying m) is at = absurd (omega arith)
+        go (Keeping m) is at = absurd (omega arith)
 
     owes : (seat : ℕ) (w : Work) (word debt : ℕ) → debt ≡ n + 1 → HoldAgrees word debt w → WorkAgrees k r.phase seat w → Uses f n w
     owes seat (Announced m) word debt is h at = ⊎_elim (λ clean. let a = clean.1 in absurd (omega arith)) (λ full. let a = full.1 in omega arith) h
@@ -124,6 +126,7 @@ module _ (k : Start) (s : Shared) (r : Agrees k s) where
     owes seat (Placing m w) word debt is h at = let a = h.1 in absurd (omega arith)
     owes seat (Retiring g m t rd k) word debt is h at = let a = h.1 in absurd (omega arith)
     owes seat (Emptying m) word debt is h at = let a = h.1 in absurd (omega arith)
+    owes seat (Keeping m) word debt is h at = let a = h.1 in absurd (omega arith)
 
     abbrev HasOne : Type 0
     HasOne = (seat : ℕ) × (v : View) × (get_elem? s.views seat ≡ some v) × Uses f n v.work
@@ -147,6 +150,7 @@ module _ (k : Start) (s : Shared) (r : Agrees k s) where
   user_of number n f (placed seat l) at o who is = absurd (cc is)
   user_of number n f (seated slot g) at o who is = absurd (cc is)
   user_of number n f (emptied seat) at o who is = absurd (cc is)
+  user_of number n f (kept seat) at o who is = absurd (cc is)
 
   pub user_is : (number : ℕ) (f : File) → (state_after_all k r.history).removed number ≡ Some f → HasUser k s f
   user_is number f is = let on = r.node_of number in let now : removed_in number (r.phase on) ≡ Some f = sym (r.removed number) ∙ is in

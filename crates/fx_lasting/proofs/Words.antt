@@ -6,10 +6,10 @@ pub use Rattle.fx_base.specs.declared.open_file.Closed.{Closed}
 pub use Rattle.fx_lasting.specs.Agrees.{HoldAgrees, MayBeUnmarked, GuardAgrees, GlanceAgrees, Heats, LogAgrees, ViewAgrees, Agrees, NodeAgrees, Does}
 pub use Rattle.fx_lasting.specs.Agrees.{OwnerAgrees, HoldsAt, WorkAgrees, IsAllowed, IsIdleIn, IsToVisit, NamesNode, Nodes, Names, IsSeated}
 pub use Rattle.fx_lasting.specs.Agrees.{SlotAgrees, Home, IsFileOfNode, IsVacant, Labels}
-pub use Rattle.fx_lasting.specs.AtWork.{IsAtWork, IsReleasing, HasPlace}
+pub use Rattle.fx_lasting.specs.AtWork.{IsAtWork, IsReleasing, HasPlace, MayPlace}
 pub use Rattle.fx_lasting.specs.Groups.{owing, owing_of, is_in, uncounted, account, GroupCounts, AreFull, HasQuestionOf, HasVisitedFull, RangeCounts}
 pub use Rattle.fx_lasting.specs.Counts.{tally, owed}
-pub use Rattle.fx_lasting.specs.Ends.{LetsMarkGo, LetsFileGo, Guards, LooksByTake}
+pub use Rattle.fx_lasting.specs.Ends.{LetsMarkGo, LetsFileGo, Guards, LooksByTake, Parked, TakenOut}
 pub use Rattle.fx_lasting.specs.Cuts.{new_logs, first_view, together, spent}
 pub use Rattle.fx_lasting.specs.Laws.{HasToLetGo, IsOffCount, ClearsKeep, TakesOutKeep, ExchangesKeep, HasPass, GlancesKeep, AnnouncesKeep}
 pub use Rattle.fx_lasting.specs.Laws.{ConfirmsKeep, WithdrawsKeep, TakesOnceKeep, HeatsKeep, SplitsKeep, JoinsKeep, LowersKeep, RaisesKeep, AsksKeep}
@@ -17,6 +17,8 @@ pub use Rattle.fx_lasting.specs.Laws.{ChecksKeep, BreaksKeep, BeginsKeep, Counts
 pub use Rattle.fx_lasting.specs.Laws.{PeeksKeep, InstallsKeep, StepsDownKeep, LettingGoKeeps, SeeksKeep, BirthsKeep, RestsKeep, VisitsKeep, MarksKeep}
 pub use Rattle.fx_lasting.specs.LabelSteps.{Tags, Numbers, ReadsTag, ReadsNumber}
 pub use Rattle.fx_lasting.specs.Labels.{number_of_mark, label_of, HasWritten}
+pub use Rattle.fx_lasting.specs.KeepSteps.{Parks, Resumes, SettlesNode}
+pub use Rattle.fx_lasting.specs.Laws.{ParksKeep, ResumesKeep, SettlesKeep}
 pub use Rattle.fx_lasting.specs.Laws.{HasItsPlace, TagsKeep, NumbersKeep, ReadsTagKeep, ReadsNumberKeep}
 pub use Rattle.fx_lasting.specs.Laws.{RetiresKeep, IsInRange, ListsKeep, SkimsKeep, IsPassed, SeesKeep, TakesIfKeep, ReplacesKeep}
 pub use Rattle.fx_lasting.specs.Layout.{question_place, group_place, list_place, slot_place, hold_place, node_place, stock_start, stock_for, stock_of, stocks_back}
@@ -34,10 +36,10 @@ pub use Rattle.fx_lasting.proofs.SlotWords.{no_takes_left, mask_leaves_name}
 pub use Rattle.std.specs.Prelude.{bit_and}
 pub use Rattle.fx_lasting.specs.Passes.{word_of, hold_word_of, logs_of, lengths, state_after_all, IsHistory, new_log, first_log, held_in, if_file}
 pub use Rattle.fx_lasting.specs.Passes.{held_of, taking, taken_of, tag_word_of, number_word_of, HoldsOn}
-pub use Rattle.fx_lasting.specs.Phases.{Phase, owner, file_in, file_if_numbered, removed_in, written_in, free, placed, seated, leaving, retired, emptied}
+pub use Rattle.fx_lasting.specs.Phases.{Phase, owner, file_in, file_if_numbered, removed_in, written_in, free, placed, seated, leaving, retired, emptied, kept}
 pub use Rattle.fx_lasting.specs.Runs.{Runs}
 pub use Rattle.fx_lasting.specs.Tables.{hold_at, retired_at, doing_in, numbers_of_pass, pass_of, opening_of, view_of, steps_taken, IsBetweenCalls}
-pub use Rattle.fx_lasting.specs.Tables.{IsSeatOf, IsPassOf, opening_of_table, IsPassOfTable, IsSeatOfTable}
+pub use Rattle.fx_lasting.specs.Tables.{Knows, IsSeatOf, IsPassOf, opening_of_table, IsPassOfTable, IsSeatOfTable}
 pub use Rattle.fx_lasting.specs.declared.pass.LastingPass.{LastingPass}
 pub use Rattle.fx_lasting.specs.declared.table.LastingTable.{LastingTable}
 pub use Rattle.fx_lasting.specs.Tells.{LetsGo, At, rested, Lists, Skims, IsOnList, as_listed, round_at, round_from, new_round, Announces, Shows}
@@ -59,7 +61,7 @@ pub use Rattle.fx_lasting.specs.declared.view.Start.{Start}
 pub use Rattle.fx_lasting.specs.declared.view.View.{View}
 pub use Rattle.fx_lasting.specs.declared.view.Work.{Work}
 pub use Rattle.fx_lasting.specs.declared.view.Work.TheVariants.{Idle, Announced, Counted, Guarded, Owing, Yielding, Searching, Placing, Retiring}
-pub use Rattle.fx_lasting.specs.declared.view.Work.TheVariants.{Emptying}
+pub use Rattle.fx_lasting.specs.declared.view.Work.TheVariants.{Emptying, Keeping}
 pub use Rattle.fx_lasting.specs.declared.view.Written.{Written}
 pub use Rattle.fx_lasting.specs.declared.view.Written.TheVariants.{Nothing as Unlabelled, Tag, Label}
 pub use Rattle.fx_plain.proofs.Cells.{changed_here, changed_else, by_equality}

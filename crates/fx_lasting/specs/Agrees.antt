@@ -26,8 +26,8 @@ use Rattle.fx_lasting.specs.Passes.{word_of, tag_word_of, number_word_of}
 use Rattle.fx_lasting.specs.Passes.{hold_word_of, state_after_all, IsHistory, held_in, held_of}
 use Rattle.fx_lasting.specs.Passes.{taken_of}
 use Rattle.fx_lasting.specs.Passes.{logs_of, lengths, node_of_number}
-use Rattle.fx_lasting.specs.Phases.{Phase, free, placed, seated, leaving, retired, emptied, file_in}
-use Rattle.fx_lasting.specs.Phases.{removed_in, written_in}
+use Rattle.fx_lasting.specs.Phases.{Phase, free, placed, seated, leaving, retired, emptied, kept}
+use Rattle.fx_lasting.specs.Phases.{file_in, removed_in, written_in}
 use Rattle.fx_lasting.specs.Stocks.{Whereabouts, IsInStock, NamesItsNode, StockAgrees}
 use Rattle.fx_lasting.specs.declared.layout.TheConstants.{MOST_SLOTS}
 use Rattle.fx_lasting.specs.declared.view.Change.TheVariants.{Outside}
@@ -42,7 +42,7 @@ use Rattle.fx_lasting.specs.declared.view.Written.{Written}
 use Rattle.fx_lasting.specs.declared.view.Work.TheVariants.{Idle, Announced, Counted, Guarded}
 use Rattle.fx_lasting.specs.declared.view.Work.TheVariants.{Owing}
 use Rattle.fx_lasting.specs.declared.view.Work.TheVariants.{Yielding, Searching, Placing, Retiring}
-use Rattle.fx_lasting.specs.declared.view.Work.TheVariants.{Emptying}
+use Rattle.fx_lasting.specs.declared.view.Work.TheVariants.{Emptying, Keeping}
 
 -- where the numbers of files are
 abbrev pub Nodes : Type 0
@@ -126,6 +126,7 @@ module _ (at : ℕ → Option File) (size : ℕ) (takes_at : ℕ → ℕ) (node_
   NodeAgrees (leaving seat takes round marks f) = IsLeaving takes round marks f
   NodeAgrees (retired f) = IsRetired f
   NodeAgrees (emptied seat) = IsEmptied
+  NodeAgrees (kept seat) = IsVacant birth_word (some (some None))
 
 -- the label of the node is so, as far as it is written
 abbrev pub Labels : Start → List ℕ → ℕ → Written → Type 0
@@ -143,6 +144,7 @@ OwnerAgrees views node (placed seat written) = Does views seat (Placing node wri
 OwnerAgrees views node (leaving seat takes round marks f) =
     Does views seat (Retiring f node takes round marks)
 OwnerAgrees views node (emptied seat) = Does views seat (Emptying node)
+OwnerAgrees views node (kept seat) = Does views seat (Keeping node)
 OwnerAgrees views node _ = Unit {0}
 
 -- the file of the node is open
@@ -166,12 +168,14 @@ WorkAgrees k phase seat (Placing node written) = IsIn k phase node (placed seat 
 WorkAgrees k phase seat (Retiring f node takes round marks) =
     IsIn k phase node (leaving seat takes round marks f)
 WorkAgrees k phase seat (Emptying node) = IsIn k phase node (emptied seat)
+WorkAgrees k phase seat (Keeping node) = IsIn k phase node (kept seat)
 
--- a pass looks for a free node in its own stock, and places its files there; and it announces a
--- node, or holds a file by its hold word, only if it is listed
+-- a pass looks for a free node in its own stock, places its files there, and keeps a node of it;
+-- and it announces a node, or holds a file by its hold word, only if it is listed
 abbrev pub IsAllowed : List ℕ → Bool → Work → Type 0
 IsAllowed stock listed (Searching node) = IsInStock stock node
 IsAllowed stock listed (Placing node written) = IsInStock stock node
+IsAllowed stock listed (Keeping node) = IsInStock stock node
 IsAllowed stock listed (Announced node) = listed ≡ true
 IsAllowed stock listed (Guarded f node) = listed ≡ true
 IsAllowed stock listed _ = Unit {0}

@@ -1,15 +1,17 @@
 -- The seat of one pass, between two steps of a call.
-use Rattle.std.specs.Prelude.{◌≡◌, ℕ, ◌<◌, ◌≤◌, ◌⊎◌, [], ◌∷◌, Option}
+use Rattle.std.specs.Prelude.{◌≡◌, ℕ, ◌<◌, ◌≤◌, ◌⊎◌, Bool, true, false, List, [], ◌∷◌, Option}
+use mathlib.Core.Option.{some}
+use lib.ListN.{get_elem?}
 use Rattle.fx_base.specs.Identity.{Identity}
 use Rattle.fx_plain.specs.declared.event.File.{File}
 use Rattle.fx_lasting.specs.Laws.{HasPass, HasItsPlace}
-use Rattle.fx_lasting.specs.Passes.{Sat, IsHistory}
+use Rattle.fx_lasting.specs.Passes.{Sat, HasNoFile, IsHistory}
 use Rattle.fx_lasting.specs.Stocks.{IsStockOf}
 use Rattle.fx_lasting.specs.Tells.{IsInside}
 use Rattle.fx_lasting.specs.declared.view.Log.{Log}
 use Rattle.fx_lasting.specs.declared.view.Start.{Start}
 use Rattle.fx_lasting.specs.declared.view.Work.{Work}
-use Rattle.fx_lasting.specs.declared.view.Work.TheVariants.{Yielding, Counted}
+use Rattle.fx_lasting.specs.declared.view.Work.TheVariants.{Yielding, Counted, Keeping}
 
 -- a seat with one pass of the table, which has this number, and whose front is legal
 pub record IsAtWork (k : Start) (number : ℕ) (m : Sat) : Type 0 where
@@ -31,3 +33,8 @@ IsReleasing w f node = (w ≡ Yielding f node) ⊎ (w ≡ Counted f node)
 pub record HasPlace (node : ℕ) (inside : Option Identity) (m : Sat) : Type 0 where
   pub work : HasItsPlace m.0.work node
   pub place : m.1 ≡ (node, inside) ∷ []
+
+-- the pass keeps the node at this entry of its stock, or looks for one
+abbrev pub MayPlace : Bool → List ℕ → ℕ → Work → Type 0
+MayPlace true stock entry w = (node : ℕ) × (w ≡ Keeping node) × (get_elem? stock entry ≡ some node)
+MayPlace false stock entry w = HasNoFile w

@@ -1,5 +1,8 @@
 -- The short runs of steps that calls are made of: what they return, and the pass after them.
-use Rattle.std.specs.Prelude.{◌≡◌, ℕ, List, [], Option, Some, None, Result, Ok, Err}
+use Rattle.std.specs.Prelude.{◌≡◌, ℕ, Bool, true, false, List, [], Option, Some, None, Result}
+use Rattle.std.specs.Prelude.{Ok, Err}
+use mathlib.Core.Option.{some}
+use lib.ListN.{get_elem?}
 use Rattle.fx_base.specs.Identity.{Identity}
 use Rattle.fx_plain.specs.History.{◌▷◌}
 use Rattle.fx_plain.specs.declared.event.File.{File}
@@ -14,6 +17,7 @@ use Rattle.fx_lasting.specs.Tables.{hold_at}
 use Rattle.fx_lasting.specs.declared.view.Glance.TheVariants.{None as Nothing, Cold}
 use Rattle.fx_lasting.specs.declared.view.Work.{Work}
 use Rattle.fx_lasting.specs.declared.view.Work.TheVariants.{Idle, Announced, Counted, Guarded}
+use Rattle.fx_lasting.specs.declared.view.Work.TheVariants.{Emptying, Keeping}
 
 -- some steps in a row, which leave its look-up and its account with the groups' words as they were
 abbrev pub Does : Sat → List Action → Work → ℕ → Sat → Type 0
@@ -44,3 +48,16 @@ LooksByTake slot m (Ok hold) m' = (f : File) × (hold ≡ hold_at f hold.node)
     × Runs m ([] ▷ Look slot (Some f)) (Counted f hold.node) Nothing m.0.change 2 m'
 LooksByTake slot m (Err Spent) m' = ⊥
 LooksByTake slot m (Err Empty) m' = Runs m ([] ▷ Look slot None) Idle Nothing m.0.change 2 m'
+
+-- a pass with the place of a node, whose file is closed: it keeps the node, which is at the entry
+-- of its stock, or has the place still
+abbrev pub Parked : (node : ℕ) → List ℕ → (entry : ℕ) → Sat → Bool → Sat → Type 0
+Parked node stock entry m true m' = Does m [] (Keeping node) 1 m' × (m'.1 ≡ [])
+    × (get_elem? stock entry ≡ some node)
+Parked node stock entry m false m' = Does m [] (Emptying node) 1 m' × (m'.1 ≡ m.1)
+
+-- a pass that took the closed file of a node out: it keeps the node, or is idle
+abbrev pub TakenOut : (node : ℕ) → List ℕ → (entry : ℕ) → Sat → Bool → Sat → Type 0
+TakenOut node stock entry m true m' = Does m [] (Keeping node) 2 m' × (m'.1 ≡ [])
+    × (get_elem? stock entry ≡ some node)
+TakenOut node stock entry m false m' = Does m [] Idle 2 m' × (m'.1 ≡ [])

@@ -32,7 +32,7 @@ use Rattle.fx_lasting.specs.declared.view.Work.{Work}
 use Rattle.fx_lasting.specs.declared.view.Work.TheVariants.{Idle, Announced, Counted, Guarded}
 use Rattle.fx_lasting.specs.declared.view.Work.TheVariants.{Owing}
 use Rattle.fx_lasting.specs.declared.view.Work.TheVariants.{Yielding, Searching, Placing, Retiring}
-use Rattle.fx_lasting.specs.declared.view.Work.TheVariants.{Emptying}
+use Rattle.fx_lasting.specs.declared.view.Work.TheVariants.{Emptying, Keeping}
 use Rattle.fx_lasting.specs.declared.view.Written.{Written}
 use Rattle.fx_lasting.specs.declared.view.Written.TheVariants.{Nothing as Unlabelled, Tag}
 
@@ -157,6 +157,24 @@ HasItsPlace w node = (w ≡ Emptying node) ⊎ ((written : Written) × (w ≡ Pl
 abbrev pub RestsKeep : Kind → Type 0
 RestsKeep tells = (k : Start) (slots id i n : ℕ) (m : Sat) (x : Log) → HasPass k m x
     → HasItsPlace m.0.work n → m.1 ≡ (n, None) ∷ [] → i ≡ word_of k n
+    → Allows (Agrees k) slots id m i (λ _. 0) (λ _. tells (step slots i 0 0 none) m 0)
+
+-- a pass loads the word of a node of its stock whose file is closed, to keep the node
+abbrev pub ParksKeep : Kind → Type 0
+ParksKeep tells = (k : Start) (slots id i n : ℕ) (m : Sat) (x : Log) → HasPass k m x
+    → m.0.work ≡ Emptying n → IsInStock x.stock n → m.1 ≡ (n, None) ∷ [] → i ≡ word_of k n
+    → Allows (Agrees k) slots id m i (λ word. word) (tells (step slots i 0 0 none) m)
+
+-- a pass loads the word of the node that it keeps, to place a file there
+abbrev pub ResumesKeep : Kind → Type 0
+ResumesKeep tells = (k : Start) (slots id i n : ℕ) (m : Sat) (x : Log) → HasPass k m x
+    → m.0.work ≡ Keeping n → i ≡ word_of k n
+    → Allows (Agrees k) slots id m i (λ word. word) (tells (step slots i 0 0 none) m)
+
+-- a pass stores 0 in the word of the node that it keeps
+abbrev pub SettlesKeep : Kind → Type 0
+SettlesKeep tells = (k : Start) (slots id i n : ℕ) (m : Sat) (x : Log) → HasPass k m x
+    → m.0.work ≡ Keeping n → i ≡ word_of k n
     → Allows (Agrees k) slots id m i (λ _. 0) (λ _. tells (step slots i 0 0 none) m 0)
 
 -- the pass is the one that retires a file, or one that the round needn't visit

@@ -13,6 +13,7 @@ pub mod LabelSteps
 pub mod Runs
 pub mod SwapSteps
 pub mod FinishSteps
+pub mod KeepSteps
 pub mod Questions
 pub mod Agrees
 pub mod Cuts

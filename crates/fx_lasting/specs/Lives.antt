@@ -35,6 +35,7 @@ pub record IsNewPass (seat : Seat (Option Identity) View) (number : ℕ) (stock 
   pub its_stock : p.stock.items ≡ stock
   pub next : p.next_entry ≡ 0
   pub flag : p.idle ≡ true
+  pub unkept : p.keeps ≡ false
   pub unlisted : p.listed ≡ false
   pub unsure : p.sure ≡ false
 

@@ -21,12 +21,15 @@ pub data Phase : Type 0 where
   retired : File → Phase
   -- its file is closed, and the pass at the seat is about to take it out
   emptied : ℕ → Phase
+  -- it has no file, and the pass at the seat keeps it for its next one: its word is that of a birth
+  kept : ℕ → Phase
 
 -- the seat that alone may go on with it, plus 1, or 0
 abbrev pub owner : Phase → ℕ
 owner (placed seat written) = seat + 1
 owner (leaving seat takes round marks f) = seat + 1
 owner (emptied seat) = seat + 1
+owner (kept seat) = seat + 1
 owner _ = 0
 
 -- its file, while it is open

@@ -1,6 +1,8 @@
 -- A lasting table and its passes, as their callers see them.
 use Rattle.std.specs.Prelude.{◌≡◌, ℕ, ◌+◌, ◌<◌, ◌≤◌, ◌^◌, ◌⊎◌, nat_lt, if◌then◌else◌, Bool, true}
 use Rattle.std.specs.Prelude.{false, List, [], map}
+use mathlib.Core.Option.{some}
+use lib.ListN.{get_elem?}
 use Rattle.atomic_table.specs.Seated.{TableId}
 use Rattle.fx_plain.specs.History.{part_of_pass}
 use Rattle.fx_plain.specs.declared.event.File.{File}
@@ -23,7 +25,7 @@ use Rattle.fx_lasting.specs.declared.view.Start.{Start}
 use Rattle.fx_lasting.specs.declared.view.View.{View}
 use Rattle.fx_lasting.specs.declared.view.Work.{Work}
 use Rattle.fx_lasting.specs.declared.view.Work.TheVariants.{Idle, Searching, Counted, Guarded}
-use Rattle.fx_lasting.specs.declared.view.Work.TheVariants.{Retiring}
+use Rattle.fx_lasting.specs.declared.view.Work.TheVariants.{Retiring, Keeping}
 use Rattle.fx_lasting.specs.declared.pass.LastingPass.{LastingPass}
 use Rattle.fx_lasting.specs.declared.table.LastingTable.{LastingTable}
 
@@ -78,17 +80,26 @@ view_of p = pass_of p.seat.me.0
 abbrev pub steps_taken : LastingPass → ℕ
 steps_taken p = (first_log p.seat.me.0.logs).steps
 
--- between two calls a pass is idle, maybe with a free node that it found, holds a file by a take or
--- by its hold word, or has one to retire and has visited no hold word yet; its fields say which
-abbrev pub IsBetweenCalls : ℕ → Bool → Bool → ℕ → Work → Type 0
-IsBetweenCalls passes idle guarded visit Idle = idle ≡ true
-IsBetweenCalls passes idle guarded visit (Searching node) = idle ≡ true
-IsBetweenCalls passes idle guarded visit (Counted f node) = (idle ≡ false) × (guarded ≡ false)
-IsBetweenCalls passes idle guarded visit (Guarded f node) = (idle ≡ false) × (guarded ≡ true)
-IsBetweenCalls passes idle guarded visit (Retiring f node takes round marks) =
-    (idle ≡ false) × (round ≡ new_round visit) × (marks ≡ 0) × (takes < 2 ^ 20)
-    × ((visit ≡ 1) ⊎ (visit ≡ passes + 1))
-IsBetweenCalls passes idle guarded visit _ = ⊥
+-- between two calls a pass is idle, maybe with a free node that it found, or keeps the node at its
+-- next entry, holds a file by a take or by its hold word, or has one to retire and has visited no
+-- hold word yet; its fields say which
+module _ (passes : ℕ) (idle guarded keeps : Bool) (visit : ℕ) (stock : List ℕ) (entry : ℕ) where
+  abbrev pub IsBetweenCalls : Work → Type 0
+  IsBetweenCalls Idle = (idle ≡ true) × (keeps ≡ false)
+  IsBetweenCalls (Searching node) = (idle ≡ true) × (keeps ≡ false)
+  IsBetweenCalls (Keeping node) =
+      (idle ≡ true) × (keeps ≡ true) × (get_elem? stock entry ≡ some node)
+  IsBetweenCalls (Counted f node) = (idle ≡ false) × (keeps ≡ false) × (guarded ≡ false)
+  IsBetweenCalls (Guarded f node) = (idle ≡ false) × (keeps ≡ false) × (guarded ≡ true)
+  IsBetweenCalls (Retiring f node takes round marks) = (idle ≡ false) × (keeps ≡ false)
+      × (round ≡ new_round visit) × (marks ≡ 0) × (takes < 2 ^ 20)
+      × ((visit ≡ 1) ⊎ (visit ≡ passes + 1))
+  IsBetweenCalls _ = ⊥
+
+-- the fields of the pass say so of this work
+abbrev pub Knows : ℕ → LastingPass → Work → Type 0
+Knows passes p w = IsBetweenCalls passes p.idle p.guarded p.keeps p.next_visit p.stock.items
+    p.next_entry w
 
 -- a seat of the table, with one pass that has no place, and on whose account no group's word counts
 -- a slot too few
@@ -107,7 +118,7 @@ pub record IsSeatOf (id : TableId) (k : Start) (p : LastingPass) : Type 0 where
 pub record IsPassOf (id : TableId) (k : Start) (p : LastingPass) : Type 0 where
   pub seated : IsSeatOf id k p
   pub calm : p.seat.me.0.glance ≡ Nothing
-  pub knows : IsBetweenCalls k.passes p.idle p.guarded p.next_visit p.seat.me.0.work
+  pub knows : Knows k.passes p p.seat.me.0.work
   pub front : IsFront (opening_of k) (pass_of p.seat.me.0)
 
 -- the opening of the table

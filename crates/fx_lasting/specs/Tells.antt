@@ -37,7 +37,7 @@ use Rattle.fx_lasting.specs.declared.view.Start.{Start}
 use Rattle.fx_lasting.specs.declared.view.Work.{Work}
 use Rattle.fx_lasting.specs.declared.view.Work.TheVariants.{Idle, Announced, Counted, Guarded}
 use Rattle.fx_lasting.specs.declared.view.Work.TheVariants.{Owing, Yielding, Searching, Placing}
-use Rattle.fx_lasting.specs.declared.view.Work.TheVariants.{Retiring, Emptying}
+use Rattle.fx_lasting.specs.declared.view.Work.TheVariants.{Retiring, Emptying, Keeping}
 use Rattle.fx_lasting.specs.declared.view.Written.TheVariants.{Nothing as Unlabelled}
 
 -- a step of a table whose places have an open file or none
@@ -76,6 +76,7 @@ IsInside k (Searching node) = node < nodes_of k
 IsInside k (Placing node written) = node < nodes_of k
 IsInside k (Retiring f node takes round marks) = node < nodes_of k
 IsInside k (Emptying node) = node < nodes_of k
+IsInside k (Keeping node) = node < nodes_of k
 
 -- the pass of the seat is listed
 abbrev pub IsOnList : Sat → Type 0

@@ -25,7 +25,7 @@ use fx_table::{Empty, Hold, LookFault, LookUp, Retired};
 use fx_words::entry_of;
 
 impl LastingTable {
-    /// Looks up a slot below `size`, for an idle pass (`is_idle`), in at most eight atomic steps.
+    /// Looks up a slot below `size`, for an idle pass (`is_idle`), in at most nine atomic steps.
     /// The file there has one more hold until the pass releases it (io_uring_enter(2),
     /// "IOSQE_FIXED_FILE"). The file that the look-up first saw may be removed before it is held.
     /// The look-up then looks again, and returns the removed file as `freed`, to be closed, if it
@@ -42,8 +42,9 @@ impl LastingTable {
         ensures looked { LookedUp (opening_of_table self.now) (view_of pass.old) slot result.found
             result.freed (view_of pass.new) }
         ensures never_spent { result.found ≢ Err Spent }
-        ensures steps { steps_taken pass.new ≤ steps_taken pass.old + 8 }
+        ensures steps { steps_taken pass.new ≤ steps_taken pass.old + 9 }
     {
+        self.settle(pass);
         let shared = &self.table.shared;
         let word = shared.load::<Glancing>(&mut pass.seat, slot_place(slot));
         let Some(node) = file_node_of(word) else {
@@ -68,6 +69,7 @@ impl LastingTable {
     fn look_first(&self, pass: &mut LastingPass, slot: u32) -> LookUp
         requires seated { IsSeatOfTable self.now pass.old }
         requires idle { pass.old.seat.me.0.work ≡ Idle }
+        requires unkept { pass.old.keeps ≡ false }
         requires unlisted { pass.old.listed ≡ false }
         requires cold { pass.old.seat.me.0.glance ≡ Cold slot }
         requires slot { slot < self.now.size }
@@ -90,6 +92,7 @@ impl LastingTable {
     fn look_hot(&self, pass: &mut LastingPass, slot: u32, node: u32) -> LookUp
         requires seated { IsSeatOfTable self.now pass.old }
         requires idle { pass.old.seat.me.0.work ≡ Idle }
+        requires unkept { pass.old.keeps ≡ false }
         requires listed { IsOnList pass.old.seat.me }
         requires hot { pass.old.seat.me.0.glance ≡ Hot slot node }
         requires slot { slot < self.now.size }
@@ -121,6 +124,7 @@ impl LastingTable {
     fn look_cold(&self, pass: &mut LastingPass, slot: u32) -> Result<Hold, LookFault>
         requires seated { IsSeatOfTable self.now pass.old }
         requires idle { pass.old.seat.me.0.work ≡ Idle }
+        requires unkept { pass.old.keeps ≡ false }
         requires listed { IsOnList pass.old.seat.me }
         requires cold { pass.old.seat.me.0.glance ≡ Cold slot }
         requires slot { slot < self.now.size }
@@ -173,9 +177,10 @@ impl LastingTable {
             steps_taken pass.new ≤ steps_taken pass.old + (passes + 5) }
     {
         let stock = pass.stock.as_slice();
-        let (entry, node) = self.seek(&mut pass.seat, pass.number, stock, pass.next_entry);
-        let word = file_word(node, file.entry());
-        self.put_in(&mut pass.seat, node, file);
+        let start = pass.next_entry;
+        let file_entry = file.entry();
+        let (entry, node) = self.place(&mut pass.seat, pass.number, stock, start, pass.keeps, file);
+        let word = file_word(node, file_entry);
         let shared = &self.table.shared;
         let found = shared.swap::<Installing>(&mut pass.seat, slot_place(slot), word);
         let replaced = removed_in(found);
@@ -183,12 +188,13 @@ impl LastingTable {
         self.raise(&mut pass.seat, slot, inside, replaced.is_none());
         pass.stock[entry as usize] = node_named(found);
         pass.next_entry = entry;
+        pass.keeps = false;
         pass.next_visit = self.first_visit(found);
         pass.idle = replaced.is_none();
         replaced
     }
 
-    /// Empties a slot below `size` for an update, for an idle pass (`is_idle`), in at most five
+    /// Empties a slot below `size` for an update, for an idle pass (`is_idle`), in at most six
     /// atomic steps. Returns the file that was there, to be retired, or `None`
     /// (io_uring_register(2), "IORING_REGISTER_FILES_UPDATE", an entry of -1).
     #[inline(always)]
@@ -199,8 +205,9 @@ impl LastingTable {
         ensures fits { IsPassOfTable self.now pass.new }
         ensures cleared { Cleared (opening_of_table self.now) (view_of pass.old) slot result
             (view_of pass.new) }
-        ensures steps { steps_taken pass.new ≤ steps_taken pass.old + 5 }
+        ensures steps { steps_taken pass.new ≤ steps_taken pass.old + 6 }
     {
+        self.settle(pass);
         let inside = self.is_in_range(slot);
         self.lower(&mut pass.seat, slot, inside);
         let entry = pass.next_entry;
@@ -213,7 +220,7 @@ impl LastingTable {
         removed
     }
 
-    /// Empties a slot below `size` for a close, for an idle pass (`is_idle`), in at most five
+    /// Empties a slot below `size` for a close, for an idle pass (`is_idle`), in at most six
     /// atomic steps. Returns the file that was there, to be retired (io_uring_prep_close(3),
     /// `io_uring_prep_close_direct`).
     ///
@@ -227,8 +234,9 @@ impl LastingTable {
         ensures fits { IsPassOfTable self.now pass.new }
         ensures taken { Taken (opening_of_table self.now) (view_of pass.old) slot result
             (view_of pass.new) }
-        ensures steps { steps_taken pass.new ≤ steps_taken pass.old + 5 }
+        ensures steps { steps_taken pass.new ≤ steps_taken pass.old + 6 }
     {
+        self.settle(pass);
         let inside = self.is_in_range(slot);
         self.lower(&mut pass.seat, slot, inside);
         let entry = pass.next_entry;
@@ -267,7 +275,10 @@ impl LastingTable {
         pass.idle = true;
         let left = shared.load::<Finishing>(&mut pass.seat, place);
         if left == amount + 1 {
-            let freed = self.take_out(&mut pass.seat, node);
+            let stock = pass.stock.as_slice();
+            let entry = pass.next_entry;
+            let (freed, keeps) = self.take_out_or_keep(&mut pass.seat, node, stock, entry);
+            pass.keeps = keeps;
             return Some(freed);
         }
         let found = shared.fetch_sub::<Retire>(&mut pass.seat, place, amount);

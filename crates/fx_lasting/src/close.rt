@@ -1,5 +1,5 @@
 //! Closing a table, or letting it go.
-ghost use Rattle.std.specs.Prelude.{◌≡◌, ◌<◌, ◌≤◌, ◌++◌, [], length, map, reverse, slice_set, vec_len, vec_capacity, All, None};
+ghost use Rattle.std.specs.Prelude.{◌≡◌, ◌<◌, ◌≤◌, ◌++◌, false, [], length, map, reverse, slice_set, vec_len, vec_capacity, All, None};
 ghost use Rattle.std.specs.Mem.Slots.{slots_items, slots_len, IsFull};
 ghost use mathlib.Core.Option.{some};
 ghost use lib.ListN.{get_elem?};
@@ -38,11 +38,24 @@ impl LastingTable {
             result.items }
         ensures few { vec_len result ≤ size_of (opening_of_table self) }
     {
+        self.settle_all(&mut passes);
         let Some(first) = passes.pop() else {
             unreachable!()
         };
         let seat = self.gather(first.into_seat(), passes);
         self.finish(seat, room)
+    }
+
+    // Frees the nodes that the passes keep.
+    fn settle_all(&self, passes: &mut Vec<LastingPass>)
+        requires ready { All (λ p. IsPassOfTable self.now p × IsIdle (view_of p)) passes.old.items }
+        ensures ready { All (λ p. IsPassOfTable self.now p × IsIdle (view_of p)) passes.new.items }
+        ensures unkept { All (λ p. p.keeps ≡ false) passes.new.items }
+        ensures same { map view_of passes.new.items ≡ map view_of passes.old.items }
+    {
+        for index in 0..passes.len() {
+            self.settle(&mut passes[index]);
+        }
     }
 
     // Joins all passes in one seat.

@@ -33,7 +33,7 @@ use fx_words::entry_of;
 
 impl LastingTable {
     /// Empties a slot below `size` for a close, if its file is on this node, for an idle pass
-    /// (`is_idle`), in at most nine atomic steps (io_uring_prep_close(3),
+    /// (`is_idle`), in at most ten atomic steps (io_uring_prep_close(3),
     /// `io_uring_prep_close_direct`). The file that was there is to be retired. Otherwise nothing
     /// changes.
     pub fn take_if(&self, pass: &mut LastingPass, slot: u32, node: u32) -> TakenIf
@@ -44,8 +44,9 @@ impl LastingTable {
         ensures taken { HasTakenIf self.now.table.shared.key (view_of pass.old) slot node result
             (view_of pass.new) }
         ensures tries { TriesTake result (steps_taken pass.old) (steps_taken pass.new) }
-        ensures steps { steps_taken pass.new ≤ steps_taken pass.old + 9 }
+        ensures steps { steps_taken pass.new ≤ steps_taken pass.old + 10 }
     {
+        self.settle(pass);
         let word = match self.see(&mut pass.seat, slot, node) {
             Ok(word) => word,
             Err(miss) => return TakenIf::Missed(miss),
@@ -88,10 +89,11 @@ impl LastingTable {
             Err(miss) => return PutIf::Missed(miss, file),
         };
         let stock = pass.stock.as_slice();
-        let (entry, own) = self.seek(&mut pass.seat, pass.number, stock, pass.next_entry);
+        let start = pass.next_entry;
         let identity = file.identity();
-        self.put_in(&mut pass.seat, own, file);
+        let (entry, own) = self.place(&mut pass.seat, pass.number, stock, start, pass.keeps, file);
         pass.next_entry = entry;
+        pass.keeps = false;
         match self.try_replace(&mut pass.seat, slot, node, word, own, identity) {
             Ok(found) => {
                 pass.stock[entry as usize] = node;

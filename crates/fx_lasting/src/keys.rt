@@ -21,7 +21,7 @@ use fx_table::{LookUp, Retired};
 use std::sync::Wait;
 
 impl LastingTable {
-    /// Looks up the file of a key, for an idle pass (`is_idle`), in at most twelve atomic steps
+    /// Looks up the file of a key, for an idle pass (`is_idle`), in at most thirteen atomic steps
     /// (io_uring_enter(2), "IOSQE_FIXED_FILE"). The pass holds the file until it releases it. If
     /// the slot has another file, the pass releases that at once, and is idle again.
     ///
@@ -33,7 +33,7 @@ impl LastingTable {
         ensures fits { IsPassOfTable self.now pass.new }
         ensures looked { LookedByKey self.now.table.shared.key (view_of pass.old) key
             result.found result.freed result.released (view_of pass.new) }
-        ensures steps { steps_taken pass.new ≤ steps_taken pass.old + 12 }
+        ensures steps { steps_taken pass.new ≤ steps_taken pass.old + 13 }
     {
         if self.size <= key.slot {
             return KeyLook {
@@ -68,8 +68,8 @@ impl LastingTable {
 
     /// Empties the slot of the file of a key for a close (io_uring_prep_close(3),
     /// `io_uring_prep_close_direct`). The pass and the holder are idle (`is_idle`), and the holder
-    /// holds the file during the call. The holder makes at most 15 atomic steps and is idle again,
-    /// and the pass makes at most nine. The removed file is the one that the holder found by the
+    /// holds the file during the call. The holder makes at most 16 atomic steps and is idle again,
+    /// and the pass makes at most ten. The removed file is the one that the holder found by the
     /// key, and is to be retired. Otherwise the slot is left as it is.
     pub fn take_key(&self, holder: &mut LastingPass, pass: &mut LastingPass, key: Key) -> KeyTaken
         requires holder_fits { IsPassOfTable self.now holder.old }
@@ -82,8 +82,8 @@ impl LastingTable {
         ensures taken { TakesByKey self.now.table.shared.key (view_of holder.old)
             (view_of pass.old) key result.taken result.freed result.released (view_of holder.new)
             (view_of pass.new) }
-        ensures holder_steps { steps_taken holder.new ≤ steps_taken holder.old + 15 }
-        ensures steps { steps_taken pass.new ≤ steps_taken pass.old + 9 }
+        ensures holder_steps { steps_taken holder.new ≤ steps_taken holder.old + 16 }
+        ensures steps { steps_taken pass.new ≤ steps_taken pass.old + 10 }
     {
         let KeyLook {
             found,
@@ -115,7 +115,7 @@ impl LastingTable {
     /// Installs a file in place of the file of a key, under a number that no file has had
     /// (io_uring_prep_openat(3), `io_uring_prep_openat_direct`). The pass and the holder are idle
     /// (`is_idle`), the pass installs files (`numbers_left`), and the holder holds the file of the
-    /// key during the call. The holder makes at most 15 atomic steps and is idle again, and the
+    /// key during the call. The holder makes at most 16 atomic steps and is idle again, and the
     /// pass makes at most nine more than the table has passes. The replaced file is the one that
     /// the holder found by the key, and is to be retired. Otherwise the slot is left as it is, and
     /// the new file comes back.
@@ -137,7 +137,7 @@ impl LastingTable {
         ensures placed { PutsOverKey self.now.table.shared.key (view_of holder.old)
             (view_of pass.old) key file result.put result.freed result.released
             (view_of holder.new) (view_of pass.new) }
-        ensures holder_steps { steps_taken holder.new ≤ steps_taken holder.old + 15 }
+        ensures holder_steps { steps_taken holder.new ≤ steps_taken holder.old + 16 }
         ensures steps { let passes = self.now.passes in
             steps_taken pass.new ≤ steps_taken pass.old + (passes + 9) }
     {

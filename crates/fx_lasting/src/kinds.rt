@@ -185,6 +185,34 @@ impl Play<Option<OpenFile>, View> for Resting {
     ghost then = { Rests };
 }
 
+/// Park: a pass that took a closed file out reads whether the node's word is that of a birth. If
+/// so, the place goes home, and the pass keeps the node for its next file.
+pub struct Parking;
+
+impl Play<Option<OpenFile>, View> for Parking {
+    ghost use Rattle.fx_lasting.specs.KeepSteps.{Parks};
+
+    ghost then = { Parks };
+}
+
+/// Resume: the place of the node that the pass keeps goes to the pass.
+pub struct Resuming;
+
+impl Play<Option<OpenFile>, View> for Resuming {
+    ghost use Rattle.fx_lasting.specs.KeepSteps.{Resumes};
+
+    ghost then = { Resumes };
+}
+
+/// Settle: the node that the pass kept is free.
+pub struct Settling;
+
+impl Play<Option<OpenFile>, View> for Settling {
+    ghost use Rattle.fx_lasting.specs.KeepSteps.{SettlesNode};
+
+    ghost then = { SettlesNode };
+}
+
 /// Skim: a pass that removed a hot file reads which of 64 passes are listed, and so may announce
 /// its node.
 pub struct Skimming;

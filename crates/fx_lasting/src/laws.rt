@@ -9,14 +9,14 @@ ghost use Rattle.fx_lasting.specs.Layout.{PlacesAreInside, PlacesAreApart, Label
 ghost use Rattle.fx_lasting.specs.Opens.{OpeningKeeps};
 ghost use Rattle.fx_lasting.specs.WholeHistory.{HasOneHistory, RemovedFilesHaveUsers};
 ghost use Rattle.fx_lasting.specs.declared.layout.TheConstants.{MOST_SLOTS, MOST_NODES, MOST_PASSES, MOST_INSTALLING};
-ghost use Rattle.fx_lasting.specs.Laws.{GlancesKeep, ListsKeep, AnnouncesKeep, ConfirmsKeep, WithdrawsKeep, TakesOnceKeep, HeatsKeep, StepsDownKeep, LettingGoKeeps, SeeksKeep, BirthsKeep, TagsKeep, NumbersKeep, ReadsTagKeep, ReadsNumberKeep, RestsKeep, SkimsKeep, VisitsKeep, MarksKeep, FinishesKeep, RetiresKeep, LowersKeep, ChecksKeep, BreaksKeep, RaisesKeep, BeginsKeep, AsksKeep, CountsKeep, DecidesKeep, PeeksKeep, SplitsKeep, JoinsKeep, ClearsKeep, TakesOutKeep, SwapsOutKeep, InstallsKeep, ExchangesKeep, SeesKeep, TakesIfKeep, ReplacesKeep};
+ghost use Rattle.fx_lasting.specs.Laws.{GlancesKeep, ListsKeep, AnnouncesKeep, ConfirmsKeep, WithdrawsKeep, TakesOnceKeep, HeatsKeep, StepsDownKeep, LettingGoKeeps, SeeksKeep, BirthsKeep, TagsKeep, NumbersKeep, ReadsTagKeep, ReadsNumberKeep, RestsKeep, ParksKeep, ResumesKeep, SettlesKeep, SkimsKeep, VisitsKeep, MarksKeep, FinishesKeep, RetiresKeep, LowersKeep, ChecksKeep, BreaksKeep, RaisesKeep, BeginsKeep, AsksKeep, CountsKeep, DecidesKeep, PeeksKeep, SplitsKeep, JoinsKeep, ClearsKeep, TakesOutKeep, SwapsOutKeep, InstallsKeep, ExchangesKeep, SeesKeep, TakesIfKeep, ReplacesKeep};
 
 use crate::kinds::{
     Announcing, Asking, Beginning, Birth, Breaking, Checking, Clearing, Confirming, Counting, Deal,
     Deciding, Exchanging, Finishing, Gather, Glancing, HeatingUp, Installing, Letting, Listing,
-    Lowering, Marking, Numbering, OneHistory, Peeking, Raising, ReadingNumber, ReadingTag,
-    Replacing, Resting, Retire, Seeing, Seeking, Skimming, SteppingDown, SwappingClear,
-    SwappingTake, Tagging, Taking, TakingIf, TakingOut, Visiting, Withdrawing,
+    Lowering, Marking, Numbering, OneHistory, Parking, Peeking, Raising, ReadingNumber, ReadingTag,
+    Replacing, Resting, Resuming, Retire, Seeing, Seeking, Settling, Skimming, SteppingDown,
+    SwappingClear, SwappingTake, Tagging, Taking, TakingIf, TakingOut, Visiting, Withdrawing,
 };
 use crate::view::{Start, View};
 use atomic_table::{Join, Play, Split, TableRule};
@@ -124,6 +124,22 @@ pub fn read_number_keeps_rule()
 /// rule.
 pub fn rest_keeps_rule()
     ensures { RestsKeep ⟦<Resting as Play<Option<OpenFile>, View>>⟧.then }
+{}
+
+/// A pass that took the closed file of a node of its stock out, and loads the node's word, keeps
+/// the rule. If the word is that of a birth, the pass keeps the node.
+pub fn park_keeps_rule()
+    ensures { ParksKeep ⟦<Parking as Play<Option<OpenFile>, View>>⟧.then }
+{}
+
+/// A pass that loads the word of the node that it keeps keeps the rule, and has the node's place.
+pub fn resume_keeps_rule()
+    ensures { ResumesKeep ⟦<Resuming as Play<Option<OpenFile>, View>>⟧.then }
+{}
+
+/// A pass that stores 0 in the word of the node that it keeps keeps the rule. The node is free.
+pub fn settle_keeps_rule()
+    ensures { SettlesKeep ⟦<Settling as Play<Option<OpenFile>, View>>⟧.then }
 {}
 
 /// A pass that removed a hot file and loads a word of the list keeps the rule. It need not visit

@@ -12,6 +12,7 @@ mod change;
 mod close;
 mod emptied;
 mod emptying;
+mod kept;
 mod key;
 mod key_answers;
 mod keyed;

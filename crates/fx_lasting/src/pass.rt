@@ -18,6 +18,8 @@ pub struct LastingPass {
     pub(crate) stock: Vec<u32>,
     // The entry of its stock where its next search begins.
     pub(crate) next_entry: u32,
+    // The flag that it keeps the node at that entry for its next file.
+    pub(crate) keeps: bool,
     // The first pass that its next retirement may visit, if it has a file to retire.
     pub(crate) next_visit: u32,
     pub(crate) idle: bool,
@@ -32,10 +34,10 @@ pub struct LastingPass {
     pub(crate) spacing: Spacing,
 }
 
-// The distance between a pass and the next one: the fields before it take 80 bytes.
+// The distance between a pass and the next one: the fields before it take 88 bytes.
 #[derive(Drop)]
 pub(crate) struct Spacing {
-    unused: [u64; 6],
+    unused: [u64; 5],
 }
 
 impl LastingPass {
@@ -52,13 +54,14 @@ impl LastingPass {
             number,
             stock,
             next_entry: 0,
+            keeps: false,
             next_visit: 0,
             idle: true,
             guarded: false,
             listed: false,
             sure: false,
             emptied: Emptied::new(),
-            spacing: Spacing { unused: [0; 6] },
+            spacing: Spacing { unused: [0; 5] },
         }
     }
 
@@ -71,6 +74,7 @@ impl LastingPass {
             number: _,
             stock: _,
             next_entry: _,
+            keeps: _,
             next_visit: _,
             idle: _,
             guarded: _,

@@ -107,10 +107,11 @@ impl LastingTable {
             steps_taken pass.new ≤ steps_taken pass.old + (passes + scan_steps len + 4) }
     {
         let stock = pass.stock.as_slice();
-        let (entry, node) = self.seek(&mut pass.seat, pass.number, stock, pass.next_entry);
+        let start = pass.next_entry;
         let identity = file.identity();
-        self.put_in(&mut pass.seat, node, file);
+        let (entry, node) = self.place(&mut pass.seat, pass.number, stock, start, pass.keeps, file);
         pass.next_entry = entry;
+        pass.keeps = false;
         let from = pass.emptied.take_last();
         match self.scan(&mut pass.seat, pass.number, node, identity, from) {
             Some((slot, named)) => {

@@ -46,10 +46,11 @@ impl LastingTable {
             return PutEmpty::HasFile(file);
         }
         let stock = pass.stock.as_slice();
-        let (entry, node) = self.seek(&mut pass.seat, pass.number, stock, pass.next_entry);
+        let start = pass.next_entry;
         let identity = file.identity();
-        self.put_in(&mut pass.seat, node, file);
+        let (entry, node) = self.place(&mut pass.seat, pass.number, stock, start, pass.keeps, file);
         pass.next_entry = entry;
+        pass.keeps = false;
         if let Some(named) = self.try_slot(&mut pass.seat, node, identity, slot) {
             pass.stock[entry as usize] = named;
             return PutEmpty::Installed;

@@ -95,6 +95,8 @@ pub enum Work {
     Retiring(File, u32, u32, Round, u32),
     /// It has the place of the node, whose file is closed.
     Emptying(u32),
+    /// It keeps the node of its stock for its next file. The node's word is that of a birth.
+    Keeping(u32),
 }
 
 /// The progress of a pass's look-up, as contracts see it. No value of it is made.

@@ -10,7 +10,7 @@ returns c =
     let s = c.requires.seated in
     let took = c.take_at-found.ensures in
     let run = took_run s c.args.slot c.take_at-found.new.seat.me c.take_at-found.result took.takes _ (sym c.is_err-pass.ensures.value)
-    c.args.self.now.table.shared.key.passes c.args.pass.now.next_visit in
+    c.args.self.now.table.shared.key.passes c.args.pass.now.next_visit c.args.pass.now.next_entry c.args.pass.now.stock.items c.requires.unkept in
     record {
       fits = still_pass s _ (at_ease s run.2) (refl, refl) took.table (took.places ∙ s.places) (refl, s.next) run.3;
       looked = looked_so s c.args.slot c.take_at-found.new.seat.me c.take_at-found.result took.takes;

@@ -24,6 +24,7 @@ look_cold-found-requires c =
     record {
       seated = listed_seat s _ (subst (λ (z : Change). Runs (as_listed c.args.pass.now.seat.me) [] c.args.pass.now.seat.me.0.work c.args.pass.now.seat.me.0.glance z 1 c.fetch_add.new.seat.me) s.change run) (refl, refl)
           c.fetch_add.ensures.0 (goes.carried ∙ s.places) (refl, s.next);
+      unkept = c.requires.unkept;
       listed = goes.stepped.listed;
       idle = goes.stepped.work ∙ c.requires.idle;
       cold = goes.stepped.glance ∙ c.requires.cold;

@@ -11,7 +11,7 @@ returns-in-Some c =
     let g = c.in-Some.ensures.guards in
     let run = at_ease s g.2 in
     record {
-      fits = still_pass s _ run (refl, refl) c.guard.ensures.table (c.guard.ensures.places ∙ s.places) (refl, s.next) (refl, refl);
+      fits = still_pass s _ run (refl, refl) c.guard.ensures.table (c.guard.ensures.places ∙ s.places) (refl, s.next) (refl, c.requires.unkept, refl);
       looked = (
         g.0,
         record { entry = g.1; same = λ e. absurd (cc e) },

@@ -1,40 +1,42 @@
 use Rattle.fx_lasting.proofs.Words.{IsOnList, TableId, Start, LastingPass, IsPassOf}
 use Rattle.fx_lasting.proofs.Words.{◌≡◌, ℕ, ◌<◌, refl, ap, ◌∙◌, subst, arith, sym, true, false, IsHot, Look, ◌▷◌, [], None, Hot, Cold, slot_of, opening_of, view_of, pass_of}
-use Rattle.fx_table.specs.Calls.{Adds, no_use, one_look}
+use Rattle.fx_table.specs.Calls.{Adds, LookedAfter, LookedUp, no_use, one_look}
+use Rattle.fx_table.specs.Pass.{PassView}
 use Rattle.fx_table.specs.declared.values.Doing.TheVariants.{Idle as DoesNothing}
 use Rattle.fx_lasting.proofs.Calling.{slot_inside, slot_low}
 use Rattle.fx_lasting.proofs.Looking.{glances_keep}
 use Rattle.fx_lasting.proofs.Places.{slot_back}
 use Rattle.fx_lasting.proofs.Running.{runs_goes, no_name, its_name}
 use Rattle.fx_lasting.proofs.Passing.{adds_so, at_ease, still_pass, still_seat, after_then, up_then, its_idle, its_flag}
+use Rattle.fx_lasting.proofs.Settled.{still_idle}
 use Rattle.fx_lasting.proofs.table.LastingTable.look_up.Goals as goal
 
 pub load-word-requires : goal.load-word-requires
 load-word-requires c =
     let t = c.args.self.now in
-    let f = c.requires.fits in
+    let f = c.settle.ensures.fits in
     let inside : c.args.slot < t.size = omega (arith, c.requires.slot, t.same_size) in (
       f.seated.table,
       slot_inside t inside c.slot_place.ensures,
-      glances_keep _ _ _ _ c.args.slot c.args.pass.now.seat.me _ f.seated.at.pass (its_idle f c.requires.idle, f.calm) (slot_low t inside)
+      glances_keep _ _ _ _ c.args.slot c.settle.new.pass.seat.me _ f.seated.at.pass (its_idle f (still_idle c.settle.ensures.same c.requires.idle) c.settle.ensures.unkept, f.calm) (slot_low t inside)
           c.slot_place.ensures,
     )
 
 pub returns-in_default : goal.returns-in_default
 returns-in_default c =
     let k = c.args.self.now.table.shared.key in
-    let p = c.args.pass.now in
-    let s = c.requires.fits.seated in
+    let p = c.settle.new.pass in
+    let s = c.settle.ensures.fits.seated in
     let goes = c.load-word.ensures.2.empty (no_name c.load-word.result c.in_default.ensures) in
     let run = at_ease s (runs_goes goes) in
     let here : slot_of c.slot_place.result ≡ c.args.slot = ap slot_of c.slot_place.ensures ∙ slot_back c.args.slot in
     record {
       fits = still_pass s _ run (refl, refl) c.load-word.ensures.0 (goes.carried ∙ s.places) (refl, s.next)
-          (its_flag c.requires.fits c.requires.idle);
-      looked = subst (λ (z : ℕ). Adds (opening_of k) (view_of p) ([] ▷ Look z None) DoesNothing one_look (pass_of c.load-word.new.seat.me.0)) here
-          (adds_so s run one_look);
+          (its_flag c.settle.ensures.fits (still_idle c.settle.ensures.same c.requires.idle), c.settle.ensures.unkept);
+      looked = subst (λ (z : ℕ × PassView). Adds (opening_of k) z.1 ([] ▷ Look z.0 None) DoesNothing one_look (pass_of c.load-word.new.seat.me.0))
+          (λ i. (here i, c.settle.ensures.same i)) (adds_so s run one_look);
       never_spent = λ e. cc e;
-      steps = let few = run.steps in omega arith;
+      steps = let few = run.steps in let one = c.settle.ensures.steps in omega arith;
     }
 
 -- a pass whose field says so is listed
@@ -43,13 +45,14 @@ listed_so fits is = sym fits.seated.listed ∙ is
 
 pub look_first-requires : goal.look_first-requires
 look_first-requires c =
-    let s = c.requires.fits.seated in
-    let cold : IsHot c.load-word.result × IsOnList c.args.pass.now.seat.me → ⊥ = λ h. let bad : true ≡ false = sym h.1 ∙ (sym s.listed ∙ c.if-not-pass.true) in cc bad in
+    let s = c.settle.ensures.fits.seated in
+    let cold : IsHot c.load-word.result × IsOnList c.settle.new.pass.seat.me → ⊥ = λ h. let bad : true ≡ false = sym h.1 ∙ (sym s.listed ∙ c.if-not-pass.true) in cc bad in
     let goes = c.load-word.ensures.2.cold c.in-Some.node (its_name c.load-word.result c.in-Some.node c.in-Some.ensures) cold in
     let here : slot_of c.slot_place.result ≡ c.args.slot = ap slot_of c.slot_place.ensures ∙ slot_back c.args.slot in
     record {
       seated = still_seat s _ (at_ease s (runs_goes goes)) (refl, refl) c.load-word.ensures.0 (goes.carried ∙ s.places) (refl, s.next);
       idle = goes.stepped.work;
+      unkept = c.settle.ensures.unkept;
       unlisted = c.if-not-pass.true;
       cold = goes.stepped.glance ∙ ap (λ (z : ℕ). Cold z) here;
       slot = omega (arith, c.requires.slot, c.args.self.now.same_size);
@@ -58,29 +61,31 @@ look_first-requires c =
 pub returns-then-not-pass : goal.returns-then-not-pass
 returns-then-not-pass c =
     let k = c.args.self.now.table.shared.key in
-    let s = c.requires.fits.seated in
-    let cold : IsHot c.load-word.result × IsOnList c.args.pass.now.seat.me → ⊥ = λ h. let bad : true ≡ false = sym h.1 ∙ (sym s.listed ∙ c.if-not-pass.true) in cc bad in
+    let s = c.settle.ensures.fits.seated in
+    let cold : IsHot c.load-word.result × IsOnList c.settle.new.pass.seat.me → ⊥ = λ h. let bad : true ≡ false = sym h.1 ∙ (sym s.listed ∙ c.if-not-pass.true) in cc bad in
     let goes = c.load-word.ensures.2.cold c.in-Some.node (its_name c.load-word.result c.in-Some.node c.in-Some.ensures) cold in
     let run = runs_goes goes in
     let first = c.look_first.ensures in
     record {
       fits = first.fits;
-      looked = up_then k (view_of c.args.pass.now) (pass_of c.load-word.new.seat.me.0) (view_of c.look_first.new.pass) c.args.slot c.look_first.result.found
-          c.look_first.result.freed first.never_spent (adds_so s run no_use) first.looked;
+      looked = subst (λ (v : PassView). LookedUp (opening_of k) v c.args.slot c.look_first.result.found c.look_first.result.freed (view_of c.look_first.new.pass)) c.settle.ensures.same
+          (up_then k (view_of c.settle.new.pass) (pass_of c.load-word.new.seat.me.0) (view_of c.look_first.new.pass) c.args.slot c.look_first.result.found
+          c.look_first.result.freed first.never_spent (adds_so s run no_use) first.looked);
       never_spent = first.never_spent;
-      steps = let a = run.steps in let b = first.steps in omega arith;
+      steps = let a = run.steps in let b = first.steps in let one = c.settle.ensures.steps in omega arith;
     }
 
 pub look_hot-requires : goal.look_hot-requires
 look_hot-requires c =
-    let s = c.requires.fits.seated in
+    let s = c.settle.ensures.fits.seated in
     let goes = (c.load-word.ensures.2.hot c.in-Some.node (its_name c.load-word.result c.in-Some.node c.in-Some.ensures)
-    (c.is_hot.ensures.0 c.if-is_hot.true) (listed_so c.requires.fits c.if-not-pass.false)).0 in
+    (c.is_hot.ensures.0 c.if-is_hot.true) (listed_so c.settle.ensures.fits c.if-not-pass.false)).0 in
     let here : slot_of c.slot_place.result ≡ c.args.slot = ap slot_of c.slot_place.ensures ∙ slot_back c.args.slot in
     record {
       seated = still_seat s _ (at_ease s (runs_goes goes)) (refl, refl) c.load-word.ensures.0 (goes.carried ∙ s.places) (refl, s.next);
       idle = goes.stepped.work;
-      listed = goes.stepped.listed ∙ listed_so c.requires.fits c.if-not-pass.false;
+      unkept = c.settle.ensures.unkept;
+      listed = goes.stepped.listed ∙ listed_so c.settle.ensures.fits c.if-not-pass.false;
       hot = goes.stepped.glance ∙ ap (λ (z : ℕ). Hot z c.in-Some.node) here;
       slot = omega (arith, c.requires.slot, c.args.self.now.same_size);
     }
@@ -88,29 +93,31 @@ look_hot-requires c =
 pub returns-then-is_hot : goal.returns-then-is_hot
 returns-then-is_hot c =
     let k = c.args.self.now.table.shared.key in
-    let s = c.requires.fits.seated in
+    let s = c.settle.ensures.fits.seated in
     let goes = (c.load-word.ensures.2.hot c.in-Some.node (its_name c.load-word.result c.in-Some.node c.in-Some.ensures)
-    (c.is_hot.ensures.0 c.if-is_hot.true) (listed_so c.requires.fits c.if-not-pass.false)).0 in
+    (c.is_hot.ensures.0 c.if-is_hot.true) (listed_so c.settle.ensures.fits c.if-not-pass.false)).0 in
     let run = runs_goes goes in
     let hot = c.look_hot.ensures in
     record {
       fits = hot.fits;
-      looked = up_then k (view_of c.args.pass.now) (pass_of c.load-word.new.seat.me.0) (view_of c.look_hot.new.pass) c.args.slot c.look_hot.result.found
-          c.look_hot.result.freed hot.never_spent (adds_so s run no_use) hot.looked;
+      looked = subst (λ (v : PassView). LookedUp (opening_of k) v c.args.slot c.look_hot.result.found c.look_hot.result.freed (view_of c.look_hot.new.pass)) c.settle.ensures.same
+          (up_then k (view_of c.settle.new.pass) (pass_of c.load-word.new.seat.me.0) (view_of c.look_hot.new.pass) c.args.slot c.look_hot.result.found
+          c.look_hot.result.freed hot.never_spent (adds_so s run no_use) hot.looked);
       never_spent = hot.never_spent;
-      steps = let a = run.steps in let b = hot.steps in omega arith;
+      steps = let a = run.steps in let b = hot.steps in let one = c.settle.ensures.steps in omega arith;
     }
 
 pub look_cold-found-requires : goal.look_cold-found-requires
 look_cold-found-requires c =
-    let s = c.requires.fits.seated in
-    let cold : IsHot c.load-word.result × IsOnList c.args.pass.now.seat.me → ⊥ = λ h. let bad : true ≡ false = sym (c.is_hot.ensures.1 h.0) ∙ c.if-is_hot.false in cc bad in
+    let s = c.settle.ensures.fits.seated in
+    let cold : IsHot c.load-word.result × IsOnList c.settle.new.pass.seat.me → ⊥ = λ h. let bad : true ≡ false = sym (c.is_hot.ensures.1 h.0) ∙ c.if-is_hot.false in cc bad in
     let goes = c.load-word.ensures.2.cold c.in-Some.node (its_name c.load-word.result c.in-Some.node c.in-Some.ensures) cold in
     let here : slot_of c.slot_place.result ≡ c.args.slot = ap slot_of c.slot_place.ensures ∙ slot_back c.args.slot in
     record {
       seated = still_seat s _ (at_ease s (runs_goes goes)) (refl, refl) c.load-word.ensures.0 (goes.carried ∙ s.places) (refl, s.next);
       idle = goes.stepped.work;
-      listed = goes.stepped.listed ∙ listed_so c.requires.fits c.if-not-pass.false;
+      unkept = c.settle.ensures.unkept;
+      listed = goes.stepped.listed ∙ listed_so c.settle.ensures.fits c.if-not-pass.false;
       cold = goes.stepped.glance ∙ ap (λ (z : ℕ). Cold z) here;
       slot = omega (arith, c.requires.slot, c.args.self.now.same_size);
     }
@@ -118,15 +125,16 @@ look_cold-found-requires c =
 pub returns : goal.returns
 returns c =
     let k = c.args.self.now.table.shared.key in
-    let s = c.requires.fits.seated in
-    let cold : IsHot c.load-word.result × IsOnList c.args.pass.now.seat.me → ⊥ = λ h. let bad : true ≡ false = sym (c.is_hot.ensures.1 h.0) ∙ c.if-is_hot.false in cc bad in
+    let s = c.settle.ensures.fits.seated in
+    let cold : IsHot c.load-word.result × IsOnList c.settle.new.pass.seat.me → ⊥ = λ h. let bad : true ≡ false = sym (c.is_hot.ensures.1 h.0) ∙ c.if-is_hot.false in cc bad in
     let goes = c.load-word.ensures.2.cold c.in-Some.node (its_name c.load-word.result c.in-Some.node c.in-Some.ensures) cold in
     let run = runs_goes goes in
     let took = c.look_cold-found.ensures in
     record {
       fits = took.fits;
-      looked = after_then k (view_of c.args.pass.now) (pass_of c.load-word.new.seat.me.0) (view_of c.look_cold-found.new.pass) [] c.args.slot
-          c.look_cold-found.result took.never_spent (adds_so s run no_use) took.looked;
+      looked = subst (λ (v : PassView). LookedAfter (opening_of k) v [] c.args.slot c.look_cold-found.result (view_of c.look_cold-found.new.pass)) c.settle.ensures.same
+          (after_then k (view_of c.settle.new.pass) (pass_of c.load-word.new.seat.me.0) (view_of c.look_cold-found.new.pass) [] c.args.slot
+          c.look_cold-found.result took.never_spent (adds_so s run no_use) took.looked);
       never_spent = took.never_spent;
-      steps = let a = run.steps in let b = took.steps in omega arith;
+      steps = let a = run.steps in let b = took.steps in let one = c.settle.ensures.steps in omega arith;
     }

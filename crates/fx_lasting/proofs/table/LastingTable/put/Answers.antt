@@ -5,56 +5,53 @@ use Rattle.fx_table.specs.Calls.{Adds, one_number}
 use Rattle.fx_lasting.proofs.Calling.{slot_inside, slot_low, begins_at, few_nodes}
 use Rattle.fx_lasting.proofs.Words.{account, range_at_start}
 use Rattle.fx_lasting.proofs.Places.{slot_back}
-use Rattle.fx_lasting.proofs.Running.{still_at_work, does_then, runs_one, turns_then, swapped_then, at_swapped}
+use Rattle.fx_lasting.proofs.Running.{still_at_work, runs_one, turns_then, swapped_then, at_swapped}
 use Rattle.fx_lasting.proofs.Trying.{stocked_at}
 use Rattle.fx_lasting.proofs.SlotLaws.{installs_keep}
-use Rattle.fx_lasting.proofs.Passing.{adds_swapped, swapped_pass, swapped_looking, its_idle, may_install, account_so, knows_removed, placed_so, first_by}
-use Rattle.fx_lasting.proofs.table.LastingTable.put.Goals.{After-put_in}
+use Rattle.fx_lasting.proofs.Passing.{adds_swapped, swapped_pass, swapped_looking, its_place, may_install, account_so, knows_removed, placed_so, first_by}
+use Rattle.fx_lasting.proofs.table.LastingTable.put.Goals.{After-place-entry}
 use Rattle.fx_lasting.proofs.table.LastingTable.put.Goals as goal
 
-pub seek-entry-requires-clause-idle : goal.seek-entry-requires-clause-idle
-seek-entry-requires-clause-idle c = its_idle c.requires.fits c.requires.idle
+pub place-entry-requires-clause-may : goal.place-entry-requires-clause-may
+place-entry-requires-clause-may c = rw c.as_slice-stock.ensures.value (its_place c.requires.fits c.requires.idle)
 
-pub seek-entry-requires-clause-installs : goal.seek-entry-requires-clause-installs
-seek-entry-requires-clause-installs c = omega (arith, may_install c.requires.fits.seated c.requires.numbers, c.args.self.now.key.1)
+pub place-entry-requires-clause-installs : goal.place-entry-requires-clause-installs
+place-entry-requires-clause-installs c = omega (arith, may_install c.requires.fits.seated c.requires.numbers, c.args.self.now.key.1)
 
-pub seek-entry-requires-clause-stock : goal.seek-entry-requires-clause-stock
-seek-entry-requires-clause-stock c = c.as_slice-stock.ensures.value ∙ c.requires.fits.seated.stock
+pub place-entry-requires-clause-stock : goal.place-entry-requires-clause-stock
+place-entry-requires-clause-stock c = c.as_slice-stock.ensures.value ∙ c.requires.fits.seated.stock
 
-pub seek-entry-requires-clause-start : goal.seek-entry-requires-clause-start
-seek-entry-requires-clause-start c = let t = c.args.self.now in
+pub place-entry-requires-clause-start : goal.place-entry-requires-clause-start
+place-entry-requires-clause-start c = let t = c.args.self.now in
     begins_at t c.requires.fits (omega (arith, may_install c.requires.fits.seated c.requires.numbers, t.key.1))
 
 pub file_word-word-requires : goal.file_word-word-requires
-file_word-word-requires c = omega (arith, c.seek-entry.ensures.inside, few_nodes c.args.self.now)
-
-pub put_in-requires-clause-at : goal.put_in-requires-clause-at
-put_in-requires-clause-at c = (c.args.pass.now.number, still_at_work c.requires.fits.seated.at c.seek-entry.ensures.found)
+file_word-word-requires c = omega (arith, c.place-entry.ensures.inside, few_nodes c.args.self.now)
 
 -- the entry of the node
-at_entry : (c : After-put_in) → get_elem? (pass_in c.put_in.new.seat.me).stock c.seek-entry.result.0 ≡ some c.seek-entry.result.1
-at_entry c = stocked_at c.as_slice-stock.result.now c.args.pass.now.seat.me c.put_in.new.seat.me c.seek-entry.result.0 c.seek-entry.result.1
-    (c.as_slice-stock.ensures.value ∙ c.requires.fits.seated.stock) (c.put_in.ensures.born.stock ∙ c.seek-entry.ensures.found.stock) c.seek-entry.ensures.stocked
+at_entry : (c : After-place-entry) → get_elem? (pass_in c.place-entry.new.seat.me).stock c.place-entry.result.0 ≡ some c.place-entry.result.1
+at_entry c = stocked_at c.as_slice-stock.result.now c.args.pass.now.seat.me c.place-entry.new.seat.me c.place-entry.result.0 c.place-entry.result.1
+    (c.as_slice-stock.ensures.value ∙ c.requires.fits.seated.stock) c.place-entry.ensures.placed.stock c.place-entry.ensures.stocked
 
 -- the pass is about to swap
-its_seat : (c : After-put_in) → IsAtWork c.args.self.now.table.shared.key c.args.pass.now.number c.put_in.new.seat.me
-its_seat c = still_at_work (still_at_work c.requires.fits.seated.at c.seek-entry.ensures.found) c.put_in.ensures.born
+its_seat : (c : After-place-entry) → IsAtWork c.args.self.now.table.shared.key c.args.pass.now.number c.place-entry.new.seat.me
+its_seat c = still_at_work c.requires.fits.seated.at c.place-entry.ensures.placed
 
-its_change : (c : After-put_in) → c.put_in.new.seat.me.0.change ≡ Outside
-its_change c = c.put_in.ensures.born.change ∙ (c.seek-entry.ensures.found.change ∙ c.requires.fits.seated.change)
+its_change : (c : After-place-entry) → c.place-entry.new.seat.me.0.change ≡ Outside
+its_change c = c.place-entry.ensures.placed.change ∙ c.requires.fits.seated.change
 
 pub swap-found-requires : goal.swap-found-requires
 swap-found-requires c =
     let t = c.args.self.now in
-    let a = (goal.at.swap-found-requires c).After-put_in in
-    let born = c.put_in.ensures in
-    let n = c.seek-entry.result.1 in
+    let a = (goal.at.swap-found-requires c).After-place-entry in
+    let born = c.place-entry.ensures in
+    let n = c.place-entry.result.1 in
     let inside : c.args.slot < t.size = omega (arith, c.requires.slot, t.same_size) in (
-      born.table ∙ (c.seek-entry.ensures.table ∙ c.requires.fits.seated.table),
+      born.table ∙ c.requires.fits.seated.table,
       slot_inside t inside c.slot_place.ensures,
-      installs_keep _ _ _ _ c.args.slot n _ c.args.file c.put_in.new.seat.me _ (its_seat a).pass born.born.work
-          born.place (omega (arith, c.entry.type_inv, c.entry.ensures)) (slot_low t inside) (its_change a) c.slot_place.ensures
-          (c.file_word-word.ensures ∙ ap (file_word_of n) c.entry.ensures),
+      installs_keep _ _ _ _ c.args.slot n _ c.args.file c.place-entry.new.seat.me _ (its_seat a).pass born.placed.work
+          born.place (omega (arith, c.entry-file_entry.type_inv, c.entry-file_entry.ensures)) (slot_low t inside) (its_change a) c.slot_place.ensures
+          (c.file_word-word.ensures ∙ ap (file_word_of n) c.entry-file_entry.ensures),
     )
 
 pub node_named-requires : goal.node_named-requires
@@ -62,23 +59,23 @@ node_named-requires c = c.swap-found.ensures.2.named.0
 
 pub raise-requires-clause-at : goal.raise-requires-clause-at
 raise-requires-clause-at c =
-    let a = (goal.at.raise-requires-clause-at c).After-put_in in
-    let born = c.put_in.ensures in
+    let a = (goal.at.raise-requires-clause-at c).After-place-entry in
+    let born = c.place-entry.ensures in
     let went = c.swap-found.ensures.2 in
     let at = its_seat a in
-    let stepped = went.stepped c.seek-entry.result.1 c.seek-entry.result.0 c.args.file born.born.work born.place (at_entry a) in (
+    let stepped = went.stepped c.place-entry.result.1 c.place-entry.result.0 c.args.file born.placed.work born.place (at_entry a) in (
       c.args.pass.now.number,
-      still_at_work (at_swapped at c.seek-entry.result.0 (name_in c.swap-found.result - 1)
+      still_at_work (at_swapped at c.place-entry.result.0 (name_in c.swap-found.result - 1)
           (subst (λ (z : Start). name_in c.swap-found.result - 1 < nodes_of z) at.pass.0 went.named.1)) (runs_one stepped.2),
     )
 
 pub raise-requires-clause-change : goal.raise-requires-clause-change
 raise-requires-clause-change c =
-    let a = (goal.at.raise-requires-clause-change c).After-put_in in
+    let a = (goal.at.raise-requires-clause-change c).After-place-entry in
     let k : Start = c.args.self.now.table.shared.key in
     let went = c.swap-found.ensures.2 in
-    let born = c.put_in.ensures in
-    let stepped = (went.stepped c.seek-entry.result.1 c.seek-entry.result.0 c.args.file born.born.work born.place (at_entry a)).2 in
+    let born = c.place-entry.ensures in
+    let stepped = (went.stepped c.place-entry.result.1 c.place-entry.result.0 c.args.file born.placed.work born.place (at_entry a)).2 in
     let here : slot_of c.slot_place.result ≡ c.args.slot = ap slot_of c.slot_place.ensures ∙ slot_back c.args.slot in
     stepped.change ∙ ((λ i. account (range_at_start ((its_seat a).pass.0 i)) (here i) went.replaced) ∙ account_so (range_at_start k) c.args.slot c.swap-found.result
     went.replaced c.removed_in-replaced.result c.is_in_range-inside.result c.is_none.result
@@ -86,27 +83,26 @@ raise-requires-clause-change c =
 
 pub returns : goal.returns
 returns c =
-    let a = (goal.at.returns c).After-put_in in
+    let a = (goal.at.returns c).After-place-entry in
     let t = c.args.self.now in
     let k : Start = t.table.shared.key in
     let fits = c.requires.fits in
     let s = fits.seated in
-    let e = c.seek-entry.result.0 in
+    let e = c.place-entry.result.0 in
     let file = c.args.file in
-    let sought = c.seek-entry.ensures.found in
-    let born = c.put_in.ensures in
+    let born = c.place-entry.ensures in
     let went = c.swap-found.ensures.2 in
     let found = c.swap-found.result in
     let named = name_in found - 1 in
     let inside : named < nodes_of k = subst (λ (z : Start). named < nodes_of z) (its_seat a).pass.0 went.named.1 in
     let replaced = went.replaced in
     let is = c.removed_in-replaced.ensures replaced went.names in
-    let stepped = went.stepped c.seek-entry.result.1 e file born.born.work born.place (at_entry a) in
-    let first = does_then sought born.born in
-    let start : c.put_in.new.seat.me.0.start ≡ k = first.start ∙ s.at.pass.0 in
+    let stepped = went.stepped c.place-entry.result.1 e file born.placed.work born.place (at_entry a) in
+    let first = born.placed in
+    let start : c.place-entry.new.seat.me.0.start ≡ k = first.start ∙ s.at.pass.0 in
     let around = turns_then (runs_one stepped.2) c.raise.ensures.runs in
-    let run = swapped_looking fits e named found replaced (swapped_then e named first (subst (λ (g : Glance). Runs (as_swapped e named c.put_in.new.seat.me)
-    ([] ▷ Put (slot_of c.slot_place.result) (numbered stepped.0 file) replaced) (retiring_work c.put_in.new.seat.me.0.start found replaced)
+    let run = swapped_looking fits e named found replaced (swapped_then e named first (subst (λ (g : Glance). Runs (as_swapped e named c.place-entry.new.seat.me)
+    ([] ▷ Put (slot_of c.slot_place.result) (numbered stepped.0 file) replaced) (retiring_work c.place-entry.new.seat.me.0.start found replaced)
     g Outside 2 c.raise.new.seat.me) first.glance around)) start in
     let v = view_of c.args.pass.now in
     let w = pass_of c.raise.new.seat.me.0 in
@@ -114,10 +110,11 @@ returns c =
     let adds = subst (λ (z : ℕ). Adds (opening_of k) v ([] ▷ Put z (numbered stepped.0 file) replaced) (doing_in (retiring_work k found replaced)) one_number
     w) here (adds_swapped s e named inside run one_number) in
     record {
-      fits = swapped_pass s e named inside _ run (refl, refl) (c.raise.ensures.table ∙ (c.swap-found.ensures.0 ∙ (born.table ∙ c.seek-entry.ensures.table)))
+      fits = swapped_pass s e named inside _ run (refl, refl) (c.raise.ensures.table ∙ (c.swap-found.ensures.0 ∙ born.table))
           (c.raise.ensures.places ∙ (went.carried ∙ ap rest born.place))
-          (ap (λ (n : ℕ). set c.args.pass.now.stock.items e n) c.node_named.ensures, λ _. omega (arith, c.seek-entry.ensures.entry, t.key.0))
-          (knows_removed k found replaced c.removed_in-replaced.result _ _ _ is c.is_none-pass.ensures
+          (ap (λ (n : ℕ). set c.args.pass.now.stock.items e n) c.node_named.ensures, λ _. omega (arith, c.place-entry.ensures.entry, t.key.0))
+          (knows_removed k found replaced c.removed_in-replaced.result _ _ _ _ e (set c.args.pass.now.stock.items e c.node_named.result) refl is
+          c.is_none-pass.ensures
           (c.first_visit-pass.ensures ∙ first_by t found));
       placed = placed_so k v c.args.slot found w replaced c.removed_in-replaced.result is stepped.0 file adds;
       steps = let few = run.steps in omega arith;

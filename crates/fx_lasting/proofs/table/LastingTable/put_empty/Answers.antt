@@ -6,9 +6,9 @@ use Rattle.fx_table.specs.Calls.{no_use, one_number}
 use Rattle.fx_lasting.specs.Vacant.{SeesFile}
 use Rattle.fx_lasting.proofs.Words.{Placing, label_of}
 use Rattle.fx_lasting.proofs.ByNode.{adds_none, was_further}
-use Rattle.fx_lasting.proofs.Passing.{adds_swapped, swapped_pass, swapped_rest, adds_so, at_rest, still_pass, its_idle, its_flag, may_install}
+use Rattle.fx_lasting.proofs.Passing.{adds_swapped, swapped_pass, swapped_rest, adds_so, at_rest, still_pass, its_place, its_flag, may_install}
 use Rattle.fx_lasting.proofs.Running.{still_at_work, does_then}
-use Rattle.fx_lasting.proofs.Trying.{in_size, until_put, stocked_at, swapped_does}
+use Rattle.fx_lasting.proofs.Trying.{in_size, stocked_at, swapped_does}
 use Rattle.fx_lasting.proofs.table.LastingTable.put_empty.Goals as goal
 
 pub sees_file-requires-clause-slot : goal.sees_file-requires-clause-slot
@@ -28,47 +28,36 @@ returns-then-sees_file c =
       steps = let few = run.steps in omega arith;
     }
 
-pub seek-entry-requires : goal.seek-entry-requires
-seek-entry-requires c =
+pub place-entry-requires : goal.place-entry-requires
+place-entry-requires c =
     let t = c.args.self.now in
     let f = c.requires.fits in
     let saw = c.sees_file.ensures.saw in
     record {
       table = c.sees_file.ensures.table ∙ f.seated.table;
       at = still_at_work f.seated.at saw.1;
-      idle = rw saw.1.work (its_idle f c.requires.idle);
+      may = rw (saw.1.work, c.as_slice-stock.ensures.value) (its_place f c.requires.idle);
+      places = c.sees_file.ensures.places ∙ f.seated.places;
       installs = omega (arith, may_install f.seated c.requires.numbers, t.key.1);
       stock = c.as_slice-stock.ensures.value ∙ (f.seated.stock ∙ sym saw.1.stock);
       start = begins_at t f (omega (arith, may_install f.seated c.requires.numbers, t.key.1));
-    }
-
-pub put_in-requires : goal.put_in-requires
-put_in-requires c =
-    let f = c.requires.fits in
-    let saw = c.sees_file.ensures.saw in
-    let sought = c.seek-entry.ensures in
-    record {
-      table = sought.table ∙ (c.sees_file.ensures.table ∙ f.seated.table);
-      at = (c.args.pass.now.number, still_at_work (still_at_work f.seated.at saw.1) sought.found);
-      found = sought.found.work;
-      places = sought.places ∙ (c.sees_file.ensures.places ∙ f.seated.places);
     }
 
 pub try_slot-requires : goal.try_slot-requires
 try_slot-requires c =
     let f = c.requires.fits in
     let saw = c.sees_file.ensures.saw in
-    let placed = does_then saw.1 (until_put c.seek-entry.ensures.found c.put_in.ensures.born) in
+    let placed = does_then saw.1 c.place-entry.ensures.placed in
     record {
-      table = c.put_in.ensures.table ∙ (c.seek-entry.ensures.table ∙ (c.sees_file.ensures.table ∙ f.seated.table));
+      table = c.place-entry.ensures.table ∙ (c.sees_file.ensures.table ∙ f.seated.table);
       at = (c.args.pass.now.number, still_at_work f.seated.at placed);
       placing = record {
-        work = placed.work ∙ ap (λ (z : Closed). Placing c.seek-entry.result.1 (label_of z)) (sym c.identity-identity.ensures);
-        place = c.put_in.ensures.place ∙ ap (λ (z : Closed). (c.seek-entry.result.1, Some z) ∷ []) (sym c.identity-identity.ensures);
+        work = placed.work ∙ ap (λ (z : Closed). Placing c.place-entry.result.1 (label_of z)) (sym c.identity-identity.ensures);
+        place = c.place-entry.ensures.place ∙ ap (λ (z : Closed). (c.place-entry.result.1, Some z) ∷ []) (sym c.identity-identity.ensures);
         stocked = (
-          c.seek-entry.result.0,
-          stocked_at c.as_slice-stock.result.now c.args.pass.now.seat.me c.put_in.new.seat.me c.seek-entry.result.0
-              c.seek-entry.result.1 (c.as_slice-stock.ensures.value ∙ f.seated.stock) placed.stock c.seek-entry.ensures.stocked,
+          c.place-entry.result.0,
+          stocked_at c.as_slice-stock.result.now c.args.pass.now.seat.me c.place-entry.new.seat.me c.place-entry.result.0
+              c.place-entry.result.1 (c.as_slice-stock.ensures.value ∙ f.seated.stock) placed.stock c.place-entry.ensures.stocked,
         );
       };
       change = placed.change ∙ f.seated.change;
@@ -82,21 +71,21 @@ returns-in-Some c =
     let fits = c.requires.fits in
     let s = fits.seated in
     let saw = c.sees_file.ensures.saw in
-    let sought = c.seek-entry.ensures in
-    let e = c.seek-entry.result.0 in
+    let sought = c.place-entry.ensures in
+    let e = c.place-entry.result.0 in
     let named = c.in-Some.named in
-    let placed = does_then saw.1 (until_put sought.found c.put_in.ensures.born) in
+    let placed = does_then saw.1 sought.placed in
     let found = c.in-Some.ensures.tries in
     let inside : named < nodes_of k = subst (λ (z : Start). named < nodes_of z) (placed.start ∙ s.at.pass.0) found.0 in
-    let z = found.2 e (stocked_at c.as_slice-stock.result.now c.args.pass.now.seat.me c.put_in.new.seat.me e c.seek-entry.result.1
+    let z = found.2 e (stocked_at c.as_slice-stock.result.now c.args.pass.now.seat.me c.place-entry.new.seat.me e c.place-entry.result.1
     (c.as_slice-stock.ensures.value ∙ s.stock) placed.stock sought.stocked) in
     let run = swapped_rest fits e named (swapped_does e named placed z.2) in
     let adds = adds_swapped s e named inside run one_number in
     record {
       fits = swapped_pass s e named inside _ run (refl, refl)
-          (c.try_slot.ensures.table ∙ (c.put_in.ensures.table ∙ (sought.table ∙ c.sees_file.ensures.table))) found.1
+          (c.try_slot.ensures.table ∙ (sought.table ∙ c.sees_file.ensures.table)) found.1
           (refl, λ _. omega (arith, sought.entry, t.key.0))
-          (its_flag fits c.requires.idle);
+          (its_flag fits c.requires.idle, refl);
       placed = (
         numbered z.0 c.identity-identity.result,
         record { identity = c.identity-identity.ensures; same = λ e. absurd (cc e) },
@@ -110,11 +99,11 @@ take_out-requires c =
     let f = c.requires.fits in
     let saw = c.sees_file.ensures.saw in
     let still = c.in_default.ensures.tries in
-    let run = does_then (does_then saw.1 (until_put c.seek-entry.ensures.found c.put_in.ensures.born)) still.0 in
+    let run = does_then (does_then saw.1 c.place-entry.ensures.placed) still.0 in
     record {
-      table = c.try_slot.ensures.table ∙ (c.put_in.ensures.table ∙ (c.seek-entry.ensures.table ∙ (c.sees_file.ensures.table ∙ f.seated.table)));
+      table = c.try_slot.ensures.table ∙ (c.place-entry.ensures.table ∙ (c.sees_file.ensures.table ∙ f.seated.table));
       at = (c.args.pass.now.number, still_at_work f.seated.at run);
-      place = (c.args.file, record { work = inr (label_of c.identity-identity.result, still.0.work); place = still.1 ∙ c.put_in.ensures.place });
+      place = (c.args.file, record { work = inr (label_of c.identity-identity.result, still.0.work); place = still.1 ∙ c.place-entry.ensures.place });
     }
 
 pub returns : goal.returns
@@ -124,19 +113,19 @@ returns c =
     let s = fits.seated in
     let saw : SeesFile k c.args.slot c.args.pass.now.seat.me false c.sees_file.new.seat.me =
     rw c.if-sees_file.false at c.sees_file.ensures.saw in
-    let sought = c.seek-entry.ensures in
+    let sought = c.place-entry.ensures in
     let still = c.in_default.ensures.tries in
     let end = c.take_out.ensures in
     let m₃ = c.try_slot.new.seat.me in
     let m₄ = c.take_out.new.seat.me in
-    let since = does_then (until_put sought.found c.put_in.ensures.born) still.0 in
+    let since = does_then sought.placed still.0 in
     let rests = subst (λ (z : Work). Runs m₃ [] (rested z) m₃.0.glance m₃.0.change 1 m₄) still.0.work end.rests in
     let run = at_rest fits (does_then (does_then saw.1 since) rests) in
-    let place : HasPlace c.seek-entry.result.1 (Some c.args.file) m₃ = record { work = inr (label_of c.identity-identity.result, still.0.work); place = still.1 ∙ c.put_in.ensures.place } in
+    let place : HasPlace c.place-entry.result.1 (Some c.args.file) m₃ = record { work = inr (label_of c.identity-identity.result, still.0.work); place = still.1 ∙ c.place-entry.ensures.place } in
     record {
       fits = still_pass s _ run (refl, refl)
-          (end.table ∙ (c.try_slot.ensures.table ∙ (c.put_in.ensures.table ∙ (sought.table ∙ c.sees_file.ensures.table)))) end.empty
-          (refl, λ _. omega (arith, sought.entry, c.args.self.now.key.0)) (its_flag fits c.requires.idle);
+          (end.table ∙ (c.try_slot.ensures.table ∙ (sought.table ∙ c.sees_file.ensures.table))) end.empty
+          (refl, λ _. omega (arith, sought.entry, c.args.self.now.key.0)) (its_flag fits c.requires.idle, refl);
       placed = (
         end.file c.args.file place,
         record { was = was_further (pass_in m₄).front saw.0 (does_then since rests).seen; adds = adds_so s run no_use },

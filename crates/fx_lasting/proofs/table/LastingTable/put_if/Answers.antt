@@ -3,11 +3,11 @@ use Rattle.fx_lasting.proofs.Words.{Start, Work, Runs, rested, full_name_in, cou
 use Rattle.fx_table.specs.Calls.{Adds, no_use, one_number}
 use Rattle.fx_table.specs.declared.values.Doing.TheVariants.{Retiring as Retires}
 use Rattle.fx_table.specs.declared.values.Retired.{Retired}
-use Rattle.fx_lasting.proofs.Words.{Placing, label_of}
+use Rattle.fx_lasting.proofs.Words.{Placing, label_of, set}
 use Rattle.fx_lasting.proofs.ByNode.{swapped_acts, stands_then, missed_so, tried_none, tried_so, value_so, removal_so, is_on, adds_none}
-use Rattle.fx_lasting.proofs.Passing.{adds_swapped, swapped_pass, swapped_looking, adds_so, at_rest, still_pass, its_idle, its_flag, may_install, knows_removed, first_by}
+use Rattle.fx_lasting.proofs.Passing.{adds_swapped, swapped_pass, swapped_looking, adds_so, at_rest, still_pass, its_place, its_flag, may_install, knows_removed, first_by}
 use Rattle.fx_lasting.proofs.Running.{still_at_work, does_then}
-use Rattle.fx_lasting.proofs.Trying.{until_put, stocked_at}
+use Rattle.fx_lasting.proofs.Trying.{stocked_at}
 use Rattle.fx_lasting.proofs.Calling.{begins_at}
 use Rattle.fx_lasting.proofs.table.LastingTable.put_if.Goals as goal
 
@@ -27,47 +27,36 @@ returns-in-Err c =
       steps = let few = run.steps in omega arith;
     }
 
-pub seek-entry-requires : goal.seek-entry-requires
-seek-entry-requires c =
+pub place-entry-requires : goal.place-entry-requires
+place-entry-requires c =
     let t = c.args.self.now in
     let f = c.requires.fits in
     let saw = c.in-Ok.ensures.saw in
     record {
       table = c.see.ensures.table ∙ f.seated.table;
       at = still_at_work f.seated.at saw.2;
-      idle = rw saw.2.work (its_idle f c.requires.idle);
+      may = rw (saw.2.work, c.as_slice-stock.ensures.value) (its_place f c.requires.idle);
+      places = c.see.ensures.places ∙ f.seated.places;
       installs = omega (arith, may_install f.seated c.requires.numbers, t.key.1);
       stock = c.as_slice-stock.ensures.value ∙ (f.seated.stock ∙ sym saw.2.stock);
       start = begins_at t f (omega (arith, may_install f.seated c.requires.numbers, t.key.1));
-    }
-
-pub put_in-requires : goal.put_in-requires
-put_in-requires c =
-    let f = c.requires.fits in
-    let saw = c.in-Ok.ensures.saw in
-    let sought = c.seek-entry.ensures in
-    record {
-      table = sought.table ∙ (c.see.ensures.table ∙ f.seated.table);
-      at = (c.args.pass.now.number, still_at_work (still_at_work f.seated.at saw.2) sought.found);
-      found = sought.found.work;
-      places = sought.places ∙ (c.see.ensures.places ∙ f.seated.places);
     }
 
 pub try_replace-requires : goal.try_replace-requires
 try_replace-requires c =
     let f = c.requires.fits in
     let saw = c.in-Ok.ensures.saw in
-    let placed = does_then saw.2 (until_put c.seek-entry.ensures.found c.put_in.ensures.born) in
+    let placed = does_then saw.2 c.place-entry.ensures.placed in
     record {
-      table = c.put_in.ensures.table ∙ (c.seek-entry.ensures.table ∙ (c.see.ensures.table ∙ f.seated.table));
+      table = c.place-entry.ensures.table ∙ (c.see.ensures.table ∙ f.seated.table);
       at = (c.args.pass.now.number, still_at_work f.seated.at placed);
       placing = record {
-        work = placed.work ∙ ap (λ (z : Closed). Placing c.seek-entry.result.1 (label_of z)) (sym c.identity-identity.ensures);
-        place = c.put_in.ensures.place ∙ ap (λ (z : Closed). (c.seek-entry.result.1, Some z) ∷ []) (sym c.identity-identity.ensures);
+        work = placed.work ∙ ap (λ (z : Closed). Placing c.place-entry.result.1 (label_of z)) (sym c.identity-identity.ensures);
+        place = c.place-entry.ensures.place ∙ ap (λ (z : Closed). (c.place-entry.result.1, Some z) ∷ []) (sym c.identity-identity.ensures);
         stocked = (
-          c.seek-entry.result.0,
-          stocked_at c.as_slice-stock.result.now c.args.pass.now.seat.me c.put_in.new.seat.me c.seek-entry.result.0
-              c.seek-entry.result.1 (c.as_slice-stock.ensures.value ∙ f.seated.stock) placed.stock c.seek-entry.ensures.stocked,
+          c.place-entry.result.0,
+          stocked_at c.as_slice-stock.result.now c.args.pass.now.seat.me c.place-entry.new.seat.me c.place-entry.result.0
+              c.place-entry.result.1 (c.as_slice-stock.ensures.value ∙ f.seated.stock) placed.stock c.place-entry.ensures.stocked,
         );
       };
       slot = omega (arith, c.requires.slot, c.args.self.now.same_size);
@@ -82,13 +71,13 @@ returns-in-Ok-try_replace c =
     let fits = c.requires.fits in
     let s = fits.seated in
     let saw = c.in-Ok.ensures.saw in
-    let sought = c.seek-entry.ensures in
-    let e = c.seek-entry.result.0 in
+    let sought = c.place-entry.ensures in
+    let e = c.place-entry.result.0 in
     let node = c.args.node in
     let did = c.in-Ok-try_replace.ensures.tried in
     let found = c.in-Ok-try_replace.found in
-    let placed = does_then saw.2 (until_put sought.found c.put_in.ensures.born) in
-    let z = did.3 e (stocked_at c.as_slice-stock.result.now c.args.pass.now.seat.me c.put_in.new.seat.me e c.seek-entry.result.1
+    let placed = does_then saw.2 sought.placed in
+    let z = did.3 e (stocked_at c.as_slice-stock.result.now c.args.pass.now.seat.me c.place-entry.new.seat.me e c.place-entry.result.1
     (c.as_slice-stock.ensures.value ∙ s.stock) placed.stock sought.stocked) in
     let f = z.1 in
     let x = c.removed_by.result in
@@ -100,9 +89,9 @@ returns-in-Ok-try_replace c =
     let adds = adds_swapped s e node did.2 run one_number in
     record {
       fits = swapped_pass s e node did.2 _ run (refl, refl)
-          (c.try_replace.ensures.table ∙ (c.put_in.ensures.table ∙ (sought.table ∙ c.see.ensures.table))) did.1
+          (c.try_replace.ensures.table ∙ (sought.table ∙ c.see.ensures.table)) did.1
           (refl, λ _. omega (arith, sought.entry, t.key.0))
-          (knows_removed k found (Some f) (Some (retired_at f (full_name_in found - 1) (count_in found))) _ false _ refl refl
+          (knows_removed k found (Some f) (Some (retired_at f (full_name_in found - 1) (count_in found))) _ false _ _ e (set c.args.pass.now.stock.items e node) refl refl refl
           (c.first_visit-pass.ensures ∙ first_by t found));
       placed = (
         new,
@@ -124,12 +113,12 @@ take_out-requires c =
     let f = c.requires.fits in
     let saw = c.in-Ok.ensures.saw in
     let failed = c.in-Err-try_replace.ensures.tried in
-    let placed = does_then saw.2 (until_put c.seek-entry.ensures.found c.put_in.ensures.born) in
+    let placed = does_then saw.2 c.place-entry.ensures.placed in
     let run = stands_then placed failed.1 in
     record {
-      table = c.try_replace.ensures.table ∙ (c.put_in.ensures.table ∙ (c.seek-entry.ensures.table ∙ (c.see.ensures.table ∙ f.seated.table)));
+      table = c.try_replace.ensures.table ∙ (c.place-entry.ensures.table ∙ (c.see.ensures.table ∙ f.seated.table));
       at = (c.args.pass.now.number, still_at_work f.seated.at run);
-      place = (c.args.file, record { work = inr (label_of c.args.file, run.work); place = failed.2 ∙ c.put_in.ensures.place });
+      place = (c.args.file, record { work = inr (label_of c.args.file, run.work); place = failed.2 ∙ c.place-entry.ensures.place });
     }
 
 pub returns-in-Err-try_replace : goal.returns-in-Err-try_replace
@@ -138,24 +127,24 @@ returns-in-Err-try_replace c =
     let fits = c.requires.fits in
     let s = fits.seated in
     let saw = c.in-Ok.ensures.saw in
-    let sought = c.seek-entry.ensures in
+    let sought = c.place-entry.ensures in
     let failed = c.in-Err-try_replace.ensures.tried in
     let end = c.take_out.ensures in
     let m = c.args.pass.now.seat.me in
     let m₁ = c.see.new.seat.me in
-    let m₂ = c.put_in.new.seat.me in
+    let m₂ = c.place-entry.new.seat.me in
     let m₃ = c.try_replace.new.seat.me in
     let m₄ = c.take_out.new.seat.me in
-    let placed = does_then saw.2 (until_put sought.found c.put_in.ensures.born) in
+    let placed = does_then saw.2 sought.placed in
     let tried = stands_then placed failed.1 in
     let rests = subst (λ (z : Work). Runs m₃ [] (rested z) m₃.0.glance m₃.0.change 1 m₄) tried.work end.rests in
     let run = at_rest fits (does_then tried rests) in
-    let since = does_then (stands_then (until_put sought.found c.put_in.ensures.born) failed.1) rests in
-    let place : HasPlace c.seek-entry.result.1 (Some c.args.file) m₃ = record { work = inr (label_of c.args.file, tried.work); place = failed.2 ∙ c.put_in.ensures.place } in
+    let since = does_then (stands_then sought.placed failed.1) rests in
+    let place : HasPlace c.place-entry.result.1 (Some c.args.file) m₃ = record { work = inr (label_of c.args.file, tried.work); place = failed.2 ∙ c.place-entry.ensures.place } in
     record {
       fits = still_pass s _ run (refl, refl)
-          (end.table ∙ (c.try_replace.ensures.table ∙ (c.put_in.ensures.table ∙ (sought.table ∙ c.see.ensures.table)))) end.empty (refl, λ _. omega (arith, sought.entry, c.args.self.now.key.0))
-          (its_flag fits c.requires.idle);
+          (end.table ∙ (c.try_replace.ensures.table ∙ (sought.table ∙ c.see.ensures.table))) end.empty (refl, λ _. omega (arith, sought.entry, c.args.self.now.key.0))
+          (its_flag fits c.requires.idle, refl);
       placed = (
         end.file c.args.file place,
         record {

@@ -1,5 +1,5 @@
-use Rattle.fx_lasting.proofs.Words.{refl, arith, inr}
-use Rattle.fx_lasting.proofs.Passing.{at_rest, still_pass, its_guarded, its_counted, released_so, lets_run}
+use Rattle.fx_lasting.proofs.Words.{refl, sym, ◌∙◌, arith, inr}
+use Rattle.fx_lasting.proofs.Passing.{at_rest, still_pass, its_unkept, its_guarded, its_counted, released_so, lets_run}
 use Rattle.fx_lasting.proofs.table.LastingTable.release.Goals as goal
 
 pub step_down-requires-clause-guarded : goal.step_down-requires-clause-guarded
@@ -15,7 +15,7 @@ returns-then-pass c =
     let lets = down.releases h.0 (its_guarded fits h.1 c.if-pass.true) in
     let run = at_rest fits (lets_run c.args.pass.now.seat.me m h.0 3 c.step_down.result lets).1 in
     record {
-      fits = still_pass s _ run (refl, refl) down.table down.places (refl, s.next) refl;
+      fits = still_pass s _ run (refl, refl) down.table down.places (refl, s.next) (refl, its_unkept fits (λ is. cc (sym h.1 ∙ is)));
       released = (h.0, h.1, released_so fits m h.0 3 c.step_down.result lets);
       steps = let few = run.steps in omega arith;
     }
@@ -33,7 +33,7 @@ returns c =
     let lets = gone.held h.0 (inr (its_counted fits h.1 c.if-pass.false)) in
     let run = at_rest fits (lets_run c.args.pass.now.seat.me m h.0 2 c.let_go.result lets).1 in
     record {
-      fits = still_pass s _ run (refl, refl) gone.table gone.places (refl, s.next) refl;
+      fits = still_pass s _ run (refl, refl) gone.table gone.places (refl, s.next) (refl, its_unkept fits (λ is. cc (sym h.1 ∙ is)));
       released = (h.0, h.1, released_so fits m h.0 2 c.let_go.result lets);
       steps = let few = run.steps in omega arith;
     }

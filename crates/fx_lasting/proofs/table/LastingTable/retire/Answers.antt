@@ -3,12 +3,15 @@ use Rattle.fx_lasting.proofs.Rounds.{passed_by}
 use Rattle.fx_lasting.proofs.Words.{◌≡◌, ◌≢◌, ℕ, ◌+◌, ◌-◌, ◌*◌, ◌≤◌, refl, ◌∙◌, subst, arith, sym, inl, inr, ⊎_elim, [], Some, File, Start}
 use Rattle.fx_lasting.proofs.Words.{IsAtWork, Runs, Retiring, Sat, state_after_all, pass_in, TakesOut, HasPlace, At, Retires, retirement_amount, Work, Goes, ap}
 use Rattle.fx_lasting.specs.FinishSteps.{Finishes}
-use Rattle.fx_table.specs.Calls.{no_use}
+use Rattle.fx_lasting.proofs.Words.{List, ◌▷◌, Close, TakenOut, opening_of, view_of, pass_of}
+use Rattle.fx_table.specs.Calls.{Adds, no_use}
+use Rattle.fx_table.specs.declared.values.Doing.{Doing}
 use Rattle.fx_lasting.proofs.Calling.{node_inside, node_word}
 use Rattle.fx_lasting.proofs.Finishing.{finishes_keep}
 use Rattle.fx_lasting.proofs.Retiring.{retires_keep}
 use Rattle.fx_lasting.proofs.Running.{still_at_work, does_then, runs_goes, runs_one, its_inside, out_place, out_and_home}
-use Rattle.fx_lasting.proofs.Passing.{adds_so, at_rest, still_pass, its_retiring}
+use Rattle.fx_lasting.proofs.Passing.{adds_so, at_rest, still_pass, its_retiring, its_unkept}
+use Rattle.fx_lasting.proofs.Settled.{out_so}
 use Rattle.fx_lasting.proofs.table.LastingTable.retire.Goals.{After-mark_all-marks}
 use Rattle.fx_lasting.proofs.table.LastingTable.retire.Goals as goal
 
@@ -69,15 +72,17 @@ out_before : (a : After-mark_all-marks) {st : At} {m' : Sat} {found : ℕ} → F
     → found ≡ retirement_amount a.args.retired.takes a.mark_all-marks.result + 1 → TakesOut a.mark_all-marks.new.seat.me [] (file a) a.args.retired.node m'
 out_before a did is = did.closes (file a) a.args.retired.node a.args.retired.takes (round a) a.mark_all-marks.result (visited a).work is
 
-pub take_out-freed-requires : goal.take_out-freed-requires
-take_out-freed-requires c =
-    let a = (goal.at.take_out-freed-requires c).After-mark_all-marks in
+pub take_out_or_keep-freed-requires : goal.take_out_or_keep-freed-requires
+take_out_or_keep-freed-requires c =
+    let a = (goal.at.take_out_or_keep-freed-requires c).After-mark_all-marks in
     let is : c.load-left.result ≡ c.retire_amount-amount.result + 1 = c.if-left-amount.true in
     let went = out_before a c.load-left.ensures.2 (is ∙ ap (λ (z : ℕ). z + 1) c.retire_amount-amount.ensures) in
     record {
       table = c.load-left.ensures.0 ∙ (c.mark_all-marks.ensures.table ∙ c.requires.fits.seated.table);
       at = (c.args.pass.now.number, still_at_work (at a) (runs_one went.stepped));
+      emptying = went.stepped.work;
       place = ((file a).identity, place a refl went);
+      stock = c.as_slice-stock.ensures.value ∙ (c.requires.fits.seated.stock ∙ sym (went.stepped.stock ∙ (visited a).stock));
     }
 
 pub returns-then-left-amount : goal.returns-then-left-amount
@@ -87,12 +92,23 @@ returns-then-left-amount c =
     let is : c.load-left.result ≡ c.retire_amount-amount.result + 1 = c.if-left-amount.true in
     let fits = c.requires.fits in
     let s = fits.seated in
+    let p = c.args.pass.now in
+    let w = c.take_out_or_keep-freed in
     let went = out_before a c.load-left.ensures.2 (is ∙ ap (λ (z : ℕ). z + 1) c.retire_amount-amount.ensures) in
-    let run = at_rest fits (does_then (visited a) (out_and_home went c.take_out-freed.ensures.rests)) in
+    let out = out_so c.args.retired.node p.next_entry p.stock.items t.table.shared.key.passes p.next_visit p.guarded w.result.1
+    (subst (λ (l : List ℕ). TakenOut c.args.retired.node l p.next_entry c.load-left.new.seat.me w.result.1 w.new.seat.me) c.as_slice-stock.ensures.value w.ensures.out) in
+    let run = at_rest fits (does_then (visited a) (does_then (runs_one went.stepped) out.1)) in
     record {
-      fits = still_pass s _ run (refl, refl) (c.take_out-freed.ensures.table ∙ (c.load-left.ensures.0 ∙ c.mark_all-marks.ensures.table))
-          c.take_out-freed.ensures.empty (refl, s.next) refl;
-      retired = (file a, c.requires.removed.1, (c.take_out-freed.ensures.file (file a).identity (place a refl went), adds_so s run no_use));
+      fits = still_pass s _ run (refl, refl) (w.ensures.table ∙ (c.load-left.ensures.0 ∙ c.mark_all-marks.ensures.table)) out.2 (refl, s.next) out.4;
+      retired = (
+        file a,
+        c.requires.removed.1,
+        (
+          w.ensures.file (file a).identity (place a refl went),
+          subst (λ (d : Doing). Adds (opening_of t.table.shared.key) (view_of p) ([] ▷ Close (file a)) d no_use (pass_of w.new.seat.me.0)) out.3
+              (adds_so s run no_use),
+        ),
+      );
       steps = let few = run.steps in omega (arith, few, t.bounds.0);
     }
 
@@ -142,7 +158,7 @@ returns-then-found-amount c =
     (at_look a goes).pass.0 went.1 in
     record {
       fits = still_pass s _ run (refl, refl) (c.fetch_sub-found.ensures.0 ∙ (c.load-left.ensures.0 ∙ c.mark_all-marks.ensures.table))
-          (went.0.carried ∙ (goes.carried ∙ (c.mark_all-marks.ensures.places ∙ s.places))) (refl, s.next) refl;
+          (went.0.carried ∙ (goes.carried ∙ (c.mark_all-marks.ensures.places ∙ s.places))) (refl, s.next) (refl, its_unkept fits (λ is. cc (sym c.requires.removed.1 ∙ is)));
       retired = (file a, c.requires.removed.1, (removed, adds_so s run no_use));
       steps = let few = run.steps in omega (arith, few, t.bounds.0);
     }
@@ -177,7 +193,7 @@ returns c =
     record {
       fits = still_pass s _ run (refl, refl)
           (c.take_out.ensures.table ∙ (c.fetch_sub-found.ensures.0 ∙ (c.load-left.ensures.0 ∙ c.mark_all-marks.ensures.table))) c.take_out.ensures.empty
-          (refl, s.next) refl;
+          (refl, s.next) (refl, its_unkept fits (λ is. cc (sym c.requires.removed.1 ∙ is)));
       retired = (file a, c.requires.removed.1, (c.take_out.ensures.file (file a).identity (place a goes.carried went), adds_so s run no_use));
       steps = let few = run.steps in omega (arith, few, t.bounds.0);
     }

@@ -1,26 +1,28 @@
-use Rattle.fx_lasting.proofs.Words.{◌∙◌, ap, arith, Start, Bool, true, uncounted, group_of, range_at_start, IsAtWork, view_of, pass_of, Runs, Glance, Outside}
+use Rattle.fx_lasting.proofs.Words.{◌∙◌, ap, arith, Start, Bool, true, uncounted, group_of, range_at_start, IsAtWork, opening_of, view_of, pass_of, Runs, Glance, Outside}
 use Rattle.fx_lasting.proofs.Words.{as_stocked, retiring_work, ◌▷◌, [], Take, subst, sym, refl}
-use Rattle.fx_table.specs.Calls.{no_use}
+use Rattle.fx_table.specs.Calls.{Taken, no_use}
+use Rattle.fx_table.specs.Pass.{PassView}
 use Rattle.fx_lasting.proofs.Removals.{adds_stocked, emptied_around, emptied_at_work, emptied_stock, stocked_pass}
 use Rattle.fx_lasting.proofs.Running.{still_at_work}
 use Rattle.fx_lasting.proofs.Passing.{its_idle, account_so, knows_removed, taken_so, first_by}
 use Rattle.fx_lasting.proofs.table.LastingTable.take.Goals.{After-lower}
+use Rattle.fx_lasting.proofs.Settled.{still_idle}
 use Rattle.fx_lasting.proofs.table.LastingTable.take.Goals as goal
 
 -- the pass, before the slot is emptied
-at : (c : After-lower) → IsAtWork c.args.self.now.table.shared.key c.args.pass.now.number c.lower.new.seat.me
-at c = still_at_work c.requires.fits.seated.at c.lower.ensures.runs
+at : (c : After-lower) → IsAtWork c.args.self.now.table.shared.key c.settle.new.pass.number c.lower.new.seat.me
+at c = still_at_work c.settle.ensures.fits.seated.at c.lower.ensures.runs
 
 pub take_slot-found-requires : goal.take_slot-found-requires
 take_slot-found-requires c =
     let a = (goal.at.take_slot-found-requires c).After-lower in
     let t = c.args.self.now in
-    let f = c.requires.fits in
+    let f = c.settle.ensures.fits in
     let began = c.lower.ensures in
     record {
       table = began.table ∙ f.seated.table;
-      at = (c.args.pass.now.number, at a);
-      idle = rw began.runs.work (its_idle f c.requires.idle);
+      at = (c.settle.new.pass.number, at a);
+      idle = rw began.runs.work (its_idle f (still_idle c.settle.ensures.same c.requires.idle) c.settle.ensures.unkept);
       stock = f.seated.stock ∙ sym began.runs.stock;
       slot = omega (arith, c.requires.slot, t.same_size);
       off = began.runs.change ∙ ap (λ (b : Bool). uncounted b true (group_of (range_at_start t.table.shared.key) c.args.slot)) c.is_in_range-inside.ensures;
@@ -29,7 +31,7 @@ take_slot-found-requires c =
 pub raise-requires-clause-at : goal.raise-requires-clause-at
 raise-requires-clause-at c =
     let a = (goal.at.raise-requires-clause-at c).After-lower in
-    (c.args.pass.now.number, emptied_at_work (at a) c.take_slot-found.ensures.emptied)
+    (c.settle.new.pass.number, emptied_at_work (at a) c.take_slot-found.ensures.emptied)
 
 pub raise-requires-clause-change : goal.raise-requires-clause-change
 raise-requires-clause-change c =
@@ -42,7 +44,7 @@ pub returns : goal.returns
 returns c =
     let a = (goal.at.returns c).After-lower in
     let k : Start = c.args.self.now.table.shared.key in
-    let fits = c.requires.fits in
+    let fits = c.settle.ensures.fits in
     let s = fits.seated in
     let began = c.lower.ensures in
     let emptied = c.take_slot-found.ensures in
@@ -52,15 +54,17 @@ returns c =
     let file = went.file in
     let removed = c.removed_in-removed.result in
     let is = c.removed_in-removed.ensures file went.names in
-    let run = subst (λ (g : Glance). Runs (as_stocked stock c.args.pass.now.seat.me) ([] ▷ Take c.args.slot file) (retiring_work k found file) g Outside 5
+    let run = subst (λ (g : Glance). Runs (as_stocked stock c.settle.new.pass.seat.me) ([] ▷ Take c.args.slot file) (retiring_work k found file) g Outside 5
     c.raise.new.seat.me) fits.calm (emptied_around (at a) went began.runs c.raise.ensures.runs) in
-    let v = view_of c.args.pass.now in
+    let v = view_of c.settle.new.pass in
     let w = pass_of c.raise.new.seat.me.0 in
     let adds = adds_stocked s stock run no_use in
     record {
       fits = stocked_pass s stock (emptied_stock (at a) went) _ run (refl, refl) (c.raise.ensures.table ∙ (emptied.table ∙ began.table))
           (c.raise.ensures.places ∙ (emptied.places ∙ (began.places ∙ s.places))) (refl, s.next)
-          (knows_removed k found file removed _ _ _ is c.is_none-pass.ensures (c.first_visit-pass.ensures ∙ first_by c.args.self.now found));
-      taken = taken_so k v c.args.slot found w file removed is _ _ c.ok_or.ensures.value adds;
-      steps = let few = run.steps in omega arith;
+          (knows_removed k found file removed _ _ _ _ c.settle.new.pass.next_entry stock
+          c.settle.ensures.unkept is c.is_none-pass.ensures (c.first_visit-pass.ensures ∙ first_by c.args.self.now found));
+      taken = subst (λ (z : PassView). Taken (opening_of k) z c.args.slot c.ok_or.result w) c.settle.ensures.same
+          (taken_so k v c.args.slot found w file removed is _ _ c.ok_or.ensures.value adds);
+      steps = let few = run.steps in let one = c.settle.ensures.steps in omega arith;
     }

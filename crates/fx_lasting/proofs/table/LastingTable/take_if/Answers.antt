@@ -1,11 +1,15 @@
 use Rattle.fx_lasting.proofs.Words.{◌-◌, refl, ap, ◌∙◌, subst, arith, [], ◌▷◌, Take, Some, Bool, true, false, uncounted, group_of, range_at_start}
 use Rattle.fx_lasting.proofs.Words.{Start, Glance, Outside, Runs, full_name_in, count_in, retired_at, opening_of, view_of, pass_of}
 use Rattle.fx_table.specs.Calls.{Adds, no_use}
+use Rattle.fx_table.specs.Pass.{PassView}
 use Rattle.fx_table.specs.declared.values.Doing.TheVariants.{Retiring as Retires}
 use Rattle.fx_table.specs.declared.values.Retired.{Retired}
 use Rattle.fx_lasting.proofs.ByNode.{acts_then, stands_then, missed_so, tried_none, tried_so, value_so, removal_so, is_on, adds_none}
 use Rattle.fx_lasting.proofs.Passing.{adds_so, at_rest, still_pass, its_idle, knows_removed, at_ease_looking, first_by}
 use Rattle.fx_lasting.proofs.Running.{still_at_work, turns_then}
+use Rattle.fx_lasting.proofs.Settled.{still_idle}
+use Rattle.fx_lasting.specs.Keyed.{HasTakenIf}
+use Rattle.fx_lasting.specs.declared.answers.TakenIf.TheVariants.{Removed, Missed}
 use Rattle.fx_lasting.proofs.table.LastingTable.take_if.Goals as goal
 
 pub see-requires-clause-slot : goal.see-requires-clause-slot
@@ -13,33 +17,34 @@ see-requires-clause-slot c = omega (arith, c.requires.slot, c.args.self.now.same
 
 pub returns-in-Err : goal.returns-in-Err
 returns-in-Err c =
-    let fits = c.requires.fits in
+    let fits = c.settle.ensures.fits in
     let s = fits.seated in
     let saw = c.in-Err.ensures.saw in
     let run = at_rest fits saw.1 in
     record {
       fits = still_pass s _ run (refl, refl) c.see.ensures.table (c.see.ensures.places ∙ s.places) (refl, s.next) fits.knows;
-      taken = record { was = saw.0; adds = adds_none fits c.requires.idle saw.1 };
+      taken = subst (λ (z : PassView). HasTakenIf c.args.self.now.table.shared.key z c.args.slot c.args.node (Missed c.in-Err.miss) (pass_of c.see.new.seat.me.0)) c.settle.ensures.same
+          (record { was = saw.0; adds = adds_none fits (still_idle c.settle.ensures.same c.requires.idle) saw.1 });
       tries = tried_none c.in-Err.miss _ _ saw.2;
-      steps = let few = run.steps in omega arith;
+      steps = let few = run.steps in let one = c.settle.ensures.steps in omega arith;
     }
 
 pub lower-requires-clause-at : goal.lower-requires-clause-at
-lower-requires-clause-at c = (c.args.pass.now.number, still_at_work c.requires.fits.seated.at c.in-Ok.ensures.saw.2)
+lower-requires-clause-at c = (c.settle.new.pass.number, still_at_work c.settle.ensures.fits.seated.at c.in-Ok.ensures.saw.2)
 
 pub lower-requires-clause-change : goal.lower-requires-clause-change
-lower-requires-clause-change c = c.in-Ok.ensures.saw.2.change ∙ c.requires.fits.seated.change
+lower-requires-clause-change c = c.in-Ok.ensures.saw.2.change ∙ c.settle.ensures.fits.seated.change
 
 pub try_take-requires : goal.try_take-requires
 try_take-requires c =
     let t = c.args.self.now in
-    let f = c.requires.fits in
+    let f = c.settle.ensures.fits in
     let saw = c.in-Ok.ensures.saw in
     let began = c.lower.ensures in
     record {
       table = began.table ∙ (c.see.ensures.table ∙ f.seated.table);
-      at = (c.args.pass.now.number, still_at_work (still_at_work f.seated.at saw.2) began.runs);
-      idle = rw (began.runs.work ∙ saw.2.work) (its_idle f c.requires.idle);
+      at = (c.settle.new.pass.number, still_at_work (still_at_work f.seated.at saw.2) began.runs);
+      idle = rw (began.runs.work ∙ saw.2.work) (its_idle f (still_idle c.settle.ensures.same c.requires.idle) c.settle.ensures.unkept);
       slot = omega (arith, c.requires.slot, t.same_size);
       off = began.runs.change ∙ ap (λ (b : Bool). uncounted b true (group_of (range_at_start t.table.shared.key) c.args.slot)) c.is_in_range-inside.ensures;
       named = saw.0;
@@ -49,7 +54,7 @@ pub returns-in-Ok-try_take : goal.returns-in-Ok-try_take
 returns-in-Ok-try_take c =
     let t = c.args.self.now in
     let k : Start = t.table.shared.key in
-    let fits = c.requires.fits in
+    let fits = c.settle.ensures.fits in
     let s = fits.seated in
     let saw = c.in-Ok.ensures.saw in
     let began = c.lower.ensures in
@@ -59,14 +64,14 @@ returns-in-Ok-try_take c =
     let x = c.removed_by.result in
     let its = c.removed_by.ensures in
     let run = at_ease_looking fits found (Some f) (acts_then (turns_then saw.2 began.runs) took.3) refl in
-    let v = view_of c.args.pass.now in
+    let v = view_of c.settle.new.pass in
     let w = pass_of c.try_take.new.seat.me.0 in
     record {
       fits = still_pass s _ run (refl, refl) (c.try_take.ensures.table ∙ (began.table ∙ c.see.ensures.table))
           (c.try_take.ensures.places ∙ (began.places ∙ (c.see.ensures.places ∙ s.places))) (refl, s.next)
-          (knows_removed k found (Some f) (Some (retired_at f (full_name_in found - 1) (count_in found))) _ false _ refl refl
+          (knows_removed k found (Some f) (Some (retired_at f (full_name_in found - 1) (count_in found))) _ false _ _ c.settle.new.pass.next_entry c.settle.new.pass.stock.items c.settle.ensures.unkept refl refl
           (c.first_visit-pass.ensures ∙ first_by t found));
-      taken = (
+      taken = subst (λ (z : PassView). HasTakenIf c.args.self.now.table.shared.key z c.args.slot c.args.node (Removed c.removed_by.result) (pass_of c.try_take.new.seat.me.0)) c.settle.ensures.same (
         f,
         its.node,
         is_on found x its.node its.entry its.takes took.1 f k took.2.0,
@@ -76,18 +81,18 @@ returns-in-Ok-try_take c =
         took.4,
       );
       tries = tt;
-      steps = let few = run.steps in omega arith;
+      steps = let few = run.steps in let one = c.settle.ensures.steps in omega arith;
     }
 
 pub raise-requires : goal.raise-requires
 raise-requires c =
-    let f = c.requires.fits in
+    let f = c.settle.ensures.fits in
     let saw = c.in-Ok.ensures.saw in
     let began = c.lower.ensures in
     let tried = stands_then (turns_then saw.2 began.runs) c.in-Err-try_take.ensures.tried.1 in
     record {
       table = c.try_take.ensures.table ∙ (began.table ∙ (c.see.ensures.table ∙ f.seated.table));
-      at = (c.args.pass.now.number, still_at_work f.seated.at tried);
+      at = (c.settle.new.pass.number, still_at_work f.seated.at tried);
       inside = c.is_in_range-inside.ensures;
       change = tried.change;
     }
@@ -95,13 +100,13 @@ raise-requires c =
 pub returns-in-Err-try_take : goal.returns-in-Err-try_take
 returns-in-Err-try_take c =
     let k : Start = c.args.self.now.table.shared.key in
-    let fits = c.requires.fits in
+    let fits = c.settle.ensures.fits in
     let s = fits.seated in
     let saw = c.in-Ok.ensures.saw in
     let began = c.lower.ensures in
     let failed = c.in-Err-try_take.ensures.tried in
     let end = c.raise.ensures in
-    let m = c.args.pass.now.seat.me in
+    let m = c.settle.new.pass.seat.me in
     let m₁ = c.see.new.seat.me in
     let m₂ = c.lower.new.seat.me in
     let m₃ = c.try_take.new.seat.me in
@@ -112,11 +117,12 @@ returns-in-Err-try_take c =
       fits = still_pass s _ (subst (λ (g : Glance). Runs m [] m.0.work g Outside 9 m₄) fits.calm run) (refl, refl)
           (end.table ∙ (c.try_take.ensures.table ∙ (began.table ∙ c.see.ensures.table)))
           (end.places ∙ (c.try_take.ensures.places ∙ (began.places ∙ (c.see.ensures.places ∙ s.places)))) (refl, s.next) fits.knows;
-      taken = record {
-        was = missed_so k c.args.slot c.args.node m m₁ m₂ m₃ m₄ c.in-Err-try_take.miss saw.1 failed.0 first.seen
-            (turns_then (stands_then began.runs failed.1) end.runs).seen end.runs.seen;
-        adds = adds_none fits c.requires.idle run;
-      };
-      tries = tried_so k c.args.slot c.args.node _ _ m₂ m₃ c.in-Err-try_take.miss failed.0 first.begun end.runs.begun;
-      steps = let few = run.steps in omega arith;
+      taken = subst (λ (z : PassView). HasTakenIf c.args.self.now.table.shared.key z c.args.slot c.args.node (Missed c.in-Err-try_take.miss) (pass_of c.raise.new.seat.me.0)) c.settle.ensures.same
+          (record {
+            was = missed_so k c.args.slot c.args.node m m₁ m₂ m₃ m₄ c.in-Err-try_take.miss saw.1 failed.0 first.seen
+                (turns_then (stands_then began.runs failed.1) end.runs).seen end.runs.seen;
+            adds = adds_none fits (still_idle c.settle.ensures.same c.requires.idle) run;
+          });
+      tries = tried_so k c.args.slot c.args.node _ _ m₂ m₃ c.in-Err-try_take.miss failed.0 (omega (arith, first.begun, c.settle.ensures.begun)) end.runs.begun;
+      steps = let few = run.steps in let one = c.settle.ensures.steps in omega arith;
     }

@@ -1,0 +1,5 @@
+use Rattle.fx_lasting.proofs.KeptNodes.{parks_keep}
+use Rattle.fx_lasting.proofs.laws.park_keeps_rule.Goals as goal
+
+pub returns : goal.returns
+returns c = parks_keep

@@ -1,0 +1,5 @@
+use Rattle.fx_lasting.proofs.KeptNodes.{resumes_keep}
+use Rattle.fx_lasting.proofs.laws.resume_keeps_rule.Goals as goal
+
+pub returns : goal.returns
+returns c = resumes_keep

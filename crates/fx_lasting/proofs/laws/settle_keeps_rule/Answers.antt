@@ -1,0 +1,5 @@
+use Rattle.fx_lasting.proofs.KeptNodes.{settles_keep}
+use Rattle.fx_lasting.proofs.laws.settle_keeps_rule.Goals as goal
+
+pub returns : goal.returns
+returns c = settles_keep

@@ -1,0 +1,64 @@
+use Rattle.fx_lasting.proofs.Words.{◌≡◌, ◌<◌, ◌∙◌, sym, ap, refl, arith, nodes_of, Keeping, stands_at}
+use Rattle.fx_table.proofs.SumLemmas.{read_at}
+use Rattle.fx_lasting.proofs.Calling.{node_inside, node_word, few_nodes}
+use Rattle.fx_lasting.proofs.KeptNodes.{settles_keep}
+use Rattle.fx_lasting.proofs.Passing.{at_rest, still_pass, its_kept}
+use Rattle.fx_lasting.proofs.Running.{its_inside, runs_goes}
+use Rattle.fx_lasting.proofs.Settled.{settled_view}
+use Rattle.fx_lasting.proofs.table.LastingTable.settle.Goals.{After-index-node}
+use Rattle.fx_lasting.proofs.table.LastingTable.settle.Goals as goal
+
+-- the node that the pass keeps
+works : (c : After-index-node) → c.args.pass.now.seat.me.0.work ≡ Keeping c.index-node.result.now
+works c =
+    let p = c.args.pass.now in
+    let kept = its_kept c.requires.fits c.if-pass.true in
+    kept.1 ∙ ap Keeping (sym (c.index-node.ensures ∙ read_at p.stock.items p.next_entry c.index-node.result.now kept.3))
+
+inside : (c : After-index-node) → c.index-node.result.now < nodes_of c.args.self.now.table.shared.key
+inside c = its_inside c.requires.fits.seated.at (works c)
+
+pub index-node-requires : goal.index-node-requires
+index-node-requires c = let p = c.args.pass.now in let kept = its_kept c.requires.fits c.if-pass.true in
+    omega (arith, (stands_at p.stock.items p.next_entry kept.0 kept.3).0)
+
+pub node_place-place-requires-clause-node : goal.node_place-place-requires-clause-node
+node_place-place-requires-clause-node c =
+    let a = (goal.at.node_place-place-requires-clause-node c).After-index-node in
+    omega (arith, inside a, few_nodes c.args.self.now)
+
+pub store-requires : goal.store-requires
+store-requires c =
+    let a = (goal.at.store-requires c).After-index-node in
+    let t = c.args.self.now in
+    let s = c.requires.fits.seated in (
+      s.table,
+      node_inside t (inside a) c.node_place-place.ensures,
+      settles_keep _ _ _ _ c.index-node.result.now c.args.pass.now.seat.me _ s.at.pass (works a)
+          (node_word t c.index-node.result.now c.node_place-place.ensures),
+    )
+
+pub returns-then-pass : goal.returns-then-pass
+returns-then-pass c =
+    let a = (goal.at.returns-then-pass c).After-index-node in
+    let fits = c.requires.fits in
+    let s = fits.seated in
+    let kept = its_kept fits c.if-pass.true in
+    let did = c.store.ensures.2 in
+    let run = at_rest fits (runs_goes did.goes) in
+    record {
+      fits = still_pass s _ run (refl, refl) c.store.ensures.0 (did.goes.carried ∙ s.places) (refl, s.next) (kept.2, refl);
+      same = settled_view (works a) did;
+      unkept = refl;
+      steps = let few = run.steps in omega arith;
+      begun = run.begun;
+    }
+
+pub returns-else-pass : goal.returns-else-pass
+returns-else-pass c = record {
+  fits = c.requires.fits;
+  same = refl;
+  unkept = c.if-pass.false;
+  steps = omega arith;
+  begun = omega arith;
+}

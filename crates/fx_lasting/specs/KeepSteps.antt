@@ -1,0 +1,28 @@
+-- The steps by which a pass keeps the node of a closed file for its next one. If the file had no
+-- takes and no marks, the node's word is still that of a birth: no rest has to store 0, and no
+-- birth has to store that word.
+use Rattle.std.specs.Prelude.{◌≡◌, ◌≢◌, ℕ, [], ◌∷◌, None}
+use Rattle.atomic_table.specs.Table.{rest}
+use Rattle.fx_lasting.specs.Parts.{birth_word}
+use Rattle.fx_lasting.specs.Passes.{Sat}
+use Rattle.fx_lasting.specs.Tells.{At, Goes, Stepped, pass_in}
+use Rattle.fx_lasting.specs.declared.view.Work.TheVariants.{Idle, Placing, Emptying, Keeping}
+use Rattle.fx_lasting.specs.declared.view.Written.TheVariants.{Nothing as Unlabelled}
+
+-- Park, of the node's word: if it is that of a birth, the place is home, without a file, and the
+-- pass keeps the node
+pub record Parks (st : At) (m : Sat) (found : ℕ) (m' : Sat) : Type 0 where
+  pub keeps : (node : ℕ) → m.0.work ≡ Emptying node → found ≡ birth_word
+      → Stepped m [] (Keeping node) m.0.glance m.0.change m' × (m'.1 ≡ rest m.1)
+  pub lost : found ≢ birth_word → Goes m [] m.0.work m.0.glance m'
+
+-- Resume, of the node's word: the place of the node that the pass keeps is with the pass
+pub record Resumes (st : At) (m : Sat) (found : ℕ) (m' : Sat) : Type 0 where
+  pub goes : (node : ℕ) → m.0.work ≡ Keeping node
+      → Stepped m [] (Placing node Unlabelled) m.0.glance m.0.change m'
+      × (m'.1 ≡ (node, None) ∷ m.1)
+
+-- Settle: the node that the pass kept is free, and the pass has seen what it had seen
+pub record SettlesNode (st : At) (m : Sat) (found : ℕ) (m' : Sat) : Type 0 where
+  pub goes : Goes m [] Idle m.0.glance m'
+  pub front : (pass_in m').front ≡ (pass_in m).front
