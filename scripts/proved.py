@@ -25,9 +25,12 @@ class Gate:
         except OSError:
             return ""
 
+    def proved(self):
+        """Returns the crates that it has proved, in this run or in an earlier one on this machine."""
+        return set(re.findall(r"^rt: (\w+) (?:proved$|is kept:)", self.said(), re.MULTILINE))
+
     def has_proved(self, crate):
-        """Whether it has, in this run or in an earlier one on this machine."""
-        return bool(re.search(rf"^rt: {crate} (?:proved$|is kept:)", self.said(), re.MULTILINE))
+        return crate in self.proved()
 
     def has_ended(self):
         return bool(VERDICT.search(self.said()))
