@@ -2,68 +2,56 @@
 legal. Written from docs/FLIGHT.md and docs/MODEL.md alone; tests/check-flights compares the judge with it."""
 import random
 
+from model import Player, submitted
+
 NAMES = {"a": "61", "b": "6262", "c": "63"}
 ENTRIES = list(NAMES)
-EBADF, ENFILE, EINVAL, ECANCELED = "-9", "-23", "-22", "-125"
+EBADF, ENFILE, ECANCELED = "-9", "-23", "-125"
 NEVER = 10**9
 
 
-class Table:
-    """The files at the slots, each by its mark and name, and the files that left them, in order."""
+class Table(Player):
+    """A table of empty slots. `closed` has the files that left them, in order."""
 
     def __init__(self, size):
-        self.size, self.at, self.removed = size, {}, ()
+        super().__init__([(name, bytes.fromhex(content)) for name, content in NAMES.items()])
+        self.slots, self.range = [None] * size, (0, size)
 
-    def put(self, slot, file):
-        """Returns the table after a file, or none, is put at a slot."""
-        after = Table(self.size)
-        after.at = {it: other for it, other in self.at.items() if it != slot} | ({slot: file} if file else {})
-        after.removed = self.removed + ((self.at[slot],) if slot in self.at else ())
-        return after
+    def removed(self):
+        """Returns the marks and the names of the files that left their slots."""
+        return [(mark_of(it), self.names[it[1]]) for it in self.closed]
 
-    def open(self, words, mark):
-        file = (f"{mark}.0", words[1])
-        if words[2] == "any":
-            free = [it for it in range(self.size) if it not in self.at]
-            return [(self.put(it, file), 0, str(it)) for it in free] or [(self, 0, ENFILE)]
-        slot = int(words[3])
-        return [(self.put(slot, file), 0, "0")] if slot < self.size else [(self, 0, EINVAL)]
-
-    def read(self, words, _):
-        slot, off, size = map(int, words[1:4])
-        if slot not in self.at:
-            return [(self, 0, EBADF)]
-        found = NAMES[self.at[slot][1]][2 * off : 2 * (off + size)]
-        return [(self, 0, f"{len(found) // 2} {found}".strip())]
-
-    def look(self, words, _):
-        slot = int(words[1])
-        return [(self, 0, f"0 {self.at[slot][0]}" if slot in self.at else EBADF)]
-
-    def close(self, words, _):
-        slot = int(words[1])
-        if slot >= self.size:
-            return [(self, 0, EINVAL)]
-        return [(self.put(slot, None), 0, "0")] if slot in self.at else [(self, 0, EBADF)]
-
-    def update(self, words, mark, done):
+    def next_entry(self, place, off, entries, done):
         """An update makes an access for each entry that isn't -2; `done` entries are done."""
-        off, entries = int(words[1]), list(map(int, words[2].split(",")))
-        if off + len(entries) > self.size:
-            return [(self, 0, EINVAL)]
-        left = [at for at, it in enumerate(entries) if at >= done and it != -2]
-        if not left:
-            return [(self, 0, str(len(entries)))]
-        at, entry = left[0], entries[left[0]]
-        after = self.put(off + at, None if entry == -1 else (f"{mark}.{at}", ENTRIES[entry]))
+        refusal, left = self.refusal_of_list(off, entries), [at for at, it in enumerate(entries) if at >= done and it != -2]
+        if refusal or not left:
+            return [(self, 0, str(refusal or len(entries)))]
+        after, at = self.copy(), left[0]
+        after.work_off(off + at, [entries[at]], lambda _: submitted(place, at))
         return [(after, at + 1, str(len(entries)) if len(left) == 1 else None)]
 
-    def ways(self, words, mark, done):
+    def ways(self, words, place, done):
         """Returns the ways of a request's next access: the table after it, how many entries are done, and the answer, or None if accesses
         are left."""
-        if words[0] in ("update", "regupdate"):
-            return self.update(words, mark, done)
-        return getattr(self, words[0])(words, mark)
+        kind, numbers = words[0], [int(it) for it in words[1:] if it.isdigit()]
+        if kind in ("update", "regupdate"):
+            return self.next_entry(place, int(words[1]), list(map(int, words[2].split(","))), done)
+        if kind == "look":
+            file = self.slots[numbers[0]]
+            return [(self, 0, f"0 {mark_of(file)}" if file else EBADF)]
+        is_any, ways = words[2:3] == ["any"], []
+        request = (kind, words[1], None if is_any else numbers[0]) if kind == "open" else (kind, *numbers)
+        # an open at any slot may take each free one
+        for slot in is_any and self.free_slots() or [None]:
+            after = self.copy()
+            after.wanted = slot
+            res, got = after.perform(place, request)
+            ways.append((after, 0, f"{res} {got.hex()}".strip()))
+        return ways
+
+
+def mark_of(file):
+    return ".".join(map(str, file[0][1:]))
 
 
 def severs(words, answer):
@@ -131,14 +119,14 @@ class Search:
 
     def may_come(self, table, point, closed):
         at, word, words = self.points[point]
-        removed = {mark for mark, _ in table.removed}
+        removed = {mark for mark, _ in table.removed()}
         if word == "settled":
             return removed == closed
         return words[0] in removed and words[0] not in closed and not self.is_held(at, words[0])
 
     def step(self, table, places, point, closed, call, member, done):
         requests = self.calls[call][1]
-        for after, entries, answer in table.ways(requests[member], f"{call}.{member + 1}", done):
+        for after, entries, answer in table.ways(requests[member], (int(call), member + 1), done):
             place = (member, entries)
             if answer is not None:
                 if self.answered(call, member)[1] not in (None, answer):
@@ -198,7 +186,7 @@ class Play:
         call = self.rng.choice(open_calls)
         member, done, requests = self.running[call]
         words = requests[member].split()
-        self.table, done, answer = self.rng.choice(self.table.ways(words, f"{call}.{member + 1}", done))
+        self.table, done, answer = self.rng.choice(self.table.ways(words, (int(call), member + 1), done))
         if answer is not None:
             self.answers.append((call, member + 1, answer))
             member, done = member + 1, 0
@@ -221,13 +209,13 @@ class Play:
             self.lines.append(f"free {call}")
 
     def close(self):
-        late = [it for it in self.table.removed if it[0] not in self.closed | set(self.held.values())]
+        late = [it for it in self.table.removed() if it[0] not in self.closed | set(self.held.values())]
         if late:
             mark, name = self.rng.choice(late)
             self.closed.add(mark)
             self.lines.append(f"closed {mark} {name}")
         elif not self.answers and not self.held and all(member == len(it) for member, _, it in self.running.values()) and self.rng.random() < 0.3:
-            if {mark for mark, _ in self.table.removed} == self.closed:
+            if {mark for mark, _ in self.table.removed()} == self.closed:
                 self.lines.append("settled")
 
 

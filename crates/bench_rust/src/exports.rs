@@ -30,8 +30,8 @@ pub(crate) struct Placed {
 
 const AGAIN: i64 = -7;
 
-/// The fewest workers of a table. A stock has a node for each worker. After the first 4,096 nodes two
-/// share a cache line, and so would those of small stocks.
+/// The fewest workers of a table. A stock has a node for each worker. After the first 4,096 nodes
+/// two share a cache line, and so would those of small stocks.
 pub const WORKERS: usize = 16;
 
 extern "C" {
