@@ -72,15 +72,28 @@ static int marks_owed(const struct state *s, int node) {
 static const struct pass *worker_of(const struct state *s, int node, bool retires) {
     for (int who = 0; who < family->passes; who++) {
         const struct pass *it = &s->pass[who];
-        bool is_retiring = (it->call == RETIREMENT && it->step != REST) || it->step == LOWER_LATE;
-        if (it->node == node && (retires ? is_retiring : it->step == REST)) {
+        bool has_place = it->step == REST || it->step == PARK;
+        bool is_retiring = (it->call == RETIREMENT && !has_place) || it->step == LOWER_LATE;
+        if (it->node == node && (retires ? is_retiring : has_place)) {
             return it;
         }
     }
     return NULL;
 }
 
-/* Returns whether a pass is about to rest the node of a closed file. */
+/* The number of passes that keep a node, or -1 if the node isn't one that its pass may keep. */
+static int keepers_of(const struct state *s, int node) {
+    int keepers = 0;
+    for (int who = 0; who < family->passes; who++) {
+        if (s->pass[who].kept == node) {
+            bool is_empty = s->file[node] == NO_FILE && s->place[node] == NOTHING && s->word[node] == BORN;
+            keepers = is_empty && is_in_stock(who, node) && keepers == 0 ? 1 : -1;
+        }
+    }
+    return keepers;
+}
+
+/* Returns whether a pass is about to rest the node of a closed file, or to keep it. */
 static bool is_to_rest(const struct state *s, int node) {
     const struct pass *it = worker_of(s, node, false);
     bool was_finished = it != NULL && it->call == RETIREMENT && s->word[node] + it->takes + it->marks == BORN;
@@ -98,13 +111,15 @@ static int slot_of(const struct state *s, int node) {
 
 static void check_node(const struct state *s, int node) {
     int word = s->word[node], kept = takes_kept(s, node), owed = marks_owed(s, node), slot = slot_of(s, node);
+    int keepers = keepers_of(s, node);
     const struct pass *retiring = worker_of(s, node, true);
     bool is_vacant = kept == 0 && owed == 0;
     want((slot >= 0) == (s->file[node] == AT_SLOT), "a slot names a node whose file isn't there");
+    want(keepers >= 0, "a pass keeps a node that isn't empty, isn't as it was born or isn't in its stock");
     switch (s->file[node]) {
     case NO_FILE:
         want(is_vacant, "a take or a mark of a closed file is left");
-        want(s->place[node] == WITH_PASS ? is_to_rest(s, node) : word == FREE && s->place[node] == NOTHING,
+        want(s->place[node] == WITH_PASS ? is_to_rest(s, node) : keepers || (word == FREE && s->place[node] == NOTHING),
              "a node without a file has a wrong word or place");
         break;
     case PLACED:

@@ -19,6 +19,10 @@ int node_at(int slot) { return slot + 1; }
 
 bool has_stock(int who) { return stock && (family->calls[who] & (PUT | PUT_ANY | PUT_IF)); }
 
+bool is_in_stock(int who, int node) {
+    return has_stock(who) && node_in_stock(who, 0) <= node && node < node_in_stock(who + 1, 0);
+}
+
 bool names(const struct state *s, int slot, int node) {
     return s->is_full[slot] && node_at(slot) == node;
 }
@@ -44,7 +48,7 @@ static void exchange_nodes(struct state *s, int one, int other) {
     exchange(&s->file[one], &s->file[other]);
     for (int who = 0; who < family->passes; who++) {
         struct pass *it = &s->pass[who];
-        uint8_t *those[] = {&it->node, &it->holds, &it->key, &it->named, &s->hold[who]};
+        uint8_t *those[] = {&it->node, &it->holds, &it->kept, &it->key, &it->named, &s->hold[who]};
         for (size_t nth = 0; nth < sizeof those / sizeof *those; nth++) {
             rename_node(those[nth], one, other);
         }
@@ -57,8 +61,9 @@ static uint64_t said_of(const struct state *s, int node) {
     for (int who = 0; who < family->passes; who++) {
         const struct pass *it = &s->pass[who];
         int hold = s->hold[who] & ~MARK;
-        int those = (it->node == node) | (it->holds == node) << 1 | (it->key == node) << 2 | (it->named == node) << 3 | (hold == node) << 4;
-        said |= (uint64_t)those << (12 + 5 * who);
+        int those = (it->node == node) | (it->holds == node) << 1 | (it->key == node) << 2 | (it->named == node) << 3
+            | (hold == node) << 4 | (it->kept == node) << 5;
+        said |= (uint64_t)those << (12 + 6 * who);
     }
     return said;
 }
@@ -134,7 +139,7 @@ static int install(struct state *s, struct pass *it) {
 
 void begin_call(struct pass *it, int call, enum step step) {
     struct pass next = {
-        .step = step, .call = call, .slot = it->slot, .node = it->node, .holds = it->holds,
+        .step = step, .call = call, .slot = it->slot, .node = it->node, .holds = it->holds, .kept = it->kept,
         .is_listed = it->is_listed, .is_sure = it->is_sure
     };
     if (call == 0) {
@@ -177,13 +182,36 @@ static void drop(struct state *s, struct pass *it) {
     }
 }
 
-/* Frees a node whose file was closed, or was placed for nothing. */
-static void rest(struct state *s, struct pass *it) {
+/* Returns the empty place of a node whose file was closed, or was placed for nothing. */
+static void return_place(struct state *s, const struct pass *it) {
     want(s->place[it->node] == WITH_PASS, "a place is returned that no pass has");
     s->file[it->node] = NO_FILE;
     s->place[it->node] = NOTHING;
+}
+
+static void rest(struct state *s, struct pass *it) {
+    return_place(s, it);
     s->word[it->node] = FREE;
     end_node(it);
+}
+
+/* Keeps the node of a closed file, and returns its empty place, if a load finds the word of its
+ * birth. */
+static void park(struct state *s, struct pass *it) {
+    if (s->word[it->node] != BORN && wrong != kept_after_dropped_takes) {
+        it->step = REST;
+        return;
+    }
+    return_place(s, it);
+    it->kept = it->node;
+    begin_call(it, 0, IDLE);
+}
+
+/* Frees the node that the pass keeps. */
+static void settle(struct state *s, struct pass *it) {
+    s->word[it->kept] = wrong == kept_node_is_not_settled ? BORN : FREE;
+    it->kept = 0;
+    sort_stocks(s);
 }
 
 /* A look-up */
@@ -351,8 +379,12 @@ static void swap(struct state *s, struct pass *it, int who) {
     it->node = !removes ? 0 : wrong == removal_loses_the_old_name ? node_at(it->slot) : found;
     it->takes = removes ? takes : UINT8_MAX;
     it->heat = heat > 0;
+    bool was_born = wrong == kept_by_a_load_before_the_swap && removes && it->last == BORN;
     it->step = after_swap(it, !was_full);
-    if (it->step == IDLE) {
+    if (was_born) {
+        close_file(s, it->node);
+        begin_call(it, RETIREMENT, PARK);
+    } else if (it->step == IDLE) {
         end_change(it, who);
     }
 }
@@ -375,13 +407,21 @@ static void visit(struct state *s, struct pass *it, int who) {
     }
 }
 
+/* Returns whether the pass may keep the node of a file that it closed at a load: the node is in its
+ * stock, so that no slot names it. */
+static bool may_park(const struct pass *it, int who) {
+    bool is_named = wrong == kept_while_a_slot_names_it && has_stock(who);
+    bool is_elsewhere = wrong == kept_without_a_stock && !has_stock(who);
+    return !it->kept && (is_in_stock(who, it->node) || is_named || is_elsewhere);
+}
+
 /* Closes the file at a load, if all of its takes and marks were dropped, so that nobody else
  * changes the node's word. */
 static void finish(struct state *s, struct pass *it, int who) {
     int dropped = it->takes + (wrong == finish_ignores_marks ? 0 : it->marks);
     if (s->word[it->node] + dropped == BORN) {
         close_file(s, it->node);
-        it->step = REST;
+        it->step = may_park(it, who) ? PARK : REST;
     } else if (wrong == finish_before_the_visits) {
         go_on(it, who);
     } else {
@@ -425,15 +465,29 @@ static enum step after_birth(const struct pass *it) {
     return it->call == PUT_ANY ? PEEK : is_early ? RAISE_EARLY : SWAP;
 }
 
-static void birth(struct state *s, struct pass *it) {
+/* Gets the place of a node for a new file, and puts the file there. */
+static void get_place(struct state *s, struct pass *it) {
     want(s->file[it->node] == NO_FILE && s->place[it->node] == NOTHING, "a pass gets the place of a node that isn't free");
-    s->word[it->node] = BORN;
     s->file[it->node] = PLACED;
     s->place[it->node] = WITH_PASS;
     it->step = after_birth(it);
 }
 
-void begin_installation(struct pass *it) { it->step = stock ? SEEK : after_birth(it); }
+static void birth(struct state *s, struct pass *it) {
+    s->word[it->node] = BORN;
+    get_place(s, it);
+}
+
+/* Gets the place of the node that the pass keeps, by a load. */
+static void resume(struct state *s, struct pass *it) {
+    it->node = it->kept ? it->kept : s->pass[0].kept;
+    it->kept = 0;
+    get_place(s, it);
+}
+
+void begin_installation(struct pass *it) {
+    it->step = !stock ? after_birth(it) : it->kept && wrong != kept_beside_a_search ? RESUME : SEEK;
+}
 
 enum step after_scan(void) { return stock ? REST : BEGIN; }
 
@@ -485,7 +539,10 @@ static void see(struct state *s, struct pass *it, int who) {
     if (!names(s, it->slot, it->key) && wrong != node_is_not_compared) {
         begin_call(it, 0, IDLE);
     } else {
-        it->step = it->call == PUT_IF ? SEEK : wrong == lower_after_the_exchange && family->group_len ? CHECK : first_of_removal();
+        it->step = wrong == lower_after_the_exchange && family->group_len ? CHECK : first_of_removal();
+        if (it->call == PUT_IF) {
+            begin_installation(it);
+        }
     }
 }
 
@@ -545,17 +602,31 @@ static void begin_at(struct state *s, struct pass *it, int who, int call, int sl
         go_on(it, who);
     } else if (call == REMOVE && wrong == skimmed_before_the_swap && s->heat[slot]) {
         it->step = SKIM;
+    } else if (call == REMOVE && wrong == kept_by_a_load_before_the_swap && stock) {
+        it->step = FINISH_EARLY;
     } else if (call == PUT || (call == PUT_ANY && !it->is_sure)) {
         begin_installation(it);
+        if (wrong == kept_node_of_another_pass_is_resumed && s->pass[0].kept) {
+            it->step = RESUME;
+        }
     }
 }
 
-/* Begins a call in the `nth` way: a search may begin at each node of the pass's stock, and a
- * removal may put each of them at the slot. */
+/* Returns whether a pass that keeps a node may begin a call before it has settled. */
+static bool may_keep(int call) {
+    return (call & (PUT | PUT_ANY | PUT_IF)) || (call == REMOVE && wrong == kept_beside_a_removal);
+}
+
+/* Begins a call in the `nth` way, or settles: a search may begin at each node of the pass's stock,
+ * and a removal may put each of them at the slot. */
 static bool begin_nth(struct state *s, struct pass *it, int who, int nth) {
+    if (it->kept && nth-- == 0) {
+        settle(s, it);
+        return true;
+    }
     for (int call = LOOK; call <= PUT_IF; call *= 2) {
         bool uses_stock = has_stock(who) && call != LOOK && call != TAKE_IF, is_keyed = call == TAKE_IF || call == PUT_IF;
-        bool may = (family->calls[who] & call) && (!is_keyed || key_of(s, who));
+        bool may = (family->calls[who] & call) && (!is_keyed || key_of(s, who)) && (!it->kept || may_keep(call));
         int ways = may ? family->slots * (uses_stock ? stock : 1) : 0;
         if (nth < ways) {
             int entry = nth / family->slots;
@@ -611,6 +682,9 @@ bool take_step(void *state, int who, int nth) {
     case REST: rest(s, it); break;
     case SEEK: seek(s, it, who); break;
     case BIRTH: birth(s, it); break;
+    case PARK: park(s, it); break;
+    case RESUME: resume(s, it); break;
+    case FINISH_EARLY: it->last = s->word[node_at(it->slot)]; it->step = first_of_removal(); break;
     case SWAP:
         if (it->key) {
             exchange_if(s, it, who);

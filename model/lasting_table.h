@@ -23,7 +23,7 @@ enum { TRIES = 2 };
 enum step {
     IDLE, LIST, ANNOUNCE, CONFIRM, WITHDRAW, DROP, TAKE, HEAT, GUARDED, COUNTED, REST, SEEK, BIRTH, LOWER, CHECK, BREAK,
     SWAP, RAISE, SKIM, VISIT, MARK_HOLD, FINISH, RETIRE, PEEK, EXCHANGE, PEEK_GROUP, DECIDE_FIRST, BEGIN, ASK, COUNT,
-    DECIDE, RAISE_EARLY, LOWER_LATE
+    DECIDE, RAISE_EARLY, LOWER_LATE, PARK, RESUME, FINISH_EARLY
 };
 
 /* The right table and wrong ones: each is the right one with one change. */
@@ -36,6 +36,8 @@ enum step {
     X(closed_one_too_early) X(closed_one_too_late) X(slot_never_heated) X(listed_after_the_second_look) \
     X(skimmed_before_the_swap) X(listed_by_a_store) X(listed_at_each_look) X(heat_counts_two) \
     X(finish_ignores_marks) X(finish_before_the_visits) X(removal_loses_the_old_name) X(removal_takes_a_node_of_another_pass) \
+    X(kept_after_dropped_takes) X(kept_without_a_stock) X(kept_by_a_load_before_the_swap) X(kept_beside_a_search) \
+    X(kept_beside_a_removal) X(kept_node_is_not_settled) X(kept_node_of_another_pass_is_resumed) \
     X(question_is_loaded_once) X(question_is_loaded_before_the_lower) X(question_is_not_cleared) \
     X(question_is_cleared_after_the_swap) X(cleared_only_at_a_full_group) X(cleared_by_one_exchange) \
     X(one_bit_is_cleared_alone) X(raise_before_the_fill) X(lower_after_the_swap) X(no_lower) X(raise_in_another_group) \
@@ -43,7 +45,8 @@ enum step {
     X(one_bit_for_all_askers) X(last_group_is_not_visited) X(group_is_skipped_too_early) \
     X(step_leads_through_one_group) \
     X(node_is_not_compared) X(node_is_compared_before_a_swap) X(found_word_is_not_compared) X(old_word_is_expected_again) \
-    X(missed_removal_is_not_raised) X(lower_after_the_exchange) X(file_of_the_node_is_not_held)
+    X(missed_removal_is_not_raised) X(lower_after_the_exchange) X(file_of_the_node_is_not_held) \
+    X(kept_while_a_slot_names_it)
 enum wrong { TABLES(AS_MEMBER) WRONG_TABLES, WRONG_RANGES = question_is_loaded_once, WRONG_KEYS = node_is_not_compared };
 
 struct family {
@@ -78,6 +81,9 @@ struct pass {
     uint8_t steps;
     /* In the model: the node of the file that the pass holds, or 0. */
     uint8_t holds;
+    /* The node that the pass keeps for its next installation, or 0. Its word is that of its birth,
+     * and its place is empty. */
+    uint8_t kept;
     /* The node that a call names, or 0. In the model: the file that the call means was
      * closed, and the number of times that others changed the slot's word since the call began. */
     uint8_t key, is_stale, changes;
@@ -107,6 +113,7 @@ extern int stock;
 int node_at(int slot);
 int node_in_stock(int who, int nth);
 bool has_stock(int who);
+bool is_in_stock(int who, int node);
 /* Returns whether the slot has a file, on this node. */
 bool names(const struct state *s, int slot, int node);
 /* Makes one step of a pass, as a `step_table` says. */

@@ -37,12 +37,14 @@ pub struct LastingWords<const PASSES: usize> {
 // the node.
 unsafe impl<const PASSES: usize> Sync for LastingWords<PASSES> {}
 
-/// A pass: its number, its stock of nodes and the entry at which its next search begins, whether it
-/// is in the list, whether it was sure that the table is full, and the slots that it emptied last.
+/// A pass: its number, its stock of nodes, the entry at which its next search begins, whether it
+/// keeps the node there for its next file, whether it is in the list, whether it was sure that the
+/// table is full, and the slots that it emptied last.
 pub struct Pass {
     number: usize,
     stock: Vec<usize>,
     next: usize,
+    keeps: bool,
     listed: bool,
     sure: bool,
     emptied: Emptied,
@@ -56,11 +58,37 @@ struct Held {
 }
 
 impl<const PASSES: usize> LastingWords<PASSES> {
+    fn take_file(&self, node: usize) -> File {
+        let file = unsafe { (*self.places[node].get()).take() };
+        file.expect("a file at its node")
+    }
+
     // Takes the file out of the place of its node, and frees the node.
     fn take_out(&self, node: usize) -> File {
-        let file = unsafe { (*self.places[node].get()).take() };
+        let file = self.take_file(node);
         self.nodes[node].word.store(FREE, SeqCst);
-        file.expect("a file at its node")
+        file
+    }
+
+    // Does the same, but keeps the node for the pass's next file, if it is in the stock and its
+    // word is that of a birth.
+    fn take_out_or_keep(&self, pass: &mut Pass, node: usize) -> File {
+        let file = self.take_file(node);
+        let word = &self.nodes[node].word;
+        if pass.stock[pass.next] == node && word.load(SeqCst) == BORN {
+            pass.keeps = true;
+        } else {
+            word.store(FREE, SeqCst);
+        }
+        file
+    }
+
+    // Frees the node that the pass keeps, before a call that isn't an installation.
+    fn settle(&self, pass: &mut Pass) {
+        if pass.keeps {
+            self.nodes[pass.stock[pass.next]].word.store(FREE, SeqCst);
+            pass.keeps = false;
+        }
     }
 
     fn drop_one(&self, node: usize) {
@@ -96,6 +124,7 @@ impl<const PASSES: usize> LastingWords<PASSES> {
     }
 
     fn look_up(&self, pass: &mut Pass, slot: usize) -> Option<Held> {
+        self.settle(pass);
         let word = self.slots[slot].load(SeqCst);
         let node = node_in(word)?;
         if !pass.listed {
@@ -152,7 +181,7 @@ impl<const PASSES: usize> LastingWords<PASSES> {
 
     // Retires the file of a slot that had this word. If all its takes and marks were dropped, the
     // load finds that, and nobody else changes the node's word.
-    fn retire(&self, pass: &Pass, word: u64) {
+    fn retire(&self, pass: &mut Pass, word: u64) {
         let Some(node) = node_in(word) else {
             return;
         };
@@ -162,9 +191,9 @@ impl<const PASSES: usize> LastingWords<PASSES> {
         }
         let amount = BORN - CLOSED - left;
         let node_word = &self.nodes[node].word;
-        if node_word.load(SeqCst) == amount + CLOSED
-            || node_word.fetch_sub(amount, SeqCst) == amount + CLOSED
-        {
+        if node_word.load(SeqCst) == amount + CLOSED {
+            black_box(self.take_out_or_keep(pass, node));
+        } else if node_word.fetch_sub(amount, SeqCst) == amount + CLOSED {
             black_box(self.take_out(node));
         }
     }
@@ -181,11 +210,21 @@ impl<const PASSES: usize> LastingWords<PASSES> {
         }
     }
 
-    // Puts a file on a free node of the pass's stock, and returns the word that names it.
+    // Puts a file on the node that the pass keeps, or else on a free one of its stock, and returns
+    // the word that names it.
     fn put_in(&self, pass: &mut Pass, file: File) -> u64 {
-        let at = self.seek(pass);
+        let at = if pass.keeps {
+            pass.stock[pass.next]
+        } else {
+            self.seek(pass)
+        };
         let node = &self.nodes[at];
-        node.word.store(BORN, SeqCst);
+        if pass.keeps {
+            black_box(node.word.load(SeqCst));
+            pass.keeps = false;
+        } else {
+            node.word.store(BORN, SeqCst);
+        }
         node.tag.store(file.mark, SeqCst);
         node.number.store(u64::from(file.entry), SeqCst);
         let word = file_word(at, file.entry);
@@ -229,6 +268,7 @@ impl<const PASSES: usize> Table for LastingWords<PASSES> {
             number: thread,
             stock: (first..first + passes).collect(),
             next: 0,
+            keeps: false,
             listed: false,
             sure: false,
             emptied: Emptied::new(),

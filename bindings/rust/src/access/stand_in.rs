@@ -45,10 +45,11 @@ struct Worker {
     // the number of the next file, or 0 if all were used, and the distance to the one after it
     number: u64,
     step: u64,
-    // the worker's nodes, as many as the table has workers, or none if it doesn't install; and the
-    // entry that it found free last
+    // the worker's nodes, as many as the table has workers, or none if it doesn't install; the
+    // entry that it found free last; and the flag that it keeps the node there for its next file
     stock: Vec<usize>,
     free: usize,
+    keeps: bool,
     held: Option<usize>,
     // the slots that the worker emptied last, and the one after that which it filled last
     emptied: VecDeque<usize>,
@@ -64,9 +65,14 @@ fn has_file(word: u64) -> bool {
 }
 
 impl Table {
+    // Returns the tag of a node's file.
+    fn tag(&self, node: usize) -> u64 {
+        // SAFETY: nobody holds the node, and it isn't free yet.
+        unsafe { *self.labels[node].get() }.0
+    }
+
     fn close(&self, node: usize) -> u64 {
-        // SAFETY: nobody holds the node, and it is free only after the store.
-        let (tag, _) = unsafe { *self.labels[node].get() };
+        let tag = self.tag(node);
         self.nodes[node].store(0, SeqCst);
         tag
     }
@@ -76,16 +82,6 @@ impl Table {
     fn subtract(&self, node: usize, count: u64) -> Option<u64> {
         let left = self.nodes[node].fetch_sub(count, SeqCst) - count;
         (left == 1).then(|| self.close(node))
-    }
-
-    // Retires the file that a word named. If each of its users has ended, a load closes it.
-    fn retire(&self, word: u64) -> Option<u64> {
-        let (node, takes) = (node_of(word), word & TAKES);
-        self.changes.fetch_add(1, SeqCst);
-        if self.nodes[node].load(SeqCst) + takes == BORN {
-            return Some(self.close(node));
-        }
-        self.subtract(node, (1 << 32) - takes)
     }
 
     // Checks whether every slot has a file.
@@ -140,20 +136,49 @@ impl Worker {
         number
     }
 
-    // Makes a file with the tag and the number on a free node of the stock. Returns the word that
-    // installs it, or `None` if the worker has no stock. The other workers work with one node each,
-    // so one of the stock is free.
+    // Makes a file with the tag and the number on the node that the worker keeps, or else on a free
+    // node of the stock. Returns the word that installs it, or `None` if the worker has no stock.
+    // The other workers work with one node each, so one of the stock is free.
     fn begin(&mut self, tag: u64, number: u64) -> Option<u64> {
         let count = self.stock.len();
-        let is_free = |it: &usize| self.table.nodes[self.stock[*it]].load(SeqCst) == 0;
-        self.free = (0..count)
-            .map(|it| (self.free + it) % count)
-            .find(is_free)?;
+        if !self.keeps {
+            let is_free = |it: &usize| self.table.nodes[self.stock[*it]].load(SeqCst) == 0;
+            self.free = (0..count)
+                .map(|it| (self.free + it) % count)
+                .find(is_free)?;
+        }
         let node = self.stock[self.free];
-        // SAFETY: the node is free, and this worker's.
+        // SAFETY: the node is kept or free, and this worker's.
         unsafe { *self.table.labels[node].get() = (tag, number) };
-        self.table.nodes[node].store(BORN, SeqCst);
+        if !self.keeps {
+            self.table.nodes[node].store(BORN, SeqCst);
+        }
+        self.keeps = false;
         Some((node as u64) << 32 | FILE)
+    }
+
+    // Retires the file that a word named. If each of its users has ended, a load closes it. If it
+    // had none, and its node is in the stock, the worker keeps the node.
+    fn retire(&mut self, word: u64) -> Option<u64> {
+        let (node, takes) = (node_of(word), word & TAKES);
+        self.table.changes.fetch_add(1, SeqCst);
+        let left = self.table.nodes[node].load(SeqCst);
+        if left + takes != BORN {
+            return self.table.subtract(node, (1 << 32) - takes);
+        }
+        self.keeps = left == BORN && self.stock.get(self.free) == Some(&node);
+        Some(match self.keeps {
+            true => self.table.tag(node),
+            false => self.table.close(node),
+        })
+    }
+
+    // Frees the node that the worker keeps, before a call that isn't an installation.
+    fn settle(&mut self) {
+        if self.keeps {
+            self.table.nodes[self.stock[self.free]].store(0, SeqCst);
+            self.keeps = false;
+        }
     }
 
     // Ends an installation that found this word at its slot. The word's node goes into the stock,
@@ -180,6 +205,7 @@ impl Worker {
     }
 
     fn look(&mut self, slot: usize) -> i64 {
+        self.settle();
         let Some(word) = self.table.slots.get(slot) else {
             return NO_SLOT;
         };
@@ -279,6 +305,7 @@ pub(crate) unsafe fn yacht_core_open(
             step: installing.into(),
             stock: (first..nodes.min(first + count)).collect(),
             free: 0,
+            keeps: false,
             held: None,
             emptied: VecDeque::new(),
             // apart from the other workers, as in the core
@@ -337,7 +364,7 @@ pub(crate) unsafe fn yacht_core_put(
     if !has_file(old) {
         return DONE;
     }
-    answer(it.table.retire(old), IN_USE, &mut placed.closed)
+    answer(it.retire(old), IN_USE, &mut placed.closed)
 }
 
 pub(crate) unsafe fn yacht_core_put_any(handle: *mut Core, tag: u64, number: *mut u64) -> i64 {
@@ -382,6 +409,7 @@ pub(crate) unsafe fn yacht_core_take(handle: *mut Core, slot: u32, closed: *mut 
     if it.held.is_some() {
         return BUSY;
     }
+    it.settle();
     let Some(word) = it.table.slots.get(slot as usize) else {
         return NO_SLOT;
     };
@@ -397,7 +425,7 @@ pub(crate) unsafe fn yacht_core_take(handle: *mut Core, slot: u32, closed: *mut 
         return EMPTY;
     }
     it.note_emptied(slot);
-    answer(it.table.retire(old), IN_USE, unsafe { &mut *closed })
+    answer(it.retire(old), IN_USE, unsafe { &mut *closed })
 }
 
 pub(crate) unsafe fn yacht_core_take_if(
@@ -413,11 +441,12 @@ pub(crate) unsafe fn yacht_core_take_if(
     if slot as usize >= it.table.slots.len() {
         return NO_SLOT;
     }
+    it.settle();
     match it.table.exchange(slot, unless_named(node), |it| it & NAME) {
         Err(number) => number,
         Ok(old) => {
             it.note_emptied(slot);
-            answer(it.table.retire(old), IN_USE, unsafe { &mut *closed })
+            answer(it.retire(old), IN_USE, unsafe { &mut *closed })
         }
     }
 }
@@ -443,7 +472,7 @@ pub(crate) unsafe fn yacht_core_put_if(
         Ok(old) => {
             it.end(old);
             placed.number = it.draw();
-            answer(it.table.retire(old), IN_USE, &mut placed.closed)
+            answer(it.retire(old), IN_USE, &mut placed.closed)
         }
     }
 }
