@@ -4,7 +4,7 @@
 //! threads.
 #![tactic(auto)]
 
-ghost use Rattle.std.specs.Prelude.{◌≡◌, IfOk, length};
+ghost use Rattle.std.specs.Prelude.{◌≡◌, ◌<◌, ◌+◌, IfOk, OnOk, length};
 
 mod desk;
 mod feed;
@@ -26,15 +26,20 @@ use std::thread::{Threads, join_mut};
 // The most requests that wait in the queue.
 const WAITING: usize = 64;
 
+// Adds a file to a catalogue.
+fn add(alloc: Global, catalogue: &mut Catalogue, name: &str, bytes: &[u8]) -> Result<(), AddFault>
+    ensures { OnOk result (length catalogue.new ≡ length catalogue.old + 1) }
+{
+    catalogue.add(String::from_str(alloc, name)?, bytes.to_vec(alloc)?)
+}
+
 // Makes a catalogue of two files, which are opened in turn.
 fn two_files(alloc: Global) -> Result<Catalogue, AddFault>
     ensures { IfOk result (λ catalogue. length catalogue ≡ 2) }
 {
     let mut catalogue = Catalogue::new(alloc);
-    let first = String::from_str(alloc, "first.txt")?;
-    catalogue.add(first, b"hello".to_vec(alloc)?)?;
-    let second = String::from_str(alloc, "second.txt")?;
-    catalogue.add(second, b"world".to_vec(alloc)?)?;
+    add(alloc, &mut catalogue, "first.txt", b"hello")?;
+    add(alloc, &mut catalogue, "second.txt", b"world")?;
     Ok(catalogue)
 }
 
@@ -53,41 +58,45 @@ fn serve_clients<R: Threads + Wait + Sync>(
     served
 }
 
+// Serves the clients, hands a file over, and prints the counters of the desk.
+fn run<R: Threads + Wait + Print + Sync>(
+    rt: &R,
+    alloc: Global,
+    catalogue: &Catalogue,
+    desk: &Desk<'_>,
+    clients: &mut Option<Sender<Job>>,
+) -> Result<(), NoMemory>
+    requires { 1 < length catalogue.now }
+{
+    serve_clients(rt, alloc, desk, clients)?;
+    // The very first look-ups may find a slot that no request has filled.
+    let read = desk.read.load(Ordering::SeqCst).div_ceil(1000);
+    let found = hand_over_once(rt, alloc, catalogue)?;
+    // A line that can't be written changes nothing.
+    let _ = println!(rt;
+        "requests served: {}, refused: {}\n\
+         threads that served: {}, thousands of requests that read a file: {read}\n\
+         files closed: {}, reported by their tags: {}",
+        desk.served.load(Ordering::SeqCst),
+        desk.refused.load(Ordering::SeqCst),
+        desk.threads.load(Ordering::SeqCst),
+        desk.closed.load(Ordering::SeqCst),
+        desk.reported.load(Ordering::SeqCst)
+    );
+    if let Some(entry) = found {
+        let _ = println!(rt; "one thread put entry 1, and another one found entry {entry}");
+    }
+    Ok(())
+}
+
 fn main(rt: HostRuntime) -> Result<(), AddFault> {
     let alloc = rt.alloc();
     let catalogue = two_files(alloc)?;
     let (sender, receiver) = bounded(alloc, WAITING)?;
     let desk = Desk::new(&catalogue, receiver);
     let mut clients = Some(sender);
-    if let Err(NoMemory) = serve_clients(&rt, alloc, &desk, &mut clients) {
-        return Err(AddFault::NoMemory);
+    match run(&rt, alloc, &catalogue, &desk, &mut clients) {
+        Ok(()) => Ok(()),
+        Err(NoMemory) => Err(AddFault::NoMemory),
     }
-    // The very first look-ups may find a slot that no request has filled.
-    let read = desk.read.load(Ordering::SeqCst).div_ceil(1000);
-    let Ok(found) = hand_over_once(&rt, alloc, &catalogue) else {
-        return Err(AddFault::NoMemory);
-    };
-    // A line that can't be written changes nothing.
-    let _ = println!(&rt;
-        "requests served: {}, refused: {}",
-        desk.served.load(Ordering::SeqCst),
-        desk.refused.load(Ordering::SeqCst)
-    );
-    let _ = println!(&rt;
-        "threads that served: {}, thousands of requests that read a file: {}",
-        desk.threads.load(Ordering::SeqCst),
-        read
-    );
-    let _ = println!(&rt;
-        "files closed: {}, reported by their tags: {}",
-        desk.closed.load(Ordering::SeqCst),
-        desk.reported.load(Ordering::SeqCst)
-    );
-    if let Some(entry) = found {
-        let _ = println!(&rt;
-            "one thread put entry 1, and another one found entry {}",
-            entry
-        );
-    }
-    Ok(())
 }

@@ -7,7 +7,6 @@ use std::alloc::Global;
 use std::process::Abort;
 use std::sync::Wait;
 use std::sync::atomic::{AtomicBool, AtomicU32, Ordering};
-use std::test::Fail;
 use std::thread;
 use std::thread::Threads;
 
@@ -28,8 +27,10 @@ fn wait_for(count: &AtomicU32, least: u32, is_late: &AtomicBool) {
     is_late.store(true, Ordering::SeqCst);
 }
 
-// A gate before the only members of chains; the first `held` chains wait at it until all have
-// reached it.
+// A gate at which members of chains wait for others. The first `held` chains wait before each
+// member until `chains` members have come. If no chain is held so, the second chain waits until the
+// first one's first member has completed, and the first chain's second member until the second
+// chain has completed.
 #[derive(Drop)]
 struct Meeting {
     held: u32,
@@ -39,12 +40,29 @@ struct Meeting {
     is_late: AtomicBool,
 }
 
+impl Meeting {
+    // Creates a gate that nobody has reached.
+    fn new(held: u32, chains: u32) -> Meeting {
+        Meeting {
+            held,
+            chains,
+            came: AtomicU32::new(0),
+            left: AtomicU32::new(0),
+            is_late: AtomicBool::new(false),
+        }
+    }
+}
+
 impl Gate for Meeting {
     fn before(&self, place: Place) {
         self.came.fetch_add(1, Ordering::SeqCst);
-        if place.chain <= self.held {
-            wait_for(&self.came, self.chains, &self.is_late);
-        }
+        let (count, least) = match (self.held, place.chain, place.member) {
+            (0, 2, 1) => (&self.left, 1),
+            (0, 1, 2) => (&self.left, 2),
+            (held, chain, _) if chain <= held => (&self.came, self.chains),
+            _ => return,
+        };
+        wait_for(count, least, &self.is_late);
     }
 
     fn after(&self, _place: Place) {
@@ -57,18 +75,12 @@ impl Gate for Meeting {
 fn meet<R: Threads + Wait + Abort + Sync>(
     rt: &R,
     alloc: Global,
-    script: &str,
+    script: &[u8],
     players: Players,
     held: u32,
     chains: u32,
 ) -> bool {
-    let meeting = Meeting {
-        held,
-        chains,
-        came: AtomicU32::new(0),
-        left: AtomicU32::new(0),
-        is_late: AtomicBool::new(false),
-    };
+    let meeting = Meeting::new(held, chains);
     play(rt, alloc, script, players, &meeting);
     let (came, left) = (&meeting.came, &meeting.left);
     came.load(Ordering::SeqCst) == chains
@@ -76,21 +88,19 @@ fn meet<R: Threads + Wait + Abort + Sync>(
         && !meeting.is_late.load(Ordering::SeqCst)
 }
 
+// A script of 16 chains. Without its first lines it has fewer of them.
+const CLOSES: &[u8] = b"close 0\nclose 0\nclose 0\nclose 0\nclose 0\nclose 0\nclose 0\nclose 0\n\
+      close 0\nclose 0\nclose 0\nclose 0\nclose 0\nclose 0\nclose 0\nclose 0\nsubmit\n";
+
 // As many chains meet as there are workers.
 #[test]
-fn each_number_of_workers_play_beside_each_other(rt: HostRuntime) -> Result<(), Fail> {
-    let alloc = rt.alloc();
-    let mut requests = String::new(alloc);
+fn each_number_of_workers_play_beside_each_other(rt: HostRuntime) {
     for workers in 1..17 {
-        requests.push_str("close 0\n")?;
-        let script = format!(in alloc; "{requests}submit\n")?;
+        let script = &CLOSES[8 * (16 - workers as usize)..];
         for table in TABLES {
-            let players = (table, workers);
-            let met = meet(&rt, alloc, script.as_str(), players, workers, workers);
-            assert!(rt; met, "{workers} workers");
+            assert!(rt; meet(&rt, rt.alloc(), script, (table, workers), workers, workers));
         }
     }
-    Ok(())
 }
 
 // Of two workers, one is held at the first of three chains. On the lock-free table the other one
@@ -98,31 +108,9 @@ fn each_number_of_workers_play_beside_each_other(rt: HostRuntime) -> Result<(), 
 // chain belongs to the pass that waits.
 #[test]
 fn submit_shares_out_chains_itself(rt: HostRuntime) {
-    let script = "close 0\nclose 0\nclose 0\nsubmit\n";
+    let script = &CLOSES[8 * 13..];
     for (table, is_free) in [(Table::Words, true), (Table::Baton, false)] {
         assert!(rt; meet(&rt, rt.alloc(), script, (table, 2), 1, 3) == is_free);
-    }
-}
-
-// A gate that holds the second chain until the first one's first member has completed, and the
-// first chain's second member until the second chain has completed.
-#[derive(Drop)]
-struct Between {
-    done: AtomicU32,
-    is_late: AtomicBool,
-}
-
-impl Gate for Between {
-    fn before(&self, place: Place) {
-        match (place.chain, place.member) {
-            (2, 1) => wait_for(&self.done, 1, &self.is_late),
-            (1, 2) => wait_for(&self.done, 2, &self.is_late),
-            _ => {}
-        }
-    }
-
-    fn after(&self, _place: Place) {
-        self.done.fetch_add(1, Ordering::SeqCst);
     }
 }
 
@@ -134,9 +122,8 @@ fn an_update_between_an_open_and_its_read(rt: HostRuntime) {
     let wanted = b"sparse 0\n1.1.1 0\n1.1.2 2 6869\n1.2.1 1\nclosed 1.1.1.0 a.txt\nteardown\n\
                    closed 1.2.1.0 b.txt\n";
     for table in TABLES {
-        let (done, is_late) = (AtomicU32::new(0), AtomicBool::new(false));
-        let gate = Between { done, is_late };
-        let text = play(&rt, rt.alloc(), script, (table, 2), &gate);
+        let gate = Meeting::new(0, 2);
+        let text = play(&rt, rt.alloc(), script.as_bytes(), (table, 2), &gate);
         assert!(rt; text.as_slice() == wanted.as_slice() && !gate.is_late.load(Ordering::SeqCst));
     }
 }

@@ -4,9 +4,9 @@ use crate::setting::{TABLES, end, play, read, ring_of, submit};
 use bitflags::Flags;
 use fx_chain::{CutFault, CutKind, Gate, Place, Request, SqeFlags};
 use fx_ring::SubmitFault;
-use std::alloc::{AllocError, Global};
+use std::alloc::Global;
+use std::process::Abort;
 use std::sync::atomic::{AtomicBool, AtomicU32, Ordering};
-use std::test::Fail;
 
 // A gate of a first submission that counts its calls for each chain, and records a call that isn't
 // the next one of its chain: before the first member, after it, before the second one, and so on.
@@ -18,28 +18,39 @@ struct Calls {
 
 impl Calls {
     // Creates a gate of a submission of `chains` chains.
-    fn new(alloc: Global, chains: usize) -> Result<Calls, AllocError> {
-        let chains = (0..chains).map(|_| AtomicU32::new(0)).collect(alloc)?;
-        let is_wrong = AtomicBool::new(false);
-        Ok(Calls { chains, is_wrong })
+    fn new<R: Abort>(rt: &R, alloc: Global, chains: usize) -> Calls {
+        let mut counts = Vec::new(alloc);
+        for _ in 0..chains {
+            counts.push(AtomicU32::new(0)).expect(rt, "memory");
+        }
+        Calls {
+            chains: counts,
+            is_wrong: AtomicBool::new(false),
+        }
     }
 
     // Records a call for a chain that was called for `others` times before.
     fn note(&self, place: Place, others: u32) {
-        let chain = self.chains.get(place.chain.wrapping_sub(1) as usize);
-        let count = chain.map(|chain| chain.fetch_add(1, Ordering::SeqCst));
-        if count != Some(others) || place.submission != 1 {
-            self.is_wrong.store(true, Ordering::SeqCst);
+        if let Some(chain) = self.chains.get(place.chain.wrapping_sub(1) as usize) {
+            if chain.fetch_add(1, Ordering::SeqCst) == others && place.submission == 1 {
+                return;
+            }
         }
+        self.is_wrong.store(true, Ordering::SeqCst);
     }
 
     // Checks whether exactly the first `started` members of each chain were started: the gate was
     // called once before each of them and once after it, in order.
     fn were_started(&self, started: &[u32]) -> bool {
-        let mut chains = self.chains.iter().zip(started);
-        chains.all(|(chain, count)| chain.load(Ordering::SeqCst) == count.wrapping_mul(2))
-            && self.chains.len() == started.len()
-            && !self.is_wrong.load(Ordering::SeqCst)
+        if self.chains.len() != started.len() || self.is_wrong.load(Ordering::SeqCst) {
+            return false;
+        }
+        for (i, chain) in self.chains.iter().enumerate() {
+            if chain.load(Ordering::SeqCst) != started[i].wrapping_mul(2) {
+                return false;
+            }
+        }
+        true
     }
 }
 
@@ -79,23 +90,22 @@ const ROWS: [(&str, &[u32]); 4] = [
 ];
 
 #[test]
-fn gate_is_called_for_what_is_started(rt: HostRuntime) -> Result<(), Fail> {
+fn gate_is_called_for_what_is_started(rt: HostRuntime) {
     let alloc = rt.alloc();
     for (script, started) in &ROWS {
         for table in TABLES {
             for workers in [1, 2, 3, 16] {
-                let calls = Calls::new(alloc, started.len())?;
-                play(&rt, alloc, script, (table, workers), &calls);
-                assert!(rt; calls.were_started(started), "{script}");
+                let calls = Calls::new(&rt, alloc, started.len());
+                play(&rt, alloc, script.as_bytes(), (table, workers), &calls);
+                assert!(rt; calls.were_started(started));
             }
         }
     }
-    Ok(())
 }
 
 // Submissions that are refused, and that no script can express.
 #[test]
-fn refused_submissions_start_no_request(rt: HostRuntime) -> Result<(), Fail> {
+fn refused_submissions_start_no_request(rt: HostRuntime) {
     let alloc = rt.alloc();
     let (op, flags) = (read(0, 0, 5).op, SqeFlags::empty());
     let requests = [read(0, 0, 5), Request { op, flags }];
@@ -109,13 +119,12 @@ fn refused_submissions_start_no_request(rt: HostRuntime) -> Result<(), Fail> {
         (2, 16, bad_flags),
     ] {
         for table in TABLES {
-            let calls = Calls::new(alloc, 0)?;
-            let mut ring = ring_of(&rt, alloc, &[0])?;
+            let calls = Calls::new(&rt, alloc, 0);
+            let mut ring = ring_of(&rt, alloc, &[0]);
             let requests = &requests[..count];
             let refused = submit(&rt, alloc, &mut ring, requests, (table, workers), &calls);
             assert!(rt; refused.err() == Some(fault) && calls.were_started(&[]));
             end(&rt, alloc, ring);
         }
     }
-    Ok(())
 }

@@ -1,6 +1,6 @@
 //! The values that the tests share: requests, rings and players. Memory is ample: a test fails if
 //! an allocation fails.
-ghost use Rattle.std.specs.Prelude.{◌≡◌, IfOk};
+ghost use Rattle.std.specs.Prelude.{◌≡◌, codes};
 ghost use Rattle.fx_chain.specs.Operation.{Opens, Reads, Closes, operation_of};
 ghost use Rattle.fx_chain.specs.declared.request.Target.TheVariants.{Slot};
 
@@ -11,19 +11,24 @@ use fx_chain::{Gate, Op, Place, Request, SqeFlags, Target};
 use fx_counted::CountedTable;
 use fx_ring::{Report, Ring, SubmitFault};
 use fx_script::run;
-use std::alloc::{AllocError, Global};
+use std::alloc::Global;
 use std::process::Abort;
 use std::sync::Wait;
-use std::test::Fail;
 use std::thread::Threads;
 
-/// Creates an open at a slot.
-pub fn open_at(alloc: Global, name: &str, slot: u32) -> Result<Request, AllocError>
-    ensures { IfOk result (λ request. operation_of request.op ≡ Opens name.now (Slot slot)) }
+/// Creates an open of `a.txt` at slot 0.
+pub fn open<R: Abort>(rt: &R, alloc: Global) -> Request
+    ensures { operation_of result.op ≡ Opens (codes "a.txt") (Slot 0) }
 {
-    let (name, target) = (String::from_str(alloc, name)?, Target::Slot(slot));
-    let (op, flags) = (Op::Open { name, target }, SqeFlags::empty());
-    Ok(Request { op, flags })
+    let name = String::from_str(alloc, "a.txt").expect(rt, "memory");
+    let (op, flags) = (
+        Op::Open {
+            name,
+            target: Target::Slot(0),
+        },
+        SqeFlags::empty(),
+    );
+    Request { op, flags }
 }
 
 /// Creates a read of `len` bytes from byte `off` on.
@@ -78,17 +83,19 @@ pub const TABLES: [Table; 2] = [Table::Words, Table::Baton];
 pub type Players = (Table, u32);
 
 /// Creates a catalogue with only `a.txt`, a file of 4,096 bytes.
-pub fn one_file(alloc: Global) -> Result<Catalogue, Fail> {
+pub fn one_file<R: Abort>(rt: &R, alloc: Global) -> Catalogue {
     let mut catalogue = Catalogue::new(alloc);
-    catalogue.add(String::from_str(alloc, "a.txt")?, vec![in alloc; 7; 4096]?)?;
-    Ok(catalogue)
+    let name = String::from_str(alloc, "a.txt").expect(rt, "memory");
+    let bytes = vec![in alloc; 7; 4096].expect(rt, "memory");
+    assert!(rt; catalogue.add(name, bytes).is_ok());
+    catalogue
 }
 
 /// Creates a ring with this catalogue and a table of this list of entries.
-pub fn ring_of<R: Abort>(rt: &R, alloc: Global, list: &[i32]) -> Result<Ring, Fail> {
-    let mut ring = Ring::new(alloc, one_file(alloc)?);
+pub fn ring_of<R: Abort>(rt: &R, alloc: Global, list: &[i32]) -> Ring {
+    let mut ring = Ring::new(alloc, one_file(rt, alloc));
     assert!(rt; ring.register(alloc, list).is_ok());
-    Ok(ring)
+    ring
 }
 
 /// Submits requests.
@@ -119,13 +126,13 @@ pub fn end<R: Abort>(rt: &R, alloc: Global, ring: Ring) {
 pub fn play<R: Threads + Wait + Abort + Sync, G: Gate>(
     rt: &R,
     alloc: Global,
-    script: &str,
+    script: &[u8],
     players: Players,
     gate: &G,
 ) -> Vec<u8> {
     let (table, workers) = players;
     assert!(rt; 1 <= workers && workers <= 16);
-    let mut reader = script.as_bytes();
+    let mut reader = script;
     let mut text = Vec::new(alloc);
     let (input, output) = (&mut reader, &mut text);
     let ended = match table {

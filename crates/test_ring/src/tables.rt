@@ -5,7 +5,7 @@ ghost use Rattle.std.specs.Prelude.{◌≡◌, ◌+◌, true, All, length};
 ghost use Rattle.fx_table.specs.Pass.{IsHoldOf, IsIdle, IsRetiredOf};
 ghost use Rattle.fx_lasting.specs.Tables.{IsPassOfTable, opening_of_table, view_of};
 
-use crate::setting::{close, first_chain, in_chain, one_file, open_at, read};
+use crate::setting::{close, first_chain, in_chain, one_file, open, read};
 use fx_base::{Catalogue, CloseList, Mark, OpenFile};
 use fx_baton::BatonTable;
 use fx_chain::{OpenGate, run_chain};
@@ -16,7 +16,6 @@ use fx_table::{FileTable, Hold, Retired, SharedTable};
 use std::alloc::Global;
 use std::process::Abort;
 use std::sync::Wait;
-use std::test::Fail;
 
 // Opens a table of one slot, where the only file of a catalogue is, for two passes.
 fn open_table<T: FileTable, R: Abort>(rt: &R, alloc: Global, files: &Catalogue) -> (T, Vec<T::Pass>)
@@ -126,8 +125,8 @@ fn play_both<T: FileTable, R: Wait + Abort>(
 }
 
 // Does the same, from the table's opening to its close.
-fn play_on<T: FileTable, R: Wait + Abort>(rt: &R, alloc: Global, used: Use) -> Result<(), Fail> {
-    let files = one_file(alloc)?;
+fn play_on<T: FileTable, R: Wait + Abort>(rt: &R, alloc: Global, used: Use) {
+    let files = one_file(rt, alloc);
     let (table, mut passes) = open_table::<T, _>(rt, alloc, &files);
     let (mut a, mut b) = (passes.pop().unwrap(), passes.pop().unwrap());
     assert!(rt; table.draw(&mut b) == Some(1));
@@ -136,11 +135,10 @@ fn play_on<T: FileTable, R: Wait + Abort>(rt: &R, alloc: Global, used: Use) -> R
     passes.push_reserved(b);
     passes.push_reserved(a);
     table.close(passes).abandon();
-    Ok(())
 }
 
 #[test]
-fn retired_while_held(rt: HostRuntime) -> Result<(), Fail> {
+fn retired_while_held(rt: HostRuntime) {
     for used in [
         Use::BeforeReplacement,
         Use::OverReplacement,
@@ -148,10 +146,9 @@ fn retired_while_held(rt: HostRuntime) -> Result<(), Fail> {
         Use::BeforeRetirement,
         Use::OverRetirement,
     ] {
-        play_on::<BatonTable, _>(&rt, rt.alloc(), used)?;
-        play_on::<CountedTable, _>(&rt, rt.alloc(), used)?;
+        play_on::<BatonTable, _>(&rt, rt.alloc(), used);
+        play_on::<CountedTable, _>(&rt, rt.alloc(), used);
     }
-    Ok(())
 }
 
 // Opens a table of one slot that lasts, with one pass, which installs files.
@@ -197,13 +194,13 @@ fn give_back<T: SharedTable, R: Abort>(rt: &R, table: &T, passes: &mut Vec<T::Pa
 // the table, so that the close finds the file and closes it. No ring plays a chain on a table that
 // lasts, so that only this test does.
 #[test]
-fn chain_on_a_table_that_lasts(rt: HostRuntime) -> Result<(), Fail> {
+fn chain_on_a_table_that_lasts(rt: HostRuntime) {
     let alloc = rt.alloc();
-    let catalogue = one_file(alloc)?;
-    let open = in_chain(open_at(alloc, "a.txt", 0)?, 0);
+    let catalogue = one_file(&rt, alloc);
+    let open = in_chain(open(&rt, alloc), 0);
     let requests = [open, in_chain(read(0, 0, 5), 1), close(0)];
-    let mut out = Vec::with_capacity(alloc, 3)?;
-    let mut closes = CloseList::with_room(alloc, 4)?;
+    let mut out = Vec::with_capacity(alloc, 3).expect(&rt, "memory");
+    let mut closes = CloseList::with_room(alloc, 4).expect(&rt, "memory");
     let (table, mut passes) = open_lasting(&rt, alloc);
     let mut pass = last_pass(&rt, &table, &mut passes);
     assert!(rt; passes.is_empty());
@@ -232,5 +229,4 @@ fn chain_on_a_table_that_lasts(rt: HostRuntime) -> Result<(), Fail> {
     assert!(rt; out[1].is_answer(first_chain(2), 5, &[7; 5]));
     assert!(rt; out[2].is_answer(first_chain(3), 0, &[]));
     assert!(rt; closes.files() == [first_chain(1).installed(0, 0)].as_slice());
-    Ok(())
 }

@@ -1,7 +1,7 @@
 //! Results that no script shows: values worked out by hand, the memory of reads, and an order of a
 //! report.
 use crate::setting::{
-    TABLES, Table, close, end, first_chain, in_chain, one_file, open_at, read, ring_of, submit,
+    TABLES, Table, close, end, first_chain, in_chain, one_file, open, read, ring_of, submit,
 };
 use bitflags::Flags;
 use fx_chain::{Completion, LONGEST_READ, OpenGate, SqeFlags, Target, check, target};
@@ -10,7 +10,6 @@ use fx_words::{
     begin_amount, control_word, end_amount, entry_of, node_of, retire_amount, says_full, slot_word,
     takes_of,
 };
-use std::test::Fail;
 
 #[test]
 fn file_index_names_the_slot_below_it(rt: HostRuntime) {
@@ -63,14 +62,15 @@ fn request_with_both_flags_is_a_hard_link(rt: HostRuntime) {
 // A read allocates exactly the bytes that it asks for. By its contract it may fail for lack of
 // memory; here none does. The built program plays scripts of every size (tests/check-limits).
 #[test]
-fn reads_of_each_length(rt: HostRuntime) -> Result<(), Fail> {
+fn reads_of_each_length(rt: HostRuntime) {
     let alloc = rt.alloc();
     let mut list = Vec::new(alloc);
     for len in 0..LONGEST_READ + 1 {
-        list.push(in_chain(read(0, 0, len), len))?;
+        list.push(in_chain(read(0, 0, len), len))
+            .expect(&rt, "memory");
     }
     let requests = list.as_slice();
-    let mut ring = ring_of(&rt, alloc, &[0])?;
+    let mut ring = ring_of(&rt, alloc, &[0]);
     for table in TABLES {
         for workers in [1, 16] {
             let players = (table, workers);
@@ -83,7 +83,6 @@ fn reads_of_each_length(rt: HostRuntime) -> Result<(), Fail> {
         }
     }
     end(&rt, alloc, ring);
-    Ok(())
 }
 
 // Returns an access by a chain.
@@ -95,7 +94,7 @@ fn by(chain: u32, access: Access) -> ChainAccess {
 // slot. Without the close, the order isn't one of the report. No program here computes orders, so
 // only this test sees that memory suffices for one.
 #[test]
-fn order_of_a_report(rt: HostRuntime) -> Result<(), Fail> {
+fn order_of_a_report(rt: HostRuntime) {
     let alloc = rt.alloc();
     let file = first_chain(1).installed(0, 0);
     let order = [
@@ -103,25 +102,24 @@ fn order_of_a_report(rt: HostRuntime) -> Result<(), Fail> {
         by(1, Access::Looks(0, Some(file))),
         by(2, Access::Takes(0, Some(file))),
     ];
-    let open = in_chain(open_at(alloc, "a.txt", 0)?, 0);
+    let open = in_chain(open(&rt, alloc), 0);
     let requests = [open, read(0, 0, 5), close(0)];
-    let mut ring = ring_of(&rt, alloc, &[-1, -1])?;
+    let mut ring = ring_of(&rt, alloc, &[-1, -1]);
     let players = (Table::Baton, 1);
     let answer = submit(&rt, alloc, &mut ring, &requests, players, &OpenGate);
     let report = answer.expect(&rt, "a report");
     end(&rt, alloc, ring);
-    let catalogue = one_file(alloc)?;
+    let catalogue = one_file(&rt, alloc);
     for (count, is_order) in [(2, false), (3, true)] {
         assert!(rt; check(&requests).is_ok());
-        let (range, at) = ((0, 2), vec![in alloc; None; 2]?);
+        let (range, at) = ((0, 2), vec![in alloc; None; 2].expect(&rt, "memory"));
         let mut empty = RingSlots {
             slots: Slots { range, at },
             submissions: 0,
             registrations: 0,
         };
         let order = &order[..count];
-        let said = is_one_order(alloc, &catalogue, &mut empty, &requests, &report, order)?;
-        assert!(rt; said == is_order, "{count} accesses");
+        let said = is_one_order(alloc, &catalogue, &mut empty, &requests, &report, order);
+        assert!(rt; said == Ok(is_order));
     }
-    Ok(())
 }
