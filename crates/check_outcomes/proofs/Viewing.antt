@@ -13,6 +13,8 @@ use Rattle.check_outcomes.proofs.Words.{get_or_at, length-append, settled_in}
 use Rattle.std.proofs.Common.{Bool, true, rules}
 use Rattle.std.specs.Cmp.Lexicographic.{pointwise}
 use Rattle.fx_chain.specs.contracts.completion.CompletionPartialEq.TheImpl.{eq-value as eq_of_completion}
+use Rattle.std.specs.Bool.{Decides}
+use Rattle.check_outcomes.specs.contracts.submission.ProgressPartialEq.TheImpl.{eq-value as eq_of_progress}
 use Rattle.check_outcomes.proofs.Lists.{inside_at}
 use Rattle.check_outcomes.proofs.Idle.{all_reads, idle_some}
 
@@ -28,6 +30,9 @@ same_each f {E} each (x ∷ xs) (y ∷ ys) is =
 
 pub completion_same : (one other : Completion) → eq_of_completion.it one other ≡ true → completed_of one ≡ completed_of other
 completion_same one other is = search rules
+
+pub progress_Decides : (a b : Progress) → Decides (eq_of_progress.it a b) (a ≡ b)
+progress_Decides a b = search rules
 
 -- one chain answers more
 pub set_answers : (before all : List (Vec Completion)) {i : ℕ} {old : Vec Completion} (mine : Vec Completion) (own : List Completed)
@@ -143,7 +148,7 @@ idle_some_here submission state i own left {progress} run is behind some silent 
     rw (less_one i, is, ← run, ← behind, are, all_reads left, ask)
     (idle_some submission (all_asked left) _ progress.made (λ none. some (omega (arith, length-map left asked_of))) silent)
 
-requests_for : (place : Place) (requests : List Asked) (made : ℕ) → (rest_for place requests made).requests ≡ requests
+pub requests_for : (place : Place) (requests : List Asked) (made : ℕ) → (rest_for place requests made).requests ≡ requests
 requests_for place [] made = refl
 requests_for place (request ∷ requests) made = refl
 

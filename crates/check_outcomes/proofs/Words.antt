@@ -13,8 +13,8 @@ pub use Rattle.check_outcomes.specs.Parts.{AreParts, Parts, StaysIn}
 pub use Rattle.check_outcomes.specs.Rests.{HasMemory, IsNext, IsNextOf, Rest, Rules, behind, over, rest_at, rules_of, settled_at, step, step_of}
 pub use Rattle.std.proofs.lemmas.Bool.{and_parts, cases_Bool, cases_eq, ne_eqb, and_from, eqb-true, le-leb, not-false}
 pub use Rattle.check_outcomes.specs.Listed.{AreAllBy, IsAnswerIn, IsAtStart, IsExploredBy, IsExploredInTurn, IsConfirmedPlay, IsPossibleIn}
-pub use Rattle.check_outcomes.specs.Listed.{IsStateExploredBy, IsRecordedAt, IsRecordedOf, OfEach, report_of_play, said_by, says, settled_in, states_of}
-pub use Rattle.check_outcomes.specs.Listed.{IsFirstState, recorded_by, recorded_states}
+pub use Rattle.check_outcomes.specs.Listed.{IsStateExploredBy, IsRecordedAt, IsRecordedOf, OfEach, report_of_play, said_by, says, settled_in}
+pub use Rattle.check_outcomes.specs.Listed.{states_of, IsFirstState, recorded_by, recorded_states}
 pub use Rattle.check_outcomes.specs.Outcomes.{HasEachAnswer, HasEachEnd, HasEachReport, IsAnswer, IsPossible, IsReportBy, MayReport, TellsOf}
 pub use Rattle.check_outcomes.specs.Outcomes.{ring_behind}
 pub use Rattle.check_outcomes.specs.Reports.{AreRecordedClosed, EachReportIsListed, HasReport, LeadsOn, RecordedState}
@@ -29,14 +29,14 @@ pub use Rattle.check_outcomes.specs.declared.outcomes.PossibleAnswer.{PossibleAn
 pub use Rattle.check_outcomes.specs.declared.outcomes.PossibleReport.{PossibleReport}
 pub use Rattle.check_outcomes.specs.declared.state.PlayState.{PlayState}
 pub use Rattle.check_outcomes.specs.declared.submission.PlayedSubmission.{PlayedSubmission}
-pub use Rattle.fx_order.proofs.ChainsFront.{first_is, both_parts, first_and_rest}
+pub use Rattle.fx_order.proofs.ChainsFront.{first_is, both_parts}
 pub use Rattle.fx_order.proofs.Ordered.{each_history_is_an_order}
 pub use Rattle.fx_order.specs.declared.slots.Slots.{Slots}
 pub use Rattle.fx_table.proofs.SumLemmas.{contains_map, contains_mapped}
 pub use Rattle.std.proofs.lemmas.List.{drop-drop, get_or_append_left, get_or_at, get_or-set_other, get_or-set_same, length-drop, map-set, drop_all}
 pub use Rattle.std.proofs.lemmas.Option.{slice_get-get_or}
 pub use Rattle.std.specs.List.{list_all}
-pub use Rattle.std.specs.Prelude.{Err, IfSome, Ok, slice_set, MatchOption, is_some}
+pub use Rattle.std.specs.Prelude.{Err, IfSome, Ok, slice_set, MatchOption}
 pub use Rattle.fx_order.proofs.Words.{◌≡◌, refl, ℕ, ◌+◌, ◌-◌, ◌<◌, List, [], length, map, sym, ap, ◌∙◌, arith, slice_index_or, All, Bool, IsTrue}
 pub use Rattle.fx_order.proofs.Words.{Completed, length-map, Asked, runs_of, first_member, table_of_slots, All-contains, AllByRecursion, true, false}
 pub use Rattle.fx_order.proofs.Words.{false≢true, Chain, members_of, ⊎_elim, ◌≤◌, subst, Contains, Some, Completion, Place, all_completed}
@@ -48,11 +48,10 @@ pub use Rattle.fx_order.proofs.Words.{PermitsAll, table_with, table_after, IsSom
 pub use Rattle.fx_order.proofs.Words.{asked_of, Request, ◌⊎◌, All-nil, All-cons, All-append, Operation, Reads, ECANCELED, refusal, All-head, All-tail}
 pub use Rattle.fx_order.proofs.Words.{filter, cond, cases_lt, file_removed_by, files_removed_in, IsPermutation, IsPermutation-refl}
 pub use Rattle.fx_order.proofs.Words.{IsPermutation-cons, IsPermutation-sym, IsPermutation-trans, IsPermutation-middle, option_to_list, get_or-map}
-pub use Rattle.fx_order.proofs.Words.{get_or_from_slice_get, IfOk, Result, zero, ℤ, pos, negsuc, int_le, nat_tests, either_option}
-pub use Rattle.fx_order.proofs.Words.{Contains-append_right, Errno, Opens, Closes, Updates, Slot, Any, IsCatalogue, name_at, installed, refusal_of}
-pub use Rattle.fx_order.proofs.Words.{IsRefused, IsDoneAtTable, All-weaker, either_case, table_of, take, drop}
-pub use Rattle.fx_order.proofs.Words.{map-append, take_all, take-append-drop, slice_get, slice_get_within, All-map, rules, to_z, of_z, w32}
-pub use Rattle.fx_order.proofs.Words.{operation_of, IfOk-weaker, ◌*◌, drop-map, ◌↔◌}
+pub use Rattle.fx_order.proofs.Words.{get_or_from_slice_get, IfOk, Result, zero, ℤ, pos, negsuc}
+pub use Rattle.fx_order.proofs.Words.{Contains-append_right, Errno, Opens, Closes, Updates, Slot, Any, IsCatalogue, installed, refusal_of}
+pub use Rattle.fx_order.proofs.Words.{IsRefused, IsDoneAtTable, All-weaker, either_case, table_of, take, drop, map-append, take_all, take-append-drop}
+pub use Rattle.fx_order.proofs.Words.{slice_get, slice_get_within, All-map, operation_of, IfOk-weaker, ◌*◌, drop-map, ◌↔◌}
 pub use Rattle.std.proofs.lemmas.List.Elements.{All-from_recursion, Contains-append_left, Contains-push, All-push}
 pub use Rattle.check_outcomes.specs.Choices.{HasEachOf, Intends, IsNextAccess}
 pub use Rattle.fx_chain.specs.declared.intent.Intent.TheVariants.{Allocate}

@@ -17,14 +17,12 @@ use Rattle.check_outcomes.specs.Reports.{AreAllRecorded, LeadsOn, RecordedState}
 use Rattle.check_outcomes.specs.Stands.{rest_in}
 use Rattle.check_outcomes.specs.Tellings.{all_recorded, answers_of}
 use Rattle.check_outcomes.specs.Views.{HasTurnIn, IsNextIn, IsOverIn, is_state_idle, is_idle_at}
-use Rattle.check_outcomes.specs.Views.{not_begun, rules_in}
-use Rattle.check_outcomes.specs.Views.{runs_in, recorded_state_of, view_in}
+use Rattle.check_outcomes.specs.Views.{not_begun, rules_in, runs_in, recorded_state_of, view_in}
 use Rattle.fx_ring.specs.Ring.{RingContents, RingState, ring_of}
 use Rattle.fx_ring.specs.Submission.{Reported}
 use Rattle.fx_ring.specs.declared.report.Report.{Report}
 use Rattle.fx_order.specs.declared.access.ChainAccess.{ChainAccess}
-use Rattle.check_outcomes.specs.Outcomes.{IsAnswer, IsPossible, IsReportBy, MayReport}
-use Rattle.check_outcomes.specs.Outcomes.{answered}
+use Rattle.check_outcomes.specs.Outcomes.{IsAnswer, IsPossible, IsReportBy, MayReport, answered}
 use Rattle.check_outcomes.specs.Outcomes.{ring_behind}
 use Rattle.check_outcomes.specs.declared.closed.Claimed.{Claimed}
 use Rattle.check_outcomes.specs.declared.outcomes.PossibleAnswer.{PossibleAnswer}

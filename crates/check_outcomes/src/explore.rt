@@ -11,24 +11,19 @@ use fx_base::{Closed, NoMemory};
 use fx_chain::{Completion, Place, Request};
 use fx_order::Slots;
 
-// Returns the bytes that a state keeps of a request: its answer, the bytes of a read, and the files
-// that it removed, each with its numbers in the key.
-fn weight_of(request: &Request) -> usize {
-    request
-        .weight()
-        .saturating_mul(56)
-        .saturating_add(request.bytes_asked() as usize)
-        .saturating_add(48)
-}
-
-// Returns the bytes that a state keeps of the answers and removed files on the way to it.
+// Returns the bytes that a state keeps of the answers and removed files on the way to it: of each
+// request its answer, the bytes of a read, and the files that it removed, each with its numbers in
+// the key.
 fn weight_recorded(submission: &PlayedSubmission<'_>) -> usize {
     if !submission.tells {
         return 0;
     }
     let mut weight = submission.chains.len().saturating_mul(32);
     for request in submission.requests {
-        weight = weight.saturating_add(weight_of(request));
+        weight = weight
+            .saturating_add(request.weight().saturating_mul(56))
+            .saturating_add(request.bytes_asked() as usize)
+            .saturating_add(48);
     }
     weight
 }
@@ -66,16 +61,15 @@ struct Search {
 }
 
 impl Search {
-    // Notes a state, unless it is known, and the step that led to it. Whether there was room.
+    // Notes a state, unless it is known, and the step that led to it. Returns false if there is no
+    // room for it.
     fn add(&mut self, state: PlayState, from: Option<FoundStep>) -> Result<bool, NoMemory> {
         let key = key_of(self.found.alloc, &state)?;
-        let number = self.found.states.len();
-        let is_known = self.found.keys.contains(&key);
-        if is_known || number >= self.most {
-            return Ok(is_known);
+        let (number, is_new) = self.found.keys.insert_full(key)?;
+        if !is_new || number >= self.most {
+            return Ok(!is_new);
         }
         self.found.states.push(state)?;
-        self.found.keys.insert(key)?;
         self.found.from.push(from)?;
         self.open.push(number)?;
         Ok(true)
@@ -97,8 +91,8 @@ impl Search {
         Ok(())
     }
 
-    // Follows an access of a chain in a state, if it may be made. Whether there was room for the
-    // state to which it leads.
+    // Follows an access of a chain in a state, if it may be made. Returns false if there is no room
+    // for the state to which it leads.
     fn follow_step(
         &mut self,
         submission: &PlayedSubmission<'_>,
@@ -116,8 +110,8 @@ impl Search {
         self.add(next, Some(step))
     }
 
-    // Follows each access that a chain may make next in a state. Whether there was room for the
-    // states.
+    // Follows each access that a chain may make next in a state. Returns false if there is no room
+    // for the states.
     fn follow(
         &mut self,
         submission: &PlayedSubmission<'_>,
@@ -143,7 +137,7 @@ impl Search {
         Ok(true)
     }
 
-    // Follows each chain whose turn it is in a state. Returns whether there was room for the
+    // Follows each chain whose turn it is in a state. Returns false if there is no room for the
     // states.
     fn follow_turn(
         &mut self,
@@ -180,8 +174,8 @@ impl Search {
             && !here.is_idle(submission, chain)
     }
 
-    // Looks at the states that were met last first, so that ends are met early. Whether there was
-    // room for all.
+    // Looks at the states that were met last first, so that ends are met early. Returns false if
+    // there is no room for all.
     fn run(&mut self, submission: &PlayedSubmission<'_>) -> Result<bool, NoMemory> {
         for _ in 0..self.most {
             let Some(state) = self.open.pop() else {

@@ -23,3 +23,4 @@ pub use outcomes::{
     PossibleAnswer, PossibleAnswers, PossibleReport, PossibleReports, may_answer, may_report,
 };
 pub use submission::{Progress, chain_accesses, settle, step};
+pub use telling::removed_after;

@@ -1,23 +1,20 @@
 //! The reports that a submission can produce, and the answers that a request of it can give, each
 //! with an order.
-ghost use Rattle.std.specs.Prelude.{◌≡◌, ◌+◌, ◌<◌, ◌≤◌, ◌^◌, ℕ};
-ghost use Rattle.std.specs.Prelude.{All, Contains, IfOk, IfSome, IsTrue, Some, length};
+ghost use Rattle.std.specs.Prelude.{◌≡◌, ◌+◌, ◌<◌, ◌≤◌, ◌^◌, ℕ, All, Contains, IfOk, IfSome, IsTrue, Some, length};
 ghost use Rattle.fx_base.specs.Catalogue.{IsCatalogue};
 ghost use Rattle.fx_chain.specs.Accepted.{IsAccepted};
 ghost use Rattle.fx_chain.specs.Completed.{all_completed, completed_of};
 ghost use Rattle.fx_chain.specs.Operation.{all_asked};
 ghost use Rattle.fx_order.specs.Slots.{ring_of_slots};
 ghost use Rattle.fx_plain.specs.declared.table.TheConstants.{MOST_SLOTS};
-ghost use Rattle.check_outcomes.specs.Listed.{IsAnswerIn, IsPossibleIn, IsReportOf, IsRecordedAt};
-ghost use Rattle.check_outcomes.specs.Listed.{IsRecordedOf, OfEach};
-ghost use Rattle.check_outcomes.specs.Outcomes.{HasEachAnswer, HasEachEnd, HasEachReport};
-ghost use Rattle.check_outcomes.specs.Outcomes.{IsAnswer, IsPossible};
+ghost use Rattle.check_outcomes.specs.Listed.{IsAnswerIn, IsPossibleIn, IsReportOf, IsRecordedAt, IsRecordedOf, OfEach};
+ghost use Rattle.check_outcomes.specs.Outcomes.{HasEachAnswer, HasEachEnd, HasEachReport, IsAnswer, IsPossible};
 ghost use Rattle.check_outcomes.specs.Tellings.{all_recorded, answers_of};
 
 use crate::closed::{Claimed, are_all_states};
 use crate::explore::explore;
 use crate::found::{FoundStates, FoundStep};
-use crate::player::{confirm, play_to};
+use crate::player::{OrderPlay, confirm, play_to};
 use crate::state::PlayState;
 use crate::submission::PlayedSubmission;
 use crate::telling::are_same as are_same_answers;
@@ -84,11 +81,17 @@ fn confirmed(
 ) -> Result<Option<PossibleReport>, NoMemory>
     ensures { IfOk result (λ possible. IfSome possible (IsPossibleIn submission.now slots.now)) }
 {
-    let play = play_to(submission, slots, found, by)?;
+    let alloc = submission.alloc;
+    let mut play = OrderPlay {
+        order: Vec::new(alloc),
+        completions: Vec::new(alloc),
+        closes: Vec::new(alloc),
+    };
+    play_to(submission, slots, found, by, &mut play)?;
     let Some(left) = confirm(submission, slots, &play)? else {
         return Ok(None);
     };
-    let Some(closes) = closes_of(submission.alloc, submission.catalogue, &play.closes)? else {
+    let Some(closes) = closes_of(alloc, submission.catalogue, &play.closes)? else {
         return Ok(None);
     };
     Ok(Some(PossibleReport {

@@ -94,13 +94,7 @@ impl PartNumbers {
         self.of_chain.get(i).copied().unwrap_or(0)
     }
 
-    // Makes one part of two.
-    fn join(&mut self, part: usize, other: usize) {
-        rename(&mut self.of_chain, part, other);
-        rename(&mut self.of_slot, part, other);
-    }
-
-    // Notes that a chain may access a slot.
+    // Notes that a chain may access a slot: their parts are one.
     fn add(&mut self, i: usize, slot: usize) {
         let (Some(own), Some(other)) = (self.of_chain.get(i), self.of_slot.get(slot)) else {
             return;
@@ -109,7 +103,9 @@ impl PartNumbers {
         if other == NO_PART {
             self.of_slot[slot] = own;
         } else if other != own {
-            self.join(own.min(other), own.max(other));
+            let (part, other) = (own.min(other), own.max(other));
+            rename(&mut self.of_chain, part, other);
+            rename(&mut self.of_slot, part, other);
         }
     }
 }

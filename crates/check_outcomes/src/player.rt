@@ -12,7 +12,6 @@ use crate::telling::sort_by_mark;
 use fx_base::{Closed, Errno, NoMemory};
 use fx_chain::Completion;
 use fx_order::{Access, ChainAccess, Slots, SubmissionReport, slots_left};
-use std::alloc::Global;
 
 // More accesses than a chain may make.
 const MOST_ACCESSES: usize = 1 << 16;
@@ -47,13 +46,11 @@ fn steps_to(
     Ok(steps)
 }
 
-/// A play of a submission, access by access.
+/// The state of a play of a submission, access by access, and the answers of each chain.
 #[derive(Drop)]
 struct Player {
     state: PlayState,
-    order: Vec<ChainAccess>,
     recorded: Vec<Vec<Completion>>,
-    closes: Vec<Closed>,
 }
 
 impl Player {
@@ -63,6 +60,7 @@ impl Player {
         submission: &PlayedSubmission<'_>,
         chain: usize,
         access: Access,
+        play: &mut OrderPlay,
     ) -> Result<bool, NoMemory> {
         let mut recorded = Vec::new(submission.alloc);
         let next = next_state(submission, &self.state, chain, &access, &mut recorded)?;
@@ -70,7 +68,7 @@ impl Player {
             return Ok(false);
         };
         self.state = next;
-        self.note(chain, access, &mut recorded)?;
+        self.note(chain, access, &mut recorded, play)?;
         Ok(true)
     }
 
@@ -80,14 +78,15 @@ impl Player {
         chain: usize,
         access: Access,
         recorded: &mut Vec<Completion>,
+        play: &mut OrderPlay,
     ) -> Result<(), NoMemory> {
         if let Some(own) = self.recorded.get_mut(chain) {
             own.append(recorded)?;
         }
         if let Some(file) = access.removed() {
-            self.closes.push(file)?;
+            play.closes.push(file)?;
         }
-        self.order.push(ChainAccess {
+        play.order.push(ChainAccess {
             chain: (chain.min(u32::MAX as usize - 1) + 1) as u32,
             access,
         })?;
@@ -99,76 +98,61 @@ impl Player {
         &mut self,
         submission: &PlayedSubmission<'_>,
         chain: usize,
+        play: &mut OrderPlay,
     ) -> Result<bool, NoMemory> {
         let Some(accesses) = accesses_of(submission, &self.state, chain)? else {
             return Ok(false);
         };
         for access in accesses {
-            if self.play(submission, chain, access)? {
+            if self.play(submission, chain, access, play)? {
                 return Ok(true);
             }
         }
         Ok(false)
     }
 
-    // Makes the accesses of these steps, and goes on to the end of each chain, one chain after
-    // another.
+    // Makes the accesses of the steps up to this one, and goes on to the end of each chain, one
+    // chain after another.
     fn play_all(
         &mut self,
         submission: &PlayedSubmission<'_>,
-        steps: &[FoundStep],
+        found: &FoundStates,
+        last: Option<FoundStep>,
+        play: &mut OrderPlay,
     ) -> Result<(), NoMemory> {
-        for step in steps {
-            self.play(submission, step.chain, step.access)?;
+        if let Some(last) = last {
+            for step in &steps_to(submission, found, last)? {
+                self.play(submission, step.chain, step.access, play)?;
+            }
         }
         for chain in 0..submission.chains.len() {
             for _ in 0..MOST_ACCESSES {
-                if !self.play_first(submission, chain)? {
+                if !self.play_first(submission, chain, play)? {
                     break;
                 }
             }
         }
+        for own in self.recorded.iter_mut() {
+            play.completions.append(own)?;
+        }
+        sort_by_mark(&mut play.closes);
         Ok(())
     }
 }
 
-// Returns the completions of all chains, one chain after another.
-fn joined(alloc: Global, lists: Vec<Vec<Completion>>) -> Result<Vec<Completion>, NoMemory> {
-    let mut completions = Vec::new(alloc);
-    for mut own in lists {
-        completions.append(&mut own)?;
-    }
-    Ok(completions)
-}
-
-/// Returns a play of a submission at these slots that begins with the steps up to this one, and
-/// goes on to the end of each chain, one chain after another.
+/// Makes a play of a submission at these slots that begins with the steps up to this one, and goes
+/// on to the end of each chain, one chain after another. `play` is empty at first.
 pub(crate) fn play_to(
     submission: &PlayedSubmission<'_>,
     slots: &Slots,
     found: &FoundStates,
     last: Option<FoundStep>,
-) -> Result<OrderPlay, NoMemory> {
-    let alloc = submission.alloc;
-    let steps = match last {
-        Some(last) => steps_to(submission, found, last)?,
-        None => Vec::new(alloc),
-    };
-    let mut recorded = Vec::new(alloc);
+    play: &mut OrderPlay,
+) -> Result<(), NoMemory> {
+    let mut recorded = Vec::new(submission.alloc);
     let state = start(submission, slots, &mut recorded)?;
-    let mut player = Player {
-        state,
-        order: Vec::new(alloc),
-        recorded,
-        closes: Vec::new(alloc),
-    };
-    player.play_all(submission, &steps)?;
-    sort_by_mark(&mut player.closes);
-    Ok(OrderPlay {
-        completions: joined(alloc, player.recorded)?,
-        order: player.order,
-        closes: player.closes,
-    })
+    let mut player = Player { state, recorded };
+    player.play_all(submission, found, last, play)
 }
 
 // Checks whether no request lacked memory.

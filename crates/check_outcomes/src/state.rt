@@ -1,6 +1,5 @@
 //! A state of a submission that is played by an order, and where an access leads from it.
-ghost use Rattle.std.specs.Prelude.{◌≡◌, ◌<◌, []};
-ghost use Rattle.std.specs.Prelude.{IfOk, IfSome, IsTrue, length, slice_index_or};
+ghost use Rattle.std.specs.Prelude.{◌≡◌, ◌<◌, [], IfOk, IfSome, IsTrue, length, slice_index_or};
 ghost use Rattle.fx_chain.specs.Completed.{all_completed};
 ghost use Rattle.fx_chain.specs.Intents.{is_read};
 ghost use Rattle.fx_chain.specs.Operation.{asked_of};
@@ -74,7 +73,7 @@ impl PlayState {
         if submission.tells {
             return false;
         }
-        are_reads(left) && !submission.asks_behind(i, progress.done)
+        are_reads(left) && !submission.asks_after(i, progress.done)
     }
 
     /// Checks whether nothing but reads is left of a chain, by its number from 0.

@@ -1,7 +1,7 @@
 //! A submission that is played: where each of its chains is between two of its accesses, and where
 //! its next one leads it.
-ghost use Rattle.std.specs.Prelude.{◌≡◌, ℕ, ◌+◌, ◌-◌, ◌<◌, ◌≤◌, ◌^◌, ◌++◌, [], All, IfOk, Some};
-ghost use Rattle.std.specs.Prelude.{drop, length, map, option_map, slice_index_or};
+ghost use Rattle.std.specs.Prelude.{◌≡◌, ℕ, ◌+◌, ◌-◌, ◌<◌, ◌≤◌, ◌^◌, ◌++◌, [], All, IfOk, Some, drop, length, map};
+ghost use Rattle.std.specs.Prelude.{option_map, slice_index_or};
 ghost use Rattle.fx_base.specs.Catalogue.{IsCatalogue};
 ghost use Rattle.fx_base.specs.declared.open_file.Closed.{Closed as File};
 ghost use Rattle.fx_chain.specs.Accepted.{IsAccepted, IsChain, IsWithinLimits, members_of};
@@ -15,8 +15,7 @@ ghost use Rattle.fx_order.specs.declared.access.Access.TheVariants.{Allocates};
 ghost use Rattle.fx_plain.specs.declared.table.TheConstants.{MOST_SLOTS};
 ghost use Rattle.fx_table.specs.declared.limits.TheConstants.{MAX_CHAINS};
 ghost use Rattle.check_outcomes.specs.Rests.{rules_of, settled_at};
-ghost use Rattle.check_outcomes.specs.Stands.{HasEachNext, Settles, StepsChain, asks_from, gone_on};
-ghost use Rattle.check_outcomes.specs.Stands.{moved, rest_in};
+ghost use Rattle.check_outcomes.specs.Stands.{HasEachNext, Settles, StepsChain, asks_from, gone_on, moved, rest_in};
 
 use crate::answering::next_accesses;
 use fx_base::{Catalogue, Errno, NoMemory};
@@ -62,7 +61,7 @@ impl PlayedSubmission<'_> {
 
     /// Checks whether the request that is asked for is one of a chain, by the chain's number from
     /// 0, after its first `done` members.
-    pub(crate) fn asks_behind(&self, i: usize, done: usize) -> bool
+    pub(crate) fn asks_after(&self, i: usize, done: usize) -> bool
         requires { i < length self.now.chains.now }
         ensures { result
             ≡ asks_from self.now.asked (moved (first_member self.now.number (i + 1)) done) }
@@ -147,13 +146,13 @@ pub fn settle(
         (all_asked requests.now)) place (all_asked requests.now)
         (all_completed recorded.old.items) (all_completed recorded.new.items)) }
 {
-    let [request, behind @ ..] = requests else {
+    let [request, later @ ..] = requests else {
         return Ok(0);
     };
     if count_of(setting.catalogue, setting.size, request) != 0 {
         return Ok(0);
     }
-    Ok(1 + go_on(setting, place, request, behind, None, recorded)?)
+    Ok(1 + go_on(setting, place, request, later, None, recorded)?)
 }
 
 // Returns what the last access found, if there is one.
@@ -173,18 +172,18 @@ fn go_on(
     setting: &OrderSetting<'_>,
     place: Place,
     request: &Request,
-    behind: &[Request],
+    later: &[Request],
     last: Option<Access>,
     recorded: &mut Vec<Completion>,
 ) -> Result<usize, NoMemory>
     requires own { IsWithinLimits (asked_of request.now) }
-    requires limits { All (λ r. IsWithinLimits (asked_of r)) behind.now }
-    requires members { place.member + 1 + length behind.now < 2 ^ 32 }
+    requires limits { All (λ r. IsWithinLimits (asked_of r)) later.now }
+    requires members { place.member + 1 + length later.now < 2 ^ 32 }
     requires slot { (slot : ℕ) (file : File) → last ≡ Some (Allocates slot file) → slot < 2 ^ 31 }
     ensures { IfOk result (Settles
         (gone_on (rules_of setting.now.catalogue.now setting.now.size) place
-        (asked_of request.now) (all_asked behind.now) last) (next_member place)
-        (all_asked behind.now)
+        (asked_of request.now) (all_asked later.now) last) (next_member place)
+        (all_asked later.now)
         (all_completed recorded.old.items) (all_completed recorded.new.items)) }
 {
     let (alloc, catalogue) = (setting.alloc, setting.catalogue);
@@ -194,10 +193,10 @@ fn go_on(
     recorded.push(c)?;
     let next = moved(place, 1);
     if severs {
-        cancel(alloc, next, behind, recorded)?;
-        return Ok(behind.len());
+        cancel(alloc, next, later, recorded)?;
+        return Ok(later.len());
     }
-    settle(setting, next, behind, recorded)
+    settle(setting, next, later, recorded)
 }
 
 /// Returns the members of a chain after its first `done` members.
@@ -236,7 +235,7 @@ pub fn step(
         (all_completed recorded.old.items) (all_completed recorded.new.items)) }
 {
     let Progress { done, made } = progress;
-    let [request, behind @ ..] = left(members, done) else {
+    let [request, later @ ..] = left(members, done) else {
         return Ok(progress);
     };
     if count_of(setting.catalogue, setting.size, request) != made + 1 {
@@ -246,7 +245,7 @@ pub fn step(
         });
     }
     let here = moved(place, done as u32);
-    let passed = go_on(setting, here, request, behind, Some(access), recorded)?;
+    let passed = go_on(setting, here, request, later, Some(access), recorded)?;
     Ok(Progress {
         done: done + 1 + passed,
         made: 0,

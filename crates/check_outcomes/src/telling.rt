@@ -74,8 +74,11 @@ pub(crate) fn sort_by_mark(files: &mut [Closed])
     files.sort_unstable_by_key(|file| file.mark);
 }
 
-// Returns the files that were taken after an access, in order of mark.
-fn removed_after(
+/// Returns the files that were taken after an access, in order of mark.
+///
+/// # Errors
+/// `NoMemory` if an allocation fails.
+pub fn removed_after(
     alloc: Global,
     removed: &[Closed],
     access: &Access,
@@ -115,13 +118,10 @@ impl WayReport {
         requires { i < length self.now.answers.items }
         ensures { IfOk result (IsRecordedOn self.now i access.now (all_completed own.now)) }
     {
+        let removed = removed_after(alloc, &self.removed, access)?;
         let mut answers = Vec::new(alloc);
         push_lists(alloc, &mut answers, &self.answers)?;
-        let mut mine = Vec::new(alloc);
-        push_copies(alloc, &mut mine, &self.answers[i])?;
-        push_copies(alloc, &mut mine, own)?;
-        answers[i] = mine;
-        let removed = removed_after(alloc, &self.removed, access)?;
+        push_copies(alloc, &mut answers[i], own)?;
         Ok(WayReport { answers, removed })
     }
 }

@@ -1,11 +1,6 @@
-use Rattle.check_outcomes.proofs.Words.{◌≡◌, ◌∙◌, sym, refl, Progress, not-false, slice_eq-Decides, file_Decides}
-use Rattle.std.proofs.Common.{rules}
-use Rattle.std.specs.Bool.{Decides}
-use Rattle.check_outcomes.specs.contracts.submission.ProgressPartialEq.TheImpl.{eq-value}
+use Rattle.check_outcomes.proofs.Words.{◌≡◌, ◌∙◌, sym, refl, not-false, slice_eq-Decides, file_Decides}
+use Rattle.check_outcomes.proofs.Viewing.{progress_Decides}
 use Rattle.check_outcomes.proofs.state.PlayState.is_same.Goals as goal
-
-progress_Decides : (a b : Progress) → Decides (eq-value.it a b) (a ≡ b)
-progress_Decides a b = search rules
 
 pub returns-then-are_all_same-clause-chains : goal.returns-then-are_all_same-clause-chains
 returns-then-are_all_same-clause-chains c = λ _.

@@ -1,17 +1,19 @@
-use Rattle.check_outcomes.proofs.Words.{◌≡◌, ◌∙◌, ◌++◌, all_completed, answers_of}
+use Rattle.check_outcomes.proofs.Words.{◌≡◌, ◌∙◌, ◌++◌, ◌<◌, all_completed, answers_of, ap, arith, length, length-map, refl, sym}
 use Rattle.check_outcomes.proofs.Viewing.{set_answers}
 use Rattle.check_outcomes.proofs.telling.WayReport.after.Goals as goal
 
 pub returns : goal.returns
 returns c =
     let before = c.args.self.now.answers.items in
-    let lists : answers_of c.push_lists.new.all.items ≡ answers_of before =
-    c.in_ok-push_lists.ensures ∙ (λ j. answers_of (c.new-answers.ensures.items j) ++ answers_of (c.deref.ensures.value j)) in
-    let first : all_completed c.push_copies.new.all.items ≡ all_completed c.index.result.now.items =
-    c.in_ok-push_copies.ensures ∙ (λ j. all_completed (c.new-mine.ensures.items j) ++ all_completed (c.deref-2.ensures.value j)) in
+    let all = c.push_lists.new.all.items in
+    let lists : answers_of all ≡ answers_of before =
+    c.in_ok-push_lists.ensures ∙ (λ j. answers_of (c.new-answers.ensures.items j) ++ answers_of (c.deref-2.ensures.value j)) in
+    let many : length all ≡ length before =
+    sym (length-map all (λ own. all_completed own.items)) ∙ ap length lists ∙ length-map before (λ own. all_completed own.items) in
+    let within : c.args.i < length all = omega (arith, many, c.requires) in
     record {
       there = c.requires;
-      answers = set_answers before c.push_lists.new.all.items c.push_copies-2.new.all (all_completed c.args.own.now)
-          lists c.requires c.index.ensures (rw first at c.in_ok-push_copies-2.ensures);
-      removed = rw c.deref-3.ensures.value at c.in_ok-removed.ensures;
+      answers = rw lists at (set_answers all all c.push_copies.new.all (all_completed c.args.own.now) refl within c.index_mut.ensures.value
+          c.in_ok-push_copies.ensures);
+      removed = rw c.deref.ensures.value at c.in_ok-removed.ensures;
     }
