@@ -3,7 +3,7 @@
 use crate::case::{Act, Row, result_of, slots_of};
 use crate::facts::Facts;
 use crate::words::{Words, name_of, sign_before};
-use fx_base::{Errno, NoMemory};
+use fx_base::Errno;
 use fx_chain::{Completion, Intent};
 use std::alloc::AllocError;
 
@@ -28,6 +28,10 @@ pub(crate) struct Answers<'a> {
     facts: &'a Facts<'a>,
     row: &'a Row<'a>,
     list: Vec<ValidAnswer>,
+    // The bytes that were read last.
+    bytes: Vec<u8>,
+    /// False if an allocation failed.
+    pub is_whole: bool,
 }
 
 // Returns the content that an access leaves at its slot, or `None` if it changes nothing.
@@ -100,91 +104,94 @@ fn content_before(facts: &Facts<'_>, row: &Row<'_>, slot: u32) -> Option<u8> {
 }
 
 impl<'a> Answers<'a> {
-    // Appends the answer without bytes of one of some results.
-    fn push(&mut self, first: i32, last: i32) -> Result<(), AllocError> {
-        let entry = None;
-        Ok(self.list.push(ValidAnswer { first, last, entry })?)
+    // Appends an answer: one of some results, with the bytes of a file of an entry or with none.
+    fn push(&mut self, first: i32, last: i32, entry: Option<u8>) {
+        if self.list.push(ValidAnswer { first, last, entry }).is_err() {
+            self.is_whole = false;
+        }
     }
 
     // Appends the answer of an error.
-    fn push_error(&mut self, errno: Errno) -> Result<(), AllocError> {
-        self.push(result_of(errno), result_of(errno))
+    fn push_error(&mut self, errno: Errno) {
+        self.push(result_of(errno), result_of(errno), None);
     }
 
-    // Returns the bytes that the request reads of a file of an entry, or no bytes without one.
-    fn bytes_of(&self, entry: Option<u8>) -> Result<Vec<u8>, NoMemory> {
-        let (facts, row) = (self.facts, self.row);
-        match entry {
-            Some(entry) => row
-                .request
-                .bytes_of(facts.case.alloc, facts.case.catalogue, entry),
-            None => Ok(Vec::new(facts.case.alloc)),
+    // Reads the bytes that the request reads of a file of an entry, or no bytes without one.
+    fn read(&mut self, entry: Option<u8>) {
+        self.bytes.clear();
+        if let Some(entry) = entry {
+            let (facts, row) = (self.facts, self.row);
+            let (request, catalogue) = (row.request, facts.case.catalogue);
+            if request
+                .read_into(catalogue, entry, &mut self.bytes)
+                .is_err()
+            {
+                self.is_whole = false;
+            }
         }
     }
 
     // Appends the answer of a read of a file of an entry, unless it is there, or that of a close of
     // any file.
-    fn push_file(&mut self, is_read: bool, entry: u8) -> Result<(), NoMemory> {
+    fn push_file(&mut self, is_read: bool, entry: u8) {
         let entry = if is_read { Some(entry) } else { None };
-        for i in 0..self.list.len() {
-            if self.list[i].entry == entry {
-                return Ok(());
+        for answer in &self.list {
+            if answer.entry == entry {
+                return;
             }
         }
-        let number = i32::try_from(self.bytes_of(entry)?.len()).unwrap_or(i32::MAX);
-        let (first, last) = (number, number);
-        Ok(self.list.push(ValidAnswer { first, last, entry })?)
+        self.read(entry);
+        let number = i32::try_from(self.bytes.len()).unwrap_or(i32::MAX);
+        self.push(number, number, entry);
     }
 
     // Appends the answers of an open at any slot of the allocation range.
-    fn push_open(&mut self) -> Result<(), AllocError> {
+    fn push_open(&mut self) {
         let facts = self.facts;
         let (first, count) = facts.case.slots.range;
         if count > 0 {
             let last = first.saturating_add(count).saturating_sub(1);
             let first = i32::try_from(first).unwrap_or(i32::MAX);
-            self.push(first, i32::try_from(last).unwrap_or(i32::MAX))?;
+            self.push(first, i32::try_from(last).unwrap_or(i32::MAX), None);
         }
-        self.push_error(Errno::ENFILE)
+        self.push_error(Errno::ENFILE);
     }
 
     // Appends the answers of a read or a close of a slot, by the contents that the slot may have
     // before it: its content if no other chain changes it, and those that other chains leave. A
     // later member of the request's chain comes too late.
-    fn push_slot(&mut self, left: &[Vec<Left>], is_read: bool, slot: u32) -> Result<(), NoMemory> {
+    fn push_slot(&mut self, left: &[Vec<Left>], is_read: bool, slot: u32) {
         let mut is_empty = false;
         match content_before(self.facts, self.row, slot) {
-            Some(entry) => self.push_file(is_read, entry)?,
+            Some(entry) => self.push_file(is_read, entry),
             None => is_empty = true,
         }
         if let Some(left) = left.get(slot as usize) {
             for (content, by) in left {
                 match content {
                     _ if *by == Some(self.row.place.chain) => {}
-                    Some(entry) => self.push_file(is_read, *entry)?,
+                    Some(entry) => self.push_file(is_read, *entry),
                     None => is_empty = true,
                 }
             }
         }
         if is_empty {
-            self.push_error(Errno::EBADF)?;
+            self.push_error(Errno::EBADF);
         }
-        Ok(())
     }
 
     // Appends the answers that the request may give by what its access finds.
-    fn push_found(&mut self, left: &[Vec<Left>]) -> Result<(), NoMemory> {
+    fn push_found(&mut self, left: &[Vec<Left>]) {
         let (_, from, to) = self.row.acts;
         for act in self.facts.acts_between(from, to) {
             match act.asked {
-                None => self.push_open()?,
-                Some(slot) => self.push_slot(left, matches!(act.intent, Intent::Look(_)), slot)?,
+                None => self.push_open(),
+                Some(slot) => self.push_slot(left, matches!(act.intent, Intent::Look(_)), slot),
             }
         }
         if self.row.request.bytes_asked() > 0 {
-            self.push_error(Errno::ENOMEM)?;
+            self.push_error(Errno::ENOMEM);
         }
-        Ok(())
     }
 
     /// Returns the answers that a request may give. `severed`: whether an earlier member severed
@@ -194,72 +201,74 @@ impl<'a> Answers<'a> {
         left: &[Vec<Left>],
         severed: bool,
         row: &'a Row<'a>,
-    ) -> Result<Answers<'a>, NoMemory> {
-        let list = Vec::new(facts.case.alloc);
-        let mut answers = Answers { facts, row, list };
+    ) -> Answers<'a> {
+        let alloc = facts.case.alloc;
+        let mut answers = Answers {
+            facts,
+            row,
+            list: Vec::new(alloc),
+            bytes: Vec::new(alloc),
+            is_whole: true,
+        };
         if severed {
-            answers.push_error(Errno::ECANCELED)?;
+            answers.push_error(Errno::ECANCELED);
         } else if let Some(res) = row.fixed_result() {
-            answers.push(res, res)?;
+            answers.push(res, res, None);
         } else {
-            answers.push_found(left)?;
+            answers.push_found(left);
         }
-        Ok(answers)
+        answers
     }
 
     /// Checks whether one of them is that of a completion.
-    ///
-    /// # Errors
-    /// `NoMemory` if an allocation fails.
-    pub(crate) fn have(&self, it: &Completion) -> Result<bool, NoMemory> {
-        for answer in &self.list {
+    pub(crate) fn have(&mut self, it: &Completion) -> bool {
+        for i in 0..self.list.len() {
+            let Some(answer) = self.list.get(i).copied() else {
+                break;
+            };
             if answer.first <= it.res && it.res <= answer.last {
-                if self.bytes_of(answer.entry)?.as_slice() == it.got.as_slice() {
-                    return Ok(true);
+                self.read(answer.entry);
+                if self.bytes.as_slice() == it.got.as_slice() {
+                    return true;
                 }
             }
         }
-        Ok(false)
+        false
     }
 
     // Appends an answer: its result, or its range of results, its first 16 bytes, and the name of
     // the file that has them.
-    fn say_one(&self, answer: &ValidAnswer, words: &mut Words) -> Result<(), NoMemory> {
-        let facts = self.facts;
+    fn say_one(&mut self, answer: ValidAnswer, words: &mut Words) {
         words.result(answer.first);
         if answer.first < answer.last {
             words.say(" to ");
             words.result(answer.last);
         }
         if let Some(entry) = answer.entry {
-            let bytes = self.bytes_of(answer.entry)?;
-            match bytes.get(..SHOWN) {
-                Some(bytes) => words.got(bytes),
-                None => words.got(bytes.as_slice()),
-            }
-            words.say(if bytes.len() > SHOWN {
+            self.read(answer.entry);
+            let bytes = self.bytes.as_slice();
+            words.got(bytes.get(..SHOWN).unwrap_or(bytes));
+            let of = if bytes.len() > SHOWN {
                 ".. of "
             } else {
                 " of "
-            });
-            words.say(name_of(facts.case.catalogue, entry));
+            };
+            let facts = self.facts;
+            words.all(&[of, name_of(facts.case.catalogue, entry)]);
         }
-        Ok(())
     }
 
     /// Appends the first 16 of them.
-    ///
-    /// # Errors
-    /// `NoMemory` if an allocation fails.
-    pub(crate) fn say(&self, words: &mut Words) -> Result<(), NoMemory> {
+    pub(crate) fn say(&mut self, words: &mut Words) {
         for i in 0..self.list.len() {
             if i >= SHOWN {
                 words.say(" or others");
                 break;
             }
             words.say(sign_before(i, self.list.len(), " or "));
-            self.say_one(&self.list[i], words)?;
+            if let Some(answer) = self.list.get(i).copied() {
+                self.say_one(answer, words);
+            }
         }
-        Ok(())
     }
 }

@@ -112,12 +112,12 @@ pub(crate) fn slots_of(slot: Option<u32>, range: (u32, u32)) -> (u32, u32) {
     }
 }
 
-/// Returns the place of the first request of a submission.
-pub(crate) fn first_place(submission: u32) -> Place {
+/// Returns the place of a member of a chain of a submission.
+pub(crate) fn place_of(submission: u32, chain: u32, member: u32) -> Place {
     Place {
         submission,
-        chain: 1,
-        member: 1,
+        chain,
+        member,
     }
 }
 
@@ -145,7 +145,7 @@ pub fn access_places(
     size: u32,
     requests: &[Request],
 ) -> Result<Vec<AccessPlace>, NoMemory> {
-    let (mut places, mut at) = (Vec::new(alloc), first_place(0));
+    let (mut places, mut at) = (Vec::new(alloc), place_of(0, 1, 1));
     for request in requests {
         let Place { chain, member, .. } = at;
         if refusal_of(catalogue, size, request).is_none() {

@@ -37,18 +37,13 @@ fn push_claim(
     chain: u32,
     claim: Claim,
 ) -> Result<(), AllocError> {
-    let is_new = match strands.last() {
-        Some(last) => last.chain != chain,
-        None => true,
-    };
-    if is_new {
-        let claims = Vec::new(alloc);
-        strands.push(Strand { chain, claims })?;
+    if let Some(last) = strands.last_mut()
+        && last.chain == chain
+    {
+        return Ok(last.claims.push(claim)?);
     }
-    if let Some(last) = strands.last_mut() {
-        last.claims.push(claim)?;
-    }
-    Ok(())
+    let claims = vec![in alloc; claim]?;
+    Ok(strands.push(Strand { chain, claims })?)
 }
 
 impl ClaimsView<'_> {

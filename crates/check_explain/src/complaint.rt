@@ -36,6 +36,20 @@ impl Complaint {
 }
 
 impl Facts<'_> {
+    // Looks for the first invalid lines, and complains about them. Returns whether there are such
+    // lines.
+    fn complain(&self, slot: Option<u32>, out: &mut Complaint) -> Result<bool, NoMemory> {
+        let is_found = wrong_answer(self, out)?
+            || wrong_close(self, out)
+            || wrong_count(self, out)?
+            || no_order(self, slot, out)?;
+        if out.expected.is_whole && out.why.is_whole {
+            Ok(is_found)
+        } else {
+            Err(NoMemory)
+        }
+    }
+
     /// Looks for the first invalid lines of the submission. `slot`: the slot that the judge blames,
     /// if it blames one.
     ///
@@ -48,11 +62,7 @@ impl Facts<'_> {
             expected: Words::new(alloc),
             why: Words::new(alloc),
         };
-        if wrong_answer(self, &mut out)?
-            || wrong_close(self, &mut out)?
-            || wrong_count(self, &mut out)?
-            || no_order(self, slot, &mut out)?
-        {
+        if self.complain(slot, &mut out)? {
             return Ok(Some(out));
         }
         Ok(None)

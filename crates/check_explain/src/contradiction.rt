@@ -7,7 +7,6 @@ use crate::words::Words;
 use check_search::{Claim, Found, Limits, Steps, components, explore};
 use fx_base::NoMemory;
 use fx_chain::Intent;
-use std::alloc::{AllocError, Global};
 
 /// The largest number of states of all searches, in which a search counts at least as many as there
 /// are lines, and of one search.
@@ -36,19 +35,8 @@ struct Contradiction<'a> {
     is_sure: bool,
     // The number of states that are left.
     states: usize,
-}
-
-// Returns the files of a choice, by its number from 0.
-fn choice_of(alloc: Global, slots: &[Vec<usize>], choice: usize) -> Result<Vec<usize>, AllocError> {
-    let (mut rest, mut those) = (choice, Vec::new(alloc));
-    for files in slots {
-        let count = files.len() + 1;
-        if let Some(number) = files.get(rest % count) {
-            those.push(*number)?;
-        }
-        rest /= count;
-    }
-    Ok(those)
+    // False if an allocation failed.
+    is_whole: bool,
 }
 
 impl<'a> Contradiction<'a> {
@@ -66,13 +54,13 @@ impl<'a> Contradiction<'a> {
             rests_on_closes: false,
             is_sure: true,
             states: STATES,
+            is_whole: true,
         })
     }
 
     // Searches for an order of the lines that aren't left out. Returns true if no order exists, or
     // `None` if the search reaches a limit.
-    fn search(&mut self, stays: Stays) -> Result<Option<bool>, NoMemory> {
-        self.view.stays = stays;
+    fn searched(&mut self) -> Result<Option<bool>, NoMemory> {
         let alloc = self.view.facts.case.alloc;
         let (cells, strands) = self.view.question()?;
         let steps = Steps::new(alloc, &strands, &cells)?;
@@ -88,6 +76,16 @@ impl<'a> Contradiction<'a> {
             Found::Order(_) => Some(false),
             Found::Stopped(_) => None,
         })
+    }
+
+    // Searches as `searched` does, if these files stay. Returns `None` also if an allocation fails.
+    fn search(&mut self, stays: Stays) -> Option<bool> {
+        self.view.stays = stays;
+        if let Ok(seen) = self.searched() {
+            return seen;
+        }
+        self.is_whole = false;
+        None
     }
 
     // Returns for each slot the numbers of its files, or none if it isn't looked at.
@@ -107,49 +105,61 @@ impl<'a> Contradiction<'a> {
         Ok(slots)
     }
 
-    // Checks whether the lines that aren't left out have no order by each choice of one file, or
-    // none, that stays at each slot. Returns `None` if that isn't seen.
-    fn has_no_order_by_files(&mut self, slots: &[Vec<usize>]) -> Result<Option<bool>, NoMemory> {
-        let mut choices = 1usize;
+    // Searches with the files of a choice, by its number from 0: one of each slot stays, or none.
+    fn search_choice(&mut self, slots: &[Vec<usize>], choice: usize) -> Option<bool> {
+        let (mut rest, mut those) = (choice, Vec::new(self.view.facts.case.alloc));
         for files in slots {
-            choices = choices.saturating_mul(files.len() + 1);
-        }
-        if choices > MOST_CHOICES && self.has_many {
-            return Ok(None);
-        }
-        for choice in 0..choices {
-            let those = choice_of(self.view.facts.case.alloc, slots, choice)?;
-            let seen = self.search(Stays::Only(those))?;
-            if seen != Some(true) {
-                return Ok(seen);
+            let count = files.len() + 1;
+            if let Some(number) = files.get(rest % count)
+                && those.push(*number).is_err()
+            {
+                self.is_whole = false;
             }
+            rest /= count;
         }
-        Ok(Some(true))
+        self.search(Stays::Only(those))
     }
 
     // Checks whether the lines that aren't left out have no order, whichever file of each slot
-    // stays. Returns `None` if that isn't seen.
-    fn has_no_order_at_all(&mut self) -> Result<Option<bool>, NoMemory> {
-        if self.search(Stays::Swept)? == Some(true) {
-            return Ok(Some(true));
+    // stays: by all choices of one file, or none, that stays there. Returns `None` if that isn't
+    // seen.
+    fn has_no_order_at_all(&mut self) -> Option<bool> {
+        if self.search(Stays::Swept) == Some(true) {
+            return Some(true);
         }
-        let slots = self.files_at_slots()?;
-        self.has_no_order_by_files(&slots)
+        let Ok(slots) = self.files_at_slots() else {
+            self.is_whole = false;
+            return None;
+        };
+        let mut choices = 1usize;
+        for files in &slots {
+            choices = choices.saturating_mul(files.len() + 1);
+        }
+        if choices > MOST_CHOICES && self.has_many {
+            return None;
+        }
+        for choice in 0..choices {
+            let seen = self.search_choice(&slots, choice);
+            if seen != Some(true) {
+                return seen;
+            }
+        }
+        Some(true)
     }
 
     // Looks at some slots. Returns whether the lines are seen to have no order there, whichever
     // files are closed, or else by the text.
-    fn look_at(&mut self, slots: &[usize]) -> Result<bool, NoMemory> {
+    fn look_at(&mut self, slots: &[usize]) -> bool {
         for (slot, has) in self.view.slots.iter_mut().enumerate() {
             *has = slots.contains(&slot);
         }
         self.has_many = slots.len() > 1;
         self.rests_on_closes = true;
-        if self.search(Stays::AsClosed)? != Some(true) {
-            return Ok(false);
+        if self.search(Stays::AsClosed) != Some(true) {
+            return false;
         }
-        self.rests_on_closes = self.has_no_order_at_all()? != Some(true);
-        Ok(true)
+        self.rests_on_closes = self.has_no_order_at_all() != Some(true);
+        true
     }
 
     // Looks at the first slots that chains join and at which the lines have no order. Returns
@@ -161,7 +171,7 @@ impl<'a> Contradiction<'a> {
             chains.push(it.claims)?;
         }
         for part in &components(case.alloc, case.size(), case.slots.range, &chains)? {
-            if part.len() > 1 && self.look_at(part)? {
+            if part.len() > 1 && self.look_at(part) {
                 return Ok(true);
             }
         }
@@ -169,42 +179,23 @@ impl<'a> Contradiction<'a> {
     }
 
     // Leaves out each read and each close that isn't needed.
-    fn leave_out(&mut self) -> Result<(), NoMemory> {
+    fn leave_out(&mut self) {
         let facts = self.view.facts;
         for act in &facts.acts {
             let is_optional = act.found.is_some() && act.file.is_none() && act.slot.is_some();
             let line = act.line;
             if is_optional && line < self.view.out.len() && self.view.has(act) {
                 self.view.out[line] = true;
-                let mut seen = self.search(Stays::AsClosed)?;
+                let mut seen = self.search(Stays::AsClosed);
                 if seen != Some(false) && !self.rests_on_closes {
-                    seen = self.has_no_order_at_all()?;
+                    seen = self.has_no_order_at_all();
                 }
                 self.is_sure = self.is_sure && seen.is_some();
-                if seen != Some(true)
-                    && let Some(is_out) = self.view.out.get_mut(line)
-                {
-                    *is_out = false;
+                if let Some(is_out) = self.view.out.get_mut(line) {
+                    *is_out = seen == Some(true);
                 }
             }
         }
-        Ok(())
-    }
-
-    // Checks whether an access of a chain after a line may change the slots.
-    fn changes_later(&self, chain: u32, line: usize) -> bool {
-        let facts = self.view.facts;
-        for act in &facts.acts {
-            let changes = !matches!(act.intent, Intent::Look(_));
-            if act.line > line
-                && changes
-                && facts.chain_of(act.line) == chain
-                && self.view.has(act)
-            {
-                return true;
-            }
-        }
-        false
     }
 
     // Checks whether a line is named, or a later one of its chain.
@@ -217,17 +208,19 @@ impl<'a> Contradiction<'a> {
         false
     }
 
-    // Checks whether a request may sever its chain before one that may change the slots, unless a
-    // later line of the chain is named.
+    // Checks whether a request may sever its chain before an access that may change the slots,
+    // unless a later line of the chain is named.
     fn rests_on_others(&self, named: &[usize]) -> bool {
-        for (line, row) in self.view.facts.rows.iter().enumerate() {
+        let facts = self.view.facts;
+        for (line, row) in facts.rows.iter().enumerate() {
             let chain = row.place.chain;
-            if row.request.links()
-                && row.may_sever()
-                && !self.is_named(named, chain, line)
-                && self.changes_later(chain, line)
-            {
-                return true;
+            if row.request.links() && row.may_sever() && !self.is_named(named, chain, line) {
+                for act in &facts.acts {
+                    let is_later = act.line > line && facts.chain_of(act.line) == chain;
+                    if is_later && !matches!(act.intent, Intent::Look(_)) && self.view.has(act) {
+                        return true;
+                    }
+                }
             }
         }
         false
@@ -237,40 +230,49 @@ impl<'a> Contradiction<'a> {
     // Returns whether slots are looked at.
     fn look(&mut self, slot: Option<u32>) -> Result<bool, NoMemory> {
         let is_found = match slot {
-            Some(slot) => self.look_at(&[slot as usize])?,
+            Some(slot) => self.look_at(&[slot as usize]),
             None => self.look_at_parts()?,
         };
         self.is_sure = is_found;
         if is_found {
-            self.leave_out()?;
+            self.leave_out();
         }
-        Ok(is_found || slot.is_some())
+        if self.is_whole {
+            Ok(is_found || slot.is_some())
+        } else {
+            Err(NoMemory)
+        }
     }
 
     // Appends the reason that some lines have no order together.
     fn why(&self, lines: &[usize], slot: Option<u32>, why: &mut Words) {
         let is_one = lines.len() == 1;
-        why.say("no order of the requests gives ");
-        why.say(if is_one { "this one" } else { "all of these" });
+        why.say(if is_one {
+            "no order of the requests gives this one"
+        } else {
+            "no order of the requests gives all of these"
+        });
         if let Some(slot) = slot {
-            why.say(if is_one {
-                ", which concerns"
-            } else {
-                ", which concern"
-            });
+            let verb = if is_one { "concerns" } else { "concern" };
+            why.all(&[", which ", verb]);
             why.count(" slot ", u64::from(slot), "");
         }
-        if self.rests_on_closes {
-            why.say(", and closes no other file");
-        }
-        if self.rests_on_others(lines) {
-            why.say(", and cancels the same requests");
-        }
-        why.say(match (self.is_sure, is_one) {
+        let closes = if self.rests_on_closes {
+            ", and closes no other file"
+        } else {
+            ""
+        };
+        let cancels = if self.rests_on_others(lines) {
+            ", and cancels the same requests"
+        } else {
+            ""
+        };
+        let doubt = match (self.is_sure, is_one) {
             (true, _) => "",
             (false, true) => "; there may be none without it",
             (false, false) => "; fewer of them may contradict each other",
-        });
+        };
+        why.all(&[closes, cancels, doubt]);
     }
 }
 

@@ -1,17 +1,16 @@
 //! The facts that the lines of a submission's report show about its requests.
-use crate::case::{Act, Case, Installed, Row, first_place, place_after, result_of};
-use crate::lines::{Lines, after_closes};
-use check_lines::read_report;
+use crate::case::{Act, Case, Installed, Row, place_after, place_of, result_of};
+use crate::lines::{Lines, after_closes, cut_word};
+use check_lines::{ReportLines, read_report};
 use fx_base::{Closed, Errno, Mark, NoMemory};
 use fx_chain::{Completion, Intent, Place, Request, intent_of, refusal_of};
 use fx_order::Slots;
-use std::alloc::{AllocError, Global};
 
 /// A `closed` line.
 #[derive(Clone, Copy)]
 pub(crate) struct Close<'a> {
-    /// The line, its end included.
-    pub line: &'a [u8],
+    /// The name that the line has.
+    pub name: &'a [u8],
     /// Its mark, or `None` if the line can't be read.
     pub mark: Option<Mark>,
     /// The file with that mark, if there is one, with its earlier `closed` line, if it has one.
@@ -34,6 +33,8 @@ pub struct Facts<'a> {
     pub(crate) closes: Vec<Close<'a>>,
     /// The text after these lines.
     pub(crate) rest: Lines<'a>,
+    // False if an allocation failed.
+    is_whole: bool,
 }
 
 // Returns whether an access found a file, by the result of its request, or `None` if that doesn't
@@ -53,65 +54,61 @@ fn found_by(intent: Intent, res: i32) -> Option<bool> {
     }
 }
 
-// Reads a line of a completion.
-fn completion_in(alloc: Global, line: &[u8]) -> Result<Option<Completion>, NoMemory> {
-    match read_report(alloc, line, 1)? {
-        Some((mut report, _)) => Ok(report.completions.pop()),
-        None => Ok(None),
-    }
-}
-
-// Reads the mark of a `closed` line.
-fn mark_in(alloc: Global, line: &[u8]) -> Result<Option<Mark>, NoMemory> {
-    if let Some((report, _)) = read_report(alloc, line, 0)?
-        && let [closed] = report.closed.as_slice()
-    {
-        return Ok(Some(closed.mark));
-    }
-    Ok(None)
-}
-
 impl<'a> Facts<'a> {
     // Adds a file that is at a slot before the submission, or that the request of a line installs.
-    fn add_file(&mut self, file: Closed, slot: u32, line: Option<usize>) -> Result<(), AllocError> {
-        Ok(
-            self.files.push(Installed {
-                file,
-                slot,
-                line,
-                closed: None,
-            })?,
-        )
+    fn add_file(&mut self, file: Closed, slot: u32, line: Option<usize>) {
+        let closed = None;
+        let installed = Installed {
+            file,
+            slot,
+            line,
+            closed,
+        };
+        if self.files.push(installed).is_err() {
+            self.is_whole = false;
+        }
     }
 
     // Adds the files at the slots before the submission.
-    fn add_files(&mut self) -> Result<(), AllocError> {
+    fn add_files(&mut self) {
         let mut slot = 0u32;
         for file in &self.case.slots.at {
             if let Some(file) = *file {
-                self.add_file(file, slot, None)?;
+                self.add_file(file, slot, None);
             }
             slot = slot.saturating_add(1);
         }
-        Ok(())
     }
 
-    // Reads the next line if it is the completion of the request at a place. Returns its result.
-    fn read(&mut self, place: Place) -> Result<Option<i32>, NoMemory> {
-        let mut after = self.rest;
-        match completion_in(self.case.alloc, after.take())? {
-            Some(it) if it.place == place => {
-                let res = it.res;
-                self.completions.push(it)?;
-                self.rest = after;
-                Ok(Some(res))
+    // Reads a line of a completion if `count` is 1, or a `closed` line if it is 0.
+    fn read(&mut self, line: &[u8], count: usize) -> Option<ReportLines> {
+        match read_report(self.case.alloc, line, count) {
+            Ok(Some((report, _))) => Some(report),
+            Ok(None) => None,
+            Err(_) => {
+                self.is_whole = false;
+                None
             }
-            _ => Ok(None),
         }
     }
 
+    // Takes the next line if it is the completion of the request at a place. Returns its result.
+    fn take_completion(&mut self, place: Place) -> Option<i32> {
+        let mut after = self.rest;
+        let it = self.read(after.take(), 1)?.completions.pop()?;
+        if it.place != place {
+            return None;
+        }
+        let res = it.res;
+        if self.completions.push(it).is_err() {
+            self.is_whole = false;
+        }
+        self.rest = after;
+        Some(res)
+    }
+
     // Adds the facts that a result shows about an access, and the file that the access installed.
-    fn show(&mut self, act: &mut Act, res: i32) -> Result<(), AllocError> {
+    fn show(&mut self, act: &mut Act, res: i32) {
         act.is_done = res >= 0;
         act.found = found_by(act.intent, res);
         if act.slot.is_none() {
@@ -121,13 +118,12 @@ impl<'a> Facts<'a> {
             && (slot as usize) < self.case.size()
         {
             act.file = Some(self.files.len());
-            return self.add_file(file, slot, Some(act.line));
+            self.add_file(file, slot, Some(act.line));
         }
-        Ok(())
     }
 
     // Adds the accesses of a request that isn't refused. `res`: its result, if its line was read.
-    fn add_acts(&mut self, row: &Row<'_>, res: Option<i32>) -> Result<(), AllocError> {
+    fn add_acts(&mut self, row: &Row<'_>, res: Option<i32>) {
         let (catalogue, line) = (self.case.catalogue, self.rows.len());
         for made in 0..row.request.accesses() {
             let Some(intent) = intent_of(catalogue, u32::MAX, row.place, row.request, made) else {
@@ -149,22 +145,17 @@ impl<'a> Facts<'a> {
                 file: None,
             };
             if let Some(res) = res {
-                self.show(&mut act, res)?;
+                self.show(&mut act, res);
             }
-            self.acts.push(act)?;
+            if self.acts.push(act).is_err() {
+                self.is_whole = false;
+            }
         }
-        Ok(())
     }
 
     // Adds a request. `chain`: the number of the first access of its chain. `res`: its result, if
     // its line was read.
-    fn add(
-        &mut self,
-        request: &'a Request,
-        place: Place,
-        chain: usize,
-        res: Option<i32>,
-    ) -> Result<(), AllocError> {
+    fn add(&mut self, request: &'a Request, place: Place, chain: usize, res: Option<i32>) {
         let size = u32::try_from(self.case.size()).unwrap_or(u32::MAX);
         let first = self.acts.len();
         let mut row = Row {
@@ -174,39 +165,37 @@ impl<'a> Facts<'a> {
             acts: (chain, first, first),
         };
         if row.refusal.is_none() {
-            self.add_acts(&row, res)?;
+            self.add_acts(&row, res);
             row.acts.2 = self.acts.len();
         }
-        Ok(self.rows.push(row)?)
+        if self.rows.push(row).is_err() {
+            self.is_whole = false;
+        }
     }
 
     // Adds the requests, and reads the lines of their completions. Returns whether each has one.
-    fn add_requests(&mut self) -> Result<bool, NoMemory> {
-        let mut place = first_place(self.case.submissions.saturating_add(1));
+    fn add_requests(&mut self) -> bool {
+        let mut place = place_of(self.case.submissions.saturating_add(1), 1, 1);
         let (mut chain, mut is_read) = (0usize, true);
         for request in self.case.requests {
             let mut res = None;
             if is_read {
-                res = self.read(place)?;
+                res = self.take_completion(place);
                 is_read = res.is_some();
             }
             if place.member == 1 {
                 chain = self.acts.len();
             }
-            self.add(request, place, chain, res)?;
+            self.add(request, place, chain, res);
             place = place_after(place, request);
         }
-        Ok(is_read)
+        is_read
     }
 
-    // Returns the number, from 0, of the file with a mark. The files from one on are tried first.
+    // Returns the number, from 0, of the file with a mark. Those from `near` on are tried first.
     fn file_marked(&self, near: usize, mark: Mark) -> Option<usize> {
-        for number in near..self.files.len() {
-            if self.files[number].file.mark == mark {
-                return Some(number);
-            }
-        }
-        for number in 0..self.files.len() {
+        for i in 0..self.files.len() {
+            let number = near.saturating_add(i) % self.files.len();
             if self.files[number].file.mark == mark {
                 return Some(number);
             }
@@ -214,24 +203,9 @@ impl<'a> Facts<'a> {
         None
     }
 
-    // Records a `closed` line, and that its file has one. `near`: the number of a file. Returns
-    // that of its file, or else of the other one.
-    fn close(&mut self, at: usize, line: &'a [u8], near: usize) -> Result<usize, NoMemory> {
-        let mark = mark_in(self.case.alloc, line)?;
-        let (mut number, mut file) = (near, None);
-        if let Some(mark) = mark
-            && let Some(found) = self.file_marked(near, mark)
-            && let Some(it) = self.files.get_mut(found)
-        {
-            (number, file) = (found, Some(*it));
-            it.closed = it.closed.or(Some(at));
-        }
-        self.closes.push(Close { line, mark, file })?;
-        Ok(number)
-    }
-
-    // Records the `closed` lines. The files from that of the line before on are tried first.
-    fn take_closes(&mut self) -> Result<(), NoMemory> {
+    // Records the `closed` lines, and the first one of each file. The files from that of the line
+    // before on are tried first.
+    fn take_closes(&mut self) {
         let mut near = 0usize;
         for _ in 0..self.rest.rest.len() {
             if !self.rest.rest.starts_with(b"closed ") {
@@ -239,9 +213,24 @@ impl<'a> Facts<'a> {
             }
             let at = self.rest.taken;
             let line = self.rest.take();
-            near = self.close(at, line, near)?;
+            let (mut mark, mut file) = (None, None);
+            if let Some(report) = self.read(line, 0)
+                && let Some(closed) = report.closed.first()
+            {
+                mark = Some(closed.mark);
+            }
+            if let Some(mark) = mark
+                && let Some(number) = self.file_marked(near, mark)
+                && let Some(it) = self.files.get_mut(number)
+            {
+                (near, file) = (number, Some(*it));
+                it.closed = it.closed.or(Some(at));
+            }
+            let name = cut_word(cut_word(line).1).1;
+            if self.closes.push(Close { name, mark, file }).is_err() {
+                self.is_whole = false;
+            }
         }
-        Ok(())
     }
 
     /// Returns the facts of a case.
@@ -257,24 +246,23 @@ impl<'a> Facts<'a> {
             completions: Vec::new(alloc),
             files: Vec::new(alloc),
             closes: Vec::new(alloc),
-            rest: Lines {
-                rest: case.text,
-                taken: 0,
-            },
+            rest: Lines::new(case.text),
+            is_whole: true,
         };
-        facts.add_files()?;
-        if facts.add_requests()? {
-            facts.take_closes()?;
+        facts.add_files();
+        if facts.add_requests() {
+            facts.take_closes();
         }
-        Ok(facts)
+        if facts.is_whole {
+            Ok(facts)
+        } else {
+            Err(NoMemory)
+        }
     }
 
     /// Returns the accesses from one on up to another one, by their numbers.
     pub(crate) fn acts_between(&self, from: usize, to: usize) -> &[Act] {
-        match self.acts.get(from..to) {
-            Some(acts) => acts,
-            None => &[],
-        }
+        self.acts.get(from..to).unwrap_or(&[])
     }
 
     /// Returns the chain of the request of a line, or 0 if it isn't that of a request.
@@ -291,10 +279,11 @@ impl<'a> Facts<'a> {
         row: &Row<'_>,
         it: &Completion,
     ) -> Result<[bool; 256], NoMemory> {
-        let (alloc, catalogue, mut fits) = (self.case.alloc, self.case.catalogue, [false; 256]);
+        let (catalogue, mut fits) = (self.case.catalogue, [false; 256]);
+        let mut bytes = Vec::new(self.case.alloc);
         for number in 0..catalogue.len() {
             let entry = u8::try_from(number).unwrap_or(u8::MAX);
-            let bytes = row.request.bytes_of(alloc, catalogue, entry)?;
+            row.request.read_into(catalogue, entry, &mut bytes)?;
             fits[entry as usize] = bytes.as_slice() == it.got.as_slice();
         }
         Ok(fits)
@@ -308,6 +297,9 @@ impl<'a> Facts<'a> {
     /// # Errors
     /// `NoMemory` if an allocation fails.
     pub fn slots_after(&self) -> Result<Option<(Slots, &'a [u8])>, NoMemory> {
+        if self.completions.len() < self.rows.len() {
+            return Ok(None);
+        }
         let mut at = vec![in self.case.alloc; None; self.case.size()]?;
         for it in &self.files {
             let slot = it.slot as usize;
@@ -317,9 +309,6 @@ impl<'a> Facts<'a> {
                 }
                 at[slot] = Some(it.file);
             }
-        }
-        if self.completions.len() < self.rows.len() {
-            return Ok(None);
         }
         let range = self.case.slots.range;
         Ok(Some((Slots { range, at }, after_closes(self.rest.rest))))

@@ -1,6 +1,6 @@
 //! Prints one whole history of a script and a legal text: an event or an answer on each line, with
 //! the state of the table after it.
-use crate::case::{first_place, place_after};
+use crate::case::{place_after, place_of};
 use crate::lines::{AskedLine, after_closes, cut_word, next_line};
 use crate::words::Words;
 use fx_base::{Catalogue, Closed, Mark, NoMemory};
@@ -8,7 +8,7 @@ use fx_chain::{Place, Request};
 use fx_order::{Access, AccessPlace, Order};
 use fx_ring::tag_at;
 use fx_script::Command;
-use std::alloc::{AllocError, Global};
+use std::alloc::Global;
 
 /// A request's place, its line of the script without its end, and its result as the text has it.
 #[derive(Clone, Copy)]
@@ -16,6 +16,13 @@ struct Answer<'a> {
     place: Place,
     request: &'a [u8],
     result: &'a [u8],
+}
+
+/// The maker of an access: a request, by its place, or a command, by its word.
+#[derive(Clone, Copy)]
+enum Maker<'a> {
+    Request(Place),
+    Command(&'a [u8]),
 }
 
 /// A history that is printed command by command, in the order of the script: the rest of the
@@ -33,8 +40,8 @@ pub struct History<'a> {
     lists: u32,
     // The file at each slot. Without a table there are no slots.
     at: Vec<Option<Closed>>,
-    // The place of the request that makes the next access, or the word of its command.
-    who: Words,
+    // The maker of the next access.
+    who: Maker<'a>,
     // The file that a request holds, and the one that was removed and isn't closed yet.
     held: Option<Mark>,
     removed: Option<Closed>,
@@ -75,7 +82,7 @@ impl<'a> History<'a> {
             orders,
             lists: 0,
             at: Vec::new(alloc),
-            who: Words::new(alloc),
+            who: Maker::Command(b""),
             held: None,
             removed: None,
             last: lines.len(),
@@ -114,10 +121,7 @@ impl<'a> History<'a> {
 
     // Returns the file at a slot.
     fn file_at(&self, slot: u32) -> Option<Closed> {
-        match self.at.get(slot as usize) {
-            Some(file) => *file,
-            None => None,
-        }
+        *self.at.get(slot as usize)?
     }
 
     // Appends the state: each slot that has a file, with the file's mark, and the file that was
@@ -157,18 +161,24 @@ impl<'a> History<'a> {
         self.last = self.lines.len();
     }
 
-    // Appends the beginning of an event: who makes it, and its name.
+    // Appends the beginning of an event: its maker and its name.
     fn push_name(&mut self, name: &str) {
-        self.lines.append(&self.who);
-        self.lines.say(" ");
-        self.lines.say(name);
+        match self.who {
+            Maker::Request(place) => self.lines.place(place),
+            Maker::Command(word) => self.lines.bytes(word),
+        }
+        self.lines.all(&[" ", name]);
     }
 
-    // Appends an event of a file.
-    fn push_event(&mut self, name: &str, file: Mark) {
+    // Appends the line of an event of a file: its tag is in the line, unless it is 0.
+    fn push_event(&mut self, name: &str, file: Mark, tag: u64) {
         self.push_name(name);
         self.lines.mark(file);
         self.lines.say(")");
+        if tag != 0 {
+            self.lines.count(" tag ", tag, "");
+        }
+        self.end_line();
     }
 
     // Appends the first event of an access (docs/MODEL.md, "Steps"): the slot, the file that was
@@ -189,12 +199,9 @@ impl<'a> History<'a> {
             self.lines.say(", ");
             self.lines.file(self.catalogue, file);
         }
-        match found {
-            Some(file) => {
-                self.lines.say(", ");
-                self.lines.mark(file.mark);
-            }
-            None => self.lines.say(none),
+        self.lines.say(if found.is_some() { ", " } else { none });
+        if let Some(file) = found {
+            self.lines.mark(file.mark);
         }
         self.lines.say(")");
     }
@@ -222,15 +229,10 @@ impl<'a> History<'a> {
         self.apply(access);
         self.end_line();
         if let Some(mark) = self.held.take() {
-            self.push_event("Release(", mark);
-            self.end_line();
+            self.push_event("Release(", mark, 0);
         }
         if let Some(file) = self.removed.take() {
-            self.push_event("Close(", file.mark);
-            if file.tag != 0 {
-                self.lines.count(" tag ", file.tag, "");
-            }
-            self.end_line();
+            self.push_event("Close(", file.mark, file.tag);
         }
     }
 
@@ -265,7 +267,7 @@ impl<'a> History<'a> {
     }
 
     // Appends the events of a call between submissions that was accepted.
-    fn push_events(&mut self, command: &Command) -> Result<(), AllocError> {
+    fn push_events(&mut self, command: &Command) -> Result<(), NoMemory> {
         match command {
             Command::Sparse(slots) => self.at = vec![in self.alloc; None; *slots as usize]?,
             Command::Register(list, tags) => {
@@ -283,12 +285,11 @@ impl<'a> History<'a> {
     }
 
     // Appends a command that the next line of the text answers alone.
-    fn push_call(&mut self, command: &Command) -> Result<(), AllocError> {
+    fn push_call(&mut self, command: &Command) -> Result<(), NoMemory> {
         let (line, answer) = (self.next_asked(), self.next_answer());
         self.text = after_closes(self.text);
         if !answer.starts_with(b"-") && !answer.starts_with(b"refused") {
-            self.who.clear();
-            self.who.bytes(cut_word(line).0);
+            self.who = Maker::Command(cut_word(line).0);
             self.push_events(command)?;
         }
         self.push_answer(line, answer);
@@ -333,7 +334,6 @@ impl<'a> History<'a> {
     // answers after its last access; one that makes none answers when its chain has reached it.
     // `next`: the first request of each chain that hasn't answered yet.
     fn push_turns(&mut self, answers: &[Answer<'_>], order: &Order, next: &mut [usize]) {
-        let submission = order.submission;
         for i in 0..order.places.len() {
             let at = &order.places[i];
             let (chain, member) = (at.chain, at.member);
@@ -341,12 +341,7 @@ impl<'a> History<'a> {
             if let (Some(turn), Some(made)) = (turn, order.accesses.get(i)) {
                 let before = (chain, member.saturating_sub(1));
                 *turn = self.push_answers(answers, *turn, before, false);
-                self.who.clear();
-                self.who.place(Place {
-                    submission,
-                    chain,
-                    member,
-                });
+                self.who = Maker::Request(place_of(order.submission, chain, member));
                 self.push_access(made.access);
                 if is_last(&order.places, i.saturating_add(1), at) {
                     *turn = self.push_answers(answers, *turn, (chain, member), true);
@@ -362,8 +357,8 @@ impl<'a> History<'a> {
         requests: &[Request],
         submission: u32,
         next: &mut Vec<usize>,
-    ) -> Result<Vec<Answer<'a>>, AllocError> {
-        let (mut answers, mut place) = (Vec::new(self.alloc), first_place(submission));
+    ) -> Result<Vec<Answer<'a>>, NoMemory> {
+        let (mut answers, mut place) = (Vec::new(self.alloc), place_of(submission, 1, 1));
         for request in requests {
             if place.member == 1 {
                 next.push(answers.len())?;
@@ -382,7 +377,7 @@ impl<'a> History<'a> {
     // Appends the lines of an accepted submission with an order of its requests, and takes its
     // lines of the script and of the text. The script has the submission's own line after those of
     // the requests.
-    fn push_submission(&mut self, requests: &[Request], order: &Order) -> Result<(), AllocError> {
+    fn push_submission(&mut self, requests: &[Request], order: &Order) -> Result<(), NoMemory> {
         let mut next = Vec::new(self.alloc);
         let answers = self.answers(requests, order.submission, &mut next)?;
         self.next_asked();
@@ -403,26 +398,24 @@ impl<'a> History<'a> {
     /// # Errors
     /// `NoMemory` if an allocation fails.
     pub fn push(&mut self, command: &Command) -> Result<(), NoMemory> {
-        let Command::Submit(requests) = command else {
-            return Ok(self.push_call(command)?);
-        };
-        let is_refused = !requests.is_empty() && self.text.starts_with(b"submit ");
-        if let [order, others @ ..] = self.orders
-            && !is_refused
-        {
-            self.orders = others;
-            return Ok(self.push_submission(requests, order)?);
+        if let Command::Submit(requests) = command {
+            let is_refused = !requests.is_empty() && self.text.starts_with(b"submit ");
+            if let [order, others @ ..] = self.orders
+                && !is_refused
+            {
+                self.orders = others;
+                return self.push_submission(requests, order);
+            }
+            for _ in 0..requests.len() {
+                self.next_asked();
+            }
         }
-        for _ in 0..requests.len() {
-            self.next_asked();
-        }
-        Ok(self.push_call(command)?)
+        self.push_call(command)
     }
 
     /// Appends the lines of the end of the script, where the remaining files are closed.
     pub fn push_end(&mut self) {
-        self.who.clear();
-        self.who.say("teardown");
+        self.who = Maker::Command(b"teardown");
         self.push_closes();
     }
 }

@@ -30,6 +30,14 @@ pub(crate) struct Lines<'a> {
 }
 
 impl<'a> Lines<'a> {
+    /// Returns a text, of which no line is taken.
+    pub(crate) fn new(text: &'a [u8]) -> Lines<'a> {
+        Lines {
+            rest: text,
+            taken: 0,
+        }
+    }
+
     /// Takes the next line, its end included. It is empty at the end of the text.
     pub(crate) fn take(&mut self) -> &'a [u8] {
         let (line, rest) = next_line(self.rest);
@@ -84,15 +92,14 @@ pub struct AskedLine<'a> {
 /// # Errors
 /// `AllocError` if an allocation fails.
 pub fn asked_lines(alloc: Global, script: &[u8]) -> Result<Vec<AskedLine<'_>>, AllocError> {
-    let (mut asked, mut number, mut rest) = (Vec::new(alloc), 1usize, script);
+    let (mut asked, mut lines) = (Vec::new(alloc), Lines::new(script));
     for _ in 0..script.len() {
-        let (line, others) = next_line(rest);
-        let bytes = without_end(line);
+        let bytes = without_end(lines.take());
         if !bytes.is_empty() && !bytes.starts_with(b"#") && !bytes.starts_with(b"file ") {
+            let number = lines.taken;
             asked.push(AskedLine { bytes, number })?;
         }
-        (rest, number) = (others, number.saturating_add(1));
-        if rest.is_empty() {
+        if lines.rest.is_empty() {
             break;
         }
     }

@@ -1,4 +1,5 @@
 //! Words for a person: of places, marks, files, bytes and lines.
+use crate::case::place_of;
 use crate::lines::{line_at, without_end};
 use fx_base::{Catalogue, Closed, Mark, NoMemory};
 use fx_chain::Place;
@@ -48,6 +49,16 @@ impl Words {
         self.words.clear();
     }
 
+    /// Checks whether a line begins with the words.
+    pub(crate) fn begin(&self, line: &[u8]) -> bool {
+        line.starts_with(self.words.as_bytes())
+    }
+
+    /// Checks whether a line is the words.
+    pub(crate) fn is_line(&self, line: &[u8]) -> bool {
+        line == self.words.as_bytes()
+    }
+
     /// Appends a text.
     pub fn say(&mut self, text: &str) {
         if self.words.push_str(text).is_err() {
@@ -55,16 +66,10 @@ impl Words {
         }
     }
 
-    /// Appends other words.
-    pub(crate) fn append(&mut self, other: &Words) {
-        self.say(other.words.as_str());
-        self.is_whole = self.is_whole && other.is_whole;
-    }
-
-    /// Appends a character of one byte.
-    pub fn byte(&mut self, byte: u8) {
-        if self.words.push(char::from(byte)).is_err() {
-            self.is_whole = false;
+    /// Appends some texts.
+    pub(crate) fn all(&mut self, texts: &[&str]) {
+        for text in texts {
+            self.say(text);
         }
     }
 
@@ -90,10 +95,12 @@ impl Words {
         self.number(u64::from(res.unsigned_abs()));
     }
 
-    // Appends a byte in lower case hexadecimal.
-    fn hex(&mut self, byte: u8) {
-        if write!(self.words, "{byte:02x}").is_err() {
-            self.is_whole = false;
+    // Appends bytes in lower case hexadecimal.
+    fn hex(&mut self, bytes: &[u8]) {
+        for byte in bytes {
+            if write!(self.words, "{byte:02x}").is_err() {
+                self.is_whole = false;
+            }
         }
     }
 
@@ -117,11 +124,7 @@ impl Words {
                 member,
                 entry,
             } => {
-                self.place(Place {
-                    submission,
-                    chain,
-                    member,
-                });
+                self.place(place_of(submission, chain, member));
                 self.count(".", u64::from(entry), "");
             }
         }
@@ -130,24 +133,23 @@ impl Words {
     /// Appends a file: its mark and its name.
     pub(crate) fn file(&mut self, catalogue: &Catalogue, file: Closed) {
         self.mark(file.mark);
-        self.say(" ");
-        self.say(name_of(catalogue, file.entry));
+        self.all(&[" ", name_of(catalogue, file.entry)]);
     }
 
     /// Appends bytes of a line of a script or a text, which are printable.
     pub(crate) fn bytes(&mut self, bytes: &[u8]) {
         for byte in bytes {
-            self.byte(*byte);
+            if self.words.push(char::from(*byte)).is_err() {
+                self.is_whole = false;
+            }
         }
     }
 
-    /// Appends a space and the bytes of a read in hexadecimal, unless there are none.
+    /// Appends a space and the bytes of a read in hexadecimal, unless it has no bytes.
     pub fn got(&mut self, bytes: &[u8]) {
         if !bytes.is_empty() {
             self.say(" ");
-        }
-        for byte in bytes {
-            self.hex(*byte);
+            self.hex(bytes);
         }
     }
 
@@ -161,9 +163,9 @@ impl Words {
             let is_last = i.saturating_add(1) == bytes.len();
             if *byte < 32 || *byte > 126 || is_open && is_last {
                 self.say("\\x");
-                self.hex(*byte);
+                self.hex(&[*byte]);
             } else {
-                self.byte(*byte);
+                self.bytes(&[*byte]);
             }
         }
     }

@@ -25,77 +25,63 @@ fn why_refused(facts: &Facts<'_>, row: &Row<'_>, errno: Errno, why: &mut Words) 
 }
 
 // Appends the reason why a read can't have its number or its bytes.
-fn why_not_read(
-    facts: &Facts<'_>,
-    row: &Row<'_>,
-    slot: u32,
-    it: &Completion,
-    why: &mut Words,
-) -> Result<(), NoMemory> {
+fn why_not_read(facts: &Facts<'_>, row: &Row<'_>, slot: u32, it: &Completion, why: &mut Words) {
     let count = it.got.len();
     if usize::try_from(it.res).ok() != Some(count) {
         why.say("the number is ");
         why.result(it.res);
-        why.count(", and ", count as u64, " bytes follow");
-        return Ok(());
+        return why.count(", and ", count as u64, " bytes follow");
     }
-    let fits = facts.entries_read(row, it)?;
+    let Ok(fits) = facts.entries_read(row, it) else {
+        why.is_whole = false;
+        return;
+    };
     for entry in 0..=u8::MAX {
         if fits[entry as usize] {
-            why.say("these are the bytes of ");
-            why.say(name_of(facts.case.catalogue, entry));
-            why.count(", which can't be at slot ", u64::from(slot), " then");
-            return Ok(());
+            why.all(&[
+                "these are the bytes of ",
+                name_of(facts.case.catalogue, entry),
+            ]);
+            return why.count(", which can't be at slot ", u64::from(slot), " then");
         }
     }
     why.say("no file gives this read these bytes");
-    Ok(())
 }
 
 // Appends the reason why an access of a slot can't have an answer without bytes, if one is known.
 fn why_not_at(row: &Row<'_>, act: &Act, slot: u32, res: i32, why: &mut Words) {
-    if matches!(act.intent, Intent::Take(_)) && res == 0 {
-        why.count("slot ", u64::from(slot), " can't have a file then");
+    let after = if matches!(act.intent, Intent::Take(_)) && res == 0 {
+        " can't have a file then"
     } else if res == result_of(Errno::EBADF) && row.fixed_result().is_none() {
-        why.count("slot ", u64::from(slot), " can't be empty then");
-    }
+        " can't be empty then"
+    } else {
+        return;
+    };
+    why.count("slot ", u64::from(slot), after);
 }
 
 // Appends the reason why the first access of a request can't have a completion, if one is known.
-fn why_not_by(
-    facts: &Facts<'_>,
-    row: &Row<'_>,
-    act: &Act,
-    it: &Completion,
-    why: &mut Words,
-) -> Result<(), NoMemory> {
+fn why_not_by(facts: &Facts<'_>, row: &Row<'_>, act: &Act, it: &Completion, why: &mut Words) {
     let is_read = matches!(act.intent, Intent::Look(_));
     match act.asked {
         _ if !is_read && !it.got.is_empty() => why.say(ONLY_READS),
-        Some(slot) if is_read && it.res >= 0 => why_not_read(facts, row, slot, it, why)?,
+        Some(slot) if is_read && it.res >= 0 => why_not_read(facts, row, slot, it, why),
         Some(slot) => why_not_at(row, act, slot, it.res, why),
         None if facts.case.slots.range.1 == 0 => why.say("the range has no slot"),
         None => {}
     }
-    Ok(())
 }
 
 // Appends the reason why a request can't have a completion, if one is known.
-fn why_not(
-    facts: &Facts<'_>,
-    row: &Row<'_>,
-    it: &Completion,
-    why: &mut Words,
-) -> Result<(), NoMemory> {
+fn why_not(facts: &Facts<'_>, row: &Row<'_>, it: &Completion, why: &mut Words) {
     let (_, from, to) = row.acts;
     if it.res < 0 && !it.got.is_empty() {
         why.say(ONLY_READS);
     } else if let Some(errno) = row.refusal {
         why_refused(facts, row, errno, why);
     } else if let Some(act) = facts.acts_between(from, to).first() {
-        why_not_by(facts, row, act, it, why)?;
+        why_not_by(facts, row, act, it, why);
     }
-    Ok(())
 }
 
 // Says that a member is canceled, though no earlier one severs its chain: the lines of those that
@@ -129,20 +115,21 @@ fn not_canceled(facts: &Facts<'_>, by: usize, at: usize, row: &Row<'_>, out: &mu
     out.why.say(" should be -125");
 }
 
-// Says that the line of a request doesn't begin with `front`, its place and a space: another line
-// does, or no line does.
-fn misplaced(facts: &Facts<'_>, at: usize, front: &str, out: &mut Complaint) {
+// Says that the line of a request doesn't begin with its place and a space, which are expected:
+// another line does, or no line does.
+fn misplaced(facts: &Facts<'_>, at: usize, out: &mut Complaint) {
     out.line(at);
-    out.expected.say(front);
-    out.expected.say("and its result");
-    let (text, mut taken) = (facts.case.text, 0usize);
-    let mut lines = Lines { rest: text, taken };
-    for _ in 0..text.len() {
-        if lines.take().starts_with(front.as_bytes()) {
-            let number = facts.case.line.saturating_add(taken);
-            return out.why.count("line ", number as u64, " has that place");
+    let (mut lines, mut found) = (Lines::new(facts.case.text), None);
+    for _ in 0..lines.rest.len() {
+        if out.expected.begin(lines.rest) {
+            found = Some(facts.case.line.saturating_add(lines.taken));
+            break;
         }
-        taken = lines.taken;
+        lines.take();
+    }
+    out.expected.say("and its result");
+    if let Some(number) = found {
+        return out.why.count("line ", number as u64, " has that place");
     }
     out.why.say("no line answers ");
     if let Some(line) = facts.case.asked.get(at) {
@@ -164,71 +151,63 @@ fn why_unread(line: &[u8]) -> &'static str {
 }
 
 // Says which answers a request may give.
-fn expect(
-    row: &Row<'_>,
-    answers: &Answers<'_>,
-    at: usize,
-    out: &mut Complaint,
-) -> Result<(), NoMemory> {
+fn expect(row: &Row<'_>, answers: &mut Answers<'_>, at: usize, out: &mut Complaint) {
     out.line(at);
     out.expected.place(row.place);
     out.expected.say(" with ");
-    answers.say(&mut out.expected)
+    answers.say(&mut out.expected);
 }
 
 // Says why the first line after those of the completions isn't the completion of its request.
 fn unread(
     facts: &Facts<'_>,
     row: &Row<'_>,
-    answers: &Answers<'_>,
+    answers: &mut Answers<'_>,
     at: usize,
     out: &mut Complaint,
-) -> Result<(), NoMemory> {
+) {
     let line = next_line(facts.rest.rest).0;
-    let mut front = Words::new(facts.case.alloc);
-    front.place(row.place);
-    front.say(" ");
-    let front = front.text()?;
-    if line.starts_with(front.as_bytes()) {
-        expect(row, answers, at, out)?;
+    out.expected.place(row.place);
+    out.expected.say(" ");
+    if out.expected.begin(line) {
+        out.expected.clear();
+        expect(row, answers, at, out);
         out.why.say(why_unread(line));
     } else {
-        misplaced(facts, at, front, out);
+        misplaced(facts, at, out);
     }
-    Ok(())
 }
 
-// Looks whether the line of a request is wrong. `severed`: the line of the member that severed its
-// chain.
+// Checks whether the line of a request with these answers is wrong. `severed`: the line of the
+// member that severed its chain.
 fn is_wrong(
     facts: &Facts<'_>,
-    left: &[Vec<Left>],
+    answers: &mut Answers<'_>,
     severed: Option<usize>,
     (at, row): (usize, &Row<'_>),
     out: &mut Complaint,
-) -> Result<bool, NoMemory> {
-    let answers = Answers::new(facts, left, severed.is_some(), row)?;
+) -> bool {
     let Some(it) = facts.completions.get(at) else {
-        unread(facts, row, &answers, at, out)?;
-        return Ok(true);
+        unread(facts, row, answers, at, out);
+        return true;
     };
     let is_canceled = it.is_refusal(row.place, Errno::ECANCELED);
     if let Some(by) = severed {
         if !is_canceled {
             not_canceled(facts, by, at, row, out);
         }
-        return Ok(!is_canceled);
+        return !is_canceled;
     }
     if row.place.member > 1 && is_canceled {
         not_severed(facts, at, row, out);
-        return Ok(true);
+        return true;
     }
-    if answers.have(it)? {
-        return Ok(false);
+    if answers.have(it) {
+        return false;
     }
-    expect(row, &answers, at, out)?;
-    why_not(facts, row, it, &mut out.why)?;
-    Ok(true)
+    expect(row, answers, at, out);
+    why_not(facts, row, it, &mut out.why);
+    true
 }
 
 /// Looks for the first line that isn't the completion of its request, or has one that the request
@@ -237,7 +216,10 @@ pub(crate) fn wrong_answer(facts: &Facts<'_>, out: &mut Complaint) -> Result<boo
     let left = left_at_slots(facts)?;
     let mut severed = None;
     for (at, row) in facts.rows.iter().enumerate() {
-        if is_wrong(facts, &left, severed, (at, row), out)? {
+        let mut answers = Answers::new(&*facts, &left, severed.is_some(), &*row);
+        let is_found = is_wrong(facts, &mut answers, severed, (at, row), out);
+        out.why.is_whole = out.why.is_whole && answers.is_whole;
+        if is_found {
             return Ok(true);
         }
         if !row.request.links() {

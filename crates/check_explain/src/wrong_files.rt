@@ -3,116 +3,113 @@
 use crate::case::{Act, Installed};
 use crate::complaint::Complaint;
 use crate::facts::{Close, Facts};
-use crate::lines::{Lines, without_end};
-use crate::words::{Words, name_of};
+use crate::lines::Lines;
+use crate::words::name_of;
 use fx_base::{Mark, NoMemory};
 use fx_chain::Intent;
 
-// Looks whether a `closed` line is wrong, by the one before it.
+// Checks whether a `closed` line is wrong, by the one before it.
 fn is_wrong(
     facts: &Facts<'_>,
     at: usize,
     close: &Close<'_>,
     before: Option<Mark>,
     out: &mut Complaint,
-) -> Result<bool, NoMemory> {
+) -> bool {
     let Some(mark) = close.mark else {
         out.wrong(at, "closed, a mark and a name", "");
-        return Ok(true);
+        return true;
     };
     let Some(known) = close.file else {
         let expected = "a file that was at a slot, or that a request installed";
         out.wrong(at, expected, "no such file has the mark ");
         out.why.mark(mark);
-        return Ok(true);
+        return true;
     };
-    let mut line = Words::new(facts.case.alloc);
-    line.say("closed ");
-    line.file(facts.case.catalogue, known.file);
-    if without_end(close.line) != line.text()?.as_bytes() {
-        out.wrong(at, line.text()?, "");
+    let name = name_of(facts.case.catalogue, known.file.entry);
+    let is_other = close.name != name.as_bytes();
+    let is_late = before > close.mark;
+    if is_other {
+        out.wrong(at, "closed ", "");
+        out.expected.file(facts.case.catalogue, known.file);
         out.why.mark(mark);
-        out.why.say(" is ");
-        out.why.say(name_of(facts.case.catalogue, known.file.entry));
-        return Ok(true);
-    }
-    if let Some(earlier) = known.closed {
+        out.why.all(&[" is ", name]);
+    } else if let Some(earlier) = known.closed {
         out.line(earlier);
         out.wrong(at, "", "a file is closed once");
-        return Ok(true);
-    }
-    let is_late = before > close.mark;
-    if is_late {
+    } else if is_late {
         out.line(at.saturating_sub(1));
         out.wrong(at, "", "closed files are in order of their marks");
     }
-    Ok(is_late)
+    is_other || known.closed.is_some() || is_late
 }
 
 // Looks for the first wrong one of the `closed` lines.
-fn wrong_closed(facts: &Facts<'_>, out: &mut Complaint) -> Result<bool, NoMemory> {
+fn wrong_closed(facts: &Facts<'_>, out: &mut Complaint) -> bool {
     let (mut at, mut before) = (facts.rows.len(), None);
     for close in &facts.closes {
-        if is_wrong(facts, at, close, before, out)? {
-            return Ok(true);
+        if is_wrong(facts, at, close, before, out) {
+            return true;
         }
         (at, before) = (at.saturating_add(1), close.mark);
     }
-    Ok(false)
+    false
 }
 
 // Takes the lines of the closed files' tags, up to the first wrong one. Returns whether one is
 // wrong.
-fn wrong_tags(
-    facts: &Facts<'_>,
-    rest: &mut Lines<'_>,
-    out: &mut Complaint,
-) -> Result<bool, NoMemory> {
+fn wrong_tags(facts: &Facts<'_>, rest: &mut Lines<'_>, out: &mut Complaint) -> bool {
     let mut number = facts.case.line.saturating_add(facts.rows.len()) as u64;
     for close in &facts.closes {
         if let Some(it) = close.file
             && it.file.tag != 0
         {
             let at = rest.taken;
-            let mut tag = Words::new(facts.case.alloc);
-            tag.count("tag ", it.file.tag, "");
-            let expected = tag.text()?;
-            if rest.take().strip_suffix(b"\n") != Some(expected.as_bytes()) {
-                out.wrong(at, expected, expected);
-                out.why.count(" is that of the file of line ", number, "");
-                return Ok(true);
+            out.expected.count("tag ", it.file.tag, "\n");
+            if !out.expected.is_line(rest.take()) {
+                out.expected.clear();
+                out.line(at);
+                out.expected.count("tag ", it.file.tag, "");
+                out.why
+                    .count("tag ", it.file.tag, " is that of the file of line ");
+                out.why.number(number);
+                return true;
             }
+            out.expected.clear();
         }
         number = number.saturating_add(1);
     }
-    Ok(false)
+    false
 }
 
 /// Looks for the first wrong line after a submission's completions. Returns whether a line is
 /// wrong.
-pub(crate) fn wrong_close(facts: &Facts<'_>, out: &mut Complaint) -> Result<bool, NoMemory> {
-    if wrong_closed(facts, out)? {
-        return Ok(true);
+pub(crate) fn wrong_close(facts: &Facts<'_>, out: &mut Complaint) -> bool {
+    if wrong_closed(facts, out) {
+        return true;
     }
     let mut rest = facts.rest;
-    let mut front = Words::new(facts.case.alloc);
-    front.count("", u64::from(facts.case.submissions.saturating_add(1)), ".");
-    if rest.rest.starts_with(front.text()?.as_bytes()) {
+    let submission = u64::from(facts.case.submissions.saturating_add(1));
+    out.expected.count("", submission, ".");
+    let is_one_more = out.expected.begin(rest.rest);
+    out.expected.clear();
+    if is_one_more {
         let expected = "a closed file, or the next command's line";
-        out.wrong(rest.taken, expected, "the submission has ");
+        out.wrong(rest.taken, expected, "");
         let count = facts.rows.len() as u64;
-        out.why.count("", count, " requests, and this is one more");
-        return Ok(true);
+        let after = " requests, and this is one more";
+        out.why.count("the submission has ", count, after);
+        return true;
     }
-    if wrong_tags(facts, &mut rest, out)? {
-        return Ok(true);
+    if wrong_tags(facts, &mut rest, out) {
+        return true;
     }
     let is_more = rest.rest.starts_with(b"tag ") || rest.rest.starts_with(b"closed ");
     if is_more {
         let why = "the closed files come first, and have no further tag";
         out.wrong(rest.taken, "the next command's line", why);
     }
-    Ok(is_more)
+    is_more
 }
 
 // Says that two files are left at one slot.
@@ -148,7 +145,7 @@ fn are_two(facts: &Facts<'_>, left: &mut [Option<Installed>], out: &mut Complain
     false
 }
 
-// Looks whether a file has no `closed` line, though it was at a slot before an access that removed
+// Checks whether a file has no `closed` line, though it was at a slot before an access that removed
 // it or found the slot empty.
 fn is_removed(facts: &Facts<'_>, act: &Act, it: &Installed, out: &mut Complaint) -> bool {
     let does = match (act.found, act.intent) {
@@ -171,9 +168,8 @@ fn is_removed(facts: &Facts<'_>, act: &Act, it: &Installed, out: &mut Complaint)
     out.why
         .count(" is at slot ", u64::from(it.slot), " before ");
     out.why.place(later.place);
-    out.why.say(", which ");
-    out.why.say(does);
-    out.why.say(", and has no `closed` line");
+    out.why
+        .all(&[", which ", does, ", and has no `closed` line"]);
     true
 }
 
