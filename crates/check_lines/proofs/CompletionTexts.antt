@@ -3,9 +3,9 @@ use Rattle.check_lines.proofs.Words.{◌≡◌, ℕ, ◌<◌, List, [], ◌∷�
 use Rattle.check_lines.proofs.Words.{append-nil, IsBytes, encode_lower, IsCutPart, answer_text, cut_text, IsResultInRange, is_without, IsPrintedFrom}
 use Rattle.check_lines.proofs.Words.{ReadsPrinted, true, append_assoc, Completed, Place, completion_text, place_digits, IsCompletionInRange}
 use Rattle.check_lines.proofs.Words.{IsPlaceInRange, completion_line, ◌+◌, length-append, FileEntry, state_of, Event, Asked, runs_of, are_runs}
-use Rattle.check_lines.proofs.Words.{ExplainsParts, ◌⊎◌, Option, Some, option_map, ReportsHaveEachRequest}
+use Rattle.check_lines.proofs.Words.{ExplainsParts, ◌⊎◌, Option, option_map, ReportsHaveEachRequest}
 use Rattle.std.specs.Prelude.{flat_map}
-use Rattle.check_lines.proofs.Cuts.{cut_has, without_between, AreGiven, some_got, hex_without, parts_are}
+use Rattle.check_lines.proofs.Cuts.{cut_has, reads_as, without_between, AreGiven, some_got, hex_without, parts_are}
 use Rattle.check_lines.proofs.Decimals.{result_without}
 use Rattle.check_lines.proofs.ReportTexts.{IsOneLine}
 use Rattle.check_lines.proofs.Marks.{place_without}
@@ -21,26 +21,18 @@ alone_or_cut [] res same = inl (refl, same ∙ append-nil (signed_decimal res))
 alone_or_cut (b ∷ got) res same = let some : 0 < length (b ∷ got) = omega arith in
     inr (some, same ∙ ap (λ (t : List ℕ). signed_decimal res ++ t) (some_got (b ∷ got) some))
 
--- the result alone
-alone_only : {text : List ℕ} → ReadsPrinted (cut_text 32) (IsCutPart 32) text None → (other : ℤ × List ℕ) → FitsAnswer other
-    → text ≡ answer_text other → (other.1 ≡ []) × (text ≡ signed_decimal other.0)
-alone_only {text} whole other fits same =
-    elim (alone_or_cut other.1 other.0 same) [
-      | inl alone ↦ alone
-      | inr both ↦ absurd (whole (signed_decimal other.0, encode_lower other.1) (result_without 32 other.0 refl refl fits.0) both.1)
-    ]
-
 no_bytes : IsBytes []
 no_bytes i = omega arith
 
-pub alone_reads : {text : List ℕ} → ReadsPrinted (cut_text 32) (IsCutPart 32) text None → (r : Option ℤ) → ReadsPrinted signed_decimal IsResultInRange text r
-    → ReadsPrinted answer_text FitsAnswer text (option_map (λ res. (res, [])) r)
-alone_reads whole None none = λ other fits same. none other.0 fits.0 (alone_only whole other fits same).1
-alone_reads whole (Some res) is = record {
-  fits_value = (is.fits_value, no_bytes);
-  printed = is.printed ∙ sym (append-nil (signed_decimal res));
-  only = λ other fits same. let alone = alone_only whole other fits same in λ i. (is.only other.0 fits.0 alone.1 i, alone.0 i);
-}
+-- the result alone
+pub alone_reads : {text : List ℕ} → ReadsPrinted (cut_text 32) (IsCutPart 32) text None → (r : Option ℤ)
+    → ReadsPrinted signed_decimal IsResultInRange text r → ReadsPrinted answer_text FitsAnswer text (option_map (λ res. (res, [])) r)
+alone_reads {text} whole r =
+    reads_as (λ res. (res, [])) r (λ res fits is. ((fits, no_bytes), is ∙ sym (append-nil (signed_decimal res)))) (λ answer fits same.
+    elim (alone_or_cut answer.1 answer.0 same) [
+      | inl alone ↦ (answer.0, fits.0, alone.1, λ i. (answer.0, alone.0 i))
+      | inr both ↦ absurd (whole (signed_decimal answer.0, encode_lower answer.1) (result_without 32 answer.0 refl refl fits.0) both.1)
+    ])
 
 -- no result has a space
 not_cut : (word hex : List ℕ) (res : ℤ) → IsResultInRange res → word ++ 32 ∷ hex ≡ signed_decimal res → ⊥

@@ -82,6 +82,20 @@ pub without_between : (at b : ℕ) (front behind : List ℕ) → is_without at f
 without_between at b front behind left other right =
     without_both at front (b ∷ behind) left (and_from (not (b == at)) (is_without at behind) (ap not other) right)
 
+-- a part of a text is read, and each value of the one is that of a value of the other
+pub reads_as : {A B : Type 0} {print : A → List ℕ} {fits : A → Type 0} {show : B → List ℕ} {good : B → Type 0} {part text : List ℕ} (f : A → B)
+    (r : Option A) → ((a : A) → fits a → part ≡ print a → good (f a) × (text ≡ show (f a)))
+    → ((b : B) → good b → text ≡ show b → (a : A) × fits a × (part ≡ print a) × (b ≡ f a))
+    → ReadsPrinted print fits part r → ReadsPrinted show good text (option_map f r)
+reads_as f None there back none = λ b good same. let known = back b good same in none known.0 known.1 known.2
+reads_as f (Some a) there back is =
+    let shown = there a is.fits_value is.printed in
+    record {
+      fits_value = shown.0;
+      printed = shown.1;
+      only = λ b good same. let known = back b good same in known.3 ∙ ap f (is.only known.0 known.1 known.2);
+    }
+
 -- The result of a reading, if it is known whether there is one.
 
 pub from_none : {A : Type 0} {print : A → List ℕ} {fits : A → Type 0} {text : List ℕ} {r : Option A} → r ≡ None

@@ -1,6 +1,6 @@
 -- Decimal numbers and results as they are printed.
 use Rattle.check_lines.proofs.Words.{◌≡◌, ℕ, ◌+◌, ◌<◌, ◌≤◌, ◌^◌, ◌==◌, zero, suc, Bool, true, false, not, nat_le, List, [], ◌∷◌, length, get_or, refl}
-use Rattle.check_lines.proofs.Words.{sym, ap, ◌∙◌, arith, Some, None, if◌then◌else◌, decimal, list_all, nat_tests, and_from, and_parts, true≢false}
+use Rattle.check_lines.proofs.Words.{sym, ap, ◌∙◌, arith, Option, option_map, Some, None, if◌then◌else◌, decimal, list_all, nat_tests, and_from, and_parts, true≢false}
 use Rattle.check_lines.proofs.Words.{is_digit, is_without, ReadsPrinted, ◌-◌, ◌++◌, ℤ, pos, negsuc, signed_decimal, IsResultInRange, IsPrintedFrom}
 use Rattle.check_lines.proofs.Words.{codes, append_assoc, append_cancel_left, cut_text, result_line, ◌&&◌, ◌||◌, le-leb, leb-true, is_decimal}
 use Rattle.check_lines.proofs.Words.{number_up_to, BeginsWithOneResult}
@@ -8,7 +8,7 @@ use Rattle.std.specs.Str.Parse.{digits_value}
 use Rattle.std.proofs.lemmas.Fmt.{decimal_digit, decimal_nonempty, first_decimal, digits_decimal, digits_value-decimal, decimal-digits_value}
 use Rattle.std.proofs.lemmas.Fmt.{signed_decimal_injective}
 use Rattle.std.proofs.lemmas.Str.Parse.{IsNumeralModel, IsDigitsTest, numerals_by_value}
-use Rattle.check_lines.proofs.Cuts.{not_first, cut_once}
+use Rattle.check_lines.proofs.Cuts.{not_first, cut_once, reads_as}
 use Rattle.std.specs.Int.Signed.{mag}
 
 tells : IsDigitsTest (λ ds. list_all is_digit ds ≡ true)
@@ -82,56 +82,38 @@ decimal_without at n none small = digits_without at (decimal n) none (digits_dec
 
 -- Results as they are printed: 0 or more, or a sign and a number.
 
-positive_only : {word : List ℕ} {n : ℕ} → ((rest : List ℕ) → Unit {0} → word ≡ 45 ∷ [] ++ rest → ⊥)
-    → IsPrintedFrom decimal (λ n. n < 2 ^ 31) word n → (other : ℤ) → IsResultInRange other → word ≡ signed_decimal other → other ≡ pos n
-positive_only no_sign is (pos m) fits same = ap pos (is.only m fits same)
-positive_only no_sign is (negsuc m) fits same = absurd (no_sign (decimal (suc m)) tt same)
-
 -- a word without a sign writes the number
-pub positive : {word : List ℕ} {n : ℕ} → ((rest : List ℕ) → Unit {0} → word ≡ 45 ∷ [] ++ rest → ⊥)
-    → IsPrintedFrom decimal (λ n. n < 2 ^ 31) word n → IsPrintedFrom signed_decimal IsResultInRange word (pos n)
-positive {word} {n} no_sign is = record { fits_value = is.fits_value; printed = is.printed; only = positive_only no_sign is }
-
-pub no_positive : {word : List ℕ} → ((rest : List ℕ) → Unit {0} → word ≡ 45 ∷ [] ++ rest → ⊥)
-    → ReadsPrinted decimal (λ n. n < 2 ^ 31) word None → ReadsPrinted signed_decimal IsResultInRange word None
-no_positive no_sign none (pos m) fits same = none m fits same
-no_positive no_sign none (negsuc m) fits same = no_sign (decimal (suc m)) tt same
-
--- no number begins with a sign
-no_sign_first : {m : ℕ} {word digits : List ℕ} → m < 2 ^ 31 → word ≡ 45 ∷ [] ++ digits → word ≡ decimal m → ⊥
-no_sign_first {m} {digits} small begins same = not_first 45 (decimal m) digits (decimal_without 45 m refl (omega arith)) (sym same ∙ begins)
-
-digits_of : (m : ℕ) {word digits : List ℕ} → word ≡ 45 ∷ [] ++ digits → word ≡ 45 ∷ decimal (suc m) → digits ≡ decimal (suc m)
-digits_of m {digits} begins same = let both : 45 ∷ digits ≡ 45 ∷ decimal (suc m) = sym begins ∙ same in cc
-
-negative_only : {word digits : List ℕ} {n : ℕ} → word ≡ 45 ∷ [] ++ digits → IsPrintedFrom decimal (λ n. n < 2147483649) digits n
-    → (other : ℤ) → IsResultInRange other → word ≡ signed_decimal other → other ≡ negsuc (n - 1)
-negative_only {word} {digits} begins is (pos m) fits same = absurd (no_sign_first fits begins same)
-negative_only {word} {digits} {n} begins is (negsuc m) fits same =
-    let more : suc m ≡ n = is.only (suc m) (omega arith) (digits_of m begins same) in
-    let less : m ≡ n - 1 = omega arith in ap negsuc less
+pub positive_reads : {word : List ℕ} → ((rest : List ℕ) → Unit {0} → word ≡ 45 ∷ [] ++ rest → ⊥) → (r : Option ℕ)
+    → ReadsPrinted decimal (λ n. n < 2 ^ 31) word r → ReadsPrinted signed_decimal IsResultInRange word (option_map pos r)
+positive_reads {word} no_sign r = reads_as pos r (λ n fits is. (fits, is)) back
+  where
+    back : (res : ℤ) → IsResultInRange res → word ≡ signed_decimal res → (n : ℕ) × (n < 2 ^ 31) × (word ≡ decimal n) × (res ≡ pos n)
+    back (pos n) fits same = (n, fits, same, refl)
+    back (negsuc n) fits same = absurd (no_sign (decimal (suc n)) tt same)
 
 -- a word with a sign writes a number below zero
-pub negative : {word digits : List ℕ} {n : ℕ} → word ≡ 45 ∷ [] ++ digits → 0 < n → IsPrintedFrom decimal (λ n. n < 2147483649) digits n
-    → IsPrintedFrom signed_decimal IsResultInRange word (negsuc (n - 1))
-negative {word} {digits} {n} begins some is =
-    let small : n < 2147483649 = is.fits_value in let whole : suc (n - 1) ≡ n = omega arith in
-    record {
-      fits_value = omega arith;
-      printed = begins ∙ ap (λ (t : List ℕ). 45 ∷ t) (is.printed ∙ ap decimal (sym whole));
-      only = negative_only begins is;
-    }
+pub negative_reads : {word digits : List ℕ} → word ≡ 45 ∷ [] ++ digits → (r : Option ℕ) → ReadsPrinted decimal (λ n. (0 < n) × (n < 2147483649)) digits r
+    → ReadsPrinted signed_decimal IsResultInRange word (option_map (λ n. negsuc (n - 1)) r)
+negative_reads {word} {digits} begins r = reads_as (λ n. negsuc (n - 1)) r there back
+  where
+    there : (n : ℕ) → (0 < n) × (n < 2147483649) → digits ≡ decimal n
+        → IsResultInRange (negsuc (n - 1)) × (word ≡ signed_decimal (negsuc (n - 1)))
+    there n fits is =
+        let some = fits.0 in let small = fits.1 in let whole : suc (n - 1) ≡ n = omega arith in
+        (omega arith, begins ∙ ap (λ (t : List ℕ). 45 ∷ t) (is ∙ ap decimal (sym whole)))
 
-pub no_negative : {word digits : List ℕ} → word ≡ 45 ∷ [] ++ digits → ReadsPrinted decimal (λ n. n < 2147483649) digits None
-    → ReadsPrinted signed_decimal IsResultInRange word None
-no_negative {word} {digits} begins none (pos m) fits same = no_sign_first fits begins same
-no_negative {word} {digits} begins none (negsuc m) fits same = none (suc m) (omega arith) (digits_of m begins same)
+    back : (res : ℤ) → IsResultInRange res → word ≡ signed_decimal res
+        → (n : ℕ) × ((0 < n) × (n < 2147483649)) × (digits ≡ decimal n) × (res ≡ negsuc (n - 1))
+    back (pos n) fits same = absurd (not_first 45 (decimal n) digits (decimal_without 45 n refl (omega arith)) (sym same ∙ begins))
+    back (negsuc n) fits same =
+        let both : 45 ∷ digits ≡ 45 ∷ decimal (suc n) = sym begins ∙ same in let less : n ≡ suc n - 1 = omega arith in
+        (suc n, (omega arith, omega arith), cc, ap negsuc less)
 
-pub no_zero : {word digits : List ℕ} {n : ℕ} → word ≡ 45 ∷ [] ++ digits → n ≡ 0 → IsPrintedFrom decimal (λ n. n < 2147483649) digits n
-    → ReadsPrinted signed_decimal IsResultInRange word None
-no_zero {word} {digits} begins zero_is is (pos m) fits same = no_sign_first fits begins same
-no_zero {word} {digits} {n} begins zero_is is (negsuc m) fits same =
-    let more : suc m ≡ n = is.only (suc m) (omega arith) (digits_of m begins same) in absurd (omega arith)
+-- 0 has no sign
+pub no_zero : {digits : List ℕ} {n : ℕ} → n ≡ 0 → IsPrintedFrom decimal (λ n. n < 2147483649) digits n
+    → ReadsPrinted decimal (λ n. (0 < n) × (n < 2147483649)) digits None
+no_zero {n = n} none is m fits same =
+    let equal : m ≡ n = is.only m fits.1 same in let some = fits.0 in absurd (omega arith)
 
 -- a result has no byte but digits and its sign
 pub result_without : (at : ℕ) (res : ℤ) → is_digit at ≡ false → (45 == at) ≡ false → IsResultInRange res → is_without at (signed_decimal res) ≡ true

@@ -60,12 +60,13 @@ no_letter d is = (grind (arith, nat_tests), grind (arith, nat_tests))
 -- The output of a play begins with no line of a closed file or of a tag.
 
 -- the lines of the end
-end_text : (test : Bool) (rest : List ℕ) → HasNoCloses (if test then [] else codes "teardown\n" ++ rest)
-end_text true rest = by_nothing
-end_text false rest = by_teardown rest
-
 end_begins : (ring : RingState) {text : List ℕ} → PrintsEnd ring text → HasNoCloses text
-end_begins ring (closes, are, is) = subst HasNoCloses (sym is) (end_text (length closes.files == 0) (closes_text ring.catalogue closes.files))
+end_begins ring (closes, are, is) =
+    let lines = closes_text ring.catalogue closes.files in
+    subst HasNoCloses (sym is) (elim (length closes.files == 0) as (λ b. HasNoCloses (if b then [] else codes "teardown\n" ++ lines)) [
+      | true ↦ by_nothing
+      | false ↦ by_teardown lines
+    ])
 
 -- no events of no chains
 no_events : (history : List Event) → ((e : Event) → Contains history e → (1 ≤ e.chain) × (e.chain ≤ 0)) → history ≡ []

@@ -3,7 +3,7 @@ use Rattle.check_lines.proofs.Words.{◌≡◌, ℕ, true, List, [], ◌∷◌, 
 use Rattle.check_lines.proofs.Words.{StartsWith, flat_map, append_assoc, append-nil, append_cancel_left, take_at, All-head, IsCutPart, FitsFront}
 use Rattle.check_lines.proofs.Words.{cut_text, lines_before, is_without, ReadsPrinted, IsPrintedFrom, ◌<◌, ◌^◌, codes, decimal, Mark, close_text}
 use Rattle.check_lines.proofs.Words.{IsCloseInRange, IsMarkInRange, NamedClose, line_of_tag, named_line, and_parts, mark_text, Bool, false, nat_le}
-use Rattle.check_lines.proofs.Words.{list_all, eqb-true, true≢false, and_from, get_or, Option, Some, Completed, AreAll, AreSoMany, HasNoCloses}
+use Rattle.check_lines.proofs.Words.{list_all, eqb-true, true≢false, and_from, get_or, Option, Some, Completed, AreAll, HasLength, HasNoCloses}
 use Rattle.check_lines.proofs.Words.{IsCompletionInRange, completion_line, completion_lines, FileEntry, Closed, Reported, flat_map_more, All-push}
 use Rattle.check_lines.proofs.Words.{All-tail, not, ◌==◌, IsReportBefore, Lines, ReadsReport, lines_of, lines_text, name_of, flat_map-map}
 use Rattle.check_lines.proofs.Cuts.{parts_are, without_between, without_right}
@@ -214,7 +214,7 @@ no_closed_behind (tag ∷ tags) none = λ starts.
     let first : 116 ≡ 99 = ap (λ (t : List ℕ). get_or t 0 0) starts in true≢false (ap (λ n. n == 116) first)
 
 abbrev pub FirstPart : ℕ → List ℕ → Option (List Completed × List ℕ) → Type 0
-FirstPart count = ReadsPrinted (lines_before completion_line) (FitsFront IsCompletionInRange (AreSoMany count))
+FirstPart count = ReadsPrinted (lines_before completion_line) (FitsFront IsCompletionInRange (HasLength count))
 
 abbrev pub SecondPart : List ℕ → Option (List NamedClose × List ℕ) → Type 0
 SecondPart = ReadsPrinted (lines_before named_line) (FitsFront IsCloseInRange (AreAll (codes "closed ")))

@@ -9,8 +9,8 @@ pub use Rattle.fx_chain.specs.Runs.{runs_of}
 pub use Rattle.fx_chain.specs.declared.completion.Place.{Place}
 pub use Rattle.fx_language.specs.Words.{is_digit, is_decimal, number_up_to}
 pub use Rattle.check_lines.specs.ClosedView.{named_close_of}
-pub use Rattle.check_lines.specs.Front.{AreAll, AreSoMany, IsCutPart, FitsFront, answer_text, close_text, completion_text, cut_text, lines_before}
-pub use Rattle.check_lines.specs.Front.{number_text, place_digits, entry_text}
+pub use Rattle.check_lines.specs.Front.{AreAll, HasLength, IsCutPart, FitsFront, answer_text, close_text, completion_text, cut_text, lines_before}
+pub use Rattle.check_lines.specs.Front.{number_text, place_digits}
 pub use Rattle.check_lines.specs.Lines.{HasNoCloses, IsCloseInRange, IsCompletionInRange, IsMarkInRange, IsPlaceInRange, IsResultInRange, NamedClose}
 pub use Rattle.check_lines.specs.Lines.{is_without, line_of_tag, named_line, IsReportBefore, Lines, ReadsReport, lines_of, lines_text}
 pub use Rattle.check_lines.specs.Reads.{IsPrintedFrom, ReadsPrinted}

@@ -23,8 +23,8 @@ abbrev pub FitsFront : {A : Type 0} → (A → Type 0) → (List A → List ℕ 
 FitsFront fits may front = All fits front.0 × may front.0 front.1
 
 -- this number of lines, whatever follows them
-abbrev pub AreSoMany : {A : Type 0} → ℕ → List A → List ℕ → Type 0
-AreSoMany count items rest = length items ≡ count
+abbrev pub HasLength : {A : Type 0} → ℕ → List A → List ℕ → Type 0
+HasLength count items rest = length items ≡ count
 
 -- no line that begins with this word follows the lines
 abbrev pub AreAll : {A : Type 0} → List ℕ → List A → List ℕ → Type 0
@@ -49,14 +49,6 @@ number_text front = decimal front.0 ++ 46 ∷ front.1
 -- `S.C.M`
 abbrev pub place_digits : Place → List ℕ
 place_digits place = number_text (place.submission, number_text (place.chain, decimal place.member))
-
--- `S.C.M.E`
-abbrev pub entry_text : Place × ℕ → List ℕ
-entry_text entry =
-    number_text (
-      entry.0.submission,
-      number_text (entry.0.chain, number_text (entry.0.member, decimal entry.1)),
-    )
 
 -- `RES`, and the bytes of a read
 abbrev pub answer_text : ℤ × List ℕ → List ℕ

@@ -12,10 +12,10 @@ use Rattle.fx_print.specs.Text.{result_line}
 -- a text begins with at most one line of a word and a result
 abbrev pub BeginsWithOneResult : Type 0
 BeginsWithOneResult =
-    (word : List ℕ) (res other : ℤ) (behind more : List ℕ)
+    (word : List ℕ) (res other : ℤ) (rest more : List ℕ)
     → IsResultInRange res → IsResultInRange other
-    → result_line word res ++ behind ≡ result_line word other ++ more
-    → (res ≡ other) × (behind ≡ more)
+    → result_line word res ++ rest ≡ result_line word other ++ more
+    → (res ≡ other) × (rest ≡ more)
 
 -- the text of commands never begins with a line of a closed file or of a tag
 abbrev pub PlaysBeginWithNoClose : Type 0

@@ -10,4 +10,4 @@ mod report_lines;
 
 pub use call_answer::{CallAnswer, call, close_in_order, copy_of, files_at};
 pub use call_head::{accepted_in, is_accepted, memory_word};
-pub use report_lines::{ClosedLine, ReportLines, read_report, rest_behind};
+pub use report_lines::{ClosedLine, ReportLines, place_of, read_report};

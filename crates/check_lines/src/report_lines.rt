@@ -1,7 +1,7 @@
 //! Parses the printed lines of a submission's report: words and numbers, lines, and all lines of a
 //! report.
 ghost use Rattle.std.specs.Prelude.{◌≡◌, ◌++◌, ℕ, List, option_map, ◌<◌, ◌^◌, decimal, IfOk, length, codes, map};
-ghost use Rattle.check_lines.specs.Front.{cut_text, IsCutPart, both_parts_of, number_text, read_with_rest, answer_text, completion_text, lines_before, place_digits, AreSoMany, FitsFront, close_text, entry_text, AreAll};
+ghost use Rattle.check_lines.specs.Front.{cut_text, IsCutPart, both_parts_of, number_text, read_with_rest, answer_text, completion_text, lines_before, place_digits, HasLength, FitsFront, close_text, AreAll};
 ghost use Rattle.check_lines.specs.Reads.{ReadsPrinted};
 ghost use Rattle.std.specs.Fmt.{signed_decimal};
 ghost use Rattle.check_lines.specs.Lines.{IsResultInRange, IsCompletionInRange, IsPlaceInRange, IsCloseInRange, IsMarkInRange, line_of_tag, named_line, ReadsReport};
@@ -19,7 +19,7 @@ use std::alloc::Global;
 
 // Returns the text before the first byte `at`, and the text after it, or `None` if the text doesn't
 // have that byte.
-pub fn cut(text: &[u8], at: u8) -> Option<(&[u8], &[u8])>
+fn cut(text: &[u8], at: u8) -> Option<(&[u8], &[u8])>
     ensures { ReadsPrinted (cut_text at) (IsCutPart at) text.now (option_map both_parts_of result) }
 {
     for (i, b) in text.iter().enumerate() {
@@ -30,9 +30,9 @@ pub fn cut(text: &[u8], at: u8) -> Option<(&[u8], &[u8])>
     None
 }
 
-/// Returns the rest of a text after an expected beginning, or `None` if the text doesn't begin with
-/// it.
-pub fn rest_behind<'a>(text: &'a [u8], expected: &[u8]) -> Option<&'a [u8]>
+// Returns the rest of a text after an expected beginning, or `None` if the text doesn't begin with
+// it.
+fn rest_after<'a>(text: &'a [u8], expected: &[u8]) -> Option<&'a [u8]>
     ensures { ReadsPrinted (λ (rest : List ℕ). expected.now ++ rest) (λ _. Unit) text.now
         (option_map (λ rest. rest.now) result) }
 {
@@ -48,22 +48,15 @@ const LARGEST_RESULT: u64 = 2_147_483_647;
 /// The absolute value of the smallest result.
 const FARTHEST_BELOW_ZERO: u64 = 2_147_483_648;
 
-// Parses a word as a tag.
-pub fn tag(word: &[u8]) -> Option<u64>
-    ensures { ReadsPrinted decimal (λ n. n < 2 ^ 64) word.now result }
-{
-    number_up_to(LARGEST_TAG, word)
-}
-
 // Parses a word as a number.
-pub fn number(word: &[u8]) -> Option<u32>
+fn number(word: &[u8]) -> Option<u32>
     ensures { ReadsPrinted decimal (λ n. n < 2 ^ 32) word.now result }
 {
     Some(number_up_to(LARGEST_NUMBER, word)? as u32)
 }
 
 // Parses the text before the first full stop as a number, and returns the rest after it.
-pub fn first_number(word: &[u8]) -> Option<(u32, &[u8])>
+fn first_number(word: &[u8]) -> Option<(u32, &[u8])>
     ensures { ReadsPrinted number_text (λ front. front.0 < 2 ^ 32) word.now
         (option_map read_with_rest result) }
 {
@@ -72,10 +65,10 @@ pub fn first_number(word: &[u8]) -> Option<(u32, &[u8])>
 }
 
 // Parses a word as a result: 0 or more, or `-` and a number other than 0.
-pub fn res_of(word: &[u8]) -> Option<i32>
+fn res_of(word: &[u8]) -> Option<i32>
     ensures { ReadsPrinted signed_decimal IsResultInRange word.now result }
 {
-    let Some(digits) = rest_behind(word, b"-") else {
+    let Some(digits) = rest_after(word, b"-") else {
         return Some(number_up_to(LARGEST_RESULT, word)? as i32);
     };
     let n = number_up_to(FARTHEST_BELOW_ZERO, digits)?;
@@ -85,7 +78,8 @@ pub fn res_of(word: &[u8]) -> Option<i32>
     Some(-1 - (n - 1) as i32)
 }
 
-// Parses a word as a place: `S.C.M`.
+/// Parses a word as a place, as a text has it: a submission, a chain and a member, such as `1.1.2`.
+/// Returns `None` for any other word.
 pub fn place_of(word: &[u8]) -> Option<Place>
     ensures { ReadsPrinted place_digits IsPlaceInRange word.now result }
 {
@@ -158,26 +152,26 @@ fn completion_of(alloc: Global, line: &[u8]) -> Result<Option<Completion>, NoMem
 }
 
 // Returns the completions of the first `count` lines of a text, and the rest of the text.
-pub fn read_completions(
+fn read_completions(
     alloc: Global,
     text: &[u8],
     count: usize,
 ) -> Result<Option<(Vec<Completion>, &[u8])>, NoMemory>
     ensures { IfOk result (λ found. ReadsPrinted (lines_before completion_line)
-        (FitsFront IsCompletionInRange (AreSoMany count))
+        (FitsFront IsCompletionInRange (HasLength count))
         text.now (option_map (λ front. (all_completed front.0.items, front.1.now)) found)) }
 {
     let mut completions = Vec::new(alloc);
     let mut rest = text;
     for _ in 0..count {
-        let Some((line, behind)) = cut(rest, b'\n') else {
+        let Some((line, others)) = cut(rest, b'\n') else {
             return Ok(None);
         };
         let Some(completion) = completion_of(alloc, line)? else {
             return Ok(None);
         };
         completions.push(completion)?;
-        rest = behind;
+        rest = others;
     }
     Ok(Some((completions, rest)))
 }
@@ -191,29 +185,20 @@ pub struct ClosedLine {
     pub name: Vec<u8>,
 }
 
-// Parses a word as a place and a position in a list: `S.C.M.E`.
-fn entry_of(word: &[u8]) -> Option<(Place, u32)>
-    ensures { ReadsPrinted entry_text (λ found. IsPlaceInRange found.0 × (found.1 < 2 ^ 32))
-        word.now result }
-{
-    let (submission, rest) = first_number(word)?;
-    let (chain, rest) = first_number(rest)?;
-    let (member, rest) = first_number(rest)?;
-    let place = Place {
-        submission,
-        chain,
-        member,
-    };
-    Some((place, number(rest)?))
-}
-
 // Parses a word as a mark: `rK.I`, or `S.C.M.E`.
 fn mark_of(word: &[u8]) -> Option<Mark>
     ensures { ReadsPrinted mark_text IsMarkInRange word.now result }
 {
-    let Some(rest) = rest_behind(word, b"r") else {
-        let (place, in_list) = entry_of(word)?;
-        return Some(place.mark(in_list));
+    let Some(rest) = rest_after(word, b"r") else {
+        let (submission, rest) = first_number(word)?;
+        let (chain, rest) = first_number(rest)?;
+        let (member, rest) = first_number(rest)?;
+        return Some(Mark::Submitted {
+            submission,
+            chain,
+            member,
+            entry: number(rest)?,
+        });
     };
     let (k, rest) = first_number(rest)?;
     Some(Mark::Registered {
@@ -239,44 +224,44 @@ fn closed_of(alloc: Global, text: &[u8]) -> Result<Option<ClosedLine>, NoMemory>
 
 // Returns the closed files of the first lines of a text, up to a line of another kind, and the rest
 // of the text.
-pub fn read_closed(alloc: Global, text: &[u8]) -> Result<Option<(Vec<ClosedLine>, &[u8])>, NoMemory>
+fn read_closed(alloc: Global, text: &[u8]) -> Result<Option<(Vec<ClosedLine>, &[u8])>, NoMemory>
     ensures { IfOk result (λ found. ReadsPrinted (lines_before named_line)
         (FitsFront IsCloseInRange (AreAll (codes "closed ")))
         text.now (option_map (λ front. (map named_close_of front.0.items, front.1.now)) found)) }
 {
     let mut closed = Vec::new(alloc);
     let mut rest = text;
-    while let Some(behind) = rest_behind(rest, b"closed ") {
-        let Some((line, behind)) = cut(behind, b'\n') else {
+    while let Some(tail) = rest_after(rest, b"closed ") {
+        let Some((line, others)) = cut(tail, b'\n') else {
             return Ok(None);
         };
         let Some(close) = closed_of(alloc, line)? else {
             return Ok(None);
         };
         closed.push(close)?;
-        rest = behind;
+        rest = others;
     }
     Ok(Some((closed, rest)))
 }
 
 // Returns the tags of the first lines of a text, up to a line of another kind, and the rest of the
 // text.
-pub fn read_tags(alloc: Global, text: &[u8]) -> Result<Option<(Vec<u64>, &[u8])>, NoMemory>
+fn read_tags(alloc: Global, text: &[u8]) -> Result<Option<(Vec<u64>, &[u8])>, NoMemory>
     ensures { IfOk result (λ found. ReadsPrinted (lines_before line_of_tag)
         (FitsFront (λ tag. tag < 2 ^ 64) (AreAll (codes "tag ")))
         text.now (option_map (λ front. (front.0.items, front.1.now)) found)) }
 {
     let mut tags = Vec::new(alloc);
     let mut rest = text;
-    while let Some(behind) = rest_behind(rest, b"tag ") {
-        let Some((line, behind)) = cut(behind, b'\n') else {
+    while let Some(tail) = rest_after(rest, b"tag ") {
+        let Some((line, others)) = cut(tail, b'\n') else {
             return Ok(None);
         };
-        let Some(tag) = tag(line) else {
+        let Some(tag) = number_up_to(LARGEST_TAG, line) else {
             return Ok(None);
         };
         tags.push(tag)?;
-        rest = behind;
+        rest = others;
     }
     Ok(Some((tags, rest)))
 }

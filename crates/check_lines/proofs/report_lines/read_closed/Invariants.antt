@@ -2,9 +2,9 @@ use Rattle.check_lines.proofs.Words.{length, map, codes, named_close_of, AreAll,
 use Rattle.check_lines.proofs.ReportTexts.{HasFirst}
 use Rattle.check_lines.proofs.report_lines.read_closed.Given as goal
 
-abbrev pub decreases-loop-behind : goal.decreases-loop-behind
-decreases-loop-behind l = length l.rest
+abbrev pub decreases-loop-tail : goal.decreases-loop-tail
+decreases-loop-tail l = length l.rest
 
 -- the closed files so far are those of the first lines
-abbrev pub invariant-loop-behind : goal.invariant-loop-behind
-invariant-loop-behind l = HasFirst named_line IsCloseInRange (AreAll (codes "closed ")) l.text (map named_close_of l.closed.items) l.rest
+abbrev pub invariant-loop-tail : goal.invariant-loop-tail
+invariant-loop-tail l = HasFirst named_line IsCloseInRange (AreAll (codes "closed ")) l.text (map named_close_of l.closed.items) l.rest

@@ -1,5 +1,5 @@
 use Rattle.fx_chain.specs.declared.completion.Completion.{Completion}
-use Rattle.check_lines.proofs.Words.{◌≡◌, ℕ, List, AreSoMany, ◌<◌, ◌≤◌, [], ◌∷◌, length, refl, arith, length-append, map-append, all_completed}
+use Rattle.check_lines.proofs.Words.{◌≡◌, ℕ, List, HasLength, ◌<◌, ◌≤◌, [], ◌∷◌, length, refl, arith, length-append, map-append, all_completed}
 use Rattle.check_lines.proofs.Words.{IsCompletionInRange, length-map, completed_of}
 use Rattle.check_lines.proofs.CompletionTexts.{completions_are_lines}
 use Rattle.check_lines.proofs.ReportTexts.{ends_here, next_line, no_line, other_line}
@@ -7,7 +7,7 @@ use Rattle.check_lines.proofs.report_lines.read_completions.Goals as goal
 
 -- the text may not end before `count` completions
 not_yet : (items : List Completion) {n count : ℕ} → length items ≡ n → n < count → {rest behind : List ℕ}
-    → AreSoMany count (all_completed items) behind → rest ≡ behind → ⊥
+    → HasLength count (all_completed items) behind → rest ≡ behind → ⊥
 not_yet items counted left all same = let known = length-map items completed_of in absurd (omega arith)
 
 pub returns-in_default : goal.returns-in_default

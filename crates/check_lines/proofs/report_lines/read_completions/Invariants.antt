@@ -1,4 +1,4 @@
-use Rattle.check_lines.proofs.Words.{◌≡◌, length, all_completed, AreSoMany, IsCompletionInRange, completion_line}
+use Rattle.check_lines.proofs.Words.{◌≡◌, length, all_completed, HasLength, IsCompletionInRange, completion_line}
 use Rattle.check_lines.proofs.ReportTexts.{HasFirst}
 use Rattle.check_lines.proofs.report_lines.read_completions.Given as goal
 
@@ -6,5 +6,5 @@ use Rattle.check_lines.proofs.report_lines.read_completions.Given as goal
 abbrev pub invariant-loop : goal.invariant-loop
 invariant-loop l = record {
   counted : length l.completions.items ≡ l.counter;
-  first : HasFirst completion_line IsCompletionInRange (AreSoMany l.count) l.text (all_completed l.completions.items) l.rest;
+  first : HasFirst completion_line IsCompletionInRange (HasLength l.count) l.text (all_completed l.completions.items) l.rest;
 }

@@ -1,6 +1,6 @@
 use Rattle.check_lines.proofs.Words.{Decides-eqb, strip_prefix_is}
 use Rattle.check_lines.proofs.Cuts.{behind_is}
-use Rattle.check_lines.proofs.report_lines.rest_behind.Goals as goal
+use Rattle.check_lines.proofs.report_lines.rest_after.Goals as goal
 
 pub returns : goal.returns
 returns c = behind_is c.args.text.now c.args.expected.now c.strip_prefix.result
