@@ -17,7 +17,7 @@ use fx_lasting::LastingTable;
 use fx_table::MAX_PASSES;
 use locked::Locked;
 use measure::{shaped, time};
-use shared::{Shared, Subject};
+use shared::{Chains, Lasts, Shared, Subject};
 use std::alloc::Global;
 use std::env;
 use std::process::ExitCode;
@@ -29,10 +29,13 @@ use work::{MARK, READ_LEN, Shape, look, read, row_of};
 
 // Creates a catalogue of one entry of 64 bytes.
 fn one_entry(alloc: Global) -> Option<Catalogue> {
-    let mut catalogue = Catalogue::new(alloc);
     let name = String::from_str(alloc, "a.txt").ok()?;
-    catalogue.add(name, vec![in alloc; 7; 64].ok()?).ok()?;
-    Some(catalogue)
+    let bytes = vec![in alloc; 7; 64].ok()?;
+    let mut catalogue = Catalogue::new(alloc);
+    match catalogue.add(name, bytes) {
+        Ok(()) => Some(catalogue),
+        Err(_) => None,
+    }
 }
 
 // Times a table at the row of these words, as "counted look 256 4": the table, the work, the number
@@ -54,9 +57,9 @@ fn report<R: Threads + Wait + Clock + CpuClock + Print + Sync>(
         return None;
     }
     let nanoseconds = match table {
-        "lasting" => time::<Shared<LastingTable>, R>(rt, alloc, catalogue, row, threads)?,
-        "counted" => time::<Shared<CountedTable>, R>(rt, alloc, catalogue, row, threads)?,
-        "baton" => time::<Shared<BatonTable>, R>(rt, alloc, catalogue, row, threads)?,
+        "lasting" => time::<Shared<LastingTable, Lasts>, R>(rt, alloc, catalogue, row, threads)?,
+        "counted" => time::<Shared<CountedTable, Chains>, R>(rt, alloc, catalogue, row, threads)?,
+        "baton" => time::<Shared<BatonTable, Chains>, R>(rt, alloc, catalogue, row, threads)?,
         "mutex" => time::<Locked, R>(rt, alloc, catalogue, row, threads)?,
         _ => return None,
     };
@@ -128,9 +131,9 @@ fn try_table<S: Subject, R: Wait + Print>(
 fn try_tables<R: Wait + Print>(rt: &R, alloc: Global, catalogue: &Catalogue) -> Option<()>
     requires { 0 < length catalogue.now }
 {
-    try_table::<Shared<CountedTable>, R>(rt, alloc, catalogue, "counted")?;
-    try_table::<Shared<LastingTable>, R>(rt, alloc, catalogue, "lasting")?;
-    try_table::<Shared<BatonTable>, R>(rt, alloc, catalogue, "baton")?;
+    try_table::<Shared<CountedTable, Chains>, R>(rt, alloc, catalogue, "counted")?;
+    try_table::<Shared<LastingTable, Lasts>, R>(rt, alloc, catalogue, "lasting")?;
+    try_table::<Shared<BatonTable, Chains>, R>(rt, alloc, catalogue, "baton")?;
     try_table::<Locked, R>(rt, alloc, catalogue, "mutex")
 }
 

@@ -5,18 +5,14 @@ ghost use Rattle.fx_plain.specs.State.{IsSettled};
 ghost use Rattle.fx_plain.specs.Contents.{state_of};
 ghost use Rattle.fx_table.specs.Pass.{IsIdle};
 ghost use Rattle.fx_table.specs.declared.limits.TheConstants.{MAX_CHAINS, MAX_PASSES};
-ghost use Rattle.fx_baton.specs.Passes.{view_of as baton_view};
-ghost use Rattle.fx_baton.specs.Tables.{opening_of_table as opening_of_baton, IsPassOfTable as IsPassOfBaton};
-ghost use Rattle.fx_counted.specs.Tables.{view_of as counted_view, opening_of_table as opening_of_counted, IsPassOfTable as IsPassOfCounted};
-ghost use Rattle.fx_lasting.specs.Tables.{view_of as lasting_view, opening_of_table as opening_of_lasting, IsPassOfTable as IsPassOfLasting};
+ghost use Rattle.fx_lasting.specs.Tables.{view_of, opening_of_table, IsPassOfTable};
 
 use fx_base::OpenFile;
-use fx_baton::{BatonPass, BatonTable};
-use fx_counted::{CountedPass, CountedTable};
 use fx_lasting::{LastingPass, LastingTable};
 use fx_plain::PlainTable;
 use fx_table::{FileTable, Hold, LookUp, SharedTable};
 use std::alloc::Global;
+use std::marker::PhantomData;
 use std::sync::Wait;
 
 /// A table that is measured. A call does nothing at a slot that the table doesn't have, and neither
@@ -87,116 +83,73 @@ pub(crate) trait Subject: Sync {
         ensures { ready self.now pass.new };
 }
 
-/// A shared table with an opening of its own.
-pub(crate) trait Opened: SharedTable {
-    /// Opens the table for `passes` passes, all of which install files, and `chains` chains if it
-    /// has chains.
+/// A kind of shared tables: how one is opened and closed, and how its passes get file numbers.
+pub(crate) trait Kind<T: SharedTable>: Sync {
+    /// Opens a table for `passes` passes, all of which install files, and `chains` chains if it has
+    /// chains.
     fn opened(
         alloc: Global,
         plain: PlainTable,
         chains: u32,
         passes: u32,
-    ) -> Result<(Self, Vec<Self::Pass>), PlainTable>
+    ) -> Result<(T, Vec<T::Pass>), PlainTable>
         requires settled { IsSettled (state_of plain) }
         requires chains { chains ≤ MAX_CHAINS }
         requires passes { (1 ≤ passes) × (passes ≤ MAX_PASSES) }
         ensures ready { IfOk result (λ (t, list).
-            All (λ p. Self.fits t p × IsIdle (Self.view p)) list.items) }
-        ensures count { IfOk result (λ (t, list). length list.items ≡ (Self.opening t).passes) }
+            All (λ p. T.fits t p × IsIdle (T.view p)) list.items) }
+        ensures count { IfOk result (λ (t, list). length list.items ≡ (T.opening t).passes) }
         ensures refused { IfErr result (λ back. IsSettled (state_of back)) };
 
-    /// Closes the table, discards the files that are left, and returns their number, or `None` if
-    /// an allocation fails.
-    fn closed(self, alloc: Global, passes: Vec<Self::Pass>) -> Option<usize>
-        requires all { length passes.items ≡ (Self.opening self).passes }
-        requires ready { All (λ p. Self.fits self p × IsIdle (Self.view p)) passes.items };
+    /// Closes a table, discards the files that are left, and returns their number, or `None` if an
+    /// allocation fails.
+    fn closed(table: T, alloc: Global, passes: Vec<T::Pass>) -> Option<usize>
+        requires all { length passes.items ≡ (T.opening table).passes }
+        requires ready { All (λ p. T.fits table p × IsIdle (T.view p)) passes.items };
 
     /// Checks whether the pass can install a file, after a draw if the table has chains and the
     /// last one has no number left.
-    fn can_install(&self, pass: &mut Self::Pass) -> bool
-        requires { Self.fits self.now pass.old × IsIdle (Self.view pass.old) }
-        ensures ready { Self.fits self.now pass.new × IsIdle (Self.view pass.new) }
-        ensures numbers { IsTrue result → 0 < (Self.view pass.new).numbers_left };
+    fn can_install(table: &T, pass: &mut T::Pass) -> bool
+        requires { T.fits table.now pass.old × IsIdle (T.view pass.old) }
+        ensures ready { T.fits table.now pass.new × IsIdle (T.view pass.new) }
+        ensures numbers { IsTrue result → 0 < (T.view pass.new).numbers_left };
 }
 
-// Opens a table with chains.
-fn open_with_chains<T: FileTable>(
-    alloc: Global,
-    plain: PlainTable,
-    chains: u32,
-    passes: u32,
-) -> Result<(T, Vec<T::Pass>), PlainTable>
-    requires settled { IsSettled (state_of plain) }
-    requires chains { chains ≤ MAX_CHAINS }
-    requires passes { (1 ≤ passes) × (passes ≤ MAX_PASSES) }
-    ensures ready { IfOk result (λ (t, list).
-        All (λ p. T.fits t p × IsIdle (T.view p)) list.items) }
-    ensures count { IfOk result (λ (t, list). length list.items ≡ (T.opening t).passes) }
-    ensures refused { IfErr result (λ back. IsSettled (state_of back)) }
-{
-    match T::open(alloc, plain, chains, passes) {
-        Ok(opened) => Ok(opened),
-        Err((back, _)) => Err(back),
-    }
-}
+/// The tables whose passes draw chains.
+pub(crate) struct Chains;
 
-// Checks whether the pass can install a file, after a draw if its last chain has no number left.
-fn draw_if_needed<T: FileTable>(table: &T, pass: &mut T::Pass) -> bool
-    requires { T.fits table.now pass.old × IsIdle (T.view pass.old) }
-    ensures ready { T.fits table.now pass.new × IsIdle (T.view pass.new) }
-    ensures numbers { IsTrue result → 0 < (T.view pass.new).numbers_left }
-{
-    if table.numbers_left(pass) == 0 {
-        table.draw(pass);
-    }
-    table.numbers_left(pass) > 0
-}
-
-impl Opened for CountedTable {
+impl<T: FileTable> Kind<T> for Chains {
     fn opened(
         alloc: Global,
         plain: PlainTable,
         chains: u32,
         passes: u32,
-    ) -> Result<(CountedTable, Vec<CountedPass>), PlainTable> {
-        open_with_chains::<CountedTable>(alloc, plain, chains, passes)
+    ) -> Result<(T, Vec<T::Pass>), PlainTable> {
+        match T::open(alloc, plain, chains, passes) {
+            Ok(opened) => Ok(opened),
+            Err((back, _)) => Err(back),
+        }
     }
 
-    fn closed(self, _alloc: Global, passes: Vec<CountedPass>) -> Option<usize>
-        requires all { length passes.items ≡ (opening_of_counted self).passes }
-        requires ready { All (λ p. IsPassOfCounted self p × IsIdle (counted_view p)) passes.items }
+    fn closed(table: T, _alloc: Global, passes: Vec<T::Pass>) -> Option<usize>
+        requires all { length passes.items ≡ (T.opening table).passes }
+        requires ready { All (λ p. T.fits table p × IsIdle (T.view p)) passes.items }
     {
-        Some(discard_all(self.close(passes)))
+        Some(discard_all(table.close(passes)))
     }
 
-    fn can_install(&self, pass: &mut CountedPass) -> bool {
-        draw_if_needed(self, pass)
+    fn can_install(table: &T, pass: &mut T::Pass) -> bool {
+        if table.numbers_left(pass) == 0 {
+            table.draw(pass);
+        }
+        table.numbers_left(pass) > 0
     }
 }
 
-impl Opened for BatonTable {
-    fn opened(
-        alloc: Global,
-        plain: PlainTable,
-        chains: u32,
-        passes: u32,
-    ) -> Result<(BatonTable, Vec<BatonPass>), PlainTable> {
-        open_with_chains::<BatonTable>(alloc, plain, chains, passes)
-    }
+/// The tables that last.
+pub(crate) struct Lasts;
 
-    fn closed(self, _alloc: Global, passes: Vec<BatonPass>) -> Option<usize>
-        requires all { length passes.items ≡ (opening_of_baton self).passes }
-        requires ready { All (λ p. IsPassOfBaton self p × IsIdle (baton_view p)) passes.items }
-    {
-        Some(discard_all(self.close(passes)))
-    }
-
-    fn can_install(&self, pass: &mut BatonPass) -> bool {
-        draw_if_needed(self, pass)
-    }
-}
-
-impl Opened for LastingTable {
+impl Kind<LastingTable> for Lasts {
     fn opened(
         alloc: Global,
         plain: PlainTable,
@@ -209,19 +162,19 @@ impl Opened for LastingTable {
         }
     }
 
-    fn closed(self, alloc: Global, mut passes: Vec<LastingPass>) -> Option<usize>
-        requires all { length passes.items ≡ (opening_of_lasting self).passes }
-        requires ready { All (λ p. IsPassOfLasting self p × IsIdle (lasting_view p)) passes.items }
+    fn closed(table: LastingTable, alloc: Global, mut passes: Vec<LastingPass>) -> Option<usize>
+        requires all { length passes.items ≡ (opening_of_table table).passes }
+        requires ready { All (λ p. IsPassOfTable table p × IsIdle (view_of p)) passes.items }
     {
-        let Ok(room) = Vec::with_capacity(alloc, self.size() as usize) else {
+        let Ok(room) = Vec::with_capacity(alloc, table.size() as usize) else {
             while let Some(pass) = passes.pop() {
                 pass.abandon();
             }
             passes.destroy_empty();
-            self.abandon();
+            table.abandon();
             return None;
         };
-        let mut left = self.close(passes, room);
+        let mut left = table.close(passes, room);
         let files = left.len();
         while let Some((_slot, file)) = left.pop() {
             file.discard();
@@ -230,14 +183,15 @@ impl Opened for LastingTable {
         Some(files)
     }
 
-    fn can_install(&self, pass: &mut LastingPass) -> bool {
-        self.numbers_left(pass) > 0
+    fn can_install(table: &LastingTable, pass: &mut LastingPass) -> bool {
+        table.numbers_left(pass) > 0
     }
 }
 
-/// A shared table that is measured.
-pub(crate) struct Shared<T: Opened> {
+/// A shared table that is measured, and its kind.
+pub(crate) struct Shared<T, K> {
     table: T,
+    kind: PhantomData<K>,
 }
 
 /// Discards the files of a table, and returns their number.
@@ -254,7 +208,7 @@ pub(crate) fn discard(file: Option<OpenFile>) {
     }
 }
 
-impl<T: Opened> Subject for Shared<T> {
+impl<T: SharedTable, K: Kind<T>> Subject for Shared<T, K> {
     ghost use Rattle.std.specs.Prelude.{◌≡◌};
     ghost use Rattle.fx_table.specs.Pass.{IsIdle, IsHoldOf};
 
@@ -273,17 +227,18 @@ impl<T: Opened> Subject for Shared<T> {
         plain: PlainTable,
         chains: u32,
         passes: u32,
-    ) -> Result<(Shared<T>, Vec<T::Pass>), PlainTable> {
-        let (table, list) = T::opened(alloc, plain, chains, passes)?;
-        Ok((Shared { table }, list))
+    ) -> Result<(Shared<T, K>, Vec<T::Pass>), PlainTable> {
+        let (table, list) = K::opened(alloc, plain, chains, passes)?;
+        let kind = PhantomData;
+        Ok((Shared { table, kind }, list))
     }
 
     fn close(self, alloc: Global, passes: Vec<T::Pass>) -> Option<usize>
         requires all { length passes.items ≡ (T.opening self.table).passes }
         requires ready { All (λ p. T.fits self.table p × IsIdle (T.view p)) passes.items }
     {
-        let Shared { table } = self;
-        table.closed(alloc, passes)
+        let Shared { table, kind: _ } = self;
+        K::closed(table, alloc, passes)
     }
 
     #[inline(always)]
@@ -308,7 +263,7 @@ impl<T: Opened> Subject for Shared<T> {
     }
 
     fn put<R: Wait>(&self, rt: &R, pass: &mut T::Pass, slot: u32, file: OpenFile) {
-        if slot >= self.table.size() || !self.table.can_install(pass) {
+        if slot >= self.table.size() || !K::can_install(&self.table, pass) {
             file.discard();
             return;
         }
@@ -318,7 +273,7 @@ impl<T: Opened> Subject for Shared<T> {
     }
 
     fn put_any<R: Wait>(&self, rt: &R, pass: &mut T::Pass, file: OpenFile) -> Option<u32> {
-        if !self.table.can_install(pass) {
+        if !K::can_install(&self.table, pass) {
             file.discard();
             return None;
         }

@@ -1,5 +1,5 @@
 use Rattle.std.proofs.Common.{length}
-use Rattle.bench_tables.proofs.shared.LastingTableOpened.closed.Given as goal
+use Rattle.bench_tables.proofs.shared.LastsKindLastingTable.closed.Given as goal
 
 abbrev pub decreases-loop-pass : goal.decreases-loop-pass
 decreases-loop-pass l = length l.passes.items
