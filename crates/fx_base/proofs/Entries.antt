@@ -4,14 +4,15 @@ use Rattle.std.proofs.Common.{None, slice_index_or, slice_get, length-append, ar
 use Rattle.std.proofs.lemmas.List.{get_or-map, length-map}
 use Rattle.std.proofs.lemmas.List.Elements.{All-push}
 use Rattle.std.proofs.lemmas.Option.{slice_get-map, slice_get_past, slice_get_read}
-use Rattle.std.proofs.lemmas.Bool.{cases_lt, or_parts}
+use Rattle.std.proofs.lemmas.Bool.{cases_lt, or_parts, cond_both, leb-false, ltb-false, not-false}
 use Rattle.std.proofs.lemmas.Slice.Eq.{bytes_eq-Decides}
 use Rattle.std.proofs.lemmas.Grind.{common_steps}
 use Rattle.std.specs.Str.{bytes_eq}
-use Rattle.std.specs.Prelude.{IsTrue, cond, ◌||◌}
+use Rattle.std.specs.Prelude.{IsTrue, cond, ◌||◌, ◌==◌, nat_le, nat_lt, not}
 use Rattle.fx_base.specs.Name.{is_name}
 use Rattle.fx_base.specs.Catalogue.{FileEntry, IsCatalogue, name_at, size_at}
-use Rattle.fx_base.specs.AddFault.{has_name}
+use Rattle.fx_base.specs.AddFault.{add_fault_of, has_name}
+use Rattle.fx_base.specs.declared.catalogue.AddFault.{AddFault}
 use Rattle.fx_base.specs.CatalogueView.{file_entries_of, file_entry_of}
 use Rattle.fx_base.specs.declared.catalogue.Entry.{Entry}
 use Rattle.fx_base.specs.declared.catalogue.TheConstants.{MOST_ENTRIES, LONGEST_ENTRY}
@@ -89,6 +90,28 @@ one_more catalogue y good few small named new = record {
   named = All-push (λ (x : FileEntry). IsTrue (is_name x.name)) catalogue y good.named (search (rules, named));
   distinct = still_distinct catalogue y good.distinct new;
 }
+
+-- a file without a fault is within each limit of a catalogue
+pub record HasNoFault (catalogue : List FileEntry) (name bytes : List ℕ) : Type 0 where
+  pub few : length catalogue < MOST_ENTRIES
+  pub named : is_name name ≡ true
+  pub new : has_name name catalogue ≡ false
+  pub small : length bytes ≤ LONGEST_ENTRY
+
+pub no_fault : (catalogue : List FileEntry) (name bytes : List ℕ) → add_fault_of catalogue name bytes ≡ None → HasNoFault catalogue name bytes
+no_fault catalogue name bytes =
+    let Fits : Option AddFault → Type 0 = λ x. x ≡ None → HasNoFault catalogue name bytes in
+    cond_both (nat_le MOST_ENTRIES (length catalogue)) _ _ Fits (λ _ e. absurd (cc e))
+    (λ few. cond_both (length name == 0) _ _ Fits (λ _ e. absurd (cc e))
+    (λ _. cond_both (not (is_name name)) _ _ Fits (λ _ e. absurd (cc e))
+    (λ named. cond_both (has_name name catalogue) _ _ Fits (λ _ e. absurd (cc e))
+    (λ new. cond_both (nat_lt LONGEST_ENTRY (length bytes)) _ _ Fits (λ _ e. absurd (cc e))
+    (λ small _. record {
+      few = leb-false MOST_ENTRIES (length catalogue) few;
+      named = not-false (is_name name) named;
+      new = new;
+      small = ltb-false LONGEST_ENTRY (length bytes) small;
+    })))))
 
 -- a name has 1 to `LONGEST_NAME` bytes
 pub some_bytes : (name : List ℕ) → IsTrue (is_name name) → 1 ≤ length name

@@ -190,20 +190,8 @@ impl Catalogue {
             (self.new ≡ self.old ++ record { name = string_bytes name; bytes = bytes.items } ∷ []) }
         ensures err { OnErr result (self.new ≡ self.old) }
     {
-        if self.entries.len() >= MOST_ENTRIES {
-            return Err(AddFault::TooMany);
-        }
-        if name.is_empty() {
-            return Err(AddFault::EmptyName);
-        }
-        if !is_name(name.as_bytes()) {
-            return Err(AddFault::BadName);
-        }
-        if self.find(name.as_str()).is_some() {
-            return Err(AddFault::SameName);
-        }
-        if bytes.len() > LONGEST_ENTRY {
-            return Err(AddFault::TooLong);
+        if let Some(fault) = self.fault_of(name.as_str(), bytes.as_slice()) {
+            return Err(fault);
         }
         let place = self.entries.len() as u8;
         self.entries.reserve(1)?;
@@ -211,6 +199,28 @@ impl Catalogue {
         self.places.insert(key, place)?;
         self.entries.push_reserved(Entry { name, bytes });
         Ok(())
+    }
+
+    // Returns the first fault of a file that is to be added, or `None`.
+    fn fault_of(&self, name: &str, bytes: &[u8]) -> Option<AddFault>
+        ensures { result ≡ add_fault_of self.now name.now bytes.now }
+    {
+        if self.entries.len() >= MOST_ENTRIES {
+            return Some(AddFault::TooMany);
+        }
+        if name.is_empty() {
+            return Some(AddFault::EmptyName);
+        }
+        if !is_name(name.as_bytes()) {
+            return Some(AddFault::BadName);
+        }
+        if self.find(name).is_some() {
+            return Some(AddFault::SameName);
+        }
+        if bytes.len() > LONGEST_ENTRY {
+            return Some(AddFault::TooLong);
+        }
+        None
     }
 }
 
