@@ -2,7 +2,7 @@
 use Rattle.fx_baton.proofs.Words.{◌≡◌, ℕ, ◌+◌, ◌*◌, ◌<◌, ◌≤◌, Bool, true, false, [], ◌∷◌, map, sym, refl, ap, ◌∙◌, subst, arith, Option, Some, None}
 use Rattle.fx_baton.proofs.Words.{option_map, is_some, not, TableId, rest, Closed, State, Steps, changed_at, Contents, IsTable, state_of, leaving}
 use Rattle.fx_baton.proofs.Words.{Leads, action_of, close_of, ◌▷◌, ◌▷▷◌, numbered, identity_of, closed_by_release, closed_by_retirement, EndsHold}
-use Rattle.fx_baton.proofs.Words.{LetsLeave, File, Look, Release, Put, Clear, Take, Allocate, Full, Close, pass_of_number, number_behind, Opening}
+use Rattle.fx_baton.proofs.Words.{LetsLeave, File, Look, Release, Put, Clear, Take, Allocate, Full, Close, pass_of_number, number_following, Opening}
 use Rattle.fx_baton.proofs.Words.{size_of, PassView, hold_of, next_of, Task, Idle, Holding, Retiring, Log, View, Start, Call, BatonPass, opening_of}
 use Rattle.fx_baton.proofs.Words.{begin_of, IsTurn, view_of, is_idle, HasTable, UsesNext, HasCalled, HasGivenBack, first_own, IsHoldOf, IsRetiredOf}
 use Rattle.fx_baton.proofs.Words.{next_is_its_own, new_here, activity_of, retiring, IsFileHold, retired_of, holds_now, actions_of, doing_of}
@@ -101,9 +101,9 @@ module _ {id : TableId} {k : Start} {u : PassView} {c : Contents} {p : BatonPass
         let a = next_is_its_own (opening_of k) (view_of p) (let e = same_numbers in omega arith) p.count h.seated.turns in
         rw number_is (a.0 ∙ sym h.seated.number, a.1, a.2)
 
-    behind_own : number_behind log.own ≤ number
+    behind_own : number_following log.own ≤ number
     behind_own =
-        let own = ap first_own h.seated.one in let l = h.seated.turns.unused in let e = ap number_behind own in let n = number_is in omega arith
+        let own = ap first_own h.seated.one in let l = h.seated.turns.unused in let e = ap number_following own in let n = number_is in omega arith
 
     owned : pass_of_number view.start.passes number ≡ log.number
     owned = ap (λ (z : Start). pass_of_number z.passes number) same_start ∙ its_own.0

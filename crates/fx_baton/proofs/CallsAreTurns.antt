@@ -2,7 +2,7 @@
 use Rattle.fx_baton.proofs.Words.{◌≡◌, ◌≢◌, ℕ, ◌+◌, ◌-◌, ◌<◌, ◌≤◌, Bool, true, false, cond, List, [], ◌∷◌, map, sym, refl, ap, ◌∙◌, subst, arith, eqb}
 use Rattle.fx_baton.proofs.Words.{◌⊎◌, inl, inr, ⊎_elim, dite, ℕ_discrete, Option, Some, None, not, ◌&&◌, if◌then◌else◌, State, Steps, changed_at}
 use Rattle.fx_baton.proofs.Words.{with_removed, Contents, state_of, leaving, Leads, IsLegal, ReleasesItsOwn, held_by, close_of, ◌▷◌, ◌▷▷◌}
-use Rattle.fx_baton.proofs.Words.{closed_by_release, closed_by_retirement, File, Event, Look, Release, Full, Close, pass_of_number, number_behind}
+use Rattle.fx_baton.proofs.Words.{closed_by_release, closed_by_retirement, File, Event, Look, Release, Full, Close, pass_of_number, number_following}
 use Rattle.fx_baton.proofs.Words.{HasFile, Idle, Holding, Retiring, legal_then, held_mine, one_author, Log, View, begin_of, file_held, file_in_hand}
 use Rattle.fx_baton.proofs.Words.{holds_by, removals_by, leaving_count, Knows, IsTurn, held_after, Task, more_leaving, bit_here, one_more_at}
 use Rattle.fx_baton.proofs.Words.{one_less_at, retiring, by, holds_now}
@@ -53,11 +53,11 @@ module _ {v : View} {x : Log} {c : Contents} (d : Contents) (chain : ℕ) (known
 
   -- a turn uses none of another pass's fresh numbers, and none of its own from its next one on
   abbrev pub UsesOwn : (ℕ → Bool) → ℕ → Type 0
-  UsesOwn fresh next = (number_behind x.own ≤ next)
+  UsesOwn fresh next = (number_following x.own ≤ next)
       × ((n : ℕ) → (pass_of_number v.start.passes n ≡ x.number → next ≤ n) → fresh n ≡ (state_of c).fresh n)
 
   -- a file that a turn installs has the pass's next number
-  pub uses_next : {q : ℕ} → pass_of_number v.start.passes q ≡ x.number → number_behind x.own ≤ q
+  pub uses_next : {q : ℕ} → pass_of_number v.start.passes q ≡ x.number → number_following x.own ≤ q
       → UsesOwn (changed_at (state_of c).fresh q false) (q + 1)
   uses_next {q} its from = (
     omega arith,
@@ -66,7 +66,7 @@ module _ {v : View} {x : Log} {c : Contents} (d : Contents) (chain : ℕ) (known
   )
 
   -- the obligations of a turn that leads to the state `y`
-  turn : (xs : List Action) (doing : Task) (y : State) → state_of d ≡ y → UsesOwn y.fresh (number_behind (x.own ▷▷ done xs))
+  turn : (xs : List Action) (doing : Task) (y : State) → state_of d ≡ y → UsesOwn y.fresh (number_following (x.own ▷▷ done xs))
       → IsLegal (begin_of v.start) (x.front ▷▷ done xs) (state_of d)
       → ((n : ℕ) → y.holds n + holds_by n v.doing ≡ (state_of c).holds n + holds_by n doing)
       → ((n : ℕ) → leaving_count d n + removals_by n v.doing ≡ leaving_count c n + removals_by n doing)
@@ -90,7 +90,7 @@ module _ {v : View} {x : Log} {c : Contents} (d : Contents) (chain : ℕ) (known
     -- an action that changes nothing
     still_turn : {a : Action} → Steps (state_of c) a (state_of d) → state_of d ≡ state_of c → leaving d ≡ leaving c
         → ReleasesItsOwn (held_by x.front x.number) a → held_by (x.front ▷▷ done (a ∷ [])) x.number ≡ None
-        → number_behind (x.own ▷▷ done (a ∷ [])) ≡ number_behind x.own → IsTurn v x c d (done (a ∷ [])) Idle
+        → number_following (x.own ▷▷ done (a ∷ [])) ≡ number_following x.own → IsTurn v x c d (done (a ∷ [])) Idle
     still_turn {a} step same leaves own now unused = turn (a ∷ []) Idle (state_of c) same (omega arith, λ n _. refl) (legal_one step own)
         (λ n. let b = ap (holds_by n) idle in omega arith) (none_leaves idle leaves) (λ f i _. i) now (λ g e. absurd (none_file g e))
 
@@ -121,7 +121,7 @@ module _ {v : View} {x : Log} {c : Contents} (d : Contents) (chain : ℕ) (known
           removed = with_removed (state_of c).removed found;
         }
         → found ≡ (state_of c).at slot → leaving d ≡ more_leaving (leaving c) found → ReleasesItsOwn (held_by x.front x.number) a
-        → ((h : Option File) → held_after h a ≡ h) → UsesOwn fresh (number_behind (x.own ▷▷ done (a ∷ [])))
+        → ((h : Option File) → held_after h a ≡ h) → UsesOwn fresh (number_following (x.own ▷▷ done (a ∷ [])))
         → IsTurn v x c d (done (a ∷ [])) (retiring found 0)
     slot_turn a slot new found fresh step now is leaves own still uses =
         let apart = apart_from c known.sound slot found is in turn (a ∷ []) (retiring found 0) _ now uses (legal_one step own)

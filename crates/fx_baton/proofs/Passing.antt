@@ -1,10 +1,10 @@
 -- A pass that takes the table, and one that puts it back.
 use Rattle.fx_baton.proofs.Words.{◌≡◌, ℕ, ◌+◌, ◌-◌, ◌*◌, ◌≤◌, Bool, List, [], ◌∷◌, ◌++◌, map, sym, refl, ap, ◌∙◌, subst, arith, Option, Some, None}
 use Rattle.fx_baton.proofs.Words.{TableId, Seat, State, Contents, state_of, IsLegal, IsSeenBy, part_of_pass, close_of, ◌▷◌, ◌▷▷◌, closed_by_release}
-use Rattle.fx_baton.proofs.Words.{closed_by_retirement, File, Event, Release, number_behind, state_at, PassView, IsFront, next_of, HasDrawnInTurn}
+use Rattle.fx_baton.proofs.Words.{closed_by_retirement, File, Event, Release, number_following, state_at, PassView, IsFront, next_of, HasDrawnInTurn}
 use Rattle.fx_baton.proofs.Words.{Task, Holding, Retiring, seen_again, seen_further, part_mine, Log, View, Start, Call, BatonPass, Seated, opening_of}
-use Rattle.fx_baton.proofs.Words.{begin_of, Takes, lent_view, log_behind, view_behind, first_front, first_own, view_of, IsPassOf, HasTable}
-use Rattle.fx_baton.proofs.Words.{HasSeenMore, UsesNext, HasCalled, HasGivenBack, pass_behind, activity_of, by, actions_of, doing_of, use_of}
+use Rattle.fx_baton.proofs.Words.{begin_of, Takes, lent_view, log_after, view_after, first_front, first_own, view_of, IsPassOf, HasTable}
+use Rattle.fx_baton.proofs.Words.{HasSeenMore, UsesNext, HasCalled, HasGivenBack, pass_after, activity_of, by, actions_of, doing_of, use_of}
 use Rattle.fx_baton.proofs.Words.{events_of, table_of_seats, table_of_loan}
 use Rattle.fx_table.specs.Calls.{Adds}
 use Rattle.fx_baton.specs.declared.view.Call.TheVariants.{Look as LookCall, Release as ReleaseCall, Retire as RetireCall}
@@ -57,19 +57,19 @@ module _ {id : TableId} {k : Start} {p : BatonPass} (fits : IsPassOf id k p) (se
   has_table = subst (λ (m : Seated). HasTable id k (view_of p) (table_of_seats m.1) (table_of_seats m.1) (took m)) is_me took_table
 
 -- a close installs nothing
-next_close : (p chain : ℕ) (o : Option File) (own : List Event) → number_behind (map (by p chain) (close_of o) ++ own) ≡ number_behind own
+next_close : (p chain : ℕ) (o : Option File) (own : List Event) → number_following (map (by p chain) (close_of o) ++ own) ≡ number_following own
 next_close p chain None own = refl
 next_close p chain (Some f) own = refl
 
 next_release : (p chain : ℕ) (f : File) (o : Option File) (own : List Event)
-    → number_behind (map (by p chain) ([] ▷ Release f ▷▷ close_of o) ++ own) ≡ number_behind own
+    → number_following (map (by p chain) ([] ▷ Release f ▷▷ close_of o) ++ own) ≡ number_following own
 next_release p chain f None own = refl
 next_release p chain f (Some g) own = refl
 
 -- the pass's numbers after a call
-next_behind : (c : Contents) (v : PassView) (now : ℕ) (doing : Task) (call : Call) (own : List Event) → number_behind own ≤ next_of v
+next_behind : (c : Contents) (v : PassView) (now : ℕ) (doing : Task) (call : Call) (own : List Event) → number_following own ≤ next_of v
     → v.numbers_left ≤ 64 * v.chain → now + (use_of call).numbers ≡ v.numbers_left → UsesNext v call
-    → number_behind (events_of c v.number v.chain doing call ++ own) ≤ (256 + 64 * v.chain) - now
+    → number_following (events_of c v.number v.chain doing call ++ own) ≤ (256 + 64 * v.chain) - now
 next_behind c v now doing (LookCall slot) own next inside used uses = omega arith
 next_behind c v now (Holding f) ReleaseCall own next inside used uses =
     let e = next_release v.number v.chain f (closed_by_release c f.number) own in omega arith
@@ -80,7 +80,7 @@ next_behind c v now _ _ own next inside used uses = omega arith
 module _ {id : TableId} {k : Start} {call : Call} {idle : Bool} {p : BatonPass} (t : HasCalled id k call idle p) (seat : Seat Contents View)
     (table : seat.table_id ≡ p.seat.table_id)
     (me_is : seat.me ≡ (
-      view_behind p.seat.me.0 (events_of (table_of_loan p.seat.me.0.loan) p.number p.chain p.seat.me.0.doing call)
+      view_after p.seat.me.0 (events_of (table_of_loan p.seat.me.0.loan) p.number p.chain p.seat.me.0.doing call)
           (doing_of (table_of_loan p.seat.me.0.loan) call),
       [],
     )) where
@@ -92,10 +92,10 @@ module _ {id : TableId} {k : Start} {call : Call} {idle : Bool} {p : BatonPass} 
 
   -- the seat now, and the pass with such a seat
   abbrev seated : Seated
-  seated = (record (p.seat.me.0) { logs = log_behind es before ∷ []; doing = doing_of t.taken call; loan = None }, [])
+  seated = (record (p.seat.me.0) { logs = log_after es before ∷ []; doing = doing_of t.taken call; loan = None }, [])
 
   abbrev gave : Seated → BatonPass
-  gave m = pass_behind p call idle (record seat { me = m })
+  gave m = pass_after p call idle (record seat { me = m })
 
   is_seated : seat.me ≡ seated
   is_seated = me_is ∙ simp (t.has.loan, t.has.seated.one)
@@ -115,7 +115,7 @@ module _ {id : TableId} {k : Start} {call : Call} {idle : Bool} {p : BatonPass} 
       let s = t.has.seated.turns in let used = t.numbers in let few = s.few_left in
       let left : ℕ = p.numbers_left - (use_of call).numbers in let few_left : left ≤ 64 = omega arith in
       let inside = s.left_inside in let left_inside : left ≤ 64 * p.chain = omega arith in
-      let own = ap (λ (l : List Log). number_behind (first_own l)) t.has.seated.one in let next = s.unused in
+      let own = ap (λ (l : List Log). number_following (first_own l)) t.has.seated.one in let next = s.unused in
       let unused = next_behind t.taken (view_of p) left p.seat.me.0.doing call before.own (omega arith) inside (omega arith) t.uses in
       assumption (few_left, left_inside, unused, s)
 
@@ -126,7 +126,7 @@ module _ {id : TableId} {k : Start} {call : Call} {idle : Bool} {p : BatonPass} 
     free = refl;
     passes = t.has.passes;
     seated = record {
-      log = log_behind es before;
+      log = log_after es before;
       one = refl;
       number = s.number;
       start = s.start;
@@ -155,7 +155,7 @@ module _ {id : TableId} {k : Start} {call : Call} {idle : Bool} {p : BatonPass} 
       (activity_of (doing_of z.1 call)) (use_of call) (view_of (gave seated))) (λ i. (h.more.same i, same i)) adds_here in
       let seen = seen_further u.front (view_of p).front (view_of (gave seated)).front h.more.seen adds_here.seen in assumption (seen, saw)
 
-  pub gives_back : HasGivenBack id k call p (pass_behind p call idle seat)
+  pub gives_back : HasGivenBack id k call p (pass_after p call idle seat)
   gives_back = subst (λ (m : Seated). HasGivenBack id k call p (gave m)) (sym is_seated) record {
     fits = fits_again;
     adds = adds_so;

@@ -1,6 +1,6 @@
 -- A step of one seat keeps the rule: the logs of a pass in views, and the counts of its activity.
 use Rattle.fx_baton.proofs.Words.{◌≡◌, ℕ, ◌+◌, ◌≤◌, Bool, true, false, cond, List, map, ap, arith, eqb, ◌⊎◌, Some, Contains, File, Event, Task}
-use Rattle.fx_baton.proofs.Words.{bit_here, one_if, sum_map, sum_of, Log, logs_of, file_in_hand, holds_by, removals_by, log_behind, changed_at, ◌≢◌}
+use Rattle.fx_baton.proofs.Words.{bit_here, one_if, sum_map, sum_of, Log, logs_of, file_in_hand, holds_by, removals_by, log_after, changed_at, ◌≢◌}
 use Rattle.fx_baton.proofs.Words.{◌<◌, length, set, sym, refl, ◌∙◌, subst, inl, inr, ⊎_elim, some, get_elem?, sum_by, Contains-append_cases, at_set}
 use Rattle.fx_baton.proofs.Words.{set_else, Contents, state_of, leaving, IsTable, IsLegal, ◌▷▷◌, pass_of_number, HasFile, seen_further, part_other}
 use Rattle.fx_baton.proofs.Words.{held_other, sum_set, sum_at, sum_two, View, Start, Shared, begin_of, leaving_count, IsLog, IsView, IsHome, IsAway}
@@ -27,8 +27,8 @@ one_true l = grind arith
 pub some_log : {p : ℕ} (xs : List Log) {x : Log} → Contains xs x → x.number ≡ p → 1 ≤ logs_of p xs
 some_log {p} xs {x} h e = let a = sum_of (λ (y : Log). cond {A = ℕ} (eqb y.number p) 1 0) xs x h in let b = bit_here p x.number e in omega arith
 
-pub logs_behind : (p : ℕ) (es : List Event) (xs : List Log) → logs_of p (map (log_behind es) xs) ≡ logs_of p xs
-logs_behind p es xs = sum_map (λ (x : Log). one_if (eqb x.number p)) (log_behind es) xs
+pub logs_after : (p : ℕ) (es : List Event) (xs : List Log) → logs_of p (map (log_after es) xs) ≡ logs_of p xs
+logs_after p es xs = sum_map (λ (x : Log). one_if (eqb x.number p)) (log_after es) xs
 
 -- a file with which a pass has to do is counted among the held or among the leaving ones
 pub hand_is_counted : (d : Task) {f : File} → file_in_hand d ≡ Some f → (1 ≤ holds_by f.number d) ⊎ (1 ≤ removals_by f.number d)

@@ -5,12 +5,12 @@ use Rattle.fx_baton.proofs.Words.{⊎_elim, some, none, get_elem?, None, Contain
 use Rattle.fx_baton.proofs.Words.{Event, seen_again, contains_none, contains_head, contains_only, sum_at, sum_le_at, Log, View, Start, Shared, Seated}
 use Rattle.fx_baton.proofs.Words.{begin_of, logs_of, holds_by, removals_by, HasFreshNumbers, IsLog, IsView, IsHome, IsAway, IsKept, Knows, lent_view}
 use Rattle.fx_baton.proofs.Words.{Grabs, Allows, ◌≢◌, true, ◌++◌, map, dite, ℕ_discrete, some-injective, Some, gives, at_set, IsTable, IsSeenBy}
-use Rattle.fx_baton.proofs.Words.{held_by, ◌▷▷◌, Task, pass_of_number, log_behind, view_behind, Gives, IsTurn, part_mine, set_here, stands_at}
+use Rattle.fx_baton.proofs.Words.{held_by, ◌▷▷◌, Task, pass_of_number, log_after, view_after, PutsBack, IsTurn, part_mine, set_here, stands_at}
 use Rattle.fx_baton.proofs.Words.{none-some}
 use Rattle.std.proofs.lemmas.List.{set-get_or, length-map}
 use prog.Atomic.{either}
 use Rattle.fx_table.proofs.SumLemmas.{contains_alone}
-use Rattle.fx_baton.proofs.StepsKeepRule.{holds_small, Turns, keeps_rule, logs_behind}
+use Rattle.fx_baton.proofs.StepsKeepRule.{holds_small, Turns, keeps_rule, logs_after}
 
 -- a seat with one pass
 pub only_log : {xs : List Log} {x y : Log} → xs ≡ x ∷ [] → Contains xs y → y ≡ x
@@ -136,10 +136,10 @@ may_exchange k id {me} s m free {x} one =
 module _ (k : Start) (id : ℕ) (v : View) (x : Log) (one : v.logs ≡ x ∷ []) (c d : Contents) (has : v.loan ≡ Some c) (es : List Event)
     (doing : Task) (sound : IsTable d) (turn : IsTurn v x c d es doing) where
   abbrev w : View
-  w = view_behind v es doing
+  w = view_after v es doing
 
-  given_one : w.logs ≡ log_behind es x ∷ []
-  given_one = ap (map (log_behind es)) one
+  given_one : w.logs ≡ log_after es x ∷ []
+  given_one = ap (map (log_after es)) one
 
   module _ (s : Shared) (r : IsKept k s) (at : get_elem? s.views id ≡ some v) (away : IsAway r.contents r.history s) where
     held_it : id ≡ away.holder
@@ -183,15 +183,15 @@ module _ (k : Start) (id : ℕ) (v : View) (x : Log) (one : v.logs ≡ x ∷ [])
               seen = subst (λ (z : List Event). IsSeenBy (x.front ▷▷ es) z) longer_is (seen_again (x.front ▷▷ es));
               own = part_mine x.number es r.history turn.authors ∙ ap (λ (l : List Event). es ++ l) ((r.views id v at).logs x (contains_alone one)).own;
               held = ap (λ (z : List Event). held_by z x.number) (sym longer_is) ∙ turn.now;
-              fresh = subst (λ (z : Start). HasFreshNumbers z (state_of d) (log_behind es x)) same_start turn.fresh;
+              fresh = subst (λ (z : Start). HasFreshNumbers z (state_of d) (log_after es x)) same_start turn.fresh;
             };
         file = turn.file;
         empty = λ e. absurd (not_empty given_one e);
         start = inr same_start;
       };
       known = refl;
-      numbers = λ p. logs_behind p es v.logs;
-      count = length-map v.logs (log_behind es);
+      numbers = λ p. logs_after p es v.logs;
+      count = length-map v.logs (log_after es);
       held = here.held;
       leaves = here.leaves;
       files = here.files;
@@ -199,7 +199,7 @@ module _ (k : Start) (id : ℕ) (v : View) (x : Log) (one : v.logs ≡ x ∷ [])
           (here.others n);
     }
 
-  pub give_keeps : Allows (IsKept k) 1 id (v, (0, d) ∷ []) 0 (λ _. 1) (λ _. Gives es doing (step 1 0 1 0 none) (v, (0, d) ∷ []) 1)
+  pub give_keeps : Allows (IsKept k) 1 id (v, (0, d) ∷ []) 0 (λ _. 1) (λ _. PutsBack es doing (step 1 0 1 0 none) (v, (0, d) ∷ []) 1)
   give_keeps s r wide at small = ⊎_elim
       (λ (home : IsHome r.contents s). absurd (none-some c (sym (home.2 id v at) ∙ has)))
       (λ (away : IsAway r.contents r.history s). (
@@ -214,7 +214,7 @@ module _ (k : Start) (id : ℕ) (v : View) (x : Log) (one : v.logs ≡ x ∷ [])
 pub may_store : (k : Start) {slots : ℕ} (id : ℕ) {me : Seated} {v : View} {d : Contents} {es : List Event} {doing : Task} → slots ≡ 1
     → me ≡ (v, (0, d) ∷ [])
     → {x : Log} {c : Contents} → v.logs ≡ x ∷ [] → v.loan ≡ Some c → IsTable d → IsTurn v x c d es doing → Allows (IsKept k) slots id me 0 (λ _. 1)
-    (λ _. Gives es doing (step slots 0 1 0 none) me 1)
+    (λ _. PutsBack es doing (step slots 0 1 0 none) me 1)
 may_store k id {v} {d} {es} {doing} s m {x} {c} one has sound turn =
-    let P : ℕ × Seated → Type 0 = λ z. Allows (IsKept k) z.0 id z.1 0 (λ _. 1) (λ _. Gives es doing (step z.0 0 1 0 none) z.1 1) in
+    let P : ℕ × Seated → Type 0 = λ z. Allows (IsKept k) z.0 id z.1 0 (λ _. 1) (λ _. PutsBack es doing (step z.0 0 1 0 none) z.1 1) in
     subst P (λ i. (sym s i, sym m i)) (give_keeps k id v x one c d has es doing sound turn)

@@ -6,10 +6,10 @@ pub use Rattle.atomic_table.specs.declared.shared.Seat.{Seat}
 pub use Rattle.fx_base.specs.declared.open_file.Closed.{Closed}
 pub use Rattle.fx_baton.specs.Lives.{IsIdleSeatOf, IsNewPass, dealt, logs_in}
 pub use Rattle.fx_baton.specs.Passes.{HasCalled, HasGivenBack, HasSeenMore, HasTable, IsPassOf, UsesNext, first_front, first_own, is_idle, next_of}
-pub use Rattle.fx_baton.specs.Passes.{pass_behind, view_of}
-pub use Rattle.fx_baton.specs.Rule.{Gives, Grabs, HasFreshNumbers, IsAway, IsHome, IsKept, IsLog, IsTurn, IsView, Knows, Seated, Shared, Takes}
+pub use Rattle.fx_baton.specs.Passes.{pass_after, view_of}
+pub use Rattle.fx_baton.specs.Rule.{PutsBack, Grabs, HasFreshNumbers, IsAway, IsHome, IsKept, IsLog, IsTurn, IsView, Knows, Seated, Shared, Takes}
 pub use Rattle.fx_baton.specs.Rule.{begin_of, empty_view, file_held, file_in_hand, first_view, holds_by, joined_view, leaving_count, lent_view}
-pub use Rattle.fx_baton.specs.Rule.{log_behind, logs_of, new_log, opening_of, removals_by, view_behind, view_of_first, view_without_first}
+pub use Rattle.fx_baton.specs.Rule.{log_after, logs_of, new_log, opening_of, removals_by, view_after, view_of_first, view_without_first}
 pub use Rattle.fx_baton.specs.Tables.{IsPassOfTable}
 pub use Rattle.fx_baton.specs.declared.pass.BatonPass.{BatonPass}
 pub use Rattle.fx_baton.specs.declared.view.Call.{Call}
@@ -34,7 +34,7 @@ pub use Rattle.fx_table.proofs.Chains.{all_are_drawn, drawn_few, drawn_inside, n
 pub use Rattle.fx_table.proofs.Chains.{AreDealt}
 pub use Rattle.fx_table.specs.Closing.{ClosesTable, times_drawn}
 pub use Rattle.fx_table.specs.Files.{HasFile}
-pub use Rattle.fx_table.specs.Numbers.{chains_of_pass, number_behind, numbers_for, pass_of_chain, pass_of_number, once}
+pub use Rattle.fx_table.specs.Numbers.{chains_of_pass, number_following, numbers_for, pass_of_chain, pass_of_number, once}
 pub use Rattle.fx_table.specs.Opening.{HasSameFiles, Opening, size_of, state_at}
 pub use Rattle.fx_table.specs.Pass.{IsFront, IsHoldOf, IsRetiredOf, PassView, hold_of, new_pass, IsFileHold, retired_of}
 pub use Rattle.fx_table.specs.Turns.{HasDrawnInTurn}

@@ -11,7 +11,7 @@ use Rattle.fx_baton.specs.declared.view.Log.{Log}
 use Rattle.fx_baton.specs.declared.view.View.{View}
 use Rattle.fx_baton.specs.declared.view.Start.{Start}
 use Rattle.fx_baton.specs.Rule.{IsKept, view_without_first, view_of_first, joined_view, empty_view}
-use Rattle.fx_baton.specs.Rule.{Grabs, Gives, IsTurn}
+use Rattle.fx_baton.specs.Rule.{Grabs, PutsBack, IsTurn}
 
 abbrev pub SplitsKeep : Type 0
 SplitsKeep =
@@ -41,8 +41,8 @@ GrabsKeep =
     (Grabs (step 1 0 1 0 none) (v, []))
 
 -- the word becomes 1
-abbrev pub GivesKeep : Type 0
-GivesKeep =
+abbrev pub PutsBackKeep : Type 0
+PutsBackKeep =
     (k : Start) (id : ℕ) (v : View) (x : Log)
     → v.logs ≡ x ∷ []
     → (c d : Contents)
@@ -51,4 +51,4 @@ GivesKeep =
     → IsTable d
     → IsTurn v x c d events doing
     → Allows (IsKept k) 1 id (v, (0, d) ∷ []) 0 (λ _. 1)
-    (λ _. Gives events doing (step 1 0 1 0 none) (v, (0, d) ∷ []) 1)
+    (λ _. PutsBack events doing (step 1 0 1 0 none) (v, (0, d) ∷ []) 1)

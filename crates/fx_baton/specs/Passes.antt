@@ -44,8 +44,8 @@ view_of p = record {
 }
 
 -- the pass with another seat, after a call
-abbrev pub pass_behind : BatonPass → Call → Bool → Seat Contents View → BatonPass
-pass_behind p call idle seat = record p {
+abbrev pub pass_after : BatonPass → Call → Bool → Seat Contents View → BatonPass
+pass_after p call idle seat = record p {
   seat = seat;
   numbers_left = p.numbers_left - (use_of call).numbers;
   looks_left = p.looks_left - (use_of call).looks;

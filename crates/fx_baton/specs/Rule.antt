@@ -12,7 +12,7 @@ use Rattle.fx_plain.specs.History.{IsLegal, IsSeenBy, part_of_pass, held_by, ◌
 use Rattle.fx_plain.specs.declared.event.File.{File}
 use Rattle.fx_plain.specs.declared.event.Event.{Event}
 use Rattle.fx_table.specs.declared.limits.TheConstants.{FIRST_CHAIN_NUMBER, MAX_PASSES}
-use Rattle.fx_table.specs.Numbers.{numbers_for, number_behind, once, pass_of_number}
+use Rattle.fx_table.specs.Numbers.{numbers_for, number_following, once, pass_of_number}
 use Rattle.fx_table.specs.Files.{HasFile}
 use Rattle.fx_table.specs.Opening.{Opening, opening_with, start_of}
 use Rattle.fx_table.specs.declared.values.Task.{Task}
@@ -114,7 +114,7 @@ leaving_count c n = if leaving c n then 1 else 0
 -- the pass's numbers after the last one that it used are fresh
 abbrev pub HasFreshNumbers : Start → State → Log → Type 0
 HasFreshNumbers k st x =
-    (n : ℕ) → FIRST_CHAIN_NUMBER ≤ n → number_behind x.own ≤ n → n < numbers_for k.chains
+    (n : ℕ) → FIRST_CHAIN_NUMBER ≤ n → number_following x.own ≤ n → n < numbers_for k.chains
     → pass_of_number k.passes n ≡ x.number → st.fresh n ≡ true
 
 -- the agreement of the history with one pass of a seat
@@ -199,15 +199,15 @@ Grabs st m found m' =
     ((found ≡ 1) × ((x : Log) → m.0.logs ≡ x ∷ [] → Takes m x m')) ⊎ ((found ≢ 1) × (m' ≡ m))
 
 -- a pass after these events of its own
-abbrev pub log_behind : List Event → Log → Log
-log_behind es x = record x { front = x.front ▷▷ es; own = x.own ▷▷ es }
+abbrev pub log_after : List Event → Log → Log
+log_after es x = record x { front = x.front ▷▷ es; own = x.own ▷▷ es }
 
 -- the view of a pass that put the table back
-abbrev pub view_behind : View → List Event → Task → View
-view_behind v es doing = record v { logs = map (log_behind es) v.logs; doing = doing; loan = None }
+abbrev pub view_after : View → List Event → Task → View
+view_after v es doing = record v { logs = map (log_after es) v.logs; doing = doing; loan = None }
 
-abbrev pub Gives : List Event → Task → Step Contents → Seated → ℕ → Seated → Type 0
-Gives es doing st m found m' = (m'.0 ≡ view_behind m.0 es doing) × (m'.1 ≡ [])
+abbrev pub PutsBack : List Event → Task → Step Contents → Seated → ℕ → Seated → Type 0
+PutsBack es doing st m found m' = (m'.0 ≡ view_after m.0 es doing) × (m'.1 ≡ [])
 
 -- the condition for a seat with one pass to put the table c back as d, after the events es
 pub record IsTurn (v : View) (x : Log) (c d : Contents) (es : List Event) (doing : Task)
@@ -224,6 +224,6 @@ pub record IsTurn (v : View) (x : Log) (c d : Contents) (es : List Event) (doing
   pub now : held_by (x.front ▷▷ es) x.number ≡ file_held doing
   pub file : (f : File) → file_in_hand doing ≡ Some f → HasFile (state_of d) f
   -- it used no fresh numbers but its own
-  pub fresh : HasFreshNumbers v.start (state_of d) (log_behind es x)
+  pub fresh : HasFreshNumbers v.start (state_of d) (log_after es x)
   pub others : (n : ℕ) → pass_of_number v.start.passes n ≢ x.number → (state_of c).fresh n ≡ true
       → (state_of d).fresh n ≡ true

@@ -76,9 +76,9 @@ pub struct Give<U> {
 }
 
 impl<U: Turn> Play<PlainTable, View> for Give<U> {
-    ghost use Rattle.fx_baton.specs.Rule.{Gives};
+    ghost use Rattle.fx_baton.specs.Rule.{PutsBack};
 
-    ghost then = { Gives U.events U.doing };
+    ghost then = { PutsBack U.events U.doing };
 }
 
 /// A step that changes nothing. It yields that the rule holds in some state with this seat in it.

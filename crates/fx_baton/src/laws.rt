@@ -1,6 +1,6 @@
 //! The law of each kind of step: if the rule holds before the step, it holds after it, whatever the
 //! table and the other passes are. Each is the contract of a function with an empty body.
-ghost use Rattle.fx_baton.specs.Laws.{SplitsKeep, JoinsKeep, GrabsKeep, GivesKeep};
+ghost use Rattle.fx_baton.specs.Laws.{SplitsKeep, JoinsKeep, GrabsKeep, PutsBackKeep};
 
 /// States that splitting a pass off an idle seat keeps the rule.
 #[tactic(auto, using(crate::proofs::SeatsKeepRule::may_split))]
@@ -23,5 +23,5 @@ pub fn grab_keeps_rule()
 /// States that a seat with one pass that puts the table back keeps the rule, if the pass's events
 /// are a turn.
 pub fn give_keeps_rule()
-    ensures { GivesKeep }
+    ensures { PutsBackKeep }
 {}

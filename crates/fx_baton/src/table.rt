@@ -4,9 +4,9 @@ ghost use Rattle.fx_plain.specs.declared.table.TheConstants.{MOST_SLOTS};
 ghost use Rattle.fx_table.specs.declared.limits.TheConstants.{MAX_CHAINS, MAX_PASSES};
 ghost use Rattle.fx_table.specs.Opening.{size_of, range_of};
 ghost use Rattle.fx_baton.specs.declared.view.Log.{Log};
-ghost use Rattle.fx_baton.specs.Rule.{Takes, opening_of, view_behind};
+ghost use Rattle.fx_baton.specs.Rule.{Takes, opening_of, view_after};
 ghost use Rattle.fx_baton.specs.Turns.{table_of_seats, use_of};
-ghost use Rattle.fx_baton.specs.Passes.{view_of, pass_behind, IsPassOf, HasTable, HasPlayed, HasCalled, HasGivenBack};
+ghost use Rattle.fx_baton.specs.Passes.{view_of, pass_after, IsPassOf, HasTable, HasPlayed, HasCalled, HasGivenBack};
 
 use crate::kinds::{Give, Grab, OneHistory, Turn};
 use crate::pass::BatonPass;
@@ -73,8 +73,8 @@ impl BatonTable {
         requires numbers { (use_of call).numbers ≤ pass.old.numbers_left }
         requires looks { (use_of call).looks ≤ pass.old.looks_left }
         ensures table { pass.new.seat.table_id ≡ pass.old.seat.table_id }
-        ensures me { pass.new.seat.me ≡ (view_behind pass.old.seat.me.0 U.events U.doing, []) }
-        ensures pass { pass.new ≡ pass_behind pass.old call idle pass.new.seat }
+        ensures me { pass.new.seat.me ≡ (view_after pass.old.seat.me.0 U.events U.doing, []) }
+        ensures pass { pass.new ≡ pass_after pass.old call idle pass.new.seat }
     {
         self.table.shared.store::<Give<U>>(&mut pass.seat, 0, 1);
         let (numbers, looks) = used(call);

@@ -1,14 +1,14 @@
 -- Submissions without a fault, and the first fault of the others.
 use Rattle.fx_chain.proofs.Words.{◌≡◌, ℕ, ◌+◌, ◌*◌, ◌≤◌, List, [], ◌∷◌, ◌++◌, length, take, drop, refl, sym, ap, ◌∙◌, All, subst, arith, Option, Some}
 use Rattle.fx_chain.proofs.Words.{None, false, ltb-false, sum_by-cons, append-nil, append_assoc, All-head, All-tail, IsAccepted, slice_index_or, suc}
-use Rattle.fx_chain.proofs.Words.{IsWithinLimits, Operation, Updates, Asked, runs_of, weight_of, take-append-drop, all_weights, fault_behind}
+use Rattle.fx_chain.proofs.Words.{IsWithinLimits, Operation, Updates, Asked, runs_of, weight_of, take-append-drop, all_weights, fault_of_next}
 use Rattle.fx_chain.proofs.Words.{first_fault, or_later, is_long_update, CutFault, MOST_MEMBERS, MAX_CHAINS, inl, map, flat_map, take_at, drop_at}
 use Rattle.fx_chain.proofs.Words.{All-nil, All-cons, All-take, All-drop, IsShortRun, IsChain, members_of, chains_from, chains_of, but_last}
 use Rattle.fx_chain.proofs.Words.{all_installs, CHAIN_NUMBERS, ◌<◌, ◌==◌, ◌||◌, nat_lt, ℤ, list_any, ◌⊎◌, inr, HasNoFault, IsFirstFault, fault_of}
 use Rattle.fx_chain.proofs.Words.{drop-cons, slot_refusal, list_refusal}
 use Rattle.fx_chain.specs.declared.fault.CutKind.{CutKind}
 use Rattle.fx_chain.specs.declared.request.TheConstants.{LONGEST_UPDATE}
-use Rattle.fx_chain.proofs.Counted.{AreCounts, IsFine, counted_none, counted_step, fault_behind-counted, fine, all_installs-push}
+use Rattle.fx_chain.proofs.Counted.{AreCounts, IsFine, counted_none, counted_step, fault_of_next-counted, fine, all_installs-push}
 use Rattle.std.proofs.lemmas.List.{length-append}
 use Rattle.fx_chain.proofs.Runs.{IsLinked, IsOver, HasMembers, are_runs, IsClosed, IsClosed-append, but_last-last, open_run-closed}
 use Rattle.fx_chain.specs.Refusal.{is_bad_entry}
@@ -33,12 +33,12 @@ pub record Passes (front : List Asked) (r : Asked) : Type 0 where
 counts_none : Counts []
 counts_none = record { chains = 0; members = 0; installs = 0; is = counted_none }
 
-counts_more : {front : List Asked} (r : Asked) → Counts front → fault_behind front r ≡ None → Counts (front ++ r ∷ [])
+counts_more : {front : List Asked} (r : Asked) → Counts front → fault_of_next front r ≡ None → Counts (front ++ r ∷ [])
 counts_more r counts none = record {
   chains = _;
   members = _;
   installs = _;
-  is = counted_step r counts.is (sym (fault_behind-counted r counts.is) ∙ none);
+  is = counted_step r counts.is (sym (fault_of_next-counted r counts.is) ∙ none);
 }
 
 -- if no request has a fault, those before are counted, and those after them have none
@@ -46,7 +46,7 @@ counts_all : (front more behind : List Asked) → Counts front → first_fault f
     → Counts (front ++ more) × (first_fault (front ++ more) behind ≡ None)
 counts_all front [] behind counts none = rw append-nil (counts, none)
 counts_all front (x ∷ more) behind counts none =
-    let parts = or_later-none (length front + 1) (fault_behind front x) (first_fault (front ++ x ∷ []) (more ++ behind)) none in
+    let parts = or_later-none (length front + 1) (fault_of_next front x) (first_fault (front ++ x ∷ []) (more ++ behind)) none in
     rw (append_assoc front (x ∷ []) more) at (counts_all (front ++ x ∷ []) more behind (counts_more x counts parts.0) parts.1)
 
 counts_of : (requests : List Asked) → IsAccepted requests → Counts requests
@@ -58,7 +58,7 @@ passes_at front r behind accepted =
     let (counts, none) = counts_all [] front (r ∷ behind) counts_none accepted in
     record {
       counts = counts;
-      is_fine = fine counts.chains counts.members counts.installs r (sym (fault_behind-counted r counts.is) ∙ (or_later-none _ _ _ none).0);
+      is_fine = fine counts.chains counts.members counts.installs r (sym (fault_of_next-counted r counts.is) ∙ (or_later-none _ _ _ none).0);
     }
 
 -- there are no more runs than a submission may have chains
@@ -197,14 +197,14 @@ last_or_before (y ∷ front) (z ∷ more) behind x r is = elim (last_or_before f
   | inr (rest, parts) ↦ inr (rest, cc)
 ]
 
-none_more : (front : List Asked) (x : Asked) → HasNoFault front → fault_behind front x ≡ None → HasNoFault (front ++ x ∷ [])
+none_more : (front : List Asked) (x : Asked) → HasNoFault front → fault_of_next front x ≡ None → HasNoFault (front ++ x ∷ [])
 none_more front x none here more r behind is = grind (arith, last_or_before)
 
 first_behind : (front list : List Asked) → HasNoFault front
     → MatchOption (first_fault front list) (HasNoFault (front ++ list)) (IsFirstFault (front ++ list))
 first_behind front [] none = subst HasNoFault (sym (append-nil front)) none
 first_behind front (x ∷ list) none =
-    elim (fault_behind front x) as (λ k. fault_behind front x ≡ k → MatchOption (or_later (length front + 1) k (first_fault (front ++ x ∷ []) list))
+    elim (fault_of_next front x) as (λ k. fault_of_next front x ≡ k → MatchOption (or_later (length front + 1) k (first_fault (front ++ x ∷ []) list))
     (HasNoFault (front ++ x ∷ list)) (IsFirstFault (front ++ x ∷ list))) [
       | None ↦ λ here. rw (append_assoc front (x ∷ []) list) at (first_behind (front ++ x ∷ []) list (none_more front x none here))
       | Some kind ↦ λ found. record {

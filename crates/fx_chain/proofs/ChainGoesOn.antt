@@ -3,7 +3,7 @@ use Rattle.fx_chain.proofs.Words.{◌≡◌, ℕ, ◌+◌, ◌<◌, ◌≤◌, L
 use Rattle.fx_chain.proofs.Words.{length-take-le, map_more, drop_more, drop_all, take_all, take-map, drop-map, asked_of, all_asked, Request, suc}
 use Rattle.fx_chain.proofs.Words.{Bool, true, false, ◌||◌, refl, inl, inr, append_assoc, length-append, arith, MatchBool-at_true, MatchBool-at_false}
 use Rattle.fx_chain.proofs.Words.{append-nil, cases_Bool, sum_by-append, sum_by-cons, MatchBool, FileEntry, Action, ◌▷▷◌, Opening, Completed}
-use Rattle.fx_chain.proofs.Words.{next_member, refusal, Explains, AnswersBehind, canceled, severs, Asked, PlayerView, AnswersNext, PlaysMembers}
+use Rattle.fx_chain.proofs.Words.{next_member, refusal, Explains, AnswersAfter, canceled, severs, Asked, PlayerView, AnswersNext, PlaysMembers}
 use Rattle.fx_chain.proofs.Words.{Place, sum_by, ECANCELED}
 use Rattle.std.proofs.Math.Bool.{or-false, or_assoc}
 use Rattle.fx_chain.proofs.ActsInTurn.{so_then, may_free_then}
@@ -66,7 +66,7 @@ module _ (catalogue : List FileEntry) (size : ℕ) where
   -- the next member is performed if no earlier member severed the chain, and canceled otherwise
   pub explains_next : (place : Place) (requests : List Asked) (r : Asked) (events own : List Action) (cs : List Completed) (c : Completed) (n : ℕ)
       → n ≡ place.member + length requests → Explains catalogue size place requests events cs
-      → AnswersBehind catalogue size (record place { member = n }) (any_severs requests cs) r own c
+      → AnswersAfter catalogue size (record place { member = n }) (any_severs requests cs) r own c
       → Explains catalogue size place (requests ++ r ∷ []) (events ▷▷ own) (cs ++ c ∷ [])
   explains_next place [] r events own cs c n n_is (none, nobody) answers =
       let same : n ≡ place.member = omega arith in

@@ -1,7 +1,7 @@
 -- The invariant of `check`: the counts of the requests that it has seen.
 use Rattle.fx_chain.proofs.Words.{◌≡◌, ◌≢◌, ℕ, ◌+◌, ◌*◌, ◌<◌, ◌≤◌, ◌==◌, Bool, true, false, if◌then◌else◌, List, [], ◌∷◌, ◌++◌, length, refl, sym}
 use Rattle.fx_chain.proofs.Words.{◌∙◌, arith, Option, Some, None, sum_by-append, Asked, is_fixed, is_link, runs_of, open_run, installs_of}
-use Rattle.fx_chain.proofs.Words.{all_installs, fault_after, fault_behind, has_bad_flags, is_long_read, is_long_update, MOST_MEMBERS, MAX_CHAINS}
+use Rattle.fx_chain.proofs.Words.{all_installs, fault_after, fault_of_next, has_bad_flags, is_long_read, is_long_update, MOST_MEMBERS, MAX_CHAINS}
 use Rattle.fx_chain.proofs.Words.{CHAIN_NUMBERS}
 use Rattle.std.proofs.lemmas.List.{length-append}
 use Rattle.fx_chain.proofs.Runs.{runs-push, open_run-push, open_run-over}
@@ -17,9 +17,9 @@ pub record AreCounts (front : List Asked) (chains members installs : ℕ) : Type
   pub place : length front ≤ MOST_MEMBERS * chains
   pub inside : 0 < members → length front + MOST_MEMBERS ≤ MOST_MEMBERS * chains + members
 
-pub fault_behind-counted : {front : List Asked} {chains members installs : ℕ} (r : Asked) → AreCounts front chains members installs
-    → fault_behind front r ≡ fault_after chains members installs r
-fault_behind-counted r is = rw (is.chains_is, is.members_is, is.installs_is)
+pub fault_of_next-counted : {front : List Asked} {chains members installs : ℕ} (r : Asked) → AreCounts front chains members installs
+    → fault_of_next front r ≡ fault_after chains members installs r
+fault_of_next-counted r is = rw (is.chains_is, is.members_is, is.installs_is)
 
 -- the properties of a request without a fault
 pub record IsFine (chains members installs : ℕ) (r : Asked) : Type 0 where

@@ -2,7 +2,7 @@
 use Rattle.fx_chain.proofs.Words.{◌≡◌, ◌<◌, true, false, not, if◌then◌else◌, List, [], ◌∷◌, ◌++◌, length, refl, sym, ap, ◌∙◌, All, arith, inl, inr}
 use Rattle.fx_chain.proofs.Words.{cases_Bool, not-true, flat_map, append-nil, list_all-from_AllPass, All-nil, All-cons, All-head, All-tail, Asked}
 use Rattle.fx_chain.proofs.Words.{is_link, but_last, is_over, AreRuns, AreTheOnlyRuns, in_front, runs_of, open_run, ◌⊎◌, ◌&&◌, subst, ◌+◌, ◌==◌}
-use Rattle.fx_chain.proofs.Words.{list_all, and_right, ne_eqb, All-push, StandsIn, AllPass-from_list_all, ℕ, ◌≤◌, drop, chains_from, chains_of}
+use Rattle.fx_chain.proofs.Words.{list_all, and_right, ne_eqb, All-push, IsInRun, AllPass-from_list_all, ℕ, ◌≤◌, drop, chains_from, chains_of}
 use Rattle.fx_chain.proofs.Words.{all_asked, Chain, Request}
 use Rattle.std.proofs.lemmas.List.{append_assoc, length-append}
 use Rattle.fx_chain.proofs.ChainGoesOn.{asked_none}
@@ -207,8 +207,8 @@ runs_of-closed : (front rest : List Asked) → IsClosed front → runs_of (front
 runs_of-closed front rest (inl none) = rw none
 runs_of-closed front rest (inr over) = runs_of-append front rest over
 
-pub stands_in : (front : List Asked) (r : Asked) (behind : List Asked) → StandsIn front r (runs_of (front ++ r ∷ behind))
-stands_in front r behind =
+pub is_in_run : (front : List Asked) (r : Asked) (behind : List Asked) → IsInRun front r (runs_of (front ++ r ∷ behind))
+is_in_run front r behind =
     let e = ends_of front in
     let b = begins_at (open_run front) r behind e.linked in
     record {

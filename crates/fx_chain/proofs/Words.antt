@@ -6,15 +6,15 @@ pub use Rattle.fx_chain.specs.Answers.{Answers, AppliesEntry, AppliesList, MayCl
 pub use Rattle.fx_chain.specs.Chains.{chains_from, chains_of}
 pub use Rattle.fx_chain.specs.Completed.{Completed, all_completed, completed_of, next_member, refusal}
 pub use Rattle.fx_chain.specs.Contexts.{PlayerActs, IsSamePlayer, player_view}
-pub use Rattle.fx_chain.specs.Explains.{AnswersBehind, Explains, canceled, first_member, severs}
-pub use Rattle.fx_chain.specs.Faults.{HasNoFault, IsFirstFault, fault_after, fault_behind, fault_of, first_fault, has_bad_flags, is_long_read}
+pub use Rattle.fx_chain.specs.Explains.{AnswersAfter, Explains, canceled, first_member, severs}
+pub use Rattle.fx_chain.specs.Faults.{HasNoFault, IsFirstFault, fault_after, fault_of_next, fault_of, first_fault, has_bad_flags, is_long_read}
 pub use Rattle.fx_chain.specs.Faults.{is_long_update, or_later}
 pub use Rattle.fx_chain.specs.Freed.{Frees, MayFree, StepFrees, all_room, room_of}
 pub use Rattle.fx_chain.specs.Intents.{entry_installs, installs_of, list_installs, look_ups_of, weight_of}
 pub use Rattle.fx_chain.specs.Operation.{Asked, Closes, Opens, Operation, Reads, Updates, all_asked, asked_of, is_fixed, is_link, operation_of}
 pub use Rattle.fx_chain.specs.Performs.{Acts, ActsSo, AnswersNext, PlayerView, PlaysMembers, player}
 pub use Rattle.fx_chain.specs.Removals.{IsLookUp, IsRelease, IsRetirement, HasLookedUp}
-pub use Rattle.fx_chain.specs.Runs.{AreRuns, AreTheOnlyRuns, StandsIn, but_last, in_front, is_over, open_run, runs_of}
+pub use Rattle.fx_chain.specs.Runs.{AreRuns, AreTheOnlyRuns, IsInRun, but_last, in_front, is_over, open_run, runs_of}
 pub use Rattle.fx_chain.specs.Weights.{all_installs, all_weights}
 pub use Rattle.fx_chain.specs.declared.chain.Chain.{Chain}
 pub use Rattle.fx_chain.specs.declared.completion.Place.{Place}

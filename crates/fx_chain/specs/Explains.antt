@@ -44,9 +44,9 @@ Explains catalogue size place (request ∷ requests) events completions =
 
 -- the next member's answer: canceled if an earlier one severed the chain, otherwise by its own
 -- steps
-abbrev pub AnswersBehind : List FileEntry → ℕ → Place → Bool → Asked → List Action → Completed
+abbrev pub AnswersAfter : List FileEntry → ℕ → Place → Bool → Asked → List Action → Completed
     → Type 0
-AnswersBehind catalogue size place severed request events c =
+AnswersAfter catalogue size place severed request events c =
     MatchBool severed (Refuses place ECANCELED events c)
     (Answers catalogue size place request.operation events c)
 

@@ -41,8 +41,8 @@ fault_after runs members installs request =
     else None
 
 -- the fault of a request after those before it
-abbrev pub fault_behind : List Asked → Asked → Option CutKind
-fault_behind front request =
+abbrev pub fault_of_next : List Asked → Asked → Option CutKind
+fault_of_next front request =
     fault_after (length (runs_of front)) (length (open_run front))
     (all_installs (open_run front)) request
 
@@ -55,7 +55,7 @@ or_later at (Some kind) later = Some (record { at = at; kind = kind })
 abbrev pub first_fault : List Asked → List Asked → Option CutFault
 first_fault front [] = None
 first_fault front (request ∷ behind) =
-    or_later (length front + 1) (fault_behind front request)
+    or_later (length front + 1) (fault_of_next front request)
     (first_fault (front ++ request ∷ []) behind)
 
 -- the first request with a fault, with its number from 1
@@ -67,7 +67,7 @@ abbrev pub HasNoFault : List Asked → Type 0
 HasNoFault requests =
     (front : List Asked) (request : Asked) (behind : List Asked)
     → requests ≡ front ++ request ∷ behind
-    → fault_behind front request ≡ None
+    → fault_of_next front request ≡ None
 
 -- a request with a fault, before which no request has one
 pub record IsFirstFault (requests : List Asked) (fault : CutFault) : Type 0 where
@@ -76,5 +76,5 @@ pub record IsFirstFault (requests : List Asked) (fault : CutFault) : Type 0 wher
   pub behind : List Asked
   pub parts : requests ≡ front ++ request ∷ behind
   pub place : fault.at ≡ length front + 1
-  pub kind : fault_behind front request ≡ Some fault.kind
+  pub kind : fault_of_next front request ≡ Some fault.kind
   pub none_in_front : HasNoFault front

@@ -147,8 +147,8 @@ bytes_read catalogue (Reads slot off len) entry = bytes_at catalogue entry off l
 bytes_read catalogue operation entry = []
 
 -- the completion of a read of a file
-abbrev pub gives : List FileEntry → Place → Identity → ℕ → ℕ → Completed
-gives catalogue place file off len =
+abbrev pub completion_of_read : List FileEntry → Place → Identity → ℕ → ℕ → Completed
+completion_of_read catalogue place file off len =
     completed place (pos (length (bytes_at catalogue file.entry off len)))
     (bytes_at catalogue file.entry off len)
 
@@ -162,7 +162,8 @@ open_answer place (Slot slot) found = completed place (pos 0) []
 open_answer place Any found = allocated place found
 
 abbrev pub read_answer : List FileEntry → Place → ℕ → ℕ → Option Finding → Completed
-read_answer catalogue place off len (Some (At (Some file))) = gives catalogue place file off len
+read_answer catalogue place off len (Some (At (Some file))) =
+    completion_of_read catalogue place file off len
 read_answer catalogue place off len found = refusal place EBADF
 
 abbrev pub close_answer : Place → Option Finding → Completed

@@ -18,8 +18,8 @@ ExplainsByAnyNumbers =
     → Explains catalogue size place requests (map (renamed r) events) completions
 
 -- the steps use no more file numbers than the requests ask for
-abbrev pub GivesNumbersAsAsked : Type 0
-GivesNumbersAsAsked =
+abbrev pub NumbersFilesAsAsked : Type 0
+NumbersFilesAsAsked =
     (catalogue : List FileEntry) (size : ℕ) (place : Place) (requests : List Asked)
     (events : List Action) (completions : List Completed)
     → Explains catalogue size place requests events completions

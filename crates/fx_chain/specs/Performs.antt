@@ -11,7 +11,7 @@ use Rattle.fx_table.specs.declared.values.Doing.{Doing}
 use Rattle.fx_table.specs.declared.values.Doing.TheVariants.{Idle}
 use Rattle.fx_chain.specs.Answers.{Answers}
 use Rattle.fx_chain.specs.Completed.{Completed}
-use Rattle.fx_chain.specs.Explains.{Explains, AnswersBehind, first_member}
+use Rattle.fx_chain.specs.Explains.{Explains, AnswersAfter, first_member}
 use Rattle.fx_chain.specs.Freed.{MayFree, all_room, room_of}
 use Rattle.fx_chain.specs.Intents.{installs_of}
 use Rattle.fx_chain.specs.Operation.{Asked}
@@ -61,7 +61,7 @@ abbrev pub AnswersNext : Opening → List FileEntry → Place → Bool → Asked
 AnswersNext o catalogue place severed request p c q =
     ActsSo o p 1 (installs_of request.operation) (room_of o.lasts request.operation)
     (MayFree o.lasts
-    (λ actions. AnswersBehind catalogue (size_of o) place severed request actions c)) q
+    (λ actions. AnswersAfter catalogue (size_of o) place severed request actions c)) q
 
 -- the members from this place on were played: the actions explain their completions, and in a table
 -- that lasts look-ups may have freed files

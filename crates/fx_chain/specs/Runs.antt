@@ -51,7 +51,7 @@ open_run (request ∷ requests) =
     else open_run requests
 
 -- a request's run begins with the open run of the requests before it
-pub record StandsIn (front : List Asked) (request : Asked) (runs : List (List Asked)) : Type 0 where
+pub record IsInRun (front : List Asked) (request : Asked) (runs : List (List Asked)) : Type 0 where
   -- the runs before its own, its later members, and the runs after its own
   pub earlier : List (List Asked)
   pub rest : List Asked

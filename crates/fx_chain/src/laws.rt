@@ -3,9 +3,9 @@
 ghost use Rattle.std.specs.Prelude.{◌≡◌, List, ◌∷◌, ◌++◌, MatchOption};
 ghost use Rattle.fx_chain.specs.Faults.{HasNoFault, IsFirstFault, fault_of};
 ghost use Rattle.fx_chain.specs.Operation.{Asked};
-ghost use Rattle.fx_chain.specs.OtherNumbers.{ExplainsByAnyNumbers, GivesNumbersAsAsked};
+ghost use Rattle.fx_chain.specs.OtherNumbers.{ExplainsByAnyNumbers, NumbersFilesAsAsked};
 ghost use Rattle.fx_chain.specs.Performs.{OnlyLastingTablesFree};
-ghost use Rattle.fx_chain.specs.Runs.{AreTheOnlyRuns, StandsIn, runs_of};
+ghost use Rattle.fx_chain.specs.Runs.{AreTheOnlyRuns, IsInRun, runs_of};
 
 use crate::fault::MOST_MEMBERS;
 use crate::request::{LONGEST_READ, LONGEST_UPDATE};
@@ -28,9 +28,9 @@ pub fn runs_are_the_only_ones()
 
 /// States that the requests that a fault depends on, the linking ones at the end of those before
 /// the request, are the earlier members of the request's own run.
-pub fn each_request_stands_in_its_run()
+pub fn each_request_is_in_its_run()
     ensures { (front : List Asked) (request : Asked) (behind : List Asked)
-        → StandsIn front request (runs_of (front ++ request ∷ behind)) }
+        → IsInRun front request (runs_of (front ++ request ∷ behind)) }
 {}
 
 /// States that the fault of a submission is that of its first request with a fault, and that no
@@ -47,7 +47,7 @@ pub fn chains_answer_by_any_numbers()
 
 /// States that a chain uses no more file numbers than its requests ask for.
 pub fn chains_give_numbers_as_asked()
-    ensures { GivesNumbersAsAsked }
+    ensures { NumbersFilesAsAsked }
 {}
 
 /// States that in a table that doesn't last a chain frees no file by a look-up: its actions are

@@ -3,8 +3,8 @@ use Rattle.fx_counted.proofs.Words.{sum_by, ◌≡◌, ◌≢◌, ℕ, ◌+◌, 
 use Rattle.fx_counted.proofs.Words.{sym, refl, ap, ◌∙◌, subst, arith, eqb, lt-ltb, le-ltb, get_or-set_other, get_or-set_same, Option, ◌⊎◌, inl}
 use Rattle.fx_counted.proofs.Words.{⊎_elim, dite, none, ℕ_discrete, dec_le, keeps, step, Closed, numbers_up_to, sum_by-cons, sum_set, sum_at}
 use Rattle.fx_counted.proofs.Words.{sum_le_at, OwnerAgrees, PlacesNext, WorkAgrees, DrawsCount, word_of, control_place, draw_place, slot_place}
-use Rattle.fx_counted.proofs.Words.{opening_of, chain_in, shown, first_log, drawn_of, told_of, once, placing, Phase, unborn, spare, owner, file_in}
-use Rattle.fx_counted.proofs.Words.{Log, View, Idle, mul-add, mul-le-mul_left, Draws, DrawsKeep, first_or, DrawTells, next_in, end_in, chain_given}
+use Rattle.fx_counted.proofs.Words.{opening_of, chain_in, shown, first_log, drawn_of, ended_of, once, placing, Phase, unborn, spare, owner, file_in}
+use Rattle.fx_counted.proofs.Words.{Log, View, Idle, mul-add, mul-le-mul_left, Draws, DrawsKeep, first_or, DrawsChain, next_in, end_in, chain_given}
 use Rattle.fx_counted.proofs.Words.{Between, one_if, times, bit_here, once_is, once_more, length-set, count_by-le-length, bit_else}
 use Rattle.fx_counted.proofs.Steps.{owner_same, grows_none, Turn, turn_of, word_at, now, its_log, step_kept, by_turn, Made, near, far, slot_same}
 use Rattle.fx_counted.proofs.Steps.{control_same, NodeIn}
@@ -33,7 +33,7 @@ module _ (turn : Turn) where
   abbrev d : DrawsCount v.start.chains v.start.numbers r.phase st.views found
   d = r.draws
 
-  told_v : told_of v ≡ one_if x.no_chains_left
+  told_v : ended_of v ≡ one_if x.no_chains_left
   told_v = of_one (λ z. one_if z.no_chains_left) one
 
   drawn_v : (c : ℕ) → drawn_of c v ≡ times c x.drawn
@@ -52,7 +52,7 @@ module _ (turn : Turn) where
   module _ (idle : v.work ≡ Between Idle) (untold : x.no_chains_left ≡ false) (carried : List (ℕ × Option Closed)) (slots : ℕ) where
     -- the result of a draw
     abbrev Drawn : Type 0
-    Drawn = Made turn carried draw_place (λ _. found + 1) (DrawTells (step slots draw_place 1 0 none) (v, carried))
+    Drawn = Made turn carried draw_place (λ _. found + 1) (DrawsChain (step slots draw_place 1 0 none) (v, carried))
 
     -- a table's only pass has drawn all chains that were drawn
     alone : v.start.passes ≡ 1 → found ≡ chain_in x
@@ -138,7 +138,7 @@ module _ (turn : Turn) where
       abbrev hi : ℕ
       hi = numbers_up_to v.start.numbers (found + 1)
 
-      nobody_told : sum_by told_of st.views ≡ 0
+      nobody_told : sum_by ended_of st.views ≡ 0
       nobody_told = grind arith
 
       given_is : d.given ≡ found
@@ -158,7 +158,7 @@ module _ (turn : Turn) where
       phases n = grind (arith, mul-le-mul_left)
 
       next_drawn : Drawn
-      next_drawn = let w = w ((found + 1) ∷ x.drawn) x.no_chains_left v.start.numbers phase' in let t = sum_set told_of st.views id v w here in
+      next_drawn = let w = w ((found + 1) ∷ x.drawn) x.no_chains_left v.start.numbers phase' in let t = sum_set ended_of st.views id v w here in
           let tv = told_v in let z = nobody_told in let g = given_is in let few = chain_few in
           drawn_so ((found + 1) ∷ x.drawn) x.no_chains_left v.start.numbers phase' phases (omega arith)
           (λ c behind. let first = sum_by-cons (λ d. one_if (eqb d c)) (found + 1) x.drawn in
@@ -178,7 +178,7 @@ module _ (turn : Turn) where
 
     -- there are no more
     none_drawn : v.start.chains ≤ found → Drawn
-    none_drawn done = let w = w x.drawn true x.numbers_left r.phase in let t = sum_set told_of st.views id v w here in
+    none_drawn done = let w = w x.drawn true x.numbers_left r.phase in let t = sum_set ended_of st.views id v w here in
         let tv = told_v in let u = ap one_if untold in let b = d.counts in let few = d.few in let o = its_log turn in let p = ap placing idle in
         drawn_so x.drawn true x.numbers_left r.phase (λ n. inl refl) o.chain o.last o.few_left o.left_inside
         (λ n low high. o.spares n (omega arith) high) record {
@@ -186,13 +186,13 @@ module _ (turn : Turn) where
           few = d.few;
           each = λ c. let s = sum_set (drawn_of c) st.views id v w here in let e = d.each c in let dv = drawn_v c in omega arith;
           counts = omega arith;
-          all = λ some_told. dite (ℕ_discrete (sum_by told_of st.views) 0) (λ e. omega (arith, e)) (λ ne. d.all (omega (arith, ne)));
+          all = λ some_told. dite (ℕ_discrete (sum_by ended_of st.views) 0) (λ e. omega (arith, e)) (λ ne. d.all (omega (arith, ne)));
           unused = d.unused;
         } (rw (le-ltb found v.start.chains done) refl)
 
 pub draws_keep : DrawsKeep
 draws_keep k slots id i m x has idle untold place = by_turn slots (λ _. Unit {0}) (λ _. draw_place) (λ word. (word + 1) % 2 ^ 64)
-    (λ i. DrawTells (step slots i 1 0 none) m) has tt place (λ st r here _ fits. let turn = turn_of m x has.1 id st r here in
+    (λ i. DrawsChain (step slots i 1 0 none) m) has tt place (λ st r here _ fits. let turn = turn_of m x has.1 id st r here in
     rw (word_is turn) (dite (dec_le (found turn + 1) m.0.start.chains)
     (λ next. next_drawn turn idle untold m.1 slots (omega (arith, next)))
     (λ done. none_drawn turn idle untold m.1 slots (omega (arith, done)))))

@@ -7,7 +7,7 @@ use Rattle.fx_counted.proofs.Words.{draw_place, slot_place, opening_of, IsNumber
 use Rattle.fx_counted.proofs.Words.{◌∷◌, get_or-set_other, get_or-set_same, none, some-injective, some-ne-none, keeps, step, sum_by-cons, Closed}
 use Rattle.fx_counted.proofs.Words.{Full, no_use, event_of, sum_at, sum_le_at, one_change, full_word_of, WorkAgrees, lengths, shown, IsInside}
 use Rattle.fx_counted.proofs.Words.{Stepped, GoesOn, SaysFull, Idle, Phase, Shared, BeginsKeep, EndsKeep, AnswersKeep, Between, length-set, Bool}
-use Rattle.fx_counted.proofs.Words.{true, false, end_amount_of, InRange, HasToTell, HasPass, MayChange, Sat, ℤ, begun, difference, Allows}
+use Rattle.fx_counted.proofs.Words.{true, false, end_amount_of, InRange, HasToReport, HasPass, MayChange, Sat, ℤ, begun, difference, Allows}
 use Rattle.fx_counted.proofs.Steps.{stays_same, owner_same, Grows, grows_none, IsHistory, Turn, word_at, now, logged, its_log, its_work, step_kept}
 use Rattle.fx_counted.proofs.Steps.{log_now, slot_same, draws_same, grows_one, legal_more, held_mine, same_shape, turn_of, by_turn, went, tells_none}
 use Rattle.fx_counted.proofs.Steps.{tells_one, near, far}
@@ -269,7 +269,7 @@ amount_told : (c : Change) {delta : ℤ} {amount : ℕ} → in_change c ≡ 1 �
 amount_told Outside one d e = absurd (cc one)
 amount_told _ one d e = let f = e ∙ ap end_amount_of (sym d) in omega arith
 
-pub ends_by : {k : Start} (slots id : ℕ) {i amount : ℕ} {delta : ℤ} {m : Sat} {x : Log} → HasPass k m x → HasToTell true delta m.0.change
+pub ends_by : {k : Start} (slots id : ℕ) {i amount : ℕ} {delta : ℤ} {m : Sat} {x : Log} → HasPass k m x → HasToReport true delta m.0.change
     → amount ≡ end_amount_of delta → i ≡ control_place
     → Allows (Agrees k) slots id m i (λ word. (word + (2 ^ 64 - amount)) % 2 ^ 64) (GoesOn Outside (step slots i amount 0 none) m)
 ends_by {k} slots id {i} {amount} {delta} {m} {x} its tells is place =

@@ -2,7 +2,7 @@
 -- all passes are one history.
 use Rattle.fx_counted.proofs.Words.{sum_zero_at, numbers_for, ◌≡◌, ℕ, ◌<◌, ◌≤◌, map, length, sym, ap, ◌∙◌, arith, ◌⊎◌, ⊎_elim, Option, Some, None}
 use Rattle.fx_counted.proofs.Words.{sum_by, some, get_elem?, Closed, State, IsSettled, numbered, File, start_of, Does, OwnerAgrees, lengths, Agrees}
-use Rattle.fx_counted.proofs.Words.{place_of, Shared, opening_of, slots_of, IsNumber, state_after_all, held_of, told_of, once, holding, Phase, placed}
+use Rattle.fx_counted.proofs.Words.{place_of, Shared, opening_of, slots_of, IsNumber, state_after_all, held_of, ended_of, once, holding, Phase, placed}
 use Rattle.fx_counted.proofs.Words.{seated, leaving, retired, emptied, Log, Start, View, Work, Idle, action_of, Between, one_if, times, inside_behind}
 use Rattle.fx_counted.proofs.Words.{opens_inside, only_here}
 use Rattle.fx_counted.proofs.Frames.{same_shape}
@@ -83,5 +83,5 @@ module _ {k : Start} {s : Shared} (r : Agrees k s) (seat : ℕ) {v : View} (at :
   pub drawn : (c : ℕ) → sum_by (λ (x : Log). times c x.drawn) v.logs ≡ once r.draws.given c
   drawn c = sum_here (λ x. times c x.drawn) ∙ r.draws.each c
 
-  pub told : sum_by (λ (x : Log). one_if x.no_chains_left) v.logs ≡ sum_by told_of s.views
+  pub told : sum_by (λ (x : Log). one_if x.no_chains_left) v.logs ≡ sum_by ended_of s.views
   told = sum_here (λ x. one_if x.no_chains_left)

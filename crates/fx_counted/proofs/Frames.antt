@@ -5,7 +5,7 @@ use Rattle.fx_counted.proofs.Words.{IsLegal, looks_after, look_in, map, action_o
 use Rattle.fx_counted.proofs.Words.{subst, eqb, some, some-injective, get_elem?, set_here, set_else, File, numbered, sum_two, sum_set, Does}
 use Rattle.fx_counted.proofs.Words.{OwnerAgrees, WorkAgrees, ViewAgrees, Agrees, Shared, logs_of, Phase, spare, placed, leaving, emptied, owner}
 use Rattle.fx_counted.proofs.Words.{file_in, Log, View, Work, Idle, Placing, Holding, Retiring, Emptying, Between, stands_at, one_if, bit_here}
-use Rattle.fx_counted.proofs.Words.{once_is, Option, Closed, State, SlotAgrees, Home, NodeAgrees, full_in, ControlCounts, DrawsCount, told_of, unborn}
+use Rattle.fx_counted.proofs.Words.{once_is, Option, Closed, State, SlotAgrees, Home, NodeAgrees, full_in, ControlCounts, DrawsCount, ended_of, unborn}
 use Rattle.fx_counted.proofs.Words.{seated, retired, closed, IsGone, times, Grows}
 use Rattle.fx_plain.specs.Step.{Allows}
 use Rattle.fx_plain.proofs.Leading.{same_shape as shape_of_state}
@@ -159,7 +159,7 @@ module _ (views : List View) (id : ℕ) (v w : View) (here : get_elem? views id 
       → ((n : ℕ) → phase n ≡ unborn → phase' n ≡ unborn) → DrawsCount chains numbers phase views word
       → DrawsCount chains numbers phase' (set views id w) word'
   draws_same one one' drawn told same keeps ok =
-      let t : sum_by told_of (set views id w) ≡ sum_by told_of views =
+      let t : sum_by ended_of (set views id w) ≡ sum_by ended_of views =
       total_same (λ z. one_if z.no_chains_left) views id w here one one' (ap one_if told) in
       record {
         given = ok.given;

@@ -1,6 +1,6 @@
 -- The opening of a table: its words and places, and the rule with them.
 use Rattle.fx_counted.proofs.Words.{count_by-le-length, sum_by, ◌≡◌, ℕ, ◌+◌, ◌≤◌, Option, Some, None, sym, ◌∙◌, subst, arith, File, sum_le_at}
-use Rattle.fx_counted.proofs.Words.{node_in, Agrees, Names, WorkAgrees, lengths, changes_of, looks, all_looks, Shared, looks_of, told_of, Start}
+use Rattle.fx_counted.proofs.Words.{node_in, Agrees, Names, WorkAgrees, lengths, changes_of, looks, all_looks, Shared, looks_of, ended_of, Start}
 use Rattle.fx_counted.proofs.Words.{Retiring, Between, IsSeated, mul-le-mul_right, zero, suc, ◌*◌, ◌<◌, List, length, refl, ap, slice_index, State}
 use Rattle.fx_counted.proofs.Words.{file_numbered, full_in, first_at, control_place, draw_place, slot_place, words_for, word_for, node_for}
 use Rattle.fx_counted.proofs.Words.{control_word_of, [], ◌∷◌, dite, some, get_elem?, Closed, state_of, identity_of, length-map-range_with_len, dec_le}
@@ -52,7 +52,7 @@ module _ (k : Start) (s : Shared) (r : Agrees k s) where
     leaving = λ seat takes v f there is.
         let work : WorkAgrees k r.phase seat (Between (Retiring f takes)) = subst (WorkAgrees k r.phase seat) is (r.each_view seat v there).work in
         let a = in_phase k s r work.0 work.1 in few_releases f.number _ _ a.counts;
-    draws = let a = sum_le_at told_of lengths s.views (λ j u e. count_by-le-length (λ y. y.no_chains_left) u.logs) in let b = few_passes in
+    draws = let a = sum_le_at ended_of lengths s.views (λ j u e. count_by-le-length (λ y. y.no_chains_left) u.logs) in let b = few_passes in
         let c = r.draws.counts in let d = r.draws.few in omega arith;
     changes = let a = r.control.upper in let b = changes_most in omega arith;
     least = let a = r.control.lower in let b = few_added k s r in let c = changes_most in omega arith;

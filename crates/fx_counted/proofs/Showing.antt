@@ -18,9 +18,9 @@ use Rattle.fx_counted.specs.declared.view.Change.TheVariants.{Outside}
 use Rattle.fx_counted.specs.Control.{changes_of, added_of, removed_of}
 use Rattle.fx_counted.specs.Cuts.{view_with}
 use Rattle.fx_counted.specs.Goes.{Goes}
-use Rattle.fx_counted.specs.Passes.{held_of, logs_of, looks_of, drawn_of, told_of, shown, doing_in}
+use Rattle.fx_counted.specs.Passes.{held_of, logs_of, looks_of, drawn_of, ended_of, shown, doing_in}
 use Rattle.fx_counted.specs.Showing.{shown_view, HasLearned}
-use Rattle.fx_counted.specs.Tells.{IsInside}
+use Rattle.fx_counted.specs.Effects.{IsInside}
 use Rattle.fx_counted.proofs.Frames.{owner_map, owner_same, control_same, draws_same, total_same}
 use Rattle.fx_counted.proofs.Keeping.{IsKnown, shape_kept}
 use Rattle.fx_seen.proofs.Views.{of_appended, of_replaced}
@@ -61,7 +61,7 @@ module _ (k : Start) (s : Shared) (r : Agrees k s) (h : List Event) (seen : IsSe
     authors = r.authors;
     control = let a = sum_by-append changes_of s.views (u ∷ []) in let b = sum_by-append added_of s.views (u ∷ []) in
         let c = sum_by-append removed_of s.views (u ∷ []) in let up = r.control.upper in let low = r.control.lower in record { upper = omega arith; lower = omega arith };
-    draws = let d = r.draws in let t = sum_by-append told_of s.views (u ∷ []) in record {
+    draws = let d = r.draws in let t = sum_by-append ended_of s.views (u ∷ []) in record {
       given = d.given;
       few = d.few;
       each = λ c. let a = sum_by-append (drawn_of c) s.views (u ∷ []) in let b = d.each c in omega arith;

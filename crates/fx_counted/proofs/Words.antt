@@ -6,7 +6,7 @@ pub use Rattle.atomic_table.specs.declared.shared.Seat.{Seat}
 pub use Rattle.fx_base.specs.declared.open_file.Closed.{Closed}
 pub use Rattle.fx_counted.specs.Agrees.{Agrees, Does, HasShape, Home, IsGone, IsSeated, LogAgrees, Names, NodeAgrees, OwnerAgrees, PlacesNext}
 pub use Rattle.fx_counted.specs.Agrees.{SlotAgrees, ViewAgrees, WorkAgrees, lengths}
-pub use Rattle.fx_counted.specs.Changing.{HasToTell, InRange, IsAtWork, begun, difference}
+pub use Rattle.fx_counted.specs.Changing.{HasToReport, InRange, IsAtWork, begun, difference}
 pub use Rattle.fx_counted.specs.Control.{ControlCounts, added, added_of, changes_of, in_change, removed_by, removed_of}
 pub use Rattle.fx_counted.specs.Counts.{all_looks, look_in, looks, looks_after}
 pub use Rattle.fx_counted.specs.Cuts.{first_alone, first_view, new_logs, spent, together, without_first}
@@ -23,12 +23,12 @@ pub use Rattle.fx_counted.specs.Moves.{HasPlace}
 pub use Rattle.fx_counted.specs.Opens.{OpensWith, first_file, home_for, node_for, word_for}
 pub use Rattle.fx_counted.specs.Passes.{IsNumber, Sat, Shared, chain_in, chain_numbers, doing_in, drawn_of, end_in, first_log, first_or, held_in}
 pub use Rattle.fx_counted.specs.Passes.{held_of, holding, logs_of, looks_of, new_log, next_in, opening_of, pass_of, placing, shown, slots_of}
-pub use Rattle.fx_counted.specs.Passes.{state_after_all, steps_of, told_of}
+pub use Rattle.fx_counted.specs.Passes.{state_after_all, steps_of, ended_of}
 pub use Rattle.fx_counted.specs.Phases.{Phase, closed, emptied, file_in, leaving, owner, placed, retired, seated, spare, unborn}
 pub use Rattle.fx_counted.specs.Searching.{HasAllocated, HasFoundAllFull, IsPlacing, Proceeds, StillPlaces, Tries}
 pub use Rattle.fx_counted.specs.Tables.{IsBetweenCalls, IsPassOf, IsPassOfTable, is_idle, opening_of_table, view_of}
-pub use Rattle.fx_counted.specs.Tells.{Births, DrawTells, Exchanges, GoesOn, Installs, IsInside, LetsGo, Looks, Releases, Removes, Rests, Retires}
-pub use Rattle.fx_counted.specs.Tells.{SaysFull, Stepped, TakesOut, chain_given, holds_now, turned}
+pub use Rattle.fx_counted.specs.Effects.{Births, DrawsChain, Exchanges, GoesOn, Installs, IsInside, LetsGo, Looks, Releases, Removes, Rests, Retires}
+pub use Rattle.fx_counted.specs.Effects.{SaysFull, Stepped, TakesOut, chain_given, holds_now, turned}
 pub use Rattle.fx_counted.specs.declared.pass.CountedPass.{CountedPass}
 pub use Rattle.fx_counted.specs.declared.table.CountedTable.{CountedTable}
 pub use Rattle.fx_counted.specs.declared.view.Change.{Change}

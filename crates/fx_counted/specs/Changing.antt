@@ -4,7 +4,7 @@ use Rattle.fx_table.specs.Pass.{IsFront}
 use Rattle.fx_counted.specs.Control.{in_change}
 use Rattle.fx_counted.specs.Laws.{HasPass, IsInRange, IsOutOfRange}
 use Rattle.fx_counted.specs.Passes.{Sat, opening_of, pass_of}
-use Rattle.fx_counted.specs.Tells.{IsInside}
+use Rattle.fx_counted.specs.Effects.{IsInside}
 use Rattle.fx_counted.specs.declared.view.Change.{Change}
 use Rattle.fx_counted.specs.declared.view.Change.TheVariants.{Outside, Same, More, Less}
 use Rattle.fx_counted.specs.declared.view.Log.{Log}
@@ -35,6 +35,6 @@ difference More = pos 1
 difference Less = negsuc 0
 
 -- a pass that began a change is in it with this difference; otherwise it is in none
-abbrev pub HasToTell : Bool → ℤ → Change → Type 0
-HasToTell true delta c = (in_change c ≡ 1) × (difference c ≡ delta)
-HasToTell false delta c = c ≡ Outside
+abbrev pub HasToReport : Bool → ℤ → Change → Type 0
+HasToReport true delta c = (in_change c ≡ 1) × (difference c ≡ delta)
+HasToReport false delta c = c ≡ Outside

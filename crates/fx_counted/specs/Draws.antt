@@ -1,7 +1,7 @@
 -- The draw word: how many chains were drawn, and how many passes got `None`.
 use Rattle.std.specs.Prelude.{◌≡◌, ℕ, ◌+◌, ◌<◌, ◌≤◌, List, sum_by}
 use Rattle.fx_table.specs.Numbers.{numbers_up_to, once}
-use Rattle.fx_counted.specs.Passes.{drawn_of, told_of}
+use Rattle.fx_counted.specs.Passes.{drawn_of, ended_of}
 use Rattle.fx_counted.specs.Phases.{Phase, unborn}
 use Rattle.fx_counted.specs.declared.view.View.{View}
 
@@ -12,9 +12,9 @@ pub record DrawsCount (chains numbers : ℕ) (phase : ℕ → Phase)
   pub given : ℕ
   pub few : given ≤ chains
   pub each : (c : ℕ) → sum_by (drawn_of c) views ≡ once given c
-  pub counts : word ≡ given + sum_by told_of views
+  pub counts : word ≡ given + sum_by ended_of views
   -- a pass got `None` only after all chains were drawn
-  pub all : 0 < sum_by told_of views → given ≡ chains
+  pub all : 0 < sum_by ended_of views → given ≡ chains
   -- no pass uses the numbers of the other chains
   pub unused : (n : ℕ) → numbers_up_to numbers given ≤ n → n < numbers_up_to numbers chains
       → phase n ≡ unborn

@@ -3,7 +3,7 @@ use Rattle.std.specs.Prelude.{◌≡◌, ℕ, ◌+◌, ◌≤◌, List, [], ◌�
 use Rattle.fx_plain.specs.declared.event.Action.{Action}
 use Rattle.fx_table.specs.Calls.{Use, Adds}
 use Rattle.fx_counted.specs.Passes.{Sat, opening_of, pass_of, steps_of, doing_in}
-use Rattle.fx_counted.specs.Tells.{IsInside}
+use Rattle.fx_counted.specs.Effects.{IsInside}
 use Rattle.fx_counted.specs.declared.view.Change.{Change}
 use Rattle.fx_counted.specs.declared.view.Log.{Log}
 use Rattle.fx_counted.specs.declared.view.Work.{Work}

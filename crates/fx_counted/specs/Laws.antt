@@ -15,8 +15,8 @@ use Rattle.fx_counted.specs.Control.{in_change, added, removed_by}
 use Rattle.fx_counted.specs.Cuts.{without_first, first_alone, together, spent}
 use Rattle.fx_counted.specs.Layout.{control_place, draw_place, slot_place, node_place, home_place}
 use Rattle.fx_counted.specs.Passes.{Sat, opening_of, slots_of, next_in}
-use Rattle.fx_counted.specs.Tells.{Births, Looks, Installs, Removes, Retires, Releases, Rests}
-use Rattle.fx_counted.specs.Tells.{GoesOn, SaysFull, Exchanges, DrawTells}
+use Rattle.fx_counted.specs.Effects.{Births, Looks, Installs, Removes, Retires, Releases, Rests}
+use Rattle.fx_counted.specs.Effects.{GoesOn, SaysFull, Exchanges, DrawsChain}
 use Rattle.fx_counted.specs.declared.view.Change.{Change}
 use Rattle.fx_counted.specs.declared.view.Change.TheVariants.{Outside, Same}
 use Rattle.fx_counted.specs.declared.view.Log.{Log}
@@ -163,4 +163,4 @@ abbrev pub DrawsKeep : Type 0
 DrawsKeep = (k : Start) (slots id i : ℕ) (m : Sat) (x : Log) → HasPass k m x
     → m.0.work ≡ Between Idle → x.no_chains_left ≡ false → i ≡ draw_place
     → Allows (Agrees k) slots id m i (λ word. (word + 1) % 2 ^ 64)
-    (DrawTells (step slots i 1 0 none) m)
+    (DrawsChain (step slots i 1 0 none) m)

@@ -6,7 +6,7 @@ pub mod Control
 pub mod Draws
 pub mod Agrees
 pub mod Cuts
-pub mod Tells
+pub mod Effects
 pub mod Laws
 pub mod Bounds
 pub mod Opens

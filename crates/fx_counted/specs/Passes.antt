@@ -141,8 +141,8 @@ abbrev pub drawn_of : ℕ → View → ℕ
 drawn_of c v = sum_by (λ x. count_by (λ d. d == c) x.drawn) v.logs
 
 -- the number of them that got `None`
-abbrev pub told_of : View → ℕ
-told_of v = count_by (λ x. x.no_chains_left) v.logs
+abbrev pub ended_of : View → ℕ
+ended_of v = count_by (λ x. x.no_chains_left) v.logs
 
 -- the look-ups that they have left
 abbrev pub looks_of : View → ℕ

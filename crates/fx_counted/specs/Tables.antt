@@ -5,7 +5,7 @@ use Rattle.fx_table.specs.declared.limits.TheConstants.{CHAIN_NUMBERS}
 use Rattle.fx_table.specs.Opening.{Opening}
 use Rattle.fx_table.specs.Pass.{PassView, IsFront}
 use Rattle.fx_counted.specs.Passes.{opening_of, pass_of, steps_of, chain_in}
-use Rattle.fx_counted.specs.Tells.{IsInside}
+use Rattle.fx_counted.specs.Effects.{IsInside}
 use Rattle.fx_counted.specs.declared.view.Change.TheVariants.{Outside}
 use Rattle.fx_counted.specs.declared.view.Log.{Log}
 use Rattle.fx_counted.specs.declared.view.Start.{Start}

@@ -2,7 +2,7 @@
 //! change before it writes the slot's word, and ends it afterwards.
 ghost use Rattle.std.specs.Prelude.{◌≡◌, []};
 ghost use Rattle.fx_table.specs.Calls.{no_use};
-ghost use Rattle.fx_counted.specs.Changing.{IsAtWork, InRange, begun, HasToTell};
+ghost use Rattle.fx_counted.specs.Changing.{IsAtWork, InRange, begun, HasToReport};
 ghost use Rattle.fx_counted.specs.Goes.{Goes};
 ghost use Rattle.fx_counted.specs.declared.view.Change.TheVariants.{Outside};
 
@@ -37,7 +37,7 @@ impl CountedTable {
     pub(crate) fn end(&self, seat: &mut Seat<Option<OpenFile>, View>, began: bool, delta: i32)
         requires table { seat.old.table_id ≡ self.now.table.shared.table_id }
         requires seated { IsAtWork self.now.table.shared.key seat.old.me }
-        requires change { HasToTell began delta seat.old.me.0.change }
+        requires change { HasToReport began delta seat.old.me.0.change }
         ensures table { seat.new.table_id ≡ seat.old.table_id }
         ensures goes { Goes seat.old.me [] no_use seat.old.me.0.work Outside 1 seat.new.me }
         ensures places { seat.new.me.1 ≡ seat.old.me.1 }

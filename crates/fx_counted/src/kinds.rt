@@ -44,7 +44,7 @@ impl Join<View> for Gather {
 pub struct Birth;
 
 impl Play<Option<OpenFile>, View> for Birth {
-    ghost use Rattle.fx_counted.specs.Tells.{Births};
+    ghost use Rattle.fx_counted.specs.Effects.{Births};
 
     ghost then = { Births };
 }
@@ -53,7 +53,7 @@ impl Play<Option<OpenFile>, View> for Birth {
 pub struct Look;
 
 impl Play<Option<OpenFile>, View> for Look {
-    ghost use Rattle.fx_counted.specs.Tells.{Looks};
+    ghost use Rattle.fx_counted.specs.Effects.{Looks};
 
     ghost then = { Looks };
 }
@@ -62,7 +62,7 @@ impl Play<Option<OpenFile>, View> for Look {
 pub struct Install;
 
 impl Play<Option<OpenFile>, View> for Install {
-    ghost use Rattle.fx_counted.specs.Tells.{Installs};
+    ghost use Rattle.fx_counted.specs.Effects.{Installs};
 
     ghost then = { Installs };
 }
@@ -72,7 +72,7 @@ impl Play<Option<OpenFile>, View> for Install {
 pub struct Retire;
 
 impl Play<Option<OpenFile>, View> for Retire {
-    ghost use Rattle.fx_counted.specs.Tells.{Retires};
+    ghost use Rattle.fx_counted.specs.Effects.{Retires};
 
     ghost then = { Retires };
 }
@@ -82,7 +82,7 @@ impl Play<Option<OpenFile>, View> for Retire {
 pub struct Release;
 
 impl Play<Option<OpenFile>, View> for Release {
-    ghost use Rattle.fx_counted.specs.Tells.{Releases};
+    ghost use Rattle.fx_counted.specs.Effects.{Releases};
 
     ghost then = { Releases };
 }
@@ -91,7 +91,7 @@ impl Play<Option<OpenFile>, View> for Release {
 pub struct Rest;
 
 impl Play<Option<OpenFile>, View> for Rest {
-    ghost use Rattle.fx_counted.specs.Tells.{Rests};
+    ghost use Rattle.fx_counted.specs.Effects.{Rests};
 
     ghost then = { Rests };
 }
@@ -101,7 +101,7 @@ impl Play<Option<OpenFile>, View> for Rest {
 pub struct Answer;
 
 impl Play<Option<OpenFile>, View> for Answer {
-    ghost use Rattle.fx_counted.specs.Tells.{SaysFull};
+    ghost use Rattle.fx_counted.specs.Effects.{SaysFull};
 
     ghost then = { SaysFull };
 }
@@ -110,7 +110,7 @@ impl Play<Option<OpenFile>, View> for Answer {
 pub struct Exchange;
 
 impl Play<Option<OpenFile>, View> for Exchange {
-    ghost use Rattle.fx_counted.specs.Tells.{Exchanges};
+    ghost use Rattle.fx_counted.specs.Effects.{Exchanges};
 
     ghost then = { Exchanges };
 }
@@ -119,9 +119,9 @@ impl Play<Option<OpenFile>, View> for Exchange {
 pub struct Draw;
 
 impl Play<Option<OpenFile>, View> for Draw {
-    ghost use Rattle.fx_counted.specs.Tells.{DrawTells};
+    ghost use Rattle.fx_counted.specs.Effects.{DrawsChain};
 
-    ghost then = { DrawTells };
+    ghost then = { DrawsChain };
 }
 
 /// The swap that empties a slot for an update.
@@ -129,7 +129,7 @@ pub struct Clear;
 
 impl Play<Option<OpenFile>, View> for Clear {
     ghost use Rattle.fx_plain.specs.declared.event.Action.TheVariants.{Clear};
-    ghost use Rattle.fx_counted.specs.Tells.{Removes};
+    ghost use Rattle.fx_counted.specs.Effects.{Removes};
 
     ghost then = { Removes Clear };
 }
@@ -139,7 +139,7 @@ pub struct Take;
 
 impl Play<Option<OpenFile>, View> for Take {
     ghost use Rattle.fx_plain.specs.declared.event.Action.TheVariants.{Take};
-    ghost use Rattle.fx_counted.specs.Tells.{Removes};
+    ghost use Rattle.fx_counted.specs.Effects.{Removes};
 
     ghost then = { Removes Take };
 }
@@ -149,7 +149,7 @@ pub struct Begin;
 
 impl Play<Option<OpenFile>, View> for Begin {
     ghost use Rattle.fx_counted.specs.declared.view.Change.TheVariants.{Same};
-    ghost use Rattle.fx_counted.specs.Tells.{GoesOn};
+    ghost use Rattle.fx_counted.specs.Effects.{GoesOn};
 
     ghost then = { GoesOn Same };
 }
@@ -159,7 +159,7 @@ pub struct End;
 
 impl Play<Option<OpenFile>, View> for End {
     ghost use Rattle.fx_counted.specs.declared.view.Change.TheVariants.{Outside};
-    ghost use Rattle.fx_counted.specs.Tells.{GoesOn};
+    ghost use Rattle.fx_counted.specs.Effects.{GoesOn};
 
     ghost then = { GoesOn Outside };
 }
@@ -169,7 +169,7 @@ pub struct Load;
 
 impl Play<Option<OpenFile>, View> for Load {
     ghost use Rattle.fx_counted.specs.declared.view.Change.TheVariants.{Same};
-    ghost use Rattle.fx_counted.specs.Tells.{GoesOn};
+    ghost use Rattle.fx_counted.specs.Effects.{GoesOn};
 
     ghost then = { GoesOn Same };
 }

@@ -4,7 +4,7 @@ ghost use Rattle.std.specs.Prelude.{◌≡◌, [], Some};
 ghost use Rattle.fx_base.specs.declared.open_file.Closed.{Closed};
 ghost use Rattle.fx_table.specs.Calls.{no_use};
 ghost use Rattle.fx_counted.specs.Moves.{HasPlace, MayPlace};
-ghost use Rattle.fx_counted.specs.Tells.{Stepped};
+ghost use Rattle.fx_counted.specs.Effects.{Stepped};
 ghost use Rattle.fx_counted.specs.declared.view.Work.TheVariants.{Between, Placing};
 ghost use Rattle.fx_table.specs.declared.values.Task.TheVariants.{Idle};
 

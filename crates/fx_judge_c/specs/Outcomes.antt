@@ -13,21 +13,21 @@ abbrev pub same_bytes : List ℕ → List ℕ → Bool
 same_bytes = pointwise nat_eq
 
 -- these texts are written, and so are their counts
-pub record AreWritten (found : List (List ℕ)) (told : YachtTexts) (texts lengths_of : List ℕ)
+pub record AreWritten (found : List (List ℕ)) (totals : YachtTexts) (texts lengths_of : List ℕ)
     : Type 0 where
-  pub count : told.count ≡ length found
-  pub bytes : told.bytes ≡ length (joined found)
-  pub joined_texts : take told.bytes texts ≡ joined found
-  pub each_length : take told.count lengths_of ≡ lengths_in found
+  pub count : totals.count ≡ length found
+  pub bytes : totals.bytes ≡ length (joined found)
+  pub joined_texts : take totals.bytes texts ≡ joined found
+  pub each_length : take totals.count lengths_of ≡ lengths_in found
 
 -- the bytes are a script, and texts are written that it may print if no allocation fails; all of
 -- them, if so said
-pub record AreOutcomes (script : List ℕ) (are_all : Bool) (told : YachtTexts)
+pub record AreOutcomes (script : List ℕ) (are_all : Bool) (totals : YachtTexts)
     (texts lengths_of : List ℕ) : Type 0 where
   pub meaning : Meaning
   pub read : IsScript script meaning
   pub found : List (List ℕ)
-  pub written : AreWritten found told texts lengths_of
+  pub written : AreWritten found totals texts lengths_of
   pub each : All (IsTextFound meaning) found
   pub once : IsDistinct same_bytes found
   pub all : IsTrue are_all → (text : List ℕ) → IsTextFound meaning text → Contains found text

@@ -26,8 +26,8 @@ pub fn note_fault(alloc: Global, kind: ScriptFault, note: &mut [u8]) -> Result<u
 /// which is 0 if no order of a submission's requests explains its lines.
 pub fn note_expected(fault: &Fault, note: &mut [u8]) -> u64 {
     match fault {
-        Fault::Text(wanted) => copy(wanted.as_bytes(), note),
-        Fault::Line(_, wanted) => copy(wanted.as_bytes(), note),
+        Fault::Text(expected) => copy(expected.as_bytes(), note),
+        Fault::Line(_, expected) => copy(expected.as_bytes(), note),
         Fault::Order(..) => 0,
     }
 }

@@ -16,7 +16,7 @@ EndsWords old (Err fault) =
     (word : List ℕ) × (others : List (List ℕ)) × (old ≡ word ∷ others) × (fault ≡ WordCount)
 
 -- the result is the expected one; `view` is what contracts see of the code's value
-abbrev pub GivesExpected : {A B : Type 0} → (A → B) → Result A ScriptFault → Result B ScriptFault
+abbrev pub YieldsExpected : {A B : Type 0} → (A → B) → Result A ScriptFault → Result B ScriptFault
     → Type 0
-GivesExpected view (Ok x) expected = expected ≡ Ok (view x)
-GivesExpected view (Err fault) expected = expected ≡ Err fault
+YieldsExpected view (Ok x) expected = expected ≡ Ok (view x)
+YieldsExpected view (Err fault) expected = expected ≡ Err fault

@@ -11,5 +11,5 @@ abbrev pub parts_left : Parts → List (List ℕ)
 parts_left it = option_map_or (λ rest. slice_split (λ b. b == it.at) rest.now) it.rest []
 
 -- a call returned the first part that was left, or `None` if none was left, and then none is left
-abbrev pub GivesFirstPart : Parts → Option (Bor (List ℕ)) → Parts → Type 0
-GivesFirstPart = YieldsFirstRef parts_left
+abbrev pub YieldsFirstPart : Parts → Option (Bor (List ℕ)) → Parts → Type 0
+YieldsFirstPart = YieldsFirstRef parts_left

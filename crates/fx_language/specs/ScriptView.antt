@@ -24,10 +24,10 @@ IsExpected NoMemory expected = Unit {0}
 
 -- the result is the expected one, unless an allocation failed; `view` is what contracts see of the
 -- code's value
-abbrev pub GivesOrFails : {A B : Type 0} → (A → B) → Result A LineError → Result B ScriptFault
+abbrev pub YieldsOrFails : {A B : Type 0} → (A → B) → Result A LineError → Result B ScriptFault
     → Type 0
-GivesOrFails view (Ok x) expected = expected ≡ Ok (view x)
-GivesOrFails view (Err error) expected = IsExpected error expected
+YieldsOrFails view (Ok x) expected = expected ≡ Ok (view x)
+YieldsOrFails view (Err error) expected = IsExpected error expected
 
 -- the result and the state afterwards are the expected ones, unless an allocation failed
 abbrev pub TakesExpected : {A : Type 0} → Result A ScriptFault → Result (Unit {0}) LineError → A

@@ -5,7 +5,7 @@ ghost use Rattle.fx_language.specs.Line.{file_of, sparse_of, register_of, unregi
 ghost use Rattle.fx_language.specs.LineView.{line_in};
 ghost use Rattle.fx_language.specs.Lines.{is_printable, words};
 ghost use Rattle.fx_language.specs.Parts.{parts_left};
-ghost use Rattle.fx_language.specs.ScriptView.{GivesOrFails};
+ghost use Rattle.fx_language.specs.ScriptView.{YieldsOrFails};
 
 use crate::command::Command;
 use crate::fault::{LineError, ScriptFault};
@@ -31,7 +31,7 @@ pub enum Line<'a> {
 
 fn file<'a>(late: bool, words: &mut Parts<'a>) -> Result<Line<'a>, LineError>
     requires { list_all is_printable (parts_left words.old) ≡ true }
-    ensures { GivesOrFails line_in result (file_of late (parts_left words.old)) }
+    ensures { YieldsOrFails line_in result (file_of late (parts_left words.old)) }
 {
     if late {
         return Err(LineError::Fault(ScriptFault::LateFile));
@@ -43,7 +43,7 @@ fn file<'a>(late: bool, words: &mut Parts<'a>) -> Result<Line<'a>, LineError>
 }
 
 fn sparse<'a>(words: &mut Parts<'a>) -> Result<Line<'a>, LineError>
-    ensures { GivesOrFails line_in result (sparse_of (parts_left words.old)) }
+    ensures { YieldsOrFails line_in result (sparse_of (parts_left words.old)) }
 {
     let n = word(words)?;
     end(words)?;
@@ -51,7 +51,7 @@ fn sparse<'a>(words: &mut Parts<'a>) -> Result<Line<'a>, LineError>
 }
 
 fn register<'a>(alloc: Global, words: &mut Parts<'a>) -> Result<Line<'a>, LineError>
-    ensures { GivesOrFails line_in result (register_of (parts_left words.old)) }
+    ensures { YieldsOrFails line_in result (register_of (parts_left words.old)) }
 {
     let list = word(words)?;
     let last = last(words)?;
@@ -61,14 +61,14 @@ fn register<'a>(alloc: Global, words: &mut Parts<'a>) -> Result<Line<'a>, LineEr
 }
 
 fn unregister<'a>(words: &mut Parts<'a>) -> Result<Line<'a>, LineError>
-    ensures { GivesOrFails line_in result (unregister_of (parts_left words.old)) }
+    ensures { YieldsOrFails line_in result (unregister_of (parts_left words.old)) }
 {
     end(words)?;
     Ok(Line::Command(Command::Unregister))
 }
 
 fn range<'a>(words: &mut Parts<'a>) -> Result<Line<'a>, LineError>
-    ensures { GivesOrFails line_in result (range_line_of (parts_left words.old)) }
+    ensures { YieldsOrFails line_in result (range_line_of (parts_left words.old)) }
 {
     let off = word(words)?;
     let len = word(words)?;
@@ -79,7 +79,7 @@ fn range<'a>(words: &mut Parts<'a>) -> Result<Line<'a>, LineError>
 }
 
 fn regupdate<'a>(alloc: Global, words: &mut Parts<'a>) -> Result<Line<'a>, LineError>
-    ensures { GivesOrFails line_in result (regupdate_of (parts_left words.old)) }
+    ensures { YieldsOrFails line_in result (regupdate_of (parts_left words.old)) }
 {
     let off = word(words)?;
     let list = word(words)?;
@@ -91,7 +91,7 @@ fn regupdate<'a>(alloc: Global, words: &mut Parts<'a>) -> Result<Line<'a>, LineE
 }
 
 fn submit<'a>(words: &mut Parts<'a>) -> Result<Line<'a>, LineError>
-    ensures { GivesOrFails line_in result (submit_of (parts_left words.old)) }
+    ensures { YieldsOrFails line_in result (submit_of (parts_left words.old)) }
 {
     end(words)?;
     Ok(Line::Submit)
@@ -105,7 +105,7 @@ fn after_command<'a>(
     late: bool,
 ) -> Result<Line<'a>, LineError>
     requires { list_all is_printable (parts_left words.old) ≡ true }
-    ensures { GivesOrFails line_in result (line_of late (command.now ∷ parts_left words.old)) }
+    ensures { YieldsOrFails line_in result (line_of late (command.now ∷ parts_left words.old)) }
 {
     if command == b"file".as_slice() {
         file(late, words)
@@ -131,7 +131,7 @@ fn after_command<'a>(
 // `file` line.
 pub fn parse(alloc: Global, line: &[u8], late: bool) -> Result<Line<'_>, LineError>
     requires { is_printable line.now ≡ true }
-    ensures { GivesOrFails line_in result (line_of late (words line.now)) }
+    ensures { YieldsOrFails line_in result (line_of late (words line.now)) }
 {
     let mut words = Parts::new(line, b' ');
     let Some(command) = words.next() else {

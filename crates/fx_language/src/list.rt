@@ -3,7 +3,7 @@
 ghost use Rattle.std.specs.Prelude.{option_map, ok_or};
 ghost use Rattle.fx_language.specs.declared.fault.ScriptFault.TheVariants.{BadTag};
 ghost use Rattle.fx_language.specs.Line.{list_in, tags_in};
-ghost use Rattle.fx_language.specs.ScriptView.{GivesOrFails};
+ghost use Rattle.fx_language.specs.ScriptView.{YieldsOrFails};
 ghost use Rattle.fx_language.specs.Words.{tag_list_of};
 
 use crate::fault::{LineError, ScriptFault};
@@ -13,7 +13,7 @@ use std::alloc::Global;
 
 // Parses a word as a list of entries.
 pub fn entries(alloc: Global, word: &[u8]) -> Result<Vec<i32>, LineError>
-    ensures { GivesOrFails (λ list. list.items) result (list_in word.now) }
+    ensures { YieldsOrFails (λ list. list.items) result (list_in word.now) }
 {
     let mut list = Vec::new(alloc);
     for part in Parts::new(word, b',') {
@@ -27,7 +27,7 @@ pub fn entries(alloc: Global, word: &[u8]) -> Result<Vec<i32>, LineError>
 
 // Parses a word as a list of tags.
 fn tag_list(alloc: Global, word: &[u8]) -> Result<Vec<u64>, LineError>
-    ensures { GivesOrFails (λ tags. tags.items) result (ok_or (tag_list_of word.now) BadTag) }
+    ensures { YieldsOrFails (λ tags. tags.items) result (ok_or (tag_list_of word.now) BadTag) }
 {
     let mut tags = Vec::new(alloc);
     for part in Parts::new(word, b',') {
@@ -41,7 +41,7 @@ fn tag_list(alloc: Global, word: &[u8]) -> Result<Vec<u64>, LineError>
 
 // Parses the last word as a list of tags, if there is one.
 pub fn tags(alloc: Global, last: Option<&[u8]>) -> Result<Option<Vec<u64>>, LineError>
-    ensures { GivesOrFails (option_map (λ given. given.items)) result
+    ensures { YieldsOrFails (option_map (λ given. given.items)) result
         (tags_in (option_map (λ word. word.now) last.entry)) }
 {
     match last {

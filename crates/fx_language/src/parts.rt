@@ -28,11 +28,11 @@ impl<'a> Parts<'a> {
 }
 
 impl<'a> Iterator for Parts<'a> {
-    ghost use Rattle.fx_language.specs.Parts.{parts_left, GivesFirstPart};
+    ghost use Rattle.fx_language.specs.Parts.{parts_left, YieldsFirstPart};
 
     type Item = &'a [u8];
 
-    ghost next_gives = { GivesFirstPart };
+    ghost next_gives = { YieldsFirstPart };
 
     ghost remaining = { item_count parts_left };
 

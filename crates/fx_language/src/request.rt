@@ -5,7 +5,7 @@ ghost use Rattle.fx_language.specs.Line.{open_at, open_any, open_of, read_of, cl
 ghost use Rattle.fx_language.specs.LineView.{request_in};
 ghost use Rattle.fx_language.specs.Lines.{is_printable};
 ghost use Rattle.fx_language.specs.Parts.{parts_left};
-ghost use Rattle.fx_language.specs.ScriptView.{GivesOrFails};
+ghost use Rattle.fx_language.specs.ScriptView.{YieldsOrFails};
 
 use crate::fault::{LineError, ScriptFault};
 use crate::list::entries;
@@ -17,7 +17,7 @@ use std::alloc::Global;
 
 // Parses the words after `open NAME at`: the slot, and perhaps a link.
 fn open_at(alloc: Global, file: &str, words: &mut Parts<'_>) -> Result<Request, LineError>
-    ensures { GivesOrFails request_in result (open_at file.now (parts_left words.old)) }
+    ensures { YieldsOrFails request_in result (open_at file.now (parts_left words.old)) }
 {
     let slot = word(words)?;
     let last = last(words)?;
@@ -33,7 +33,7 @@ fn open_at(alloc: Global, file: &str, words: &mut Parts<'_>) -> Result<Request, 
 
 // Parses the words after `open NAME any`: perhaps a link.
 fn open_any(alloc: Global, file: &str, words: &mut Parts<'_>) -> Result<Request, LineError>
-    ensures { GivesOrFails request_in result (open_any file.now (parts_left words.old)) }
+    ensures { YieldsOrFails request_in result (open_any file.now (parts_left words.old)) }
 {
     let last = last(words)?;
     let name = name(file)?;
@@ -49,7 +49,7 @@ fn open_any(alloc: Global, file: &str, words: &mut Parts<'_>) -> Result<Request,
 // Parses the words after `open`. Requires that they are printable, as those of a line are.
 fn open(alloc: Global, words: &mut Parts<'_>) -> Result<Request, LineError>
     requires { list_all is_printable (parts_left words.old) ≡ true }
-    ensures { GivesOrFails request_in result (open_of (parts_left words.old)) }
+    ensures { YieldsOrFails request_in result (open_of (parts_left words.old)) }
 {
     let file = text(word(words)?);
     let place = word(words)?;
@@ -64,7 +64,7 @@ fn open(alloc: Global, words: &mut Parts<'_>) -> Result<Request, LineError>
 
 // Parses the words after `read`. A read names its file by a slot; no other request does.
 fn read(words: &mut Parts<'_>) -> Result<Request, LineError>
-    ensures { GivesOrFails request_in result (read_of (parts_left words.old)) }
+    ensures { YieldsOrFails request_in result (read_of (parts_left words.old)) }
 {
     let slot = word(words)?;
     let off = word(words)?;
@@ -82,7 +82,7 @@ fn read(words: &mut Parts<'_>) -> Result<Request, LineError>
 
 // Parses the words after `close`.
 fn close(words: &mut Parts<'_>) -> Result<Request, LineError>
-    ensures { GivesOrFails request_in result (close_line_of (parts_left words.old)) }
+    ensures { YieldsOrFails request_in result (close_line_of (parts_left words.old)) }
 {
     let slot = word(words)?;
     let last = last(words)?;
@@ -96,7 +96,7 @@ fn close(words: &mut Parts<'_>) -> Result<Request, LineError>
 
 // Parses the words after `update`.
 fn update(alloc: Global, words: &mut Parts<'_>) -> Result<Request, LineError>
-    ensures { GivesOrFails request_in result (update_of (parts_left words.old)) }
+    ensures { YieldsOrFails request_in result (update_of (parts_left words.old)) }
 {
     let off = word(words)?;
     let list = word(words)?;
@@ -113,7 +113,7 @@ fn update(alloc: Global, words: &mut Parts<'_>) -> Result<Request, LineError>
 // Parses the words after a request's command, or returns their first fault.
 pub fn request(alloc: Global, command: &[u8], words: &mut Parts<'_>) -> Result<Request, LineError>
     requires { list_all is_printable (parts_left words.old) ≡ true }
-    ensures { GivesOrFails request_in result (request_of command.now (parts_left words.old)) }
+    ensures { YieldsOrFails request_in result (request_of command.now (parts_left words.old)) }
 {
     if command == b"open".as_slice() {
         open(alloc, words)

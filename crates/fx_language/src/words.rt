@@ -1,6 +1,6 @@
 //! The words of a line, one after another.
 ghost use Rattle.std.specs.Prelude.{◌≡◌, true, option_map};
-ghost use Rattle.fx_language.specs.Cursor.{TakesWord, EndsWords, GivesExpected};
+ghost use Rattle.fx_language.specs.Cursor.{TakesWord, EndsWords, YieldsExpected};
 ghost use Rattle.fx_language.specs.Line.{number_in, file_name_in, last_of, link_in};
 ghost use Rattle.fx_language.specs.Lines.{is_printable};
 ghost use Rattle.fx_language.specs.Parts.{parts_left};
@@ -31,7 +31,7 @@ pub fn end(words: &mut Parts<'_>) -> Result<(), ScriptFault>
 
 // Returns the last word of a request, if there is one; a further word is a fault.
 pub fn last<'a>(words: &mut Parts<'a>) -> Result<Option<&'a [u8]>, ScriptFault>
-    ensures { GivesExpected (option_map (λ word. word.now)) result (last_of (parts_left words.old)) }
+    ensures { YieldsExpected (option_map (λ word. word.now)) result (last_of (parts_left words.old)) }
 {
     let Some(word) = words.next() else {
         return Ok(None);
@@ -69,7 +69,7 @@ pub fn text(word: &[u8]) -> &str
 
 // Returns a text as a name, or its fault.
 pub fn name(text: &str) -> Result<&str, ScriptFault>
-    ensures { GivesExpected (λ name. name.now) result (file_name_in text.now) }
+    ensures { YieldsExpected (λ name. name.now) result (file_name_in text.now) }
 {
     if is_name(text.as_bytes()) {
         Ok(text)

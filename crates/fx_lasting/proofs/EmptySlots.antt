@@ -7,7 +7,7 @@ use Rattle.fx_table.proofs.Calls.{adds_then}
 use Rattle.fx_table.specs.Calls.{Adds, no_use}
 use Rattle.fx_table.specs.declared.values.Doing.TheVariants.{Idle as DoesNothing}
 use Rattle.fx_lasting.specs.Questions.{HasAsked}
-use Rattle.fx_lasting.specs.Vacant.{FitsSight, SeesFile, TellsFull}
+use Rattle.fx_lasting.specs.Vacant.{FitsSight, SeesFile, AnswersFull}
 use Rattle.fx_lasting.proofs.Questions.{asked_full, asked_nothing}
 use Rattle.fx_lasting.proofs.Running.{no_name, its_name, runs_goes}
 
@@ -40,7 +40,7 @@ module _ {k : Start} {slot : ℕ} {st : At} {m m' : Sat} {found : ℕ} (start : 
 -- a pass that had added nothing has asked
 pub tells_so : (t : LastingTable) {n : ℕ} (u p p' : LastingPass) (full : Bool)
     → Adds (opening_of t.table.shared.key) (view_of u) [] DoesNothing no_use (view_of p) → HasAsked t n p full p'
-    → TellsFull (opening_of t.table.shared.key) (view_of u) full (view_of p')
+    → AnswersFull (opening_of t.table.shared.key) (view_of u) full (view_of p')
 tells_so t u p p' true before asked = adds_then (opening_of t.table.shared.key) (view_of u) (view_of p) (view_of p') [] ([] ▷ Full) DoesNothing
     DoesNothing no_use no_use before (asked_full asked before.now)
 tells_so t u p p' false before asked = adds_then (opening_of t.table.shared.key) (view_of u) (view_of p) (view_of p') [] [] DoesNothing

@@ -4,7 +4,7 @@ use Rattle.fx_lasting.proofs.Words.{◌≡◌, ◌≢◌, ℕ, ◌+◌, ◌%◌,
 use Rattle.fx_lasting.proofs.Words.{keeps, Closed, File, Event, Look, ◌▷◌, WorkAgrees, GlanceAgrees, Heats, state_after_all, slots_of, nodes_of}
 use Rattle.fx_lasting.proofs.Words.{held_in, if_file, taken_of, taking, pass_event, seated, file_in, Work, Glance, Idle, Counted, Cold, Heating}
 use Rattle.fx_lasting.proofs.Words.{Deed, untouched, over, heated, has_acted, has_heated}
-use Rattle.fx_lasting.proofs.Words.{Nothing, Takes, HeatTells, TakesOnceKeep, HeatsKeep, IsHot, heat_in, name_in, full_name_in, same_full_name, entry_in, count_in, cold_takes}
+use Rattle.fx_lasting.proofs.Words.{Nothing, Takes, HeatsSlot, TakesOnceKeep, HeatsKeep, IsHot, heat_in, name_in, full_name_in, same_full_name, entry_in, count_in, cold_takes}
 use Rattle.fx_lasting.proofs.Words.{glance_after, heat_unit, slot_place, step, inl, inr, ⊎_elim, dite, ℕ_discrete, dec_le, one_more_at, Bool, true}
 use Rattle.fx_lasting.proofs.Words.{false, cond, lt-ltb, le-ltb, tally, sum_set, changed_at, changed_here, changed_else, one_if, bit_here, bit_else}
 use Rattle.fx_lasting.proofs.Words.{IsInside, Announced, Owing, Guarded, Yielding, Searching, Placing, Retiring, Emptying, Keeping}
@@ -353,7 +353,7 @@ module _ (turn : Turn) (s : ℕ) (inside : s < slots_of turn.v.start) where
         go (Keeping n) o = o.0
 
     pub heats_up : (slots : ℕ) (carried : List (ℕ × Option Closed))
-        → Made turn carried (slot_place s) (λ word. (word + heat_unit) % 2 ^ 64) (HeatTells (step slots (slot_place s) heat_unit 0 none) (v, carried))
+        → Made turn carried (slot_place s) (λ word. (word + heat_unit) % 2 ^ 64) (HeatsSlot (step slots (slot_place s) heat_unit 0 none) (v, carried))
     heats_up slots carried = (
       w turn hot_after,
       keeps,
@@ -373,8 +373,8 @@ takes_once_keep k slots id i s m x has listed works saw place = by_turn slots (�
     (λ st r here _ fits. let turn = turn_of m x has.1 id st r here in let o = rw saw at (its_log turn).sees in
     takes_once turn s o.0 listed works saw fits slots m.1)
 
-pub heats_keep : HeatsKeep HeatTells
+pub heats_keep : HeatsKeep HeatsSlot
 heats_keep k slots id i s m x has listed saw place = by_turn slots (λ _. Unit {0}) (λ _. slot_place s) (λ word. (word + heat_unit) % 2 ^ 64)
-    (λ i. HeatTells (step slots i heat_unit 0 none) m) has tt place
+    (λ i. HeatsSlot (step slots i heat_unit 0 none) m) has tt place
     (λ st r here _ fits. let turn = turn_of m x has.1 id st r here in let o = rw saw at (its_log turn).sees in
     heats_up turn s o.0 listed saw fits slots m.1)

@@ -42,11 +42,11 @@ pub use Rattle.fx_lasting.specs.Tables.{hold_at, retired_at, doing_in, numbers_o
 pub use Rattle.fx_lasting.specs.Tables.{Knows, IsSeatOf, IsPassOf, opening_of_table, IsPassOfTable, IsSeatOfTable}
 pub use Rattle.fx_lasting.specs.declared.pass.LastingPass.{LastingPass}
 pub use Rattle.fx_lasting.specs.declared.table.LastingTable.{LastingTable}
-pub use Rattle.fx_lasting.specs.Tells.{LetsGo, At, rested, Lists, Skims, IsOnList, as_listed, round_at, round_from, new_round, Announces, Shows}
-pub use Rattle.fx_lasting.specs.Tells.{Confirms, Withdraws, glance_after, Takes, HeatTells, StepsDown, TakesOut, slot_of, pass_at, pass_event}
-pub use Rattle.fx_lasting.specs.Tells.{pass_in, IsInside, Stepped, Goes, Glances, Exchanges, LettingGo, Seeks, Births, Rests, Visits, Marks, Retires}
-pub use Rattle.fx_lasting.specs.Tells.{first_visit, retiring_work, Found, Installs, Removes, Turns, Asks, Peeks, as_asked, group_at}
-pub use Rattle.fx_lasting.specs.Tells.{as_stocked, as_swapped, NamesANode, Lowers, Checks, Breaks, Raises, Begins, Counts, Decides, Sees, TakesIf, Replaces}
+pub use Rattle.fx_lasting.specs.Effects.{LetsGo, At, rested, Lists, Skims, IsOnList, as_listed, round_at, round_from, new_round, Announces, Shows}
+pub use Rattle.fx_lasting.specs.Effects.{Confirms, Withdraws, glance_after, Takes, HeatsSlot, StepsDown, TakesOut, slot_of, pass_at, pass_event}
+pub use Rattle.fx_lasting.specs.Effects.{pass_in, IsInside, Stepped, Goes, Glances, Exchanges, LettingGo, Seeks, Births, Rests, Visits, Marks, Retires}
+pub use Rattle.fx_lasting.specs.Effects.{first_visit, retiring_work, Found, Installs, Removes, Turns, Asks, Peeks, as_asked, group_at}
+pub use Rattle.fx_lasting.specs.Effects.{as_stocked, as_swapped, NamesANode, Lowers, Checks, Breaks, Raises, Begins, Counts, Decides, Sees, TakesIf, Replaces}
 pub use Rattle.fx_lasting.specs.Visits.{Visited, HasVisited, HasMarked, round_to}
 pub use Rattle.fx_lasting.specs.Searches.{next_of}
 pub use Rattle.fx_lasting.specs.declared.view.Change.{Change}

@@ -5,7 +5,7 @@ use Rattle.std.specs.Prelude.{◌≡◌, ◌≢◌, ℕ, [], ◌∷◌, None}
 use Rattle.atomic_table.specs.Table.{rest}
 use Rattle.fx_lasting.specs.Parts.{birth_word}
 use Rattle.fx_lasting.specs.Passes.{Sat}
-use Rattle.fx_lasting.specs.Tells.{At, Goes, Stepped, pass_in}
+use Rattle.fx_lasting.specs.Effects.{At, Goes, Stepped, pass_in}
 use Rattle.fx_lasting.specs.declared.view.Work.TheVariants.{Idle, Placing, Emptying, Keeping}
 use Rattle.fx_lasting.specs.declared.view.Written.TheVariants.{Nothing as Unlabelled}
 

@@ -20,7 +20,7 @@ use Rattle.fx_lasting.specs.Parts.{full_name_in}
 use Rattle.fx_lasting.specs.Passes.{Sat, nodes_of, node_of_number, state_after_all}
 use Rattle.fx_lasting.specs.Runs.{Runs}
 use Rattle.fx_lasting.specs.Tables.{opening_of}
-use Rattle.fx_lasting.specs.Tells.{as_swapped, pass_in, retiring_work}
+use Rattle.fx_lasting.specs.Effects.{as_swapped, pass_in, retiring_work}
 use Rattle.fx_lasting.specs.declared.answers.Miss.{Miss}
 use Rattle.fx_lasting.specs.declared.answers.Miss.TheVariants.{Empty, Other, Again}
 use Rattle.fx_lasting.specs.declared.answers.PutIf.{PutIf}

@@ -3,7 +3,7 @@ use Rattle.std.specs.Prelude.{◌≡◌, ℕ, []}
 use Rattle.fx_plain.specs.declared.event.File.{File}
 use Rattle.fx_lasting.specs.Labels.{number_of_mark}
 use Rattle.fx_lasting.specs.Passes.{Sat, HoldsOn, node_of_number}
-use Rattle.fx_lasting.specs.Tells.{At, Goes, pass_in}
+use Rattle.fx_lasting.specs.Effects.{At, Goes, pass_in}
 use Rattle.fx_lasting.specs.declared.view.Work.TheVariants.{Placing}
 use Rattle.fx_lasting.specs.declared.view.Written.TheVariants.{Nothing, Tag, Label}
 

@@ -18,7 +18,7 @@ use Rattle.fx_lasting.specs.Parts.{empty_word_of}
 use Rattle.fx_lasting.specs.Passes.{Sat, HasNoFile, slots_of, range_at_start, word_of}
 use Rattle.fx_lasting.specs.Passes.{hold_word_of, HoldsOn, tag_word_of, number_word_of}
 use Rattle.fx_lasting.specs.Stocks.{IsInStock}
-use Rattle.fx_lasting.specs.Tells.{At}
+use Rattle.fx_lasting.specs.Effects.{At}
 use Rattle.fx_lasting.specs.declared.layout.TheConstants.{MOST_INSTALLING}
 use Rattle.fx_lasting.specs.declared.view.Survey.TheVariants.{None as NotAsked, Covered}
 use Rattle.fx_lasting.specs.declared.view.Change.{Change}

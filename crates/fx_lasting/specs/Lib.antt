@@ -8,7 +8,7 @@ pub mod Passes
 pub mod HeldFiles
 pub mod Stocks
 pub mod Groups
-pub mod Tells
+pub mod Effects
 pub mod LabelSteps
 pub mod Runs
 pub mod SwapSteps

@@ -3,7 +3,7 @@ use Rattle.std.specs.Prelude.{◌≡◌, ℕ, ◌+◌, ◌≤◌, List, [], ◌�
 use Rattle.fx_plain.specs.History.{IsSeenBy, part_of_pass}
 use Rattle.fx_plain.specs.declared.event.Action.{Action}
 use Rattle.fx_lasting.specs.Passes.{Sat, IsHistory}
-use Rattle.fx_lasting.specs.Tells.{IsInside, pass_event, pass_in}
+use Rattle.fx_lasting.specs.Effects.{IsInside, pass_event, pass_in}
 use Rattle.fx_lasting.specs.declared.view.Change.{Change}
 use Rattle.fx_lasting.specs.declared.view.Glance.{Glance}
 use Rattle.fx_lasting.specs.declared.view.Log.{Log}

@@ -12,8 +12,9 @@ use Rattle.fx_lasting.specs.Parts.{empty_word_of}
 use Rattle.fx_lasting.specs.Passes.{Sat, range_at_start}
 use Rattle.fx_lasting.specs.Runs.{Runs}
 use Rattle.fx_lasting.specs.Stocks.{IsStockOf}
-use Rattle.fx_lasting.specs.Tells.{At, Found, NamesANode, Stepped, as_stocked, as_swapped, pass_in}
-use Rattle.fx_lasting.specs.Tells.{retiring_work, slot_of}
+use Rattle.fx_lasting.specs.Effects.{At, Found, NamesANode, Stepped, as_stocked, as_swapped}
+use Rattle.fx_lasting.specs.Effects.{pass_in}
+use Rattle.fx_lasting.specs.Effects.{retiring_work, slot_of}
 use Rattle.fx_lasting.specs.declared.view.Start.{Start}
 
 -- Swap, to the word of an empty slot that names a node of the stock, by a clear or by a take

@@ -17,7 +17,7 @@ use Rattle.fx_lasting.specs.Labels.{label_of}
 use Rattle.fx_lasting.specs.Layout.{group_size, groups_in}
 use Rattle.fx_lasting.specs.Passes.{Sat, nodes_of, node_of_number}
 use Rattle.fx_lasting.specs.Stocks.{IsInStock}
-use Rattle.fx_lasting.specs.Tells.{as_swapped, pass_in}
+use Rattle.fx_lasting.specs.Effects.{as_swapped, pass_in}
 use Rattle.fx_lasting.specs.declared.tried.TriedPut.{TriedPut}
 use Rattle.fx_lasting.specs.declared.tried.TriedPut.TheVariants.{At, Full as AllFull, Again}
 use Rattle.fx_lasting.specs.declared.view.Work.TheVariants.{Idle, Placing}

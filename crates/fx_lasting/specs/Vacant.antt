@@ -13,7 +13,7 @@ use Rattle.fx_lasting.specs.Ends.{Does}
 use Rattle.fx_lasting.specs.Keyed.{WasSo}
 use Rattle.fx_lasting.specs.Passes.{Sat}
 use Rattle.fx_lasting.specs.Tables.{opening_of}
-use Rattle.fx_lasting.specs.Tells.{pass_in}
+use Rattle.fx_lasting.specs.Effects.{pass_in}
 use Rattle.fx_lasting.specs.declared.answers.PutEmpty.{PutEmpty}
 use Rattle.fx_lasting.specs.declared.answers.PutEmpty.TheVariants.{Installed, HasFile, Lost}
 use Rattle.fx_lasting.specs.declared.view.Start.{Start}
@@ -42,6 +42,6 @@ HasPutEmpty k v slot file (HasFile back) w = (back ≡ file) × PutsNothing k v 
 HasPutEmpty k v slot file (Lost back) w = (back ≡ file) × PutsNothing k v slot false w
 
 -- every slot of the range had a file at a step of the call, or nothing was done
-abbrev pub TellsFull : Opening → PassView → Bool → PassView → Type 0
-TellsFull o v true w = Adds o v ([] ▷ Full) DoesNothing no_use w
-TellsFull o v false w = Adds o v [] DoesNothing no_use w
+abbrev pub AnswersFull : Opening → PassView → Bool → PassView → Type 0
+AnswersFull o v true w = Adds o v ([] ▷ Full) DoesNothing no_use w
+AnswersFull o v false w = Adds o v [] DoesNothing no_use w

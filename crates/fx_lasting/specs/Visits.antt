@@ -4,7 +4,7 @@ use Rattle.fx_plain.specs.declared.event.File.{File}
 use Rattle.fx_lasting.specs.Ends.{Does}
 use Rattle.fx_lasting.specs.Laws.{IsPassed}
 use Rattle.fx_lasting.specs.Passes.{Sat}
-use Rattle.fx_lasting.specs.Tells.{round_at}
+use Rattle.fx_lasting.specs.Effects.{round_at}
 use Rattle.fx_lasting.specs.declared.view.Round.{Round}
 use Rattle.fx_lasting.specs.declared.view.Work.TheVariants.{Retiring}
 

@@ -7,7 +7,7 @@ ghost use Rattle.fx_lasting.specs.AtWork.{IsAtWork};
 ghost use Rattle.fx_lasting.specs.Laws.{IsOffCount};
 ghost use Rattle.fx_lasting.specs.Passes.{HasNoFile};
 ghost use Rattle.fx_lasting.specs.SwapSteps.{HasEmptied};
-ghost use Rattle.fx_lasting.specs.Tells.{pass_in};
+ghost use Rattle.fx_lasting.specs.Effects.{pass_in};
 
 use crate::kinds::{Clearing, SwappingClear, SwappingTake, TakingOut};
 use crate::layout::slot_place;

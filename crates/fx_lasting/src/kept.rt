@@ -12,7 +12,7 @@ ghost use Rattle.fx_lasting.specs.Ends.{Does, Parked, TakenOut};
 ghost use Rattle.fx_lasting.specs.Labels.{label_of};
 ghost use Rattle.fx_lasting.specs.Passes.{nodes_of};
 ghost use Rattle.fx_lasting.specs.Tables.{view_of, steps_taken, IsPassOfTable};
-ghost use Rattle.fx_lasting.specs.Tells.{pass_in};
+ghost use Rattle.fx_lasting.specs.Effects.{pass_in};
 ghost use Rattle.fx_lasting.specs.declared.view.Work.TheVariants.{Emptying, Placing};
 
 use crate::kinds::{Birth, Parking, Resting, Resuming, Settling};

@@ -42,7 +42,7 @@ impl Join<View> for Gather {
 pub struct Glancing;
 
 impl Play<Option<OpenFile>, View> for Glancing {
-    ghost use Rattle.fx_lasting.specs.Tells.{Glances};
+    ghost use Rattle.fx_lasting.specs.Effects.{Glances};
 
     ghost then = { Glances };
 }
@@ -51,7 +51,7 @@ impl Play<Option<OpenFile>, View> for Glancing {
 pub struct Listing;
 
 impl Play<Option<OpenFile>, View> for Listing {
-    ghost use Rattle.fx_lasting.specs.Tells.{Lists};
+    ghost use Rattle.fx_lasting.specs.Effects.{Lists};
 
     ghost then = { Lists };
 }
@@ -60,7 +60,7 @@ impl Play<Option<OpenFile>, View> for Listing {
 pub struct Announcing;
 
 impl Play<Option<OpenFile>, View> for Announcing {
-    ghost use Rattle.fx_lasting.specs.Tells.{Announces};
+    ghost use Rattle.fx_lasting.specs.Effects.{Announces};
 
     ghost then = { Announces };
 }
@@ -70,7 +70,7 @@ impl Play<Option<OpenFile>, View> for Announcing {
 pub struct Confirming;
 
 impl Play<Option<OpenFile>, View> for Confirming {
-    ghost use Rattle.fx_lasting.specs.Tells.{Confirms};
+    ghost use Rattle.fx_lasting.specs.Effects.{Confirms};
 
     ghost then = { Confirms };
 }
@@ -79,7 +79,7 @@ impl Play<Option<OpenFile>, View> for Confirming {
 pub struct Withdrawing;
 
 impl Play<Option<OpenFile>, View> for Withdrawing {
-    ghost use Rattle.fx_lasting.specs.Tells.{Withdraws};
+    ghost use Rattle.fx_lasting.specs.Effects.{Withdraws};
 
     ghost then = { Withdraws };
 }
@@ -88,7 +88,7 @@ impl Play<Option<OpenFile>, View> for Withdrawing {
 pub struct Taking;
 
 impl Play<Option<OpenFile>, View> for Taking {
-    ghost use Rattle.fx_lasting.specs.Tells.{Takes};
+    ghost use Rattle.fx_lasting.specs.Effects.{Takes};
 
     ghost then = { Takes };
 }
@@ -98,16 +98,16 @@ impl Play<Option<OpenFile>, View> for Taking {
 pub struct HeatingUp;
 
 impl Play<Option<OpenFile>, View> for HeatingUp {
-    ghost use Rattle.fx_lasting.specs.Tells.{HeatTells};
+    ghost use Rattle.fx_lasting.specs.Effects.{HeatsSlot};
 
-    ghost then = { HeatTells };
+    ghost then = { HeatsSlot };
 }
 
 /// Step down: a hold by the hold word ends, or its mark is owed.
 pub struct SteppingDown;
 
 impl Play<Option<OpenFile>, View> for SteppingDown {
-    ghost use Rattle.fx_lasting.specs.Tells.{StepsDown};
+    ghost use Rattle.fx_lasting.specs.Effects.{StepsDown};
 
     ghost then = { StepsDown };
 }
@@ -117,7 +117,7 @@ impl Play<Option<OpenFile>, View> for SteppingDown {
 pub struct Letting;
 
 impl Play<Option<OpenFile>, View> for Letting {
-    ghost use Rattle.fx_lasting.specs.Tells.{LettingGo};
+    ghost use Rattle.fx_lasting.specs.Effects.{LettingGo};
 
     ghost then = { LettingGo };
 }
@@ -126,7 +126,7 @@ impl Play<Option<OpenFile>, View> for Letting {
 pub struct Seeking;
 
 impl Play<Option<OpenFile>, View> for Seeking {
-    ghost use Rattle.fx_lasting.specs.Tells.{Seeks};
+    ghost use Rattle.fx_lasting.specs.Effects.{Seeks};
 
     ghost then = { Seeks };
 }
@@ -135,7 +135,7 @@ impl Play<Option<OpenFile>, View> for Seeking {
 pub struct Birth;
 
 impl Play<Option<OpenFile>, View> for Birth {
-    ghost use Rattle.fx_lasting.specs.Tells.{Births};
+    ghost use Rattle.fx_lasting.specs.Effects.{Births};
 
     ghost then = { Births };
 }
@@ -180,7 +180,7 @@ impl Play<Option<OpenFile>, View> for ReadingNumber {
 pub struct Resting;
 
 impl Play<Option<OpenFile>, View> for Resting {
-    ghost use Rattle.fx_lasting.specs.Tells.{Rests};
+    ghost use Rattle.fx_lasting.specs.Effects.{Rests};
 
     ghost then = { Rests };
 }
@@ -218,7 +218,7 @@ impl Play<Option<OpenFile>, View> for Settling {
 pub struct Skimming;
 
 impl Play<Option<OpenFile>, View> for Skimming {
-    ghost use Rattle.fx_lasting.specs.Tells.{Skims};
+    ghost use Rattle.fx_lasting.specs.Effects.{Skims};
 
     ghost then = { Skims };
 }
@@ -227,7 +227,7 @@ impl Play<Option<OpenFile>, View> for Skimming {
 pub struct Visiting;
 
 impl Play<Option<OpenFile>, View> for Visiting {
-    ghost use Rattle.fx_lasting.specs.Tells.{Visits};
+    ghost use Rattle.fx_lasting.specs.Effects.{Visits};
 
     ghost then = { Visits };
 }
@@ -236,7 +236,7 @@ impl Play<Option<OpenFile>, View> for Visiting {
 pub struct Marking;
 
 impl Play<Option<OpenFile>, View> for Marking {
-    ghost use Rattle.fx_lasting.specs.Tells.{Marks};
+    ghost use Rattle.fx_lasting.specs.Effects.{Marks};
 
     ghost then = { Marks };
 }
@@ -256,7 +256,7 @@ impl Play<Option<OpenFile>, View> for Finishing {
 pub struct Retire;
 
 impl Play<Option<OpenFile>, View> for Retire {
-    ghost use Rattle.fx_lasting.specs.Tells.{Retires};
+    ghost use Rattle.fx_lasting.specs.Effects.{Retires};
 
     ghost then = { Retires };
 }
@@ -266,7 +266,7 @@ impl Play<Option<OpenFile>, View> for Retire {
 pub struct Installing;
 
 impl Play<Option<OpenFile>, View> for Installing {
-    ghost use Rattle.fx_lasting.specs.Tells.{Installs};
+    ghost use Rattle.fx_lasting.specs.Effects.{Installs};
 
     ghost then = { Installs };
 }
@@ -276,7 +276,7 @@ impl Play<Option<OpenFile>, View> for Installing {
 pub struct Exchanging;
 
 impl Play<Option<OpenFile>, View> for Exchanging {
-    ghost use Rattle.fx_lasting.specs.Tells.{Exchanges};
+    ghost use Rattle.fx_lasting.specs.Effects.{Exchanges};
 
     ghost then = { Exchanges };
 }
@@ -285,7 +285,7 @@ impl Play<Option<OpenFile>, View> for Exchanging {
 pub struct Peeking;
 
 impl Play<Option<OpenFile>, View> for Peeking {
-    ghost use Rattle.fx_lasting.specs.Tells.{Peeks};
+    ghost use Rattle.fx_lasting.specs.Effects.{Peeks};
 
     ghost then = { Peeks };
 }
@@ -294,7 +294,7 @@ impl Play<Option<OpenFile>, View> for Peeking {
 pub struct Seeing;
 
 impl Play<Option<OpenFile>, View> for Seeing {
-    ghost use Rattle.fx_lasting.specs.Tells.{Sees};
+    ghost use Rattle.fx_lasting.specs.Effects.{Sees};
 
     ghost then = { Sees };
 }
@@ -303,7 +303,7 @@ impl Play<Option<OpenFile>, View> for Seeing {
 pub struct TakingIf;
 
 impl Play<Option<OpenFile>, View> for TakingIf {
-    ghost use Rattle.fx_lasting.specs.Tells.{TakesIf};
+    ghost use Rattle.fx_lasting.specs.Effects.{TakesIf};
 
     ghost then = { TakesIf };
 }
@@ -313,7 +313,7 @@ impl Play<Option<OpenFile>, View> for TakingIf {
 pub struct Replacing;
 
 impl Play<Option<OpenFile>, View> for Replacing {
-    ghost use Rattle.fx_lasting.specs.Tells.{Replaces};
+    ghost use Rattle.fx_lasting.specs.Effects.{Replaces};
 
     ghost then = { Replaces };
 }
@@ -323,7 +323,7 @@ pub struct Clearing;
 
 impl Play<Option<OpenFile>, View> for Clearing {
     ghost use Rattle.fx_plain.specs.declared.event.Action.TheVariants.{Clear};
-    ghost use Rattle.fx_lasting.specs.Tells.{Removes};
+    ghost use Rattle.fx_lasting.specs.Effects.{Removes};
 
     ghost then = { Removes Clear };
 }
@@ -333,7 +333,7 @@ pub struct TakingOut;
 
 impl Play<Option<OpenFile>, View> for TakingOut {
     ghost use Rattle.fx_plain.specs.declared.event.Action.TheVariants.{Take};
-    ghost use Rattle.fx_lasting.specs.Tells.{Removes};
+    ghost use Rattle.fx_lasting.specs.Effects.{Removes};
 
     ghost then = { Removes Take };
 }
@@ -364,7 +364,7 @@ impl Play<Option<OpenFile>, View> for SwappingTake {
 pub struct Lowering;
 
 impl Play<Option<OpenFile>, View> for Lowering {
-    ghost use Rattle.fx_lasting.specs.Tells.{Lowers};
+    ghost use Rattle.fx_lasting.specs.Effects.{Lowers};
 
     ghost then = { Lowers };
 }
@@ -373,7 +373,7 @@ impl Play<Option<OpenFile>, View> for Lowering {
 pub struct Checking;
 
 impl Play<Option<OpenFile>, View> for Checking {
-    ghost use Rattle.fx_lasting.specs.Tells.{Checks};
+    ghost use Rattle.fx_lasting.specs.Effects.{Checks};
 
     ghost then = { Checks };
 }
@@ -382,7 +382,7 @@ impl Play<Option<OpenFile>, View> for Checking {
 pub struct Breaking;
 
 impl Play<Option<OpenFile>, View> for Breaking {
-    ghost use Rattle.fx_lasting.specs.Tells.{Breaks};
+    ghost use Rattle.fx_lasting.specs.Effects.{Breaks};
 
     ghost then = { Breaks };
 }
@@ -392,7 +392,7 @@ impl Play<Option<OpenFile>, View> for Breaking {
 pub struct Raising;
 
 impl Play<Option<OpenFile>, View> for Raising {
-    ghost use Rattle.fx_lasting.specs.Tells.{Raises};
+    ghost use Rattle.fx_lasting.specs.Effects.{Raises};
 
     ghost then = { Raises };
 }
@@ -401,7 +401,7 @@ impl Play<Option<OpenFile>, View> for Raising {
 pub struct Beginning;
 
 impl Play<Option<OpenFile>, View> for Beginning {
-    ghost use Rattle.fx_lasting.specs.Tells.{Begins};
+    ghost use Rattle.fx_lasting.specs.Effects.{Begins};
 
     ghost then = { Begins };
 }
@@ -410,7 +410,7 @@ impl Play<Option<OpenFile>, View> for Beginning {
 pub struct Asking;
 
 impl Play<Option<OpenFile>, View> for Asking {
-    ghost use Rattle.fx_lasting.specs.Tells.{Asks};
+    ghost use Rattle.fx_lasting.specs.Effects.{Asks};
 
     ghost then = { Asks };
 }
@@ -419,7 +419,7 @@ impl Play<Option<OpenFile>, View> for Asking {
 pub struct Counting;
 
 impl Play<Option<OpenFile>, View> for Counting {
-    ghost use Rattle.fx_lasting.specs.Tells.{Counts};
+    ghost use Rattle.fx_lasting.specs.Effects.{Counts};
 
     ghost then = { Counts };
 }
@@ -429,7 +429,7 @@ impl Play<Option<OpenFile>, View> for Counting {
 pub struct Deciding;
 
 impl Play<Option<OpenFile>, View> for Deciding {
-    ghost use Rattle.fx_lasting.specs.Tells.{Decides};
+    ghost use Rattle.fx_lasting.specs.Effects.{Decides};
 
     ghost then = { Decides };
 }

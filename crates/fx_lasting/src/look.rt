@@ -4,7 +4,7 @@ ghost use Rattle.std.specs.Prelude.{◌≡◌, ℕ, ◌<◌, []};
 ghost use Rattle.fx_lasting.specs.AtWork.{IsAtWork};
 ghost use Rattle.fx_lasting.specs.Ends.{Guards, LooksByTake};
 ghost use Rattle.fx_lasting.specs.Runs.{Runs};
-ghost use Rattle.fx_lasting.specs.Tells.{glance_after, IsOnList};
+ghost use Rattle.fx_lasting.specs.Effects.{glance_after, IsOnList};
 ghost use Rattle.fx_lasting.specs.declared.view.Glance.TheVariants.{None as Nothing, Hot, Cold};
 ghost use Rattle.fx_lasting.specs.declared.view.Work.TheVariants.{Idle};
 

@@ -5,7 +5,7 @@ ghost use Rattle.fx_base.specs.declared.open_file.Closed.{Closed};
 ghost use Rattle.fx_lasting.specs.AtWork.{IsAtWork, HasPlace};
 ghost use Rattle.fx_lasting.specs.Ends.{Does};
 ghost use Rattle.fx_lasting.specs.Labels.{label_of};
-ghost use Rattle.fx_lasting.specs.Tells.{rested};
+ghost use Rattle.fx_lasting.specs.Effects.{rested};
 ghost use Rattle.fx_lasting.specs.declared.view.Work.TheVariants.{Placing};
 ghost use Rattle.fx_lasting.specs.declared.view.Written.TheVariants.{Nothing};
 

@@ -7,7 +7,7 @@ ghost use Rattle.std.specs.Prelude.{◌≡◌, ℕ, ◌+◌, ◌<◌, ◌≤◌,
 ghost use Rattle.fx_lasting.specs.AtWork.{IsAtWork};
 ghost use Rattle.fx_lasting.specs.Layout.{groups_in};
 ghost use Rattle.fx_lasting.specs.Questions.{DecidesIf, AsksSo, VisitsGroup};
-ghost use Rattle.fx_lasting.specs.Tells.{pass_in};
+ghost use Rattle.fx_lasting.specs.Effects.{pass_in};
 ghost use Rattle.fx_lasting.specs.declared.layout.TheConstants.{MOST_INSTALLING};
 ghost use Rattle.fx_lasting.specs.declared.view.Survey.TheVariants.{Covered};
 

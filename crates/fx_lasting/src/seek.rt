@@ -7,7 +7,7 @@ ghost use Rattle.fx_lasting.specs.AtWork.{IsAtWork};
 ghost use Rattle.fx_lasting.specs.Ends.{Does};
 ghost use Rattle.fx_lasting.specs.Passes.{HasNoFile, nodes_of};
 ghost use Rattle.fx_lasting.specs.Searches.{next_of};
-ghost use Rattle.fx_lasting.specs.Tells.{pass_in};
+ghost use Rattle.fx_lasting.specs.Effects.{pass_in};
 ghost use Rattle.fx_lasting.specs.declared.view.Work.TheVariants.{Searching};
 
 use crate::kinds::Seeking;

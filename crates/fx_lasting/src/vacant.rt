@@ -6,7 +6,7 @@ ghost use Rattle.fx_lasting.specs.AtWork.{IsAtWork};
 ghost use Rattle.fx_lasting.specs.Laws.{IsInRange};
 ghost use Rattle.fx_lasting.specs.Layout.{groups_in};
 ghost use Rattle.fx_lasting.specs.Tables.{view_of, steps_taken, opening_of_table, IsPassOfTable};
-ghost use Rattle.fx_lasting.specs.Vacant.{HasPutEmpty, SeesFile, TellsFull};
+ghost use Rattle.fx_lasting.specs.Vacant.{HasPutEmpty, SeesFile, AnswersFull};
 
 use crate::answers::PutEmpty;
 use crate::kinds::Seeing;
@@ -67,7 +67,7 @@ impl LastingTable {
         requires idle { IsIdle (view_of pass.old) }
         requires numbers { 0 < (view_of pass.old).numbers_left }
         ensures fits { IsPassOfTable self.now pass.new }
-        ensures told { TellsFull (opening_of_table self.now) (view_of pass.old) result
+        ensures told { AnswersFull (opening_of_table self.now) (view_of pass.old) result
             (view_of pass.new) }
         ensures steps { let groups = groups_in self.now.range_len in
             steps_taken pass.new ≤ steps_taken pass.old + (groups + 4) }

@@ -6,7 +6,7 @@ ghost use Rattle.fx_lasting.specs.AtWork.{IsAtWork};
 ghost use Rattle.fx_lasting.specs.Ends.{Does};
 ghost use Rattle.fx_lasting.specs.Laws.{IsPassed};
 ghost use Rattle.fx_lasting.specs.Passes.{Sat};
-ghost use Rattle.fx_lasting.specs.Tells.{new_round};
+ghost use Rattle.fx_lasting.specs.Effects.{new_round};
 ghost use Rattle.fx_lasting.specs.Visits.{HasVisited, Visited, HasMarked};
 ghost use Rattle.fx_lasting.specs.declared.view.Round.{Round};
 ghost use Rattle.fx_lasting.specs.declared.view.Work.TheVariants.{Retiring};

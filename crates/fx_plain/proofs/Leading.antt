@@ -2,7 +2,7 @@
 use Rattle.fx_plain.proofs.Words.{◌≡◌, ℕ, List, [], ◌∷◌, ◌++◌, map, refl, ap, ◌∙◌, None, State, after, state_after, AllowsAll, action_of, Event, sym}
 use Rattle.fx_plain.proofs.Words.{subst, append_assoc, Closed, Action, Look, Allows, ◌▷▷◌, Leads, closes_in, closed_by, append-nil}
 use Rattle.fx_plain.specs.History.{held_by, AllReleaseTheirOwn}
-use Rattle.fx_plain.specs.Reopening.{LegalBehind}
+use Rattle.fx_plain.specs.Reopening.{LegalAfter}
 use Rattle.std.proofs.Common.{arith}
 
 -- the state after two histories
@@ -24,7 +24,7 @@ released_behind : (h more : List Event) → ((p : ℕ) → held_by h p ≡ None)
 released_behind h [] none all = tt
 released_behind h (e ∷ more) none all = (released_behind h more none all.0, rw (held_behind h more e.pass (none e.pass)) at all.1)
 
-pub legal_behind : LegalBehind
+pub legal_behind : LegalAfter
 legal_behind start end h more none legal = grind (arith, allowed_behind, state_behind, released_behind)
 
 -- Histories that go on from one another.

@@ -89,8 +89,8 @@ OpenedAnew =
 
 -- if no pass holds a file, the continuation of a legal history is legal from the state reached so
 -- far
-abbrev pub LegalBehind : Type 0
-LegalBehind =
+abbrev pub LegalAfter : Type 0
+LegalAfter =
     (start end : State) (h more : List Event)
     → ((pass : ℕ) → held_by h pass ≡ None)
     → IsLegal start (h ▷▷ more) end

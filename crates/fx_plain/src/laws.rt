@@ -3,7 +3,7 @@
 
 ghost use Rattle.std.specs.Prelude.{◌≡◌};
 ghost use Rattle.fx_plain.specs.Laws.{NoCloseWhileHeld, ClosedAtMostOnce, EveryRemovedFileIsClosed, EveryFileWasThereOrInstalled, OpeningIsStart};
-ghost use Rattle.fx_plain.specs.Reopening.{LegalBehind, OpeningIsAtRest, StaysAtRest, OpenedAnew};
+ghost use Rattle.fx_plain.specs.Reopening.{LegalAfter, OpeningIsAtRest, StaysAtRest, OpenedAnew};
 ghost use Rattle.fx_plain.specs.declared.table.TheConstants.{MOST_SLOTS};
 
 /// States that a table has at most 256 slots.
@@ -62,6 +62,6 @@ pub fn a_later_part_may_open_a_table()
 
 /// States that if no pass holds a file, the continuation of a legal history is legal from the state
 /// reached so far.
-pub fn what_comes_behind_is_legal()
-    ensures { LegalBehind }
+pub fn what_follows_is_legal()
+    ensures { LegalAfter }
 {}

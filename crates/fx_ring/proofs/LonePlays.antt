@@ -5,7 +5,7 @@ use Rattle.fx_ring.proofs.Words.{IsNonDecreasingBy, FileEntry, CloseListView, Cl
 use Rattle.fx_ring.proofs.Words.{part_of_chain, File, Event, Action, Opening, size_of, state_at, PassView, numbers_for, Completed, Explains}
 use Rattle.fx_ring.proofs.Words.{first_member, Asked, runs_of, IsShortRun, HasClosed, ring_of, ring_with, with_table, installed_by, sum_by}
 use Rattle.fx_ring.proofs.Words.{sum_by-cons, IsOneHistory, HasWorked, worker_state, completions_of_chain, run_of_chain, MOST_SLOTS, same_size}
-use Rattle.fx_ring.proofs.Words.{start_of, IsSettledSoFar, contains_map, contains_mapped, each_all, table_with_files, chain_less, begun_behind}
+use Rattle.fx_ring.proofs.Words.{start_of, IsSettledSoFar, contains_map, contains_mapped, each_all, table_with_files, chain_less, begun_after}
 use Rattle.fx_ring.proofs.Words.{sum_by-le, map-map, Some, map-append, append_assoc, ◌▷◌, IsIdle, event_of, HasRoom, vec_capacity, all_completed}
 use Rattle.fx_ring.proofs.Words.{HasRoomFor, MOST_MEMBERS, Outcome, add-one, Draws, PlaysChainExactly, player, chains_to, zero, suc, part_of_pass}
 use Rattle.fx_ring.proofs.Words.{eqb-true, filter_passes, contains_head, contains_tail, stays_at_rest, begins_at_rest, legal_behind, IsFront}
@@ -82,7 +82,7 @@ module _ {catalogue : List FileEntry} {o : Opening} {before after : PassView} {d
     (short : All IsShortRun (runs_of requests)) (first : IsSettledSoFar o before) (last : IsSettledSoFar o after)
     (authors : All (λ e. e.pass ≡ before.number) before.own) (own : after.own ≡ before.own ▷▷ since)
     (worked : HasWorked catalogue (size_of o) (submissions + 1) (runs_of requests)
-    (worker_state (begun_behind before.chain drawn since after) completions closes))
+    (worker_state (begun_after before.chain drawn since after) completions closes))
     (all_drawn : (c : ℕ) → 1 ≤ c → c ≤ length (runs_of requests) → Contains drawn c) where
   abbrev base : ℕ
   base = before.chain
@@ -182,8 +182,8 @@ pub record IsPlaying {P : Type 0} (V : P → PassView) (Fits : P → Type 0) (o 
   pub since : List Event
   pub own : (V pass).own ≡ start.own ▷▷ since
   pub worked : HasWorked catalogue (size_of o) submission (runs_of requests)
-      (worker_state (begun_behind start.chain (chains_to i) since (V pass)) completions closes)
-  pub room : HasRoom (runs_of requests) (worker_state (begun_behind start.chain (chains_to i) since (V pass)) completions closes) capacity
+      (worker_state (begun_after start.chain (chains_to i) since (V pass)) completions closes)
+  pub room : HasRoom (runs_of requests) (worker_state (begun_after start.chain (chains_to i) since (V pass)) completions closes) capacity
 
 -- a pass that has done nothing of the submission yet
 pub begins : {P : Type 0} {V : P → PassView} {Fits : P → Type 0} {o : Opening} {catalogue : List FileEntry} {submission : ℕ} {requests : List Asked}
@@ -192,7 +192,7 @@ pub begins : {P : Type 0} {V : P → PassView} {Fits : P → Type 0} {o : Openin
     → IsPlaying V Fits o catalogue submission requests (V pass) 0 pass (all_completed outcome.completions.items) outcome.closes
     (vec_capacity outcome.completions)
 begins {V} {requests} {pass} fits idle more room looks =
-    let new : IsNew (length requests) (begun_behind (V pass).chain [] [] (V pass)) =
+    let new : IsNew (length requests) (begun_after (V pass).chain [] [] (V pass)) =
     record { own = refl; drawn = refl; chain = omega arith; looks = looks } in
     record {
       fits = fits;
@@ -217,7 +217,7 @@ module _ {P : Type 0} {V : P → PassView} {Fits : P → Type 0} {o : Opening} {
     since = map (event_of w) played.2.actions ++ is.since
 
     abbrev was : PassView
-    was = begun_behind start.chain (chains_to i) is.since (V pass)
+    was = begun_after start.chain (chains_to i) is.since (V pass)
 
     drawn_chain : w.chain ≡ start.chain + (i + 1)
     drawn_chain = let e = ap (λ (z : PassView). z.chain) drew.3 in omega (arith, e, next, is.chain)
@@ -228,7 +228,7 @@ module _ {P : Type 0} {V : P → PassView} {Fits : P → Type 0} {o : Opening} {
         let here : w.chain - start.chain ≡ i + 1 = omega (arith, drawn_chain) in
         λ j. record { pass = ap (λ (z : PassView). z.number) drew.3 j; chain = here j; action = a } ∷ events_less l j
 
-    goes : GoesOn (drawing o was (i + 1)) (begun_behind start.chain (chains_to (i + 1)) since (V then)) played.2.actions played.2.used
+    goes : GoesOn (drawing o was (i + 1)) (begun_after start.chain (chains_to (i + 1)) since (V then)) played.2.actions played.2.used
     goes = record {
       own = map-append (chain_less start.chain) (map (event_of w) played.2.actions) is.since
           ∙ ap (λ (l : List Event). l ++ map (chain_less start.chain) is.since) (events_less played.2.actions);

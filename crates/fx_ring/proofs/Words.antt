@@ -39,7 +39,7 @@ pub use Rattle.fx_plain.specs.declared.event.Event.{Event}
 pub use Rattle.fx_plain.specs.declared.event.File.{File}
 pub use Rattle.fx_plain.specs.declared.table.TheConstants.{MOST_SLOTS}
 pub use Rattle.fx_ring.specs.Calls.{ListsFiles}
-pub use Rattle.fx_ring.specs.OpenRings.{IsAloneAt, IsKeptOpen, OpenRingContents, begun_behind, chain_less, chains_to, node_if, number_if, ring_led_by}
+pub use Rattle.fx_ring.specs.OpenRings.{IsAloneAt, IsKeptOpen, OpenRingContents, begun_after, chain_less, chains_to, node_if, number_if, ring_led_by}
 pub use Rattle.fx_ring.specs.OpenRings.{table_with_files}
 pub use Rattle.fx_ring.specs.Outcomes.{HasRoomFor}
 pub use Rattle.fx_ring.specs.Playing.{number_of_worker, state_of_worker, IsReadyFor}

@@ -75,8 +75,8 @@ abbrev pub chain_less : ℕ → Event → Event
 chain_less base e = record e { chain = e.chain - base }
 
 -- the pass, as if it had begun behind a chain and had drawn and done this since
-abbrev pub begun_behind : ℕ → List ℕ → List Event → PassView → PassView
-begun_behind base drawn since v =
+abbrev pub begun_after : ℕ → List ℕ → List Event → PassView → PassView
+begun_after base drawn since v =
     record v { own = map (chain_less base) since; drawn = drawn; chain = v.chain - base }
 
 -- the chains up to this one, the last one first
@@ -123,7 +123,7 @@ PartIsOneHistory =
     → All (λ e. e.pass ≡ before.number) before.own
     → after.own ≡ before.own ▷▷ since
     → HasWorked catalogue (size_of o) (submissions + 1) (runs_of requests)
-    (worker_state (begun_behind before.chain drawn since after) completions closes)
+    (worker_state (begun_after before.chain drawn since after) completions closes)
     → ((c : ℕ) → 1 ≤ c → c ≤ length (runs_of requests) → Contains drawn c)
     → IsPermutation completions sorted
     → IsNonDecreasingBy (λ c. c.place.chain * 32 + c.place.member) sorted

@@ -69,14 +69,14 @@ pub record HasWorked (catalogue : List FileEntry) (size submission : ℕ) (runs 
   pub closed : w.closes.files ≡ closes_in (map action_of w.pass.own)
 
 -- the number of requests of the chains after this one, and of files that these may close
-abbrev pub requests_behind : List (List Asked) → ℕ → ℕ
-requests_behind runs chain = sum_by (λ run. length run) (drop chain runs)
+abbrev pub requests_after : List (List Asked) → ℕ → ℕ
+requests_after runs chain = sum_by (λ run. length run) (drop chain runs)
 
-abbrev pub weights_behind : List (List Asked) → ℕ → ℕ
-weights_behind runs chain = sum_by all_weights (drop chain runs)
+abbrev pub weights_after : List (List Asked) → ℕ → ℕ
+weights_after runs chain = sum_by all_weights (drop chain runs)
 
 -- the worker has room left for the chains after its last one
 pub record HasRoom (runs : List (List Asked)) (w : WorkerState) (capacity : ℕ) : Type 0 where
-  pub looks : requests_behind runs w.pass.chain ≤ w.pass.looks_left
-  pub completions : length w.completions + requests_behind runs w.pass.chain ≤ capacity
-  pub closes : weights_behind runs w.pass.chain ≤ w.closes.room
+  pub looks : requests_after runs w.pass.chain ≤ w.pass.looks_left
+  pub completions : length w.completions + requests_after runs w.pass.chain ≤ capacity
+  pub closes : weights_after runs w.pass.chain ≤ w.closes.room

@@ -4,7 +4,7 @@ use Rattle.fx_script.proofs.Words.{IfSome, Err, length-take, take_all, IsInput, 
 use Rattle.fx_script.proofs.Words.{append_assoc, length-append, Consumes, IsAtEnd, append-nil}
 use Rattle.std.proofs.lemmas.Bool.{cases_lt}
 use Rattle.std.proofs.lemmas.Bool.Decides.{nat_tests}
-use Rattle.fx_script.specs.RunView.{fault_told}
+use Rattle.fx_script.specs.RunView.{play_fault}
 use Rattle.fx_language.specs.Script.{Meaning, LineFault, IsScript, reading_of}
 use Rattle.fx_language.specs.ScriptError.{IsFaultOf}
 use Rattle.fx_language.specs.declared.fault.ScriptError.{ScriptError}
@@ -33,7 +33,7 @@ script_kept None kept is script = tt
 script_kept (Some bytes) kept is script = sym (reading_of-take bytes) ∙ (sym (ap reading_of is) ∙ script)
 
 pub fault_kept : (input : Option (List ℕ)) (kept : List ℕ) (error : ScriptError)
-    → IsKept input kept → IsFaultOf kept error → IsInputFault input (fault_told error)
+    → IsKept input kept → IsFaultOf kept error → IsInputFault input (play_fault error)
 fault_kept None kept (Fault line kind) is has = tt
 fault_kept (Some bytes) kept (Fault line kind) is has = sym (reading_of-take bytes) ∙ (sym (ap reading_of is) ∙ has)
 fault_kept input kept NoMemory is has = tt

@@ -3,7 +3,7 @@ ghost use Rattle.std.specs.Prelude.{◌≡◌, ◌+◌, ◌≤◌, IfErr, IfOk, 
 ghost use Rattle.fx_table.specs.declared.limits.TheConstants.{MAX_PASSES};
 ghost use Rattle.fx_language.specs.declared.limits.TheConstants.{LONGEST_SCRIPT};
 ghost use Rattle.fx_script.specs.Run.{IsInput, IsInputFault, IsRun, IsRunFault};
-ghost use Rattle.fx_script.specs.RunView.{fault_told};
+ghost use Rattle.fx_script.specs.RunView.{play_fault};
 ghost use Rattle.fx_script.specs.declared.runner.PlayFault.TheVariants.{NoMemory};
 
 use crate::player::play;
@@ -48,7 +48,7 @@ impl From<AllocError> for PlayFault {
 }
 
 impl From<ScriptError> for PlayFault {
-    ghost from_gives = { λ error fault. fault ≡ fault_told error };
+    ghost from_gives = { λ error fault. fault ≡ play_fault error };
 
     fn from(error: ScriptError) -> PlayFault {
         match error {

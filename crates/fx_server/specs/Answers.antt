@@ -197,6 +197,6 @@ pub record PutsEmptyAs (w : TableWorker) (slot tag number : ℕ) (answer : ℤ) 
 pub record ReportsFullAs (w : TableWorker) (code : ℤ) (w' : TableWorker) : Type 0 where
   pub answer : ServerRefusal
   pub good : IsGood w'
-  pub told : ReportsFull w answer w'
+  pub reports : ReportsFull w answer w'
   pub numbers : DrawsNone w w'
   pub its_code : code ≡ refusal_code answer

@@ -117,7 +117,7 @@ pub fn put_empty(worker: &mut TableWorker, slot: u32, tag: u64, number: u64) -> 
 #[inline(always)]
 pub fn full(worker: &mut TableWorker) -> i64
     requires good { IsGood worker.old }
-    ensures told { ReportsFullAs worker.old result worker.new }
+    ensures reports { ReportsFullAs worker.old result worker.new }
 {
     worker.full().code()
 }

@@ -299,7 +299,7 @@ impl TableWorker {
         ensures good { IsGood self.new }
         ensures table { self.new.shared ≡ self.old.shared }
         ensures numbers { self.new.numbers ≡ self.old.numbers }
-        ensures told { ReportsFull self.old result self.new }
+        ensures reports { ReportsFull self.old result self.new }
     {
         if self.held.is_some() {
             return ServerRefusal::Busy;

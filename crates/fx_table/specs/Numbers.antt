@@ -20,15 +20,15 @@ abbrev pub chain_of_number : ℕ → ℕ
 chain_of_number number = (number - FIRST_CHAIN_NUMBER) / CHAIN_NUMBERS + 1
 
 -- the number after the one that an action gave a file, or `n` for an action that gave none
-abbrev pub number_behind_action : ℕ → Action → ℕ
-number_behind_action n (Put slot f replaced) = f.number + 1
-number_behind_action n (Allocate slot f) = f.number + 1
-number_behind_action n _ = n
+abbrev pub number_following_action : ℕ → Action → ℕ
+number_following_action n (Put slot f replaced) = f.number + 1
+number_following_action n (Allocate slot f) = f.number + 1
+number_following_action n _ = n
 
 -- the number after the last one that the events gave a file, or the first chain's first number
-abbrev pub number_behind : List Event → ℕ
-number_behind [] = FIRST_CHAIN_NUMBER
-number_behind (e ∷ own) = number_behind_action (number_behind own) e.action
+abbrev pub number_following : List Event → ℕ
+number_following [] = FIRST_CHAIN_NUMBER
+number_following (e ∷ own) = number_following_action (number_following own) e.action
 
 -- the first `count` chains of pass p of n, the last one first: p, p + n, p + 2n and so on
 abbrev pub chains_of_pass : ℕ → ℕ → ℕ → List ℕ

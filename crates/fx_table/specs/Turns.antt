@@ -1,7 +1,7 @@
 -- Passes that take turns at the chains: pass p of n draws p, p + n, p + 2n and so on.
 use Rattle.std.specs.Prelude.{◌≡◌, ℕ, ◌+◌, ◌*◌, ◌<◌, ◌≤◌, true}
 use Rattle.fx_table.specs.declared.limits.TheConstants.{CHAIN_NUMBERS}
-use Rattle.fx_table.specs.Numbers.{chains_of_pass, last_chain_of_pass, number_behind}
+use Rattle.fx_table.specs.Numbers.{chains_of_pass, last_chain_of_pass, number_following}
 use Rattle.fx_table.specs.Opening.{Opening}
 use Rattle.fx_table.specs.Pass.{PassView, next_number}
 
@@ -17,4 +17,4 @@ pub record HasDrawnInTurn (o : Opening) (count : ℕ) (v : PassView) : Type 0 wh
   -- the numbers that are left belong to the last chain, and no file of this pass has them
   pub few_left : v.numbers_left ≤ CHAIN_NUMBERS
   pub left_inside : v.numbers_left ≤ CHAIN_NUMBERS * v.chain
-  pub unused : number_behind v.own ≤ next_number o v
+  pub unused : number_following v.own ≤ next_number o v

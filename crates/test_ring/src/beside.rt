@@ -119,11 +119,11 @@ fn an_update_between_an_open_and_its_read(rt: HostRuntime) {
     let script =
         "file a.txt 68656c6c6f\nfile b.txt 6869\nsparse 1\nopen a.txt at 0 link\nread 0 0 5\n\
                   update 0 1\nsubmit\n";
-    let wanted = b"sparse 0\n1.1.1 0\n1.1.2 2 6869\n1.2.1 1\nclosed 1.1.1.0 a.txt\nteardown\n\
+    let expected = b"sparse 0\n1.1.1 0\n1.1.2 2 6869\n1.2.1 1\nclosed 1.1.1.0 a.txt\nteardown\n\
                    closed 1.2.1.0 b.txt\n";
     for table in TABLES {
         let gate = Meeting::new(0, 2);
         let text = play(&rt, rt.alloc(), script.as_bytes(), (table, 2), &gate);
-        assert!(rt; text.as_slice() == wanted.as_slice() && !gate.is_late.load(Ordering::SeqCst));
+        assert!(rt; text.as_slice() == expected.as_slice() && !gate.is_late.load(Ordering::SeqCst));
     }
 }

@@ -13,13 +13,13 @@ use fx_words::{
 
 #[test]
 fn file_index_names_the_slot_below_it(rt: HostRuntime) {
-    for (index, want) in [
+    for (index, expected) in [
         (0, None),
         (1, Some(Target::Slot(0))),
         (4_294_967_294, Some(Target::Slot(4_294_967_293))),
         (4_294_967_295, Some(Target::Any)),
     ] {
-        assert!(rt; target(index) == want);
+        assert!(rt; target(index) == expected);
     }
 }
 
@@ -27,7 +27,7 @@ fn file_index_names_the_slot_below_it(rt: HostRuntime) {
 fn words_of_the_table_without_a_lock(rt: HostRuntime) {
     let last = slot_word(16_777_214, 255) + 4_294_967_295;
     let begun = control_word(1) + begin_amount();
-    for (word, want) in [
+    for (word, expected) in [
         (slot_word(0, 0), 1_099_511_627_776),
         (slot_word(256, 0), 282_574_488_338_432),
         (slot_word(256, 3), 282_587_373_240_320),
@@ -38,7 +38,7 @@ fn words_of_the_table_without_a_lock(rt: HostRuntime) {
         (begun, 4_295_032_833),
         (begun - end_amount(1), 65_538),
     ] {
-        assert!(rt; word == want);
+        assert!(rt; word == expected);
     }
     assert!(rt; node_of(last) == Some(16_777_214));
     assert!(rt; entry_of(last) == 255 && takes_of(last) == 4_294_967_295);

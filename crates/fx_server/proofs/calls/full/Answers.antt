@@ -3,10 +3,10 @@ use Rattle.fx_server.proofs.calls.full.Goals as goal
 
 pub returns : goal.returns
 returns c = record {
-  told = record {
+  reports = record {
     answer = c.full.result;
     good = c.full.ensures.good;
-    told = c.full.ensures.told;
+    reports = c.full.ensures.reports;
     numbers = c.full.ensures.numbers;
     its_code = search rules;
   };

@@ -182,7 +182,7 @@ pub record Takes (st : At) (m : Sat) (found : ℕ) (m' : Sat) : Type 0 where
       (glance_after m.0.start.passes slot found) m'
 
 -- Heat: one pass more heated the slot
-pub record HeatTells (st : At) (m : Sat) (found : ℕ) (m' : Sat) : Type 0 where
+pub record HeatsSlot (st : At) (m : Sat) (found : ℕ) (m' : Sat) : Type 0 where
   pub goes : Goes m [] m.0.work Nothing m'
 
 -- Step down: a hold by the hold word ends at once where it wasn't marked

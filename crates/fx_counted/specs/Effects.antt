@@ -160,7 +160,7 @@ abbrev pub chain_given : (chains found : ℕ) → Option ℕ
 chain_given chains found = if nat_lt found chains then Some (found + 1) else None
 
 -- Draw: the pass gets the next chain, or `None`
-pub record DrawTells (st : At) (m : Sat) (found : ℕ) (m' : Sat) : Type 0 where
+pub record DrawsChain (st : At) (m : Sat) (found : ℕ) (m' : Sat) : Type 0 where
   pub one : (x : Log) × (m'.0.logs ≡ x ∷ [])
   pub draws : Draws (opening_of m.0.start) (pass_of m.0) (chain_given m.0.start.chains found)
       (pass_of m'.0)
