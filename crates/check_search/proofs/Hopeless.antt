@@ -1,14 +1,11 @@
 -- From a state where a claim waits for a file that doesn't come, no end is reached.
 use Rattle.check_search.specs.Machine.{HasNoEnd}
 use Rattle.check_search.proofs.Words.{◌≡◌, ◌⊎◌, inl, inr, ⊎_elim, ℕ, zero, suc, ◌+◌, ◌<◌, ◌≤◌, ◌==◌, ◌&&◌, ◌||◌, not, Bool, true, false, List, []}
-use Rattle.check_search.proofs.Words.{◌∷◌}
-use Rattle.check_search.proofs.Words.{and_parts, not-true, true≢false, same_Some, slice_get-get_or, slice_get_read, slice_get_within, refl, sym, ap}
-use Rattle.check_search.proofs.Words.{subst, ◌∙◌, arith, Option, Some, None, slice_get, slice_index, slice_set, slice_index_or, length, eq-eqb}
+use Rattle.check_search.proofs.Words.{◌∷◌, and_parts, not-true, true≢false, same_Some, slice_get-get_or, slice_get_read, slice_get_within, refl, sym}
+use Rattle.check_search.proofs.Words.{ap, subst, ◌∙◌, arith, Option, Some, None, slice_get, slice_index, slice_set, slice_index_or, length, eq-eqb}
 use Rattle.check_search.proofs.Words.{if◌then◌else◌, option_and_then, cases_lt, by_equality, IsHopeless, NoneHelps, may_find, no_help, Standing}
-use Rattle.check_search.proofs.Words.{allows}
-use Rattle.check_search.proofs.Words.{cell_at, cells_after, claim_at, may_leave, suits, with_cell, slot_claimed, Cell, Claim, At, Full, Leaves, Same}
-use Rattle.check_search.proofs.Words.{Empty}
-use Rattle.check_search.proofs.Words.{File, Resident, Wants, Strand}
+use Rattle.check_search.proofs.Words.{allows, cell_at, cells_after, claim_at, may_leave, suits, with_cell, slot_claimed, Cell, Claim, At, Full}
+use Rattle.check_search.proofs.Words.{Leaves, Same, Empty, File, Resident, Wants, Strand}
 use Rattle.check_search.proofs.Reaching.{after, both_steps, none_ends}
 
 -- what is at a slot once one was written: what was there, or what was written

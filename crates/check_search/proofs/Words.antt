@@ -1,5 +1,4 @@
 -- The names that most proofs of this crate use.
-pub use Rattle.fx_base.specs.declared.open_file.Closed.{Closed}
 pub use Rattle.fx_plain.proofs.Cells.{by_equality}
 pub use Rattle.check_search.specs.AtSlots.{has_slot, slot_claimed}
 pub use Rattle.check_search.specs.Counted.{IsUneven, LastStays, TooFewLeave, TwoStay, changes, is_change, is_something, leaving_files, staying}
@@ -8,7 +7,7 @@ pub use Rattle.check_search.specs.Dead.{IsHopeless, NoneHelps, no_help}
 pub use Rattle.check_search.specs.Machine.{Ends, HasNoEnd, IsEndOfClaims, IsLookedThrough, Standing, StepLeadsInside, allows, cell_at, cell_with}
 pub use Rattle.check_search.specs.Machine.{cells_after, claim_at, is_staying, is_taken, is_test, made, may_find, may_leave, may_stay, next, suits}
 pub use Rattle.check_search.specs.Machine.{view, with_cell}
-pub use Rattle.check_search.specs.Packed.{all_unpacked, packed_file, numbered_cells, unpacked}
+pub use Rattle.check_search.specs.Packed.{all_unpacked, numbered_cells, unpacked}
 pub use Rattle.check_search.specs.Starts.{starting}
 pub use Rattle.check_search.specs.declared.cell.Cell.{Cell}
 pub use Rattle.check_search.specs.declared.claim.Claim.{Claim}
@@ -17,16 +16,15 @@ pub use Rattle.check_search.specs.declared.claim.Leaves.{Leaves}
 pub use Rattle.check_search.specs.declared.claim.Leaves.TheVariants.{Empty, File, Same}
 pub use Rattle.check_search.specs.declared.claim.Resident.{Resident}
 pub use Rattle.check_search.specs.declared.claim.Wants.{Wants}
-pub use Rattle.check_search.specs.declared.claim.Wants.TheVariants.{Anything, Bytes, Nothing, NothingToTake, Something}
+pub use Rattle.check_search.specs.declared.claim.Wants.TheVariants.{Something}
 pub use Rattle.check_search.specs.declared.node.Packing.{Packing}
 pub use Rattle.check_search.specs.declared.claim.Strand.{Strand}
-pub use Rattle.std.proofs.Common.{All, Bool, Contains, IsTrue, List, None, Option, Some, [], ap, append_assoc, arith, cond, drop, drop-cons, eq-eqb}
-pub use Rattle.std.proofs.Common.{false, get_or, if◌then◌else◌, inl, inr, is_some, length, map, not, option_copied, refl, slice_get, slice_index}
-pub use Rattle.std.proofs.Common.{slice_index_or, slice_set, subst, suc, sym, take, true, zero, ℕ, ⊎_elim, ◌&&◌, ◌++◌, ◌+◌, ◌<◌, ◌==◌, ◌||◌, ◌∙◌, ◌∷◌}
-pub use Rattle.std.proofs.Common.{◌≡◌, ◌≢◌, ◌≤◌, ◌⊎◌, ne_eqb, rules}
+pub use Rattle.std.proofs.Common.{All, Bool, Contains, IsTrue, List, None, Option, Some, [], ap, arith, cond, drop, drop-cons, eq-eqb, false, get_or}
+pub use Rattle.std.proofs.Common.{if◌then◌else◌, inl, inr, is_some, length, map, not, option_copied, refl, slice_get, slice_index, slice_index_or}
+pub use Rattle.std.proofs.Common.{slice_set, subst, suc, sym, take, true, zero, ℕ, ⊎_elim, ◌&&◌, ◌++◌, ◌+◌, ◌<◌, ◌==◌, ◌||◌, ◌∙◌, ◌∷◌, ◌≡◌, ◌≢◌, ◌≤◌}
+pub use Rattle.std.proofs.Common.{◌⊎◌, ne_eqb, rules}
 pub use Rattle.std.proofs.lemmas.Bool.{cases_lt, and_parts, not-true, true≢false}
-pub use Rattle.std.proofs.lemmas.List.{same_lists, get_or-map, get_or-set_other, get_or-set_same, get_or_default, length-map, length-set, drop_all}
-pub use Rattle.std.proofs.lemmas.List.{set_comm}
+pub use Rattle.std.proofs.lemmas.List.{same_lists, get_or-map, get_or-set_other, length-map, length-set, drop_all, set_comm}
 pub use Rattle.std.proofs.lemmas.List.Elements.{All-contains, All-map}
 pub use Rattle.std.proofs.lemmas.Option.{get_or_from_slice_get, same_Some, slice_get-get_or, slice_get_read, slice_get_within}
 pub use Rattle.std.proofs.lemmas.Result.{IfOk-weaker}

@@ -2,8 +2,7 @@
 -- at slots.
 use Rattle.std.specs.Prelude.{◌≡◌, ◌⊎◌, ℕ, ◌+◌, ◌==◌, ◌&&◌, ◌||◌, not, Bool, true, false, List, []}
 use Rattle.std.specs.Prelude.{◌∷◌, map, slice_get, slice_index, slice_index_or, slice_set, Option}
-use Rattle.std.specs.Prelude.{Some, None}
-use Rattle.std.specs.Prelude.{option_and_then, if◌then◌else◌, is_some, Contains}
+use Rattle.std.specs.Prelude.{Some, None, option_and_then, if◌then◌else◌, is_some, Contains}
 use Rattle.std.specs.List.{list_all}
 use Rattle.check_search.specs.declared.claim.Resident.{Resident}
 use Rattle.check_search.specs.declared.claim.Wants.{Wants}

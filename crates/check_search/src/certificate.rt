@@ -40,7 +40,7 @@ fn is_at(alloc: Global, web: &Web<'_>, row: &Vec<u16>, node: &SearchNode) -> Res
 
 // Checks whether the files at the slot of a chain's next claim don't balance in the state after
 // that claim.
-fn is_uneven_behind(strands: &[Strand], node: &SearchNode, next: &SearchNode, chain: usize) -> bool
+fn is_uneven_after(strands: &[Strand], node: &SearchNode, next: &SearchNode, chain: usize) -> bool
     ensures { IsTrue result → HasNoEnd strands.now (view next.now) }
 {
     match claim_of(strands, &node.places, chain) {
@@ -69,8 +69,8 @@ fn step_leads_inside(
     if is_at(alloc, web, &after, &next)? {
         return Ok(true);
     }
-    let waits = web.steps.hopeless_behind(row, &after, chain);
-    Ok(is_dead_by(strands, &next, waits) || is_uneven_behind(strands, node, &next, chain))
+    let waits = web.steps.hopeless_after(row, &after, chain);
+    Ok(is_dead_by(strands, &next, waits) || is_uneven_after(strands, node, &next, chain))
 }
 
 // Checks whether each step from a state leads to one of the states.

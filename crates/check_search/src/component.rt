@@ -17,40 +17,20 @@ fn join(labels: &mut [usize], one: usize, other: usize) {
     }
 }
 
-// Joins the slots of the allocation range.
-fn join_range(labels: &mut [usize], range: (u32, u32)) {
-    let first = range.0 as usize;
-    for slot in first..labels.len() {
-        if slot - first < range.1 as usize {
-            join(labels, slot, first);
-        }
-    }
-}
-
-// Returns the slot by which a claim is joined with other claims of its chain, or `None` for a claim
-// about a range without slots.
-fn slot_of(range: (u32, u32), claim: &Claim) -> Option<usize> {
-    match claim {
-        Claim::At(slot, _, _) => Some(*slot as usize),
-        Claim::Full if range.1 == 0 => None,
-        Claim::Full => Some(range.0 as usize),
-    }
-}
-
 // Joins the slots of a chain.
 fn join_chain(labels: &mut [usize], range: (u32, u32), claims: &[Claim]) {
     let mut last: Option<usize> = None;
     for claim in claims {
-        if matches!(claim, Claim::Full) {
-            join_range(labels, range);
-        }
-        let Some(slot) = slot_of(range, claim) else {
-            continue;
+        let (first, count) = match claim {
+            Claim::At(slot, _, _) => (*slot as usize, 1),
+            Claim::Full => (range.0 as usize, range.1 as usize),
         };
-        if let Some(other) = last {
-            join(labels, slot, other);
+        for slot in first..(first + count).min(labels.len()) {
+            if let Some(other) = last {
+                join(labels, slot, other);
+            }
+            last = Some(slot);
         }
-        last = Some(slot);
     }
 }
 

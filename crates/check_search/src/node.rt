@@ -129,7 +129,11 @@ pub struct Packing {
 fn numbers_of(alloc: Global, row: &[u16]) -> Result<Vec<usize>, NoMemory>
     ensures { IfOk result (λ numbers. numbers.items ≡ row.now) }
 {
-    Ok(row.iter().map(|number| *number as usize).collect(alloc)?)
+    let mut numbers = Vec::with_capacity(alloc, row.len())?;
+    for number in row {
+        numbers.push(*number as usize)?;
+    }
+    Ok(numbers)
 }
 
 impl Packing {

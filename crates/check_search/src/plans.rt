@@ -4,7 +4,7 @@
 use crate::search::{Found, SearchRoom};
 use crate::steps::Steps;
 use crate::tracks::Tracks;
-use crate::walk::{Searched, search_by};
+use crate::walk::{Visited, search_by};
 use fx_base::NoMemory;
 use std::alloc::Global;
 
@@ -28,7 +28,7 @@ pub(crate) const EACH: Plan = Plan {
 // The number of open chains, and the first value of a track's `near`, of each search by tracks.
 // Measured on 60 texts of 400 chains at 64 slots by 4 workers: 3 were undecided without these
 // searches, and none with them. The four pairs weren't measured one by one.
-const NEAR: [(usize, usize); 4] = [(4, 8), (8, 8), (16, 16), (4, 32)];
+const NEAR: &[(usize, usize)] = &[(4, 8), (8, 8), (16, 16), (4, 32)];
 
 // The number of searches of each pair, each with wider tracks at the slots that blocked the last
 // one, and the number of states of a search beyond one for each claim. Measured together with the
@@ -41,11 +41,11 @@ const NEAR_STATES: usize = 1_000;
 // `PLANS` on 60 texts of each kind, on an idle machine, how many were undecided without these
 // searches, and with them: of 29 submissions by 3 workers 43 and none, of 400 chains by 4 workers
 // 13 and none, of 16 to 64 chains by 16 workers in turns 9 and 1.
-const OPEN: [usize; 5] = [2, 3, 4, 8, 16];
+const OPEN: &[usize] = &[2, 3, 4, 8, 16];
 
 // The seed of each search, and its number of states beyond one for each claim. A way has fewer than
 // 1,000,000 steps, so that no two seeds draw the same numbers.
-const PLANS: [(usize, usize); 7] = [
+const PLANS: &[(usize, usize)] = &[
     (0, 20_000),
     (1_000_000, 5_000),
     (2_000_000, 5_000),
@@ -62,7 +62,7 @@ fn taken(
     states: usize,
     room: SearchRoom,
 ) -> Option<SearchRoom> {
-    let states = steps.count().saturating_add(states);
+    let states = steps.count.saturating_add(states);
     if states > *left {
         return None;
     }
@@ -80,19 +80,21 @@ fn along(
     alloc: Global,
     steps: &Steps<'_>,
     tracks: &mut Tracks,
-    plan: Plan,
+    open: usize,
     room: SearchRoom,
     left: &mut usize,
+    met: &mut Visited,
 ) -> Result<Option<Vec<usize>>, NoMemory> {
     for _ in 0..ROUNDS {
         let Some(room) = taken(left, steps, NEAR_STATES, room) else {
             return Ok(None);
         };
-        let Searched { found, blocked, .. } = search_by(alloc, steps, Some(&*tracks), plan, room)?;
+        let plan = Plan { open, seed: 0 };
+        let found = search_by(alloc, steps, Some(&*tracks), plan, room, met)?;
         if let Found::Order(order) = found {
             return Ok(Some(order));
         }
-        if !tracks.widen_all(steps, &blocked)? {
+        if !tracks.widen_all(alloc, steps, &met.blocked)? {
             return Ok(None);
         }
     }
@@ -106,14 +108,14 @@ fn near(
     plan: (usize, usize),
     room: SearchRoom,
     left: &mut usize,
+    met: &mut Visited,
 ) -> Result<Option<Vec<usize>>, NoMemory> {
     let (open, near) = plan;
     let mut tracks = Tracks::new(alloc, steps, near)?;
     if tracks.are_none() {
         return Ok(None);
     }
-    let plan = Plan { open, seed: 0 };
-    along(alloc, steps, &mut tracks, plan, room, left)
+    along(alloc, steps, &mut tracks, open, room, left, met)
 }
 
 /// Looks for an end by plans that leave chains and orders out, through at most `room.states` states
@@ -122,21 +124,24 @@ pub(crate) fn played(
     alloc: Global,
     steps: &Steps<'_>,
     room: SearchRoom,
+    met: &mut Visited,
 ) -> Result<Option<Vec<usize>>, NoMemory> {
     let mut left = room.states;
     for plan in NEAR {
-        if let Some(order) = near(alloc, steps, plan, room, &mut left)? {
+        if let Some(order) = near(alloc, steps, *plan, room, &mut left, met)? {
             return Ok(Some(order));
         }
     }
     for (seed, states) in PLANS {
         for open in OPEN {
-            let Some(room) = taken(&mut left, steps, states, room) else {
+            let Some(room) = taken(&mut left, steps, *states, room) else {
                 return Ok(None);
             };
-            let plan = Plan { open, seed };
-            let Searched { found, .. } = search_by(alloc, steps, None, plan, room)?;
-            if let Found::Order(order) = found {
+            let plan = Plan {
+                open: *open,
+                seed: *seed,
+            };
+            if let Found::Order(order) = search_by(alloc, steps, None, plan, room, met)? {
                 return Ok(Some(order));
             }
         }

@@ -3,7 +3,7 @@
 
 use crate::plans::{EACH, played};
 use crate::steps::Steps;
-use crate::walk::{Searched, search_by};
+use crate::walk::{Visited, search_by};
 use fx_base::NoMemory;
 use indexmap::IndexSet;
 use std::alloc::Global;
@@ -76,38 +76,6 @@ fn room_for(row: &[u16], limits: Limits) -> SearchRoom {
     }
 }
 
-// Looks for an end in all orders.
-fn search(alloc: Global, steps: &Steps<'_>, room: SearchRoom) -> Result<(Rows, Found), NoMemory> {
-    let Searched { found, rows, .. } = search_by(alloc, steps, None, EACH, room)?;
-    Ok((rows, found))
-}
-
-// Looks for an end in all orders through `first` states, and then by plans that leave chains and
-// orders out.
-fn search_first(
-    alloc: Global,
-    steps: &Steps<'_>,
-    first: usize,
-    room: SearchRoom,
-) -> Result<(Rows, Found), NoMemory> {
-    let few = SearchRoom {
-        states: first,
-        ..room
-    };
-    let (rows, found) = search(alloc, steps, few)?;
-    if !matches!(found, Found::Stopped(_)) {
-        return Ok((rows, found));
-    }
-    let rest = SearchRoom {
-        states: room.states.saturating_sub(first),
-        ..room
-    };
-    match played(alloc, steps, rest)? {
-        Some(order) => Ok((rows, Found::Order(order))),
-        None => Ok((rows, found)),
-    }
-}
-
 // The number of states of the first search, of all orders. Measured with `plans::PLANS`, and not by
 // itself.
 const FIRST_STATES: usize = 10_000;
@@ -116,8 +84,38 @@ const FIRST_STATES: usize = 10_000;
 /// one state for each claim.
 pub const FEW_STATES: usize = 1_000;
 
+// Looks for an end: in all orders through a small number of states, then by plans that leave chains
+// and orders out, and at last in all orders.
+fn search(
+    alloc: Global,
+    steps: &Steps<'_>,
+    room: SearchRoom,
+    met: &mut Visited,
+) -> Result<Found, NoMemory> {
+    let first = FIRST_STATES.max(steps.count.saturating_add(FEW_STATES));
+    if room.states > first {
+        let few = SearchRoom {
+            states: first,
+            ..room
+        };
+        match search_by(alloc, steps, None, EACH, few, met)? {
+            Found::Stopped(_) => {}
+            found => return Ok(found),
+        }
+        let rest = SearchRoom {
+            states: room.states - first,
+            ..room
+        };
+        if let Some(order) = played(alloc, steps, rest, met)? {
+            return Ok(Found::Order(order));
+        }
+    }
+    search_by(alloc, steps, None, EACH, room, met)
+}
+
 /// Searches for an end within `limits`. If a small number of states isn't enough, it first tries
-/// plans that find what some number of workers played.
+/// plans that find what some number of workers played. The states are those of a search of all
+/// orders that ended.
 ///
 /// # Errors
 /// `NoMemory` if an allocation fails.
@@ -127,12 +125,10 @@ pub fn explore(
     limits: Limits,
 ) -> Result<(Rows, Found), NoMemory> {
     let room = room_for(&steps.start(alloc)?, limits);
-    let first = FIRST_STATES.max(steps.count().saturating_add(FEW_STATES));
-    if room.states > first {
-        let (rows, found) = search_first(alloc, steps, first, room)?;
-        if !matches!(found, Found::Stopped(_)) {
-            return Ok((rows, found));
-        }
-    }
-    search(alloc, steps, room)
+    let mut met = Visited {
+        rows: IndexSet::new(alloc),
+        blocked: Vec::new(alloc),
+    };
+    let found = search(alloc, steps, room, &mut met)?;
+    Ok((met.rows, found))
 }

@@ -1,7 +1,7 @@
 //! The state that a search is at, and what is counted of it as steps are made and taken back.
 //! Nothing is promised of it.
 
-use crate::steps::{ClaimStep, Steps, number_at};
+use crate::steps::{ClaimStep, Steps, number_at, set_number};
 use crate::tally::{Tally, count};
 use crate::tracks::moment_of;
 use fx_base::NoMemory;
@@ -26,9 +26,8 @@ pub(crate) struct SearchState<'a> {
     pub row: Vec<u16>,
     /// The sum of the numbers drawn for them.
     pub sum: u64,
-    // For each slot the claims that are still to be made, and the bits of those that were.
+    // The claims of each slot.
     tallies: Vec<Tally<'a>>,
-    made: Vec<u64>,
     /// The number of empty slots of the allocation range.
     pub empty: usize,
 }
@@ -36,37 +35,24 @@ pub(crate) struct SearchState<'a> {
 impl<'a> SearchState<'a> {
     /// Returns the state before the first step.
     pub(crate) fn new(alloc: Global, steps: &'a Steps<'a>) -> Result<SearchState<'a>, NoMemory> {
-        let row = steps.start(alloc)?;
         let tallies = steps.tallies(alloc)?;
-        let made = vec![in alloc; 0u64; tallies.len()]?;
+        let row = steps.start(alloc)?;
         Ok(SearchState {
             steps,
             empty: steps.empty(&row),
             row,
             sum: 0,
             tallies,
-            made,
         })
-    }
-
-    /// Returns the step that a chain makes next.
-    pub(crate) fn next_of(&self, chain: usize) -> Option<ClaimStep<'a>> {
-        self.steps.next_of(&self.row, chain)
-    }
-
-    /// Checks whether a step may be made.
-    pub(crate) fn allows(&self, step: &ClaimStep<'_>) -> bool {
-        self.steps.allows(&self.row, step, self.empty)
     }
 
     /// Returns the slot of a step and the moment there after the step, or `None` for a step without
     /// a slot.
-    pub(crate) fn moment_behind(&self, step: &ClaimStep<'_>) -> Option<(usize, u64)> {
+    pub(crate) fn moment_after(&self, step: &ClaimStep<'_>) -> Option<(usize, u64)> {
         let cell = step.cell?;
-        let made = self.made.get(cell)?;
+        let made = self.tallies.get(cell)?.made ^ step.bit;
         let there = self.steps.file_number(&self.row, cell);
-        let file = step.left.unwrap_or(there);
-        Some((cell, moment_of(*made ^ step.bit, file)))
+        Some((cell, moment_of(made, step.left.unwrap_or(there))))
     }
 
     /// Checks whether a step led to a state from which its slot's claims lead to no end.
@@ -81,54 +67,53 @@ impl<'a> SearchState<'a> {
 
     // Counts the claim of a step as made, or as still to be made.
     fn count_step(&mut self, step: &ClaimStep<'_>, is_left: bool) {
-        let Some(cell) = step.cell else {
-            return;
-        };
-        if cell < self.tallies.len() && cell < self.made.len() {
-            self.tallies[cell].count_claim(step.class, step.claim, is_left);
-            self.made[cell] ^= step.bit;
+        if let Some(cell) = step.cell
+            && let Some(tally) = self.tallies.get_mut(cell)
+        {
+            tally.count_claim(step, is_left);
+            tally.made ^= step.bit;
         }
     }
 
-    // Adds the number drawn for a place to the sum, or removes it from the sum.
-    fn draw(&mut self, place: usize) {
-        self.sum ^= drawn(place, number_at(&self.row, place));
-    }
-
-    // Adds the number drawn for a slot to the sum, or removes it, and counts the slot if it is
-    // empty and in the allocation range.
-    fn count_slot(&mut self, cell: Option<usize>, is_more: bool) {
+    // Adds the numbers drawn for a chain and a slot to the sum, or removes them from it, and counts
+    // the slot if it is empty and in the allocation range.
+    fn draw(&mut self, chain: usize, cell: Option<usize>, is_more: bool) {
+        self.sum ^= drawn(chain, number_at(&self.row, chain));
         let Some(cell) = cell else {
             return;
         };
-        self.draw(self.steps.chains().saturating_add(cell));
-        if self.steps.is_in_range(cell) && self.steps.file_number(&self.row, cell) == 0 {
+        let number = self.steps.file_number(&self.row, cell);
+        self.sum ^= drawn(self.steps.packing.chains.saturating_add(cell), number);
+        if number == 0 && self.steps.is_in_range(cell) {
             count(&mut self.empty, is_more);
         }
     }
 
     /// Makes the next step of a chain, and returns the number of the file that was at its slot.
     pub(crate) fn make(&mut self, chain: usize, step: &ClaimStep<'_>) -> u16 {
-        self.draw(chain);
-        self.count_slot(step.cell, false);
+        self.draw(chain, step.cell, false);
         let before = self.steps.make(&mut self.row, chain, step);
-        self.count_slot(step.cell, true);
-        self.draw(chain);
+        self.draw(chain, step.cell, true);
         self.count_step(step, false);
         before
     }
 
     /// Undoes the last step of a chain. `before`: the number of the file that was at its slot.
     pub(crate) fn take_back(&mut self, chain: usize, before: u16) {
-        self.draw(chain);
-        let made = self.steps.take_back(&mut self.row, chain);
-        self.draw(chain);
-        let Some(step) = made else {
+        let place = number_at(&self.row, chain).saturating_sub(1);
+        let Some(step) = self.steps.step_at(chain, place as usize) else {
             return;
         };
-        self.count_slot(step.cell, false);
-        self.steps.put_back(&mut self.row, &step, before);
-        self.count_slot(step.cell, true);
+        self.draw(chain, step.cell, false);
+        set_number(&mut self.row, chain, place);
+        if let (Some(cell), Some(_)) = (step.cell, step.left) {
+            set_number(
+                &mut self.row,
+                self.steps.packing.chains.saturating_add(cell),
+                before,
+            );
+        }
+        self.draw(chain, step.cell, true);
         self.count_step(&step, true);
     }
 }

@@ -28,11 +28,6 @@ pub struct ClaimStep<'a> {
 /// A claim, by its chain and its place among the chain's.
 pub type ClaimAt = (usize, usize);
 
-/// Returns the bit of a claim after `before` earlier claims at its slot.
-pub(crate) fn bit_behind(before: usize) -> u64 {
-    if before < MOST_CLAIMS { 1 << before } else { 0 }
-}
-
 /// Returns the number at a place of a packed state.
 pub(crate) fn number_at(row: &[u16], place: usize) -> u16 {
     row.get(place).copied().unwrap_or(0)
@@ -56,9 +51,9 @@ impl<'a> SlotClaims<'a> {
     // Adds a claim, and returns its class and its bit.
     fn add(&mut self, claim: &'a Claim, at: ClaimAt) -> Result<(usize, u64), NoMemory> {
         let class = self.classes.class_of(claim)?;
-        let bit = bit_behind(self.places.len());
+        let before = self.places.len();
         self.places.push(at)?;
-        Ok((class, bit))
+        Ok((class, if before < MOST_CLAIMS { 1 << before } else { 0 }))
     }
 }
 
@@ -70,57 +65,8 @@ pub struct Steps<'a> {
     chains: Vec<Vec<ClaimStep<'a>>>,
     // Those of each slot.
     slots: Vec<SlotClaims<'a>>,
-    // The number of claims.
-    count: usize,
-}
-
-// Records a file of a slot, and returns its number.
-fn number_for(
-    files: &mut [Vec<Option<Resident>>],
-    cell: usize,
-    file: Resident,
-) -> Result<u16, NoMemory> {
-    let Some(own) = files.get_mut(cell) else {
-        return Ok(0);
-    };
-    let number = own.len();
-    own.push(Some(file))?;
-    Ok(u16::try_from(number).unwrap_or(u16::MAX))
-}
-
-// Returns the files of a slot before the first claim, "no file" first.
-fn files_of(alloc: Global, cell: &Cell) -> Result<Vec<Option<Resident>>, NoMemory> {
-    let mut files = vec![in alloc; None]?;
-    if cell.file.is_some() {
-        files.push(cell.file)?;
-    }
-    Ok(files)
-}
-
-// Returns the meaning of the numbers of packed states before the first claim.
-fn packing_of(alloc: Global, chains: usize, cells: &[Cell]) -> Result<Packing, NoMemory> {
-    let mut files = Vec::new(alloc);
-    for cell in cells {
-        files.push(files_of(alloc, cell)?)?;
-    }
-    let cells = Vec::from_slice(alloc, cells)?;
-    Ok(Packing {
-        chains,
-        cells,
-        files,
-    })
-}
-
-// Returns slots without claims.
-fn slots_without_claims<'a>(alloc: Global, count: usize) -> Result<Vec<SlotClaims<'a>>, NoMemory> {
-    let mut slots = Vec::new(alloc);
-    for _ in 0..count {
-        slots.push(SlotClaims {
-            places: Vec::new(alloc),
-            classes: Tally::new(alloc),
-        })?;
-    }
-    Ok(slots)
+    /// The number of claims.
+    pub(crate) count: usize,
 }
 
 impl<'a> Steps<'a> {
@@ -133,17 +79,48 @@ impl<'a> Steps<'a> {
         strands: &'a [Strand],
         cells: &[Cell],
     ) -> Result<Steps<'a>, NoMemory> {
-        let slots = slots_without_claims(alloc, cells.len())?;
         let mut steps = Steps {
-            packing: packing_of(alloc, strands.len(), cells)?,
+            packing: Packing {
+                chains: strands.len(),
+                cells: Vec::from_slice(alloc, cells)?,
+                files: Vec::new(alloc),
+            },
             chains: Vec::new(alloc),
-            slots,
+            slots: Vec::new(alloc),
             count: 0,
         };
-        for strand in strands {
-            steps.push_chain(alloc, &strand.claims)?;
-        }
+        steps.fill(alloc, strands, cells)?;
         Ok(steps)
+    }
+
+    // Adds slots and chains.
+    fn fill(
+        &mut self,
+        alloc: Global,
+        strands: &'a [Strand],
+        cells: &[Cell],
+    ) -> Result<(), NoMemory> {
+        for cell in cells {
+            self.push_slot(alloc, cell.file)?;
+        }
+        for strand in strands {
+            self.push_chain(alloc, &strand.claims)?;
+        }
+        Ok(())
+    }
+
+    // Adds a slot without claims: "no file" is its first file, and then the one that is there.
+    fn push_slot(&mut self, alloc: Global, file: Option<Resident>) -> Result<(), NoMemory> {
+        let files = match file {
+            Some(_) => Vec::from_slice(alloc, &[None, file])?,
+            None => Vec::from_slice(alloc, &[None])?,
+        };
+        self.packing.files.push(files)?;
+        self.slots.push(SlotClaims {
+            places: Vec::new(alloc),
+            classes: Tally::new(alloc),
+        })?;
+        Ok(())
     }
 
     fn push_chain(&mut self, alloc: Global, claims: &'a [Claim]) -> Result<(), NoMemory> {
@@ -186,11 +163,16 @@ impl<'a> Steps<'a> {
     }
 
     // Returns the number of the file that a claim leaves at its slot, or `None` if it leaves what
-    // is there.
+    // is there. A file that is installed gets the next number of the slot.
     fn left_by(&mut self, claim: &Claim, cell: usize) -> Result<Option<u16>, NoMemory> {
         match claim {
             Claim::At(_, _, Leaves::File(file)) => {
-                Ok(Some(number_for(&mut self.packing.files, cell, *file)?))
+                let Some(own) = self.packing.files.get_mut(cell) else {
+                    return Ok(Some(0));
+                };
+                let number = own.len();
+                own.push(Some(*file))?;
+                Ok(Some(u16::try_from(number).unwrap_or(u16::MAX)))
             }
             Claim::At(_, _, Leaves::Empty) => Ok(Some(0)),
             Claim::At(_, _, Leaves::Same) | Claim::Full => Ok(None),
@@ -206,23 +188,13 @@ impl<'a> Steps<'a> {
         Ok(row)
     }
 
-    /// Returns the number of chains.
-    pub fn chains(&self) -> usize {
-        self.chains.len()
-    }
-
-    /// Returns the number of claims.
-    pub(crate) fn count(&self) -> usize {
-        self.count
-    }
-
     /// Returns the claim that a chain makes next.
     pub(crate) fn next_of(&self, row: &[u16], chain: usize) -> Option<ClaimStep<'a>> {
         self.step_at(chain, number_at(row, chain) as usize)
     }
 
-    // Returns the claim of a chain at a place.
-    fn step_at(&self, chain: usize, place: usize) -> Option<ClaimStep<'a>> {
+    /// Returns the claim of a chain at a place.
+    pub(crate) fn step_at(&self, chain: usize, place: usize) -> Option<ClaimStep<'a>> {
         self.chains.get(chain)?.get(place).copied()
     }
 
@@ -295,21 +267,16 @@ impl<'a> Steps<'a> {
     /// Returns the claims of each slot, all of them still to be made.
     pub fn tallies(&self, alloc: Global) -> Result<Vec<Tally<'a>>, NoMemory> {
         let mut tallies = Vec::with_capacity(alloc, self.slots.len())?;
-        for (cell, slot) in self.slots.iter().enumerate() {
+        for slot in &self.slots {
             let mut tally = slot.classes.copy(alloc)?;
-            self.count_claims(cell, &mut tally);
+            for (chain, k) in &slot.places {
+                if let Some(step) = self.step_at(*chain, *k) {
+                    tally.count_claim(&step, true);
+                }
+            }
             tallies.push(tally)?;
         }
         Ok(tallies)
-    }
-
-    // Counts the claims of a slot as still to be made.
-    fn count_claims(&self, cell: usize, tally: &mut Tally<'a>) {
-        for (chain, k) in self.places_at(cell) {
-            if let Some(step) = self.step_at(*chain, *k) {
-                tally.count_claim(step.class, step.claim, true);
-            }
-        }
     }
 
     /// Checks whether no slot has a file that the closes have.
@@ -350,20 +317,6 @@ impl<'a> Steps<'a> {
         before
     }
 
-    /// Undoes the last step of a chain, but for the file at its slot, and returns the step.
-    pub(crate) fn take_back(&self, row: &mut [u16], chain: usize) -> Option<ClaimStep<'a>> {
-        let place = number_at(row, chain).saturating_sub(1);
-        set_number(row, chain, place);
-        self.next_of(row, chain)
-    }
-
-    /// Puts back what was at the slot of a step.
-    pub(crate) fn put_back(&self, row: &mut [u16], step: &ClaimStep<'_>, before: u16) {
-        if let (Some(cell), Some(_)) = (step.cell, step.left) {
-            set_number(row, self.chains.len().saturating_add(cell), before);
-        }
-    }
-
     // Checks whether a claim that is still to be made leaves a file at the slot that the claim at
     // this place may find. The earlier claims are tried first, the last of them first, since a
     // chain mostly waits for one of these.
@@ -375,27 +328,16 @@ impl<'a> Steps<'a> {
         slot: u32,
         claim: &Claim,
     ) -> bool {
-        let (front, behind) = claims.split_at(at.min(claims.len()));
-        for other in front.iter().rev() {
-            if self.helps(row, *other, slot, claim) {
-                return true;
-            }
-        }
-        for other in behind {
-            if self.helps(row, *other, slot, claim) {
+        for n in 0..claims.len() {
+            let place = if n < at { at - 1 - n } else { n };
+            if let Some(other) = claims.get(place)
+                && let Some(other) = self.left_at(row, *other)
+                && !is_no_help(slot, claim, other)
+            {
                 return true;
             }
         }
         false
-    }
-
-    // Checks whether the claim at `other` is still to be made, and leaves a file at the slot that
-    // `claim` may find.
-    fn helps(&self, row: &[u16], other: ClaimAt, slot: u32, claim: &Claim) -> bool {
-        match self.left_at(row, other) {
-            Some(other) => !is_no_help(slot, claim, other),
-            None => false,
-        }
     }
 
     /// Returns the state after the next claim of a chain.
@@ -414,7 +356,7 @@ impl<'a> Steps<'a> {
 
     /// Returns a claim that waits for a file which is never installed, in the state `after` the
     /// next claim of a chain.
-    pub(crate) fn hopeless_behind(
+    pub(crate) fn hopeless_after(
         &self,
         row: &[u16],
         after: &[u16],

@@ -4,6 +4,7 @@
 use crate::cell::{may_find, may_leave};
 use crate::claim::{Claim, Leaves, Resident, Wants};
 use crate::node::is_test;
+use crate::steps::ClaimStep;
 use fx_base::NoMemory;
 use std::alloc::Global;
 
@@ -31,6 +32,8 @@ pub struct Tally<'a> {
     leaving: usize,
     // The number of claims that install a file which isn't in that list.
     staying: usize,
+    /// The bits of the claims that were made.
+    pub(crate) made: u64,
 }
 
 // Checks whether both may be made with the same files.
@@ -61,6 +64,7 @@ impl<'a> Tally<'a> {
             empties: 0,
             leaving: 0,
             staying: 0,
+            made: 0,
         }
     }
 
@@ -88,31 +92,22 @@ impl<'a> Tally<'a> {
         Ok(count)
     }
 
-    // Counts the classes that a claim helps by what it leaves at the slot.
-    fn count_left(&mut self, left: Option<Resident>, is_more: bool) {
-        for class in self.classes.iter_mut() {
-            if may_find(class.claim, left) {
-                count(&mut class.helpers, is_more);
-            }
+    /// Counts the claim of a step as still to be made, or as made.
+    pub(crate) fn count_claim(&mut self, step: &ClaimStep<'_>, is_more: bool) {
+        if step.class < self.classes.len() {
+            count(&mut self.classes[step.class].left, is_more);
         }
-    }
-
-    /// Counts a claim of this class as still to be made, or as made.
-    pub(crate) fn count_claim(&mut self, class: usize, claim: &Claim, is_more: bool) {
-        if class < self.classes.len() {
-            count(&mut self.classes[class].left, is_more);
-        }
-        let Claim::At(_, wants, leaves) = claim else {
+        let Claim::At(_, wants, leaves) = step.claim else {
             return;
         };
-        match leaves {
-            Leaves::Same => {}
+        let left = match leaves {
+            Leaves::Same => return,
             Leaves::Empty => {
                 count(&mut self.empties, is_more);
                 if matches!(wants, Wants::Something) {
                     count(&mut self.takes, is_more);
                 }
-                self.count_left(None, is_more);
+                None
             }
             Leaves::File(file) => {
                 if file.leaves {
@@ -120,7 +115,12 @@ impl<'a> Tally<'a> {
                 } else {
                     count(&mut self.staying, is_more);
                 }
-                self.count_left(Some(*file), is_more);
+                Some(*file)
+            }
+        };
+        for class in self.classes.iter_mut() {
+            if may_find(class.claim, left) {
+                count(&mut class.helpers, is_more);
             }
         }
     }
@@ -137,20 +137,18 @@ impl<'a> Tally<'a> {
         false
     }
 
-    // Checks whether the files don't balance, if `found` is at the slot ([`crate::dead`]).
-    fn is_uneven(&self, found: Option<Resident>) -> bool {
+    /// Checks whether these counts show that no order of the claims leads to an end, if `found` is
+    /// at the slot: the files don't balance ([`crate::dead`]), or a claim waits.
+    pub fn is_dead(&self, found: Option<Resident>) -> bool {
         let (mut leaving, mut staying) = (self.leaving, self.staying);
         match found {
             Some(file) if file.leaves => leaving = leaving.saturating_add(1),
             Some(_) => staying = staying.saturating_add(1),
             None => {}
         }
-        staying > 1 || leaving < self.takes || (self.empties == 0 && staying == 0 && leaving > 0)
-    }
-
-    /// Checks whether these counts show that no order of the claims leads to an end, if `found` is
-    /// at the slot.
-    pub fn is_dead(&self, found: Option<Resident>) -> bool {
-        self.is_uneven(found) || self.is_hopeless(found)
+        staying > 1
+            || leaving < self.takes
+            || (self.empties == 0 && staying == 0 && leaving > 0)
+            || self.is_hopeless(found)
     }
 }

@@ -37,7 +37,6 @@ struct Track {
 /// The tracks of all slots.
 #[derive(Drop)]
 pub struct Tracks {
-    alloc: Global,
     tracks: Vec<Track>,
 }
 
@@ -85,7 +84,7 @@ impl Slot<'_> {
     }
 
     // Returns the moment after the claim at a place, if that claim may be made.
-    fn behind(&self, moment: u64, at: usize) -> Option<u64> {
+    fn after(&self, moment: u64, at: usize) -> Option<u64> {
         let (chain, step) = self.claims.get(at).copied()?;
         let (made, file) = (moment & MADE, file_in(moment));
         if made & step.bit != 0 || !self.is_first(made, chain, at) {
@@ -98,53 +97,48 @@ impl Slot<'_> {
         Some(moment_of(made ^ step.bit, step.left.unwrap_or(file)))
     }
 
-    // Returns the moments after each claim that may be made next.
-    fn all_behind(&self, moment: u64) -> Result<Vec<u64>, NoMemory> {
-        let mut moments = Vec::new(self.alloc);
+    // Returns the number of claims, from the first one on, whose chains aren't too early at a
+    // moment.
+    fn near_count(&self, moment: u64) -> usize {
         let far = self.first(moment & MADE).saturating_add(self.near);
         for (at, (chain, _)) in self.claims.iter().enumerate() {
             if *chain >= far {
-                break;
-            }
-            if let Some(behind) = self.behind(moment, at) {
-                moments.push(behind)?;
+                return at;
             }
         }
-        Ok(moments)
+        self.claims.len()
     }
 
     // Adds the moments that are reached from those in the set. Returns false if they are too many.
     fn reach(&self, reached: &mut IndexSet<u64>) -> Result<bool, NoMemory> {
-        for at in 0..MOST_MOMENTS {
-            let Some(moment) = reached.get_index(at).copied() else {
+        for number in 0..MOST_MOMENTS {
+            let Some(moment) = reached.get_index(number).copied() else {
                 return Ok(true);
             };
-            self.add_behind(moment, reached)?;
-        }
-        Ok(false)
-    }
-
-    // Adds the moments after each claim that may be made next.
-    fn add_behind(&self, moment: u64, reached: &mut IndexSet<u64>) -> Result<(), NoMemory> {
-        for other in &self.all_behind(moment)? {
-            reached.insert(*other)?;
-        }
-        Ok(())
-    }
-
-    // Checks whether a moment is an end, or a claim leads from it to one of some moments.
-    fn leads_on(&self, moment: u64, others: &IndexSet<u64>) -> Result<bool, NoMemory> {
-        if self.first(moment & MADE) == usize::MAX {
-            let file = file_in(moment) as usize;
-            let found = self.steps.packing.file_at(self.cell, file);
-            return Ok(!matches!(found, Some(file) if file.leaves));
-        }
-        for other in &self.all_behind(moment)? {
-            if others.contains(other) {
-                return Ok(true);
+            for at in 0..self.near_count(moment) {
+                if let Some(other) = self.after(moment, at) {
+                    reached.insert(other)?;
+                }
             }
         }
         Ok(false)
+    }
+
+    // Checks whether a moment is an end, or a claim leads from it to one of some moments.
+    fn leads_on(&self, moment: u64, others: &IndexSet<u64>) -> bool {
+        if self.first(moment & MADE) == usize::MAX {
+            let file = file_in(moment) as usize;
+            let found = self.steps.packing.file_at(self.cell, file);
+            return !matches!(found, Some(file) if file.leaves);
+        }
+        for at in 0..self.near_count(moment) {
+            if let Some(other) = self.after(moment, at)
+                && others.contains(&other)
+            {
+                return true;
+            }
+        }
+        false
     }
 
     // Returns the moments from which all other claims can be made, or `None` if too many are
@@ -162,7 +156,7 @@ impl Slot<'_> {
     fn leading_on(&self, reached: &[u64]) -> Result<IndexSet<u64>, NoMemory> {
         let mut moments = IndexSet::new(self.alloc);
         for moment in reached.iter().rev() {
-            if self.leads_on(*moment, &moments)? {
+            if self.leads_on(*moment, &moments) {
                 moments.insert(*moment)?;
             }
         }
@@ -171,10 +165,8 @@ impl Slot<'_> {
 
     // Returns the track from the first moment on, widened until it leads to an end.
     fn track(&mut self, first: u64) -> Result<Track, NoMemory> {
-        for _ in 0..WIDENINGS {
-            if self.claims.len() > MOST_CLAIMS {
-                break;
-            }
+        let has_bits = self.claims.len() <= MOST_CLAIMS;
+        for _ in 0..if has_bits { WIDENINGS } else { 0 } {
             let Some(moments) = self.moments(first)? else {
                 break;
             };
@@ -184,7 +176,7 @@ impl Slot<'_> {
                     moments: Some(moments),
                 });
             }
-            if self.near >= self.steps.chains() {
+            if self.near >= self.steps.packing.chains {
                 break;
             }
             self.near = self.near.saturating_mul(WIDER);
@@ -198,34 +190,26 @@ impl Slot<'_> {
 
 // Returns the track of a slot, with at least this `near`. If the slot has too many claims, each
 // order is allowed.
-fn track_of(
-    alloc: Global,
-    steps: &Steps<'_>,
-    start: &[u16],
-    cell: usize,
-    near: usize,
-) -> Result<Track, NoMemory> {
-    let claims = steps.claims_at(alloc, cell)?;
-    let first = moment_of(0, steps.file_number(start, cell));
+fn track_of(alloc: Global, steps: &Steps<'_>, cell: usize, near: usize) -> Result<Track, NoMemory> {
+    let has_file = matches!(steps.packing.cells.get(cell), Some(cell) if cell.file.is_some());
     let mut slot = Slot {
+        claims: steps.claims_at(alloc, cell)?,
         alloc,
         steps,
         cell,
-        claims,
         near,
     };
-    slot.track(first)
+    slot.track(moment_of(0, u16::from(has_file)))
 }
 
 impl Tracks {
     /// Returns the tracks of all slots, each with at least this `near`.
     pub fn new(alloc: Global, steps: &Steps<'_>, near: usize) -> Result<Tracks, NoMemory> {
-        let start = steps.start(alloc)?;
         let mut tracks = Vec::new(alloc);
         for cell in 0..steps.packing.cells.len() {
-            tracks.push(track_of(alloc, steps, &start, cell, near)?)?;
+            tracks.push(track_of(alloc, steps, cell, near)?)?;
         }
-        Ok(Tracks { alloc, tracks })
+        Ok(Tracks { tracks })
     }
 
     /// Checks whether no slot has a track.
@@ -252,22 +236,23 @@ impl Tracks {
     }
 
     /// Widens the tracks of some slots. Returns true unless each was as wide as it can be.
-    pub fn widen_all(&mut self, steps: &Steps<'_>, cells: &[usize]) -> Result<bool, NoMemory> {
+    pub fn widen_all(
+        &mut self,
+        alloc: Global,
+        steps: &Steps<'_>,
+        cells: &[usize],
+    ) -> Result<bool, NoMemory> {
         let mut is_wider = false;
         for cell in cells {
-            is_wider |= self.widen(steps, *cell)?;
+            let Some(track) = self.tracks.get_mut(*cell) else {
+                continue;
+            };
+            if track.near < steps.packing.chains {
+                let near = track.near.saturating_mul(MUCH_WIDER);
+                *track = track_of(alloc, steps, *cell, near)?;
+                is_wider = true;
+            }
         }
         Ok(is_wider)
-    }
-
-    // Widens the track of a slot. Returns true unless it was as wide as it can be.
-    fn widen(&mut self, steps: &Steps<'_>, cell: usize) -> Result<bool, NoMemory> {
-        if cell >= self.tracks.len() || self.tracks[cell].near >= steps.chains() {
-            return Ok(false);
-        }
-        let near = self.tracks[cell].near.saturating_mul(MUCH_WIDER);
-        let start = steps.start(self.alloc)?;
-        self.tracks[cell] = track_of(self.alloc, steps, &start, cell, near)?;
-        Ok(true)
     }
 }

@@ -27,32 +27,40 @@ const _: () = prove!(size_of::<Stage>() == 32);
 // All steps were tried.
 const ALL: usize = usize::MAX;
 
-/// The result of a search.
+/// The states that a search met, and the slots that blocked it.
 #[derive(Drop)]
-pub(crate) struct Searched {
-    pub found: Found,
-    /// The states that were met, if they are kept.
+pub(crate) struct Visited {
+    /// The states, if they are kept.
     pub rows: Rows,
     /// The slots that blocked the longest way ([`Walk::note`]).
     pub blocked: Vec<usize>,
 }
 
-/// Looks for an end by a plan, along tracks if there are any, or else in all orders.
+/// Looks for an end by a plan, along tracks if there are any, or else in all orders. `met` is then
+/// what this search met.
 pub(crate) fn search_by(
     alloc: Global,
     steps: &Steps<'_>,
     tracks: Option<&Tracks>,
     plan: Plan,
     room: SearchRoom,
-) -> Result<Searched, NoMemory> {
-    let mut walk = Walk::new(alloc, steps, tracks, plan, room)?;
-    let found = walk.run()?;
-    let Walk { rows, blocked, .. } = walk;
-    Ok(Searched {
-        found,
-        rows,
-        blocked,
-    })
+    met: &mut Visited,
+) -> Result<Found, NoMemory> {
+    met.rows = IndexSet::new(alloc);
+    met.blocked.clear();
+    let mut walk = Walk {
+        here: SearchState::new(alloc, steps)?,
+        alloc,
+        steps,
+        tracks,
+        sums: IndexSet::new(alloc),
+        way: Vec::new(alloc),
+        longest: 0,
+        met,
+        plan,
+        room,
+    };
+    walk.run()
 }
 
 // A search: its current state, and the way there.
@@ -62,45 +70,19 @@ struct Walk<'a> {
     steps: &'a Steps<'a>,
     // The tracks that a step must keep to, or `None` to allow each step.
     tracks: Option<&'a Tracks>,
-    // The states that were met, if they are kept.
-    rows: Rows,
-    // The states that were met, by their sums. If two states have the same sum, the second one is
+    // The sums of the states that were met. If two states have the same sum, the second one is
     // skipped, and a result that needs it isn't confirmed.
-    met: IndexSet<u64>,
+    sums: IndexSet<u64>,
     here: SearchState<'a>,
     way: Vec<Stage>,
     // The length of the longest way from which no step led on.
     longest: usize,
-    // The slots of the steps that the chains at the end of that way would have made.
-    blocked: Vec<usize>,
+    met: &'a mut Visited,
     plan: Plan,
     room: SearchRoom,
 }
 
-impl<'a> Walk<'a> {
-    // Returns a search at its start.
-    fn new(
-        alloc: Global,
-        steps: &'a Steps<'a>,
-        tracks: Option<&'a Tracks>,
-        plan: Plan,
-        room: SearchRoom,
-    ) -> Result<Walk<'a>, NoMemory> {
-        Ok(Walk {
-            alloc,
-            steps,
-            tracks,
-            rows: IndexSet::new(alloc),
-            met: IndexSet::new(alloc),
-            here: SearchState::new(alloc, steps)?,
-            way: Vec::new(alloc),
-            longest: 0,
-            blocked: Vec::new(alloc),
-            plan,
-            room,
-        })
-    }
-
+impl Walk<'_> {
     // Continues until the search ends.
     fn run(&mut self) -> Result<Found, NoMemory> {
         if self.room.states == 0 {
@@ -124,9 +106,9 @@ impl<'a> Walk<'a> {
     fn enter(&mut self, stage: Stage) -> Result<(), NoMemory> {
         if self.room.keeps {
             let row = Vec::from_slice(self.alloc, &self.here.row)?;
-            self.rows.insert(row)?;
+            self.met.rows.insert(row)?;
         }
-        self.met.insert(self.here.sum)?;
+        self.sums.insert(self.here.sum)?;
         self.way.push(stage)?;
         Ok(())
     }
@@ -147,12 +129,12 @@ impl<'a> Walk<'a> {
         if self.plan.seed > 0 {
             return self.choice_drawn(stage, low, high);
         }
-        if stage.tried == 0 && stage.last < high && self.may_continue(stage.last) {
+        if stage.tried == 0 && stage.last < high && self.step_of(stage.last).is_some() {
             return Some((stage.last, 1));
         }
         for tried in stage.tried.max(1)..=high {
             let chain = tried.saturating_sub(1);
-            if chain != stage.last && self.may_continue(chain) {
+            if chain != stage.last && self.step_of(chain).is_some() {
                 return Some((chain, tried.saturating_add(1)));
             }
         }
@@ -166,9 +148,9 @@ impl<'a> Walk<'a> {
         let first = drawn(self.plan.seed.saturating_add(self.way.len()), 0) >> 33;
         let first = usize::try_from(first).unwrap_or(0);
         for tried in stage.tried.max(1)..=count {
-            let behind = first.saturating_add(tried).checked_rem(count).unwrap_or(0);
-            let chain = low.saturating_add(behind);
-            if self.may_continue(chain) {
+            let place = first.saturating_add(tried).checked_rem(count).unwrap_or(0);
+            let chain = low.saturating_add(place);
+            if self.step_of(chain).is_some() {
                 return Some((chain, tried.saturating_add(1)));
             }
         }
@@ -177,13 +159,13 @@ impl<'a> Walk<'a> {
 
     // Returns the first unfinished chain, and the one after the last that may be continued.
     fn window(&self) -> (usize, usize) {
-        let chains = self.steps.chains();
+        let chains = self.steps.packing.chains;
         if self.plan.open >= chains {
             return (0, chains);
         }
         let (mut low, mut open) = (chains, 0usize);
         for chain in 0..chains {
-            if self.here.next_of(chain).is_some() {
+            if self.steps.next_of(&self.here.row, chain).is_some() {
                 low = low.min(chain);
                 open = open.saturating_add(1);
                 if open >= self.plan.open {
@@ -202,9 +184,8 @@ impl<'a> Walk<'a> {
         }
         let (_, high) = self.window();
         for chain in 0..high {
-            if let Some(step) = self.here.next_of(chain)
+            if let Some(step) = self.step_of(chain)
                 && is_test(step.claim)
-                && self.may_make(&step)
             {
                 return Some(chain);
             }
@@ -212,15 +193,14 @@ impl<'a> Walk<'a> {
         None
     }
 
-    fn may_make(&self, step: &ClaimStep<'_>) -> bool {
-        self.here.allows(step) && self.keeps_track(step)
-    }
-
-    // Checks whether a chain may make its next step.
-    fn may_continue(&self, chain: usize) -> bool {
-        match self.here.next_of(chain) {
-            Some(step) => self.may_make(&step),
-            None => false,
+    // Returns the next step of a chain, if it may be made and leads to a moment of its track.
+    fn step_of(&self, chain: usize) -> Option<ClaimStep<'_>> {
+        let step = self.steps.next_of(&self.here.row, chain)?;
+        let here = &self.here;
+        if self.steps.allows(&here.row, &step, here.empty) && self.keeps_track(&step) {
+            Some(step)
+        } else {
+            None
         }
     }
 
@@ -229,7 +209,7 @@ impl<'a> Walk<'a> {
         let Some(tracks) = self.tracks else {
             return true;
         };
-        match self.here.moment_behind(step) {
+        match self.here.moment_after(step) {
             Some((cell, moment)) => tracks.allows(cell, moment),
             None => true,
         }
@@ -243,13 +223,13 @@ impl<'a> Walk<'a> {
             return Ok(());
         }
         self.longest = self.way.len();
-        self.blocked.clear();
+        self.met.blocked.clear();
         let (low, high) = self.window();
         for by_order in [true, false] {
             for chain in low..high {
                 self.note_chain(chain, by_order)?;
             }
-            if !self.blocked.is_empty() {
+            if !self.met.blocked.is_empty() {
                 break;
             }
         }
@@ -259,20 +239,20 @@ impl<'a> Walk<'a> {
     // Records the slot of a chain's next step, if its track blocks the step (`by_order`), or if the
     // step waits for a file.
     fn note_chain(&mut self, chain: usize, by_order: bool) -> Result<(), NoMemory> {
-        let Some(step) = self.here.next_of(chain) else {
+        let Some(step) = self.steps.next_of(&self.here.row, chain) else {
             return Ok(());
         };
         let Some(cell) = step.cell else {
             return Ok(());
         };
-        let may = self.here.allows(&step);
+        let may = self.steps.allows(&self.here.row, &step, self.here.empty);
         let is_one = if by_order {
             may && !self.keeps_track(&step)
         } else {
             !may
         };
-        if is_one && !self.blocked.contains(&cell) {
-            self.blocked.push(cell)?;
+        if is_one && !self.met.blocked.contains(&cell) {
+            self.met.blocked.push(cell)?;
         }
         Ok(())
     }
@@ -280,15 +260,15 @@ impl<'a> Walk<'a> {
     // Makes a step, unless it leads to a state that was met, or to one from which no end is
     // reached. Returns false if there is no room for the state.
     fn go(&mut self, chain: usize, last: usize) -> Result<bool, NoMemory> {
-        let Some(step) = self.here.next_of(chain) else {
+        let Some(step) = self.steps.next_of(&self.here.row, chain) else {
             return Ok(true);
         };
         let before = self.here.make(chain, &step);
-        if self.here.is_dead(&step) || self.met.contains(&self.here.sum) {
+        if self.here.is_dead(&step) || self.sums.contains(&self.here.sum) {
             self.here.take_back(chain, before);
             return Ok(true);
         }
-        if self.met.len() >= self.room.states {
+        if self.sums.len() >= self.room.states {
             return Ok(false);
         }
         let last = if is_test(step.claim) { last } else { chain };
@@ -299,18 +279,6 @@ impl<'a> Walk<'a> {
             tried: 0,
         })?;
         Ok(true)
-    }
-
-    // Goes back by one step.
-    fn back(&mut self) {
-        if let Some(stage) = self.way.pop() {
-            self.here.take_back(stage.by, stage.before);
-        }
-    }
-
-    // Checks whether all claims were made, and each file in the list of closes has left.
-    fn is_end(&self) -> bool {
-        self.way.len() > self.steps.count() && self.steps.is_staying(&self.here.row)
     }
 
     // Returns the steps of the way.
@@ -327,12 +295,14 @@ impl<'a> Walk<'a> {
         let Some(stage) = self.way.last().copied() else {
             return Ok(Some(Found::NoEnd));
         };
-        if self.is_end() {
+        // All claims were made, and each file in the list of closes has left.
+        if self.way.len() > self.steps.count && self.steps.is_staying(&self.here.row) {
             return Ok(Some(Found::Order(self.order()?)));
         }
         let Some((chain, tried)) = self.choice(&stage) else {
             self.note()?;
-            self.back();
+            self.way.pop();
+            self.here.take_back(stage.by, stage.before);
             return Ok(None);
         };
         if let Some(stage) = self.way.last_mut() {
