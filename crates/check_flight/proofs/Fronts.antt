@@ -1,28 +1,14 @@
 -- All states that flights reach, from event to event.
-use Rattle.check_flight.proofs.Words.{◌≡◌, ℕ, List, [], ◌∷◌, ◌++◌, length, refl, sym, ap, ◌∙◌, arith, ⊎_elim, Asked}
-use Rattle.check_flight.proofs.Words.{◌-◌, subst, Contains-append_cases, get_or_append_left, get_or_at, run_at}
-use Rattle.check_flight.proofs.Words.{Completed, Contains, RingState, length-append, rules_of}
-use Rattle.check_flight.proofs.Steps.{answered_in, event_leads, followed_on, looks_on, looks_seen, not_stopped, only_one, seen_before, was_logged}
-use Rattle.check_flight.specs.States.{AreLooksSeen}
-use Rattle.check_flight.proofs.Words.{◌≤◌, ◌⊎◌, inl, inr}
-use Rattle.check_flight.specs.States.{IsNumbered, runs_with}
-use Rattle.check_flight.specs.States.{AreReached, AreAnswers, AreCalls, AreFollowed, ArePassed, HasNoFlight, IsStopped, GoesOnTo, FlightView}
-use Rattle.check_flight.specs.States.{setting_of}
+use Rattle.check_flight.proofs.Words.{◌≡◌, ℕ, List, [], ◌∷◌, ◌++◌, length, refl, sym, ap, ◌∙◌, arith, ⊎_elim, Asked, ◌-◌, subst}
+use Rattle.check_flight.proofs.Words.{Contains-append_cases, get_or_append_left, get_or_at, run_at, Completed, Contains, RingState, length-append}
+use Rattle.check_flight.proofs.Words.{rules_of, ◌≤◌, ◌⊎◌, inl, inr, append-nil, append_assoc}
+use Rattle.check_flight.proofs.Steps.{answered_in, event_leads, followed_on, looks_on, looks_seen, not_stopped, only_one, seen_before}
+use Rattle.check_flight.specs.States.{AreLooksSeen, IsNumbered, runs_with, AreReached, AreAnswers, AreCalls, AreFollowed, ArePassed, HasNoFlight}
+use Rattle.check_flight.specs.States.{IsStopped, GoesOnTo, FlightView, setting_of}
 use Rattle.fx_flight.specs.Events.{Happening, Called, Answered, LookCalled, LookAnswered, Freed, FileClosed, AllSettled}
+use Rattle.fx_flight.proofs.Beginnings.{lasts, logged as was_logged}
 use Rattle.check_flight.specs.Refutations.{IsRefutation, IsRefutedFrom}
-use Rattle.check_flight.proofs.Words.{append-nil, append_assoc}
 use Rattle.fx_flight.specs.Flight.{Accesses, IsFlight, Logged, MayFollow, Moment, log_of}
-
--- both lists end with one event
-last_event : (xs ys : List Happening) (x y : Happening) → xs ++ x ∷ [] ≡ ys ++ y ∷ [] → (xs ≡ ys) × (x ≡ y)
-last_event [] [] x y is = (refl, cc)
-last_event [] (b ∷ ys) x y is = absurd (let long = ap length is in omega (arith, length-append ys (y ∷ [])))
-last_event (a ∷ xs) [] x y is = absurd (let long = ap length is in omega (arith, length-append xs (x ∷ [])))
-last_event (a ∷ xs) (b ∷ ys) x y is =
-    let first : a ≡ b = cc in
-    let rest : xs ++ x ∷ [] ≡ ys ++ y ∷ [] = cc in
-    let (same, last) = last_event xs ys x y rest in
-    ((λ i. first i ∷ same i), last)
 
 never_empty : (xs : List Happening) (x : Happening) → xs ++ x ∷ [] ≡ [] → ⊥
 never_empty xs x is = let long = ap length is in omega (arith, length-append xs (x ∷ []))
@@ -76,7 +62,7 @@ module _ (old : RingState) (log : List Happening) where
   all_next {runs} {read} e states nexts fronts all calls numbered more passed within closed answers fits flight is seen whole =
       goes_on answers fits (runs_with runs e) (read ++ e ∷ []) more fronts closed flight
       (λ f before of found same.
-      let (read_same, event_same) = last_event (log_of before) read f e same in
+      let (read_same, event_same) = lasts (log_of before) read same in
       let (state, inside, to) = all answers fits before of.0 (seen_before old.size log (Logged f) before found) read_same in
       let may = subst (λ (g : Happening). MayFollow (setting_of old answers) before g) event_same of.1 in
       ⊎_elim

@@ -1,67 +1,54 @@
 -- The states of the judge, call by call, and where an access, a call or a close leads.
-use Rattle.check_flight.proofs.Words.{◌≡◌, ℕ, ◌+◌, ◌-◌, ◌<◌, ◌≤◌, List, [], ◌∷◌, ◌++◌, length, refl, sym, ap, ◌∙◌, arith, ⊎_elim}
-use Rattle.check_flight.proofs.Words.{Access, Asked, Completed, Contains, Option, None, Some, Place, Rest, Rules, false, over, subst}
-use Rattle.check_flight.proofs.Words.{file_removed_by, run_at, settled_at, slice_index_or, step}
-use Rattle.check_flight.proofs.Words.{Contains-append_cases, Contains-append_left, Contains-append_right, contains_head, option_to_list, table_with}
-use Rattle.check_flight.proofs.Words.{if◌then◌else◌, Identity, inl, inr}
-use Rattle.check_flight.proofs.Steps.{only_one}
-use Rattle.std.specs.Prelude.{nat_le, slice_set, IsPermutation}
-use Rattle.std.proofs.lemmas.Bool.{cases_Bool, cases_lt, le-leb, lt-leb, leb-false}
-use Rattle.std.proofs.lemmas.List.{drop_all, get_or-set_other, get_or-set_same, length-drop}
-use Rattle.check_outcomes.proofs.Words.{IsPermutation-sym, StepsChain, not_begun, rest_in, table_of_slots, drop}
+use Rattle.check_flight.proofs.Words.{◌≡◌, ℕ, ◌+◌, ◌-◌, ◌<◌, ◌≤◌, List, [], ◌∷◌, ◌++◌, length, refl, sym, ap, ◌∙◌, arith, ⊎_elim, Access, Asked}
+use Rattle.check_flight.proofs.Words.{Completed, Contains, Option, None, Rest, Rules, false, over, subst, file_removed_by, run_at}
+use Rattle.check_flight.proofs.Words.{settled_at, slice_index_or, step, Contains-append_cases, Contains-append_left, Contains-append_right}
+use Rattle.check_flight.proofs.Words.{option_to_list, table_with, if◌then◌else◌, Identity, inl, inr, take, eq-eqb, true, ◌⊎◌}
+use Rattle.check_flight.proofs.Words.{either_way}
+use Rattle.check_outcomes.proofs.Viewing.{requests_for}
+use Rattle.check_flight.proofs.Steps.{only_one, taken, taken_by}
+use Rattle.fx_base.specs.declared.mark.Mark.TheVariants.{Registered}
+use Rattle.std.specs.Prelude.{nat_le, slice_set, IsPermutation, All, map, nat_eq}
+use Rattle.std.proofs.lemmas.Bool.{cases_Bool, cases_lt, le-leb, lt-leb, leb-false, leb-true}
+use Rattle.std.proofs.lemmas.List.{drop_all, get_or-set_other, get_or-set_same, length-drop, get_or-drop, take_more}
+use Rattle.check_outcomes.proofs.Words.{IsPermutation-sym, StepsChain, not_begun, rest_in, table_of_slots, drop, moved, get_or-map}
+use Rattle.check_outcomes.proofs.Words.{length-map}
 use Rattle.check_outcomes.specs.declared.submission.Progress.{Progress}
-use Rattle.check_outcomes.proofs.Words.{moved, rest_for}
-use Rattle.std.proofs.lemmas.List.{get_or-drop}
 use Rattle.std.proofs.lemmas.List.Sorted.{Contains-permutation}
-use Rattle.fx_flight.specs.Events.{all_happenings, first_of_call, happening_of}
+use Rattle.fx_flight.specs.Events.{all_happenings, first_of_call, happening_of, Happening}
 use Rattle.fx_flight.specs.declared.event.LogEvent.{LogEvent}
 use Rattle.fx_table.proofs.SumLemmas.{contains_map}
 use Rattle.check_flight.specs.Judged.{IsAccessFollowed, IsCallFollowed, catalogue_in, flight_view, flight_views, log_in, rest_of}
-use Rattle.check_flight.specs.States.{IsOneDenied, IsStateFollowed}
-use Rattle.check_flight.proofs.Words.{take}
-use Rattle.fx_flight.specs.Events.{Happening}
-use Rattle.std.proofs.lemmas.List.{take_more}
+use Rattle.check_flight.specs.States.{IsOneDenied, IsStateFollowed, AreFewer, AreWith, AreWithout, FlightView, LeadsByCall, StepsByAccess}
+use Rattle.check_flight.specs.States.{AreWaitsDenied, IsLookDenied}
 use Rattle.check_flight.specs.declared.judged.JudgedLog.{JudgedLog}
 use Rattle.check_outcomes.specs.Stands.{HasEachNext}
 use Rattle.fx_chain.specs.Accepted.{IsWithinLimits}
 use Rattle.fx_chain.specs.Operation.{all_asked, asked_of}
 use Rattle.fx_chain.specs.declared.request.Request.{Request}
-use Rattle.std.specs.Prelude.{All, map}
 use Rattle.std.proofs.lemmas.List.Elements.{All-contains}
-use Rattle.check_outcomes.proofs.Words.{get_or-map, length-map}
-use Rattle.check_flight.specs.States.{AreFewer, AreWith, AreWithout, FlightView, LeadsByCall, StepsByAccess}
 use Rattle.check_flight.specs.declared.state.WaitingLook.{WaitingLook}
 use Rattle.check_flight.specs.declared.hold.HeldFile.{HeldFile}
 use Rattle.check_flight.specs.Player.{IsMarked, file_number}
 use Rattle.indexmap.specs.IndexSet.{IndexSet, Updates}
-use Rattle.std.specs.Prelude.{nat_eq}
-use Rattle.check_flight.proofs.Words.{eq-eqb, true}
-use Rattle.check_flight.proofs.Words.{◌⊎◌, either_way}
-use Rattle.check_flight.specs.States.{AreWaitsDenied, IsLookDenied, IsUnmade}
 use Rattle.fx_order.specs.Access.{Permits}
 use Rattle.fx_order.specs.declared.access.Access.TheVariants.{Looks}
 use Rattle.fx_flight.specs.Flight.{IsLookDone}
-use Rattle.std.proofs.lemmas.Bool.{leb-true}
 use Rattle.check_flight.specs.declared.state.FlightState.{FlightState}
 
 -- The removed files.
 
-pub taken_one : (file : Option Identity) (other : Identity) → Contains (option_to_list file) other → file ≡ Some other
-taken_one None other (k, low, is) = absurd (omega arith)
-taken_one (Some it) other inside = ap Some (only_one it other inside)
-
-one_taken : (file : Option Identity) (other : Identity) → file ≡ Some other → Contains (option_to_list file) other
-one_taken file other is = rw is (contains_head other [])
+abbrev pub no_file : Identity
+no_file = record { mark = Registered 0 0; entry = 0; tag = 0 }
 
 -- one more file, in whatever order
 pub are_with : (before after : List Identity) (file : Option Identity) → IsPermutation (before ++ option_to_list file) after → AreWith before file after
 are_with before after file same other = (
-  λ inside. ⊎_elim (λ old. inl old) (λ new. inr (taken_one file other new))
+  λ inside. ⊎_elim (λ old. inl old) (λ new. inr (taken file other new))
       (Contains-append_cases before (option_to_list file) other
       (Contains-permutation after (before ++ option_to_list file) other (IsPermutation-sym _ _ same) inside)),
   λ either. Contains-permutation (before ++ option_to_list file) after other same
       (⊎_elim (λ old. Contains-append_left before (option_to_list file) other old)
-      (λ new. Contains-append_right before (option_to_list file) other (one_taken file other new)) either),
+      (λ new. Contains-append_right before (option_to_list file) other (taken_by file other new)) either),
 )
 
 -- the files without one of them, and one file more, which is another
@@ -133,10 +120,6 @@ stepped runs {rules} state next {j} {id} {a} {own} {progress} {after} is base fe
     }
 
 -- The answer of a member that isn't done yet.
-
-requests_for : (place : Place) (requests : List Asked) (made : ℕ) → (rest_for place requests made).requests ≡ requests
-requests_for place [] made = refl
-requests_for place (request ∷ requests) made = refl
 
 pub early : (runs : List (List Asked)) (state : FlightState) (j member : ℕ) {id n : ℕ} {progress : Progress}
     → id ≡ state.base + j + 1 → slice_index_or state.chains.items j not_begun ≡ progress → length (run_at runs id) ≡ n
@@ -211,7 +194,7 @@ not_logged events event none inside =
     let (x, (k, low, is), same) = contains_map happening_of events event inside in
     none k x low (ap happening_of is ∙ sym same)
 
--- What was looked through.
+-- Calls and states that were looked through.
 
 -- each access that a call may make next
 pub call_followed : (log : JudgedLog) (runs : List (List Asked)) (states : List FlightState) (state : FlightState) (id : ℕ) (choices : List Access)
@@ -319,9 +302,3 @@ marked_more before after file updates other (inl same) =
 marked_more before after file updates other (inr marked) =
     updates.0 (file_number other) ∙ ⊎_elim (λ (yes : nat_eq (file_number file) (file_number other) ≡ true). rw yes refl)
     (λ (no : nat_eq (file_number file) (file_number other) ≡ false). rw no marked) (cases_Bool (nat_eq (file_number file) (file_number other)))
-
--- a look that waits can't be answered so
-pub unmade_at : (runs : List (List Asked)) (state : FlightState) (id : ℕ) (found : Option Identity) {k : ℕ} {look : WaitingLook}
-    → k < length state.waiting.items → look ≡ slice_index_or state.waiting.items k look
-    → (look.id ≡ id) × (IsLookDone (length state.slots.at.items) look.slot [] found → ⊥) → IsUnmade (flight_view runs state) id found
-unmade_at runs state id found {k} {look} few is unmade = (look, (k, few, sym is), unmade.0, unmade.1)

@@ -1,29 +1,23 @@
 -- The player's flight goes on, by an access or an event.
 use Rattle.check_flight.proofs.Words.{◌≡◌, ◌⊎◌, ℕ, ◌+◌, ◌-◌, ◌<◌, ◌≤◌, List, [], ◌∷◌, ◌++◌, length, take, refl, sym, ap, ◌∙◌, arith, inl, inr, ⊎_elim}
-use Rattle.check_flight.proofs.Words.{Access, Asked, ChainAccess, Completed, Contains, IsChainDone, Option, Some, Table}
-use Rattle.check_flight.proofs.Words.{cases_eq, file_removed_by, get_or_append_left, get_or_at, length-append, ne_eqb, option_to_list, slice_index_or}
-use Rattle.check_flight.proofs.Words.{suc, zero, table_with, Contains-append_cases, Contains-append_left, Contains-append_right}
-use Rattle.check_flight.proofs.Words.{contains_head, Identity, RingState}
-use Rattle.check_flight.proofs.Steps.{shifted}
+use Rattle.check_flight.proofs.Words.{Access, Asked, ChainAccess, Completed, Contains, IsChainDone, Option, Some, Table, cases_eq, file_removed_by}
+use Rattle.check_flight.proofs.Words.{get_or_append_left, get_or_at, length-append, ne_eqb, option_to_list, slice_index_or, suc, zero, table_with}
+use Rattle.check_flight.proofs.Words.{Contains-append_cases, Contains-append_left, Contains-append_right, contains_head, Identity, RingState}
+use Rattle.check_flight.proofs.Words.{FileEntry, append-nil}
+use Rattle.check_flight.proofs.Steps.{shifted, taken}
 use Rattle.check_outcomes.proofs.Words.{Permits, all_asked, drop, get_or-map, get_or-set_other, get_or-set_same, map, slice_set, table_of}
-use Rattle.check_outcomes.proofs.Words.{table_of_slots, take-append-drop}
-use Rattle.check_outcomes.proofs.Words.{cases_Bool, eq-eqb, false≢true, file_Decides}
+use Rattle.check_outcomes.proofs.Words.{table_of_slots, take-append-drop, cases_Bool, eq-eqb, false≢true, file_Decides, AreChainsDone}
+use Rattle.check_outcomes.proofs.Words.{accesses_of_chain, take_all, length-map}
 use Rattle.fx_order.proofs.Apart.{same_file}
 use Rattle.std.proofs.Math.Seq.{drop-cons}
-use Rattle.std.proofs.lemmas.List.{length-set, length-take-le, take-take, take_more}
-use Rattle.check_flight.proofs.Judging.{taken_one}
-use Rattle.check_flight.proofs.Words.{FileEntry, append-nil}
-use Rattle.check_outcomes.proofs.Words.{AreChainsDone, accesses_of_chain}
-use Rattle.check_outcomes.proofs.Words.{take_all}
+use Rattle.std.proofs.lemmas.List.{length-set, length-take-le, take-take, take_more, take-map}
 use Rattle.fx_chain.specs.Accepted.{members_of}
 use Rattle.fx_chain.specs.declared.chain.Chain.{Chain}
 use Rattle.fx_chain.specs.Completed.{all_completed, completed_of}
 use Rattle.fx_chain.specs.Operation.{asked_of}
 use Rattle.fx_chain.specs.declared.completion.Completion.{Completion}
-use Rattle.std.proofs.lemmas.List.{take-map}
-use Rattle.check_outcomes.proofs.Words.{length-map}
-use Rattle.fx_flight.specs.Events.{Happening, Called, Answered, LookCalled, LookAnswered, Freed, FileClosed, AllSettled, all_happenings, first_of_call}
-use Rattle.fx_flight.specs.Events.{happening_of}
+use Rattle.fx_flight.specs.Events.{Happening, Called, Answered, LookCalled, LookAnswered, Freed, FileClosed, AllSettled, all_happenings}
+use Rattle.fx_flight.specs.Events.{first_of_call, happening_of}
 use Rattle.fx_flight.specs.declared.event.LogEvent.{LogEvent}
 use Rattle.fx_flight.specs.Flight.{Accesses, IsLookDone, Logged, MayAccess, MayFollow, Moment, WasLogged, made_by, taken_in}
 use Rattle.check_flight.specs.Player.{IsCallDone, IsMemberMade, HasMadeFlight, IsCallMade, IsRingOf, accesses_in, accesses_of_plan, answers_in}
@@ -184,7 +178,7 @@ module _ (old : RingState) (log : JudgedLog) (plans : List CallPlan) (ring : IsR
             ))
             (λ here. (
               Contains-append_left (option_to_list (file_removed_by a)) (taken_in flight) file here,
-              λ was. unclosed file (taken_one (file_removed_by a) file here) (so_far.closed file (unshifted flight was)),
+              λ was. unclosed file (taken (file_removed_by a) file here) (so_far.closed file (unshifted flight was)),
             ))
             (Contains-append_cases player.removed.items (option_to_list (file_removed_by a)) file (rw removed at inside));
         closed = λ file was. rw closed (so_far.closed file (unshifted flight was));

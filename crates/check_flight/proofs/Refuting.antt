@@ -1,6 +1,6 @@
 -- A refutation, from front to front.
-use Rattle.check_flight.proofs.Words.{◌≡◌, ℕ, ◌+◌, ◌<◌, List, [], ◌∷◌, ◌++◌, length, take, refl, sym, ap, ◌∙◌, arith, subst, suc}
-use Rattle.check_flight.proofs.Words.{Asked, contains_head}
+use Rattle.check_flight.proofs.Words.{◌≡◌, ℕ, ◌+◌, ◌<◌, List, [], ◌∷◌, ◌++◌, length, take, refl, sym, ap, ◌∙◌, arith, subst, suc, Asked}
+use Rattle.check_flight.proofs.Words.{contains_head, Contains}
 use Rattle.check_outcomes.proofs.Words.{drop, length-map, drop_all}
 use Rattle.std.proofs.Math.Seq.{drop-cons}
 use Rattle.std.proofs.lemmas.List.{take_more}
@@ -9,7 +9,6 @@ use Rattle.fx_order.specs.Slots.{ring_of_slots}
 use Rattle.fx_order.specs.declared.slots.Slots.{Slots}
 use Rattle.check_flight.proofs.Fronts.{refuted}
 use Rattle.check_flight.proofs.Steps.{only_one}
-use Rattle.check_flight.proofs.Words.{Contains}
 use Rattle.check_flight.specs.declared.state.WaitingLook.{WaitingLook}
 use Rattle.check_flight.specs.Judged.{catalogue_in, flight_view, flight_views, log_in, requests_of, rules_of_log, runs_of_calls}
 use Rattle.check_flight.specs.Passages.{IsFirstFront, IsNextFront, IsRefutedAfter, event_at}

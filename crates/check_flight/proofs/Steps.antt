@@ -1,22 +1,22 @@
 -- Where a flight leads: its accesses and its events, one after another.
-use Rattle.check_flight.proofs.Words.{◌≡◌, ℕ, ◌+◌, ◌<◌, ◌≤◌, List, [], ◌∷◌, ◌++◌, length, take, refl, sym, ap, ◌∙◌, arith, inl, inr}
-use Rattle.check_flight.proofs.Words.{⊎_elim, suc, zero, Access, AllByRecursion, Asked, ChainAccess, Completed, Contains, HasMemory}
-use Rattle.check_flight.proofs.Words.{IsNext, None, Option, Some, Place, Rest, Rules, append_assoc, by_equality, cases_eq, file_removed_by}
-use Rattle.check_flight.proofs.Words.{get_or_append_left, get_or_at, length-append, ne_eqb, option_to_list, OfChain, are_right, rules_of, run_at, settled_at}
-use Rattle.check_flight.proofs.Words.{settles, slice_index_or, step, steps_on, table_with, Contains-append_cases, Contains-append_left, RingState}
-use Rattle.check_flight.proofs.Words.{◌-◌, Table, subst, Contains-append_right, Contains-push, Identity, if◌then◌else◌, contains_head}
+use Rattle.check_flight.proofs.Words.{◌≡◌, ℕ, ◌+◌, ◌<◌, ◌≤◌, List, [], ◌∷◌, ◌++◌, length, take, refl, sym, ap, ◌∙◌, arith, inl, inr, ⊎_elim, suc}
+use Rattle.check_flight.proofs.Words.{zero, Access, AllByRecursion, Asked, ChainAccess, Completed, Contains, HasMemory, IsNext, None, Option, Some}
+use Rattle.check_flight.proofs.Words.{Place, Rest, Rules, append_assoc, by_equality, cases_eq, file_removed_by, get_or_append_left, get_or_at}
+use Rattle.check_flight.proofs.Words.{length-append, ne_eqb, option_to_list, OfChain, are_right, rules_of, run_at, settled_at, settles}
+use Rattle.check_flight.proofs.Words.{slice_index_or, step, steps_on, table_with, Contains-append_cases, Contains-append_left, RingState, ◌-◌, Table}
+use Rattle.check_flight.proofs.Words.{subst, Contains-append_right, Identity, if◌then◌else◌, contains_head, ◌⊎◌, either_way, eq-eqb}
+use Rattle.check_flight.proofs.Words.{over, table_of}
 use Rattle.check_flight.proofs.Places.{AreAt, chain_at, member_at, same_place}
 use Rattle.check_flight.proofs.Runs.{after_both, after_fewer, done_members, over_stays}
-use Rattle.check_flight.proofs.Words.{◌⊎◌, either_way, eq-eqb, over, table_of}
-use Rattle.check_flight.specs.States.{AreAnswers, AreCalls, IsLed, IsOneDenied, IsStopped, StepsByAccess, LeadsByCall, LeadsByClose}
-use Rattle.check_flight.specs.States.{AreFewer, AreLooksSeen, AreWaitsDenied, LeadsByAnswer}
+use Rattle.check_flight.specs.States.{AreAnswers, AreCalls, IsLed, IsOneDenied, IsStopped, StepsByAccess, LeadsByCall, LeadsByClose, AreFewer}
+use Rattle.check_flight.specs.States.{AreLooksSeen, AreWaitsDenied, LeadsByAnswer, IsStateFollowed, GoesOnTo, FlightView, rest_after, setting_of}
+use Rattle.check_flight.specs.States.{origin_of, IsNumbered, runs_with}
 use Rattle.check_flight.specs.declared.state.WaitingLook.{WaitingLook}
-use Rattle.check_flight.specs.States.{IsStateFollowed, GoesOnTo, FlightView, rest_after, setting_of, origin_of}
-use Rattle.check_flight.specs.States.{IsNumbered, runs_with}
 use Rattle.fx_flight.specs.Events.{Happening, Called, Answered, LookCalled, LookAnswered, Freed, FileClosed, AllSettled, first_of_call}
-use Rattle.fx_flight.specs.Flight.{Accesses, FlightSetting, IsBegun, IsFlight, IsLookDone, Logged, MayFollow, Moment, WasLogged, log_of, made_by, taken_in}
-use Rattle.fx_flight.specs.Flight.{table_left_by}
-use Rattle.fx_flight.proofs.InTime.{size_stays}
+use Rattle.fx_flight.specs.Flight.{Accesses, FlightSetting, IsBegun, IsFlight, IsLookDone, Logged, MayFollow, Moment, WasLogged, log_of, made_by}
+use Rattle.fx_flight.specs.Flight.{taken_in, table_left_by}
+use Rattle.fx_flight.proofs.Beginnings.{logged as was_logged}
+use Rattle.fx_flight.proofs.InTime.{in_log as was_read, size_stays}
 use Rattle.fx_order.specs.Access.{Permits}
 use Rattle.fx_order.specs.declared.access.Access.TheVariants.{Looks}
 use Rattle.std.specs.Prelude.{nat_le}
@@ -28,33 +28,16 @@ use Rattle.fx_order.proofs.ChainsFront.{both_parts}
 pub shifted : {m : Moment} (flight : List Moment) {e : Happening} → WasLogged flight e → WasLogged (m ∷ flight) e
 shifted flight (k, low, is) = (suc k, omega arith, is)
 
-pub was_read : (flight : List Moment) (e : Happening) → WasLogged flight e → Contains (log_of flight) e
-was_read [] e (k, low, is) = absurd (omega arith)
-was_read (Logged event ∷ flight) e (zero, low, is) =
-    let same : event ≡ e = cc in rw same (Contains-push (log_of flight) e)
-was_read (Logged event ∷ flight) e (suc k, low, is) =
-    Contains-append_left (log_of flight) (event ∷ []) e (was_read flight e (k, omega arith, is))
-was_read (Accesses x ∷ flight) e (zero, low, is) = absurd (cc)
-was_read (Accesses x ∷ flight) e (suc k, low, is) = was_read flight e (k, omega arith, is)
-
 pub only_one : {X : Type 0} (x y : X) → Contains (x ∷ []) y → x ≡ y
 only_one x y (zero, low, is) = is
 only_one x y (suc k, low, is) = absurd (omega arith)
 
-pub was_logged : (flight : List Moment) (e : Happening) → Contains (log_of flight) e → WasLogged flight e
-was_logged [] e (k, low, is) = absurd (omega arith)
-was_logged (Logged event ∷ flight) e inside = ⊎_elim
-    (λ before. shifted flight (was_logged flight e before))
-    (λ last. (zero, omega arith, ap Logged (only_one event e last)))
-    (Contains-append_cases (log_of flight) (event ∷ []) e inside)
-was_logged (Accesses x ∷ flight) e inside = shifted flight (was_logged flight e inside)
-
 -- the file that an access took
-taken : (o : Option Identity) (file : Identity) → Contains (option_to_list o) file → o ≡ Some file
+pub taken : (o : Option Identity) (file : Identity) → Contains (option_to_list o) file → o ≡ Some file
 taken None file (k, low, is) = absurd (omega arith)
 taken (Some other) file inside = ap Some (only_one other file inside)
 
-taken_by : (o : Option Identity) (file : Identity) → o ≡ Some file → Contains (option_to_list o) file
+pub taken_by : (o : Option Identity) (file : Identity) → o ≡ Some file → Contains (option_to_list o) file
 taken_by o file is = rw is (contains_head file [])
 
 module _ (old : RingState) where

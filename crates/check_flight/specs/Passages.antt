@@ -1,4 +1,4 @@
--- What an event does to a state, and a step of the judge from one front to the next.
+-- The effect of an event on a state, and a step of the judge from one front to the next.
 use Rattle.std.specs.Prelude.{◌≡◌, ◌⊎◌, ℕ, List, ◌∷◌, [], length, take, drop, slice_index_or}
 use Rattle.std.specs.Prelude.{Contains}
 use Rattle.fx_chain.specs.Operation.{Asked}

@@ -1,6 +1,6 @@
 //! A search for all states after an event. Nothing is proved of what it meets: the states are
 //! looked through (`crate::passed`, `crate::followed`).
-ghost use Rattle.std.specs.Prelude.{◌+◌, ◌<◌, ◌≤◌, length};
+ghost use Rattle.std.specs.Prelude.{◌≤◌, length};
 
 use crate::followed::accesses_of;
 use crate::front::Front;
@@ -10,21 +10,6 @@ use crate::state::FlightState;
 use crate::step::allowed_state;
 use fx_base::NoMemory;
 use fx_flight::LogEvent;
-use fx_order::Access;
-
-// Returns the state to which an access of a call leads, if it is allowed.
-fn state_after(
-    log: &JudgedLog<'_>,
-    calls: &[ChainCall<'_>],
-    state: &FlightState,
-    j: usize,
-    access: &Access,
-) -> Result<Option<FlightState>, NoMemory>
-    requires { state.now.base + j < length calls.now }
-{
-    let mut answered = Vec::new(log.setting.alloc);
-    allowed_state(log, calls, state, j, access, &mut answered)
-}
 
 // Returns the states to which the accesses of a call lead: of the one that follows those that are
 // over and `j` others.
@@ -39,7 +24,8 @@ fn states_after(
         return Ok(states);
     };
     for access in &accesses {
-        if let Some(next) = state_after(log, calls, state, j, access)? {
+        let mut answered = Vec::new(log.setting.alloc);
+        if let Some(next) = allowed_state(log, calls, state, j, access, &mut answered)? {
             states.push(next)?;
         }
     }

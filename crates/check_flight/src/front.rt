@@ -4,9 +4,9 @@ ghost use Rattle.fx_chain.specs.Operation.{Asked};
 ghost use Rattle.check_flight.specs.Judged.{flight_view, flight_views};
 
 use crate::positions::file_number;
-use crate::state::{FlightState, WaitingLook};
+use crate::state::FlightState;
 use check_outcomes::Progress;
-use fx_base::{Closed, NoMemory};
+use fx_base::NoMemory;
 use indexmap::IndexSet;
 use std::alloc::Global;
 
@@ -33,62 +33,35 @@ fn number_of(some: &[Progress]) -> u64 {
     number
 }
 
-// Appends the progress of calls.
-fn push_progress(key: &mut Vec<u64>, chains: &[Progress]) -> Result<(), NoMemory> {
-    for some in chains.chunks(4) {
+// Appends a state in numbers: 0 for a slot without a file.
+fn push_state(key: &mut Vec<u64>, state: &FlightState) -> Result<(), NoMemory> {
+    key.push(state.base as u64)?;
+    for some in state.chains.chunks(4) {
         key.push(number_of(some))?;
     }
-    Ok(())
-}
-
-// Appends the files at the slots, 0 for none.
-fn push_slots(key: &mut Vec<u64>, slots: &[Option<Closed>]) -> Result<(), NoMemory> {
-    for file in slots {
+    for file in &state.slots.at {
         let number = match file {
             Some(file) => file_number(*file),
             None => 0,
         };
         key.push(number)?;
     }
-    Ok(())
-}
-
-// Appends the files that were removed.
-fn push_removed(key: &mut Vec<u64>, removed: &[Closed]) -> Result<(), NoMemory> {
-    for file in removed {
+    for look in &state.waiting {
+        key.push(look.id as u64)?;
+    }
+    key.push(state.waiting.len() as u64)?;
+    for file in &state.removed {
         key.push(file_number(*file))?;
     }
     Ok(())
 }
 
-// Appends the looks that wait, and how many they are.
-fn push_waiting(key: &mut Vec<u64>, waiting: &[WaitingLook]) -> Result<(), NoMemory> {
-    for look in waiting {
-        key.push(look.id as u64)?;
-    }
-    key.push(waiting.len() as u64)?;
-    Ok(())
-}
-
-// Appends a state in numbers.
-fn push_state(key: &mut Vec<u64>, state: &FlightState) -> Result<(), NoMemory> {
-    key.push(state.base as u64)?;
-    push_progress(key, &state.chains)?;
-    push_slots(key, &state.slots.at)?;
-    push_waiting(key, &state.waiting)?;
-    push_removed(key, &state.removed)
-}
-
-// Returns more than the number of numbers of a state.
-fn room_for(state: &FlightState) -> usize {
-    let files = state.slots.at.len().saturating_add(state.removed.len());
-    let calls = state.chains.len().saturating_add(state.waiting.len());
-    files.saturating_add(calls).saturating_add(3)
-}
-
 /// Returns a state in numbers.
 pub(crate) fn key_of(alloc: Global, state: &FlightState) -> Result<Vec<u64>, NoMemory> {
-    let mut key = Vec::with_capacity(alloc, room_for(state))?;
+    let files = state.slots.at.len().saturating_add(state.removed.len());
+    let calls = state.chains.len().saturating_add(state.waiting.len());
+    let room = files.saturating_add(calls).saturating_add(3);
+    let mut key = Vec::with_capacity(alloc, room)?;
     push_state(&mut key, state)?;
     Ok(key)
 }

@@ -1,8 +1,7 @@
-//! What the log that is judged has at a position: an answer, a close, a hold.
+//! Reads of the log that is judged at a position: an answer, a close, a hold.
 ghost use Rattle.std.specs.Prelude.{◌≡◌, ◌≤◌, Contains, IfSome, IsTrue, Some, length, take};
 ghost use Rattle.fx_chain.specs.Completed.{all_completed, completed_of};
-ghost use Rattle.fx_flight.specs.Events.{Answered, FileClosed, Freed, LookAnswered};
-ghost use Rattle.fx_flight.specs.Events.{all_happenings, happening_of};
+ghost use Rattle.fx_flight.specs.Events.{Answered, FileClosed, Freed, LookAnswered, all_happenings, happening_of};
 ghost use Rattle.check_flight.specs.Judged.{log_in};
 ghost use Rattle.check_flight.specs.States.{IsDenied, IsFoundClosed, IsHeld, IsLookDenied, IsOneDenied};
 

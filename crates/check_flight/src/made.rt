@@ -1,5 +1,5 @@
-//! What the calls of a flight have made: whether an answer, or what a look found, is that of the
-//! accesses so far.
+//! Checks whether an answer, or the file that a look found, is that of the accesses that a call has
+//! made so far.
 ghost use Rattle.std.specs.Prelude.{◌≡◌, Contains, IfOk, IsTrue, take};
 ghost use Rattle.fx_chain.specs.Completed.{completed_of};
 ghost use Rattle.fx_chain.specs.Operation.{all_asked};

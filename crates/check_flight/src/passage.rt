@@ -1,10 +1,9 @@
-//! What an event of the log does to a state: it leads to another one, or is impossible.
+//! The effect of an event of the log on a state: it leads to another one, or is impossible.
 ghost use Rattle.std.specs.Prelude.{◌≡◌, ◌+◌, ◌<◌, ◌≤◌, ℕ, [], Contains, IfOk, IsTrue, List, length, take};
 ghost use Rattle.fx_base.specs.Identity.{Identity};
 ghost use Rattle.fx_chain.specs.Completed.{completed_of};
 ghost use Rattle.fx_chain.specs.Operation.{Asked, all_asked};
-ghost use Rattle.fx_flight.specs.Events.{Answered, Called, FileClosed, AllSettled, Happening};
-ghost use Rattle.fx_flight.specs.Events.{LookAnswered, LookCalled};
+ghost use Rattle.fx_flight.specs.Events.{Answered, Called, FileClosed, AllSettled, Happening, LookAnswered, LookCalled};
 ghost use Rattle.fx_flight.specs.Events.{happening_of};
 ghost use Rattle.fx_flight.specs.Flight.{IsLookDone};
 ghost use Rattle.check_outcomes.specs.Views.{run_at};
@@ -22,7 +21,7 @@ use fx_base::{Closed, NoMemory};
 use fx_chain::{Completion, Request};
 use fx_flight::LogEvent;
 
-/// What an event does to a state.
+/// The effect of an event on a state.
 #[derive(Drop)]
 pub(crate) enum Passage {
     /// It is impossible in the state.

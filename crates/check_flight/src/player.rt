@@ -4,13 +4,11 @@ ghost use Rattle.std.specs.Option.{option_to_list};
 ghost use Rattle.fx_base.specs.Identity.{Identity};
 ghost use Rattle.fx_chain.specs.Completed.{completed_of};
 ghost use Rattle.fx_chain.specs.Operation.{all_asked};
-ghost use Rattle.fx_flight.specs.Events.{Answered, Called, FileClosed, AllSettled, Happening};
-ghost use Rattle.fx_flight.specs.Events.{Freed, LookAnswered, LookCalled};
-ghost use Rattle.fx_flight.specs.Events.{happening_of};
+ghost use Rattle.fx_flight.specs.Events.{Answered, Called, FileClosed, AllSettled, Happening, Freed, LookAnswered};
+ghost use Rattle.fx_flight.specs.Events.{LookCalled, happening_of};
 ghost use Rattle.fx_flight.specs.Flight.{IsLegalLog};
 ghost use Rattle.fx_order.specs.Access.{file_removed_by};
 ghost use Rattle.fx_order.specs.Slots.{ring_of_slots, table_of_slots};
-ghost use Rattle.indexmap.specs.IndexSet.{IsEmpty};
 ghost use Rattle.check_flight.specs.Judged.{catalogue_in, log_in};
 ghost use Rattle.check_flight.specs.Player.{IsLookAnswered, IsMarked, MovesOn};
 ghost use Rattle.check_flight.specs.declared.judged.JudgedLog.{JudgedLog as TheLog};
@@ -47,7 +45,7 @@ pub(crate) struct FlightCall<'a> {
     pub(crate) made: usize,
 }
 
-/// What the flight that the player makes has reached.
+/// The state of the flight that the player makes.
 #[derive(Drop)]
 pub(crate) struct FlightPlayer<'a> {
     /// The files at the slots.
@@ -69,8 +67,6 @@ impl<'a> FlightPlayer<'a> {
             table_of_slots player.slots ≡ table_of_slots slots.now) }
         ensures calls { IfOk result (λ player. player.calls.items ≡ []) }
         ensures removed { IfOk result (λ player. player.removed.items ≡ []) }
-        ensures holds { IfOk result (λ player. player.holds.items ≡ []) }
-        ensures closed { IfOk result (λ player. IsEmpty player.closed) }
     {
         Ok(FlightPlayer {
             slots: slots.copy(alloc)?,
@@ -308,6 +304,31 @@ impl<'a> FlightPlayer<'a> {
             LogEvent::Settled => Ok(self.may_settle()),
         }
     }
+
+    // Goes on by the moves of a plan, through all events of the log. Returns whether each of them
+    // may be made.
+    fn play(&mut self, log: &JudgedLog<'a>, plan: &FlightPlan) -> Result<bool, NoMemory>
+        ensures { IfOk result (λ yes. IsTrue yes
+            → MovesOn log.now plan.now.calls.items [] self.old (log_in log.now) self.new) }
+    {
+        let mut at = 0;
+        for id in &plan.moves {
+            if *id != 0 {
+                if !self.access(&plan.calls, *id)? {
+                    return Ok(false);
+                }
+                continue;
+            }
+            let Some(event) = log.events.get(at) else {
+                return Ok(false);
+            };
+            if !self.event(log, &plan.calls, event)? {
+                return Ok(false);
+            }
+            at += 1;
+        }
+        Ok(at == log.events.len())
+    }
 }
 
 /// Checks whether the moves of a plan are a flight of the log, from these slots on.
@@ -322,21 +343,5 @@ pub(crate) fn is_flight(
         (log_in log.now)) }
 {
     let mut player = FlightPlayer::new(log.setting.alloc, slots)?;
-    let mut at = 0;
-    for id in &plan.moves {
-        if *id != 0 {
-            if !player.access(&plan.calls, *id)? {
-                return Ok(false);
-            }
-            continue;
-        }
-        let Some(event) = log.events.get(at) else {
-            return Ok(false);
-        };
-        if !player.event(log, &plan.calls, event)? {
-            return Ok(false);
-        }
-        at += 1;
-    }
-    Ok(at == log.events.len())
+    player.play(log, plan)
 }

@@ -66,40 +66,32 @@ impl LogPositions {
         Ok(position)
     }
 
-    // Notes the position of the close of a file.
-    fn add_close(&mut self, alloc: Global, file: Closed, at: usize) -> Result<(), NoMemory> {
-        let position = self.add_file(alloc, file)?;
-        if let Some(own) = self.files.get_mut(position) {
-            own.closed = own.closed.min(at);
-        }
-        Ok(())
-    }
-
-    // Notes that a look found a file.
-    fn add_found(&mut self, alloc: Global, file: Closed, look: u32) -> Result<(), NoMemory> {
-        let position = self.add_file(alloc, file)?;
-        if let Some(own) = self.files.get_mut(position) {
-            own.found.push(look)?;
-        }
-        Ok(())
-    }
-
     // Notes the position of an event.
     fn add(&mut self, alloc: Global, event: &LogEvent, at: usize) -> Result<(), NoMemory> {
         match event {
-            LogEvent::Call { id: _, chain: _ } => Ok(self.answers.push(Vec::new(alloc))?),
-            LogEvent::Look { id: _, slot: _ } => Ok(self.answers.push(Vec::new(alloc))?),
-            LogEvent::Done(c) => self.add_answer(c.place.submission, at),
-            LogEvent::Free { id } => self.add_answer(*id, at),
+            LogEvent::Call { .. } | LogEvent::Look { .. } => {
+                self.answers.push(Vec::new(alloc))?;
+            }
+            LogEvent::Done(c) => self.add_answer(c.place.submission, at)?,
+            LogEvent::Free { id } => self.add_answer(*id, at)?,
             LogEvent::Found { id, file } => {
                 if let Some(file) = file {
-                    self.add_found(alloc, *file, *id)?;
+                    let position = self.add_file(alloc, *file)?;
+                    if let Some(own) = self.files.get_mut(position) {
+                        own.found.push(*id)?;
+                    }
                 }
-                self.add_answer(*id, at)
+                self.add_answer(*id, at)?;
             }
-            LogEvent::Closed(file) => self.add_close(alloc, *file, at),
-            LogEvent::Settled => Ok(()),
+            LogEvent::Closed(file) => {
+                let position = self.add_file(alloc, *file)?;
+                if let Some(own) = self.files.get_mut(position) {
+                    own.closed = own.closed.min(at);
+                }
+            }
+            LogEvent::Settled => {}
         }
+        Ok(())
     }
 
     // Returns the positions of a file, if it is closed or found.
@@ -110,8 +102,7 @@ impl LogPositions {
 
     /// Returns the position of the close of a file, if it is closed.
     pub(crate) fn close_of(&self, file: Closed) -> Option<usize> {
-        let own = self.of(file)?;
-        Some(own.closed)
+        Some(self.of(file)?.closed)
     }
 
     /// Returns a look that holds a file after the first `at` events, and the position of its
@@ -130,11 +121,9 @@ impl LogPositions {
     /// end of a look's hold is its member 2.
     pub(crate) fn answer_of(&self, id: u32, member: u32) -> usize {
         let call = (id as usize).saturating_sub(1);
-        let Some(own) = self.answers.get(call) else {
-            return usize::MAX;
-        };
-        match own.get((member as usize).saturating_sub(1)) {
-            Some(position) => *position,
+        let member = (member as usize).saturating_sub(1);
+        match self.answers.get(call) {
+            Some(own) => own.get(member).copied().unwrap_or(usize::MAX),
             None => usize::MAX,
         }
     }

@@ -21,7 +21,7 @@ use fx_flight::LogEvent;
 use fx_order::{OrderSetting, Slots};
 use std::alloc::Global;
 
-/// What an attempt to refute a log found.
+/// The result of an attempt to refute a log.
 #[derive(Clone, Copy)]
 pub(crate) struct Refutation {
     /// True if the log has no flight.

@@ -8,7 +8,6 @@ use crate::judged::{ChainCall, JudgedLog};
 use crate::passage::{Passage, passage_of};
 use crate::state::{FlightState, WaitingLook};
 use crate::step::allowed_state;
-use check_outcomes::Progress;
 use fx_base::NoMemory;
 use fx_chain::Completion;
 use fx_flight::LogEvent;
@@ -23,40 +22,36 @@ pub(crate) struct Move {
     pub(crate) call: u32,
     /// The access.
     pub(crate) access: Option<Access>,
-    /// What a chain answers by the access.
+    /// The answers of a chain by the access.
     pub(crate) answered: Vec<Completion>,
 }
 
-/// An access of a chain, and the state to which it leads.
+/// A move, and the state to which it leads.
 #[derive(Drop)]
-pub(crate) struct AccessLead {
-    /// The position of the next access that the chain may make in its place, and whether there is
-    /// one.
-    pub(crate) next: usize,
-    pub(crate) has_more: bool,
-    /// The access, as a move.
+pub(crate) struct Lead {
+    /// The move.
     pub(crate) made: Move,
     /// The state.
     pub(crate) state: FlightState,
-}
-
-/// A flight that a search found: its moves, and the state after them.
-#[derive(Drop)]
-pub(crate) struct FoundFlight {
-    /// The moves.
-    pub(crate) moves: Vec<Move>,
-    /// The state.
-    pub(crate) state: FlightState,
+    // The look that the move calls.
+    look: Option<WaitingLook>,
+    // The number of events before the state.
+    at: usize,
+    // The position of the next access that the call may make in the place of this one, and whether
+    // there is one.
+    next: usize,
+    has_more: bool,
 }
 
 // A state of the search, and which of its moves were tried: the next event first, then the accesses
 // of the calls, the call whose next answer comes first before the others.
 #[derive(Drop)]
-struct Frame {
+pub(crate) struct Frame {
     // The number of events before the state, and that of moves.
     at: usize,
     moves: usize,
-    state: FlightState,
+    /// The state.
+    pub(crate) state: FlightState,
     is_event_tried: bool,
     // The call to try, by its position after those that are over, and the position of its next
     // answer. `None` if no call was tried.
@@ -66,84 +61,70 @@ struct Frame {
     has_more: bool,
 }
 
-// A move, and the state to which it leads after `at` events.
+/// A search: the states from the first one that may be tried again to the last one, the moves that
+/// led there, and the states in numbers that lead nowhere.
 #[derive(Drop)]
-struct Lead {
-    made: Move,
-    // The look that the move calls.
-    look: Option<WaitingLook>,
-    at: usize,
-    state: FlightState,
-}
-
-// A search: the states from the first one that may be tried again to the last one, the moves that
-// led there, and the states in numbers that lead nowhere.
-#[derive(Drop)]
-struct Search {
-    frames: Vec<Frame>,
-    moves: Vec<Move>,
+pub(crate) struct Search {
+    /// The states that may be tried again.
+    pub(crate) frames: Vec<Frame>,
+    /// The moves.
+    pub(crate) moves: Vec<Move>,
     dead: IndexSet<Vec<u64>>,
     // More than the number of events before each of those states.
     dead_until: usize,
 }
 
-/// Returns the first access of a call that is allowed, from a position among those that it may make
-/// next on: of the call that follows those that are over and `j` others.
+/// Returns the first access of a call that is allowed after `at` events, from a position on among
+/// those that it may make next: of the call that follows those that are over and `j` others.
 pub(crate) fn access_from(
     log: &JudgedLog<'_>,
     calls: &[ChainCall<'_>],
+    at: usize,
     state: &FlightState,
     j: usize,
     first: usize,
-) -> Result<Option<AccessLead>, NoMemory> {
+) -> Result<Option<Lead>, NoMemory> {
     let Some(accesses) = accesses_of(log, calls, state, j)? else {
         return Ok(None);
     };
-    let call = state.base.saturating_add(j).saturating_add(1);
-    let call = call.min(u32::MAX as usize) as u32;
     for choice in first..accesses.len() {
-        if let Some((made, state)) = made_by(log, calls, state, j, call, &accesses[choice])? {
-            let next = choice.saturating_add(1);
-            return Ok(Some(AccessLead {
-                next,
-                has_more: next < accesses.len(),
-                made,
-                state,
-            }));
+        if let Some(mut lead) = lead_by(log, calls, at, state, j, &accesses[choice])? {
+            lead.next = choice.saturating_add(1);
+            lead.has_more = lead.next < accesses.len();
+            return Ok(Some(lead));
         }
     }
     Ok(None)
 }
 
 // Returns an access as a move, and the state to which it leads, if it is allowed.
-fn made_by(
+fn lead_by(
     log: &JudgedLog<'_>,
     calls: &[ChainCall<'_>],
+    at: usize,
     state: &FlightState,
     j: usize,
-    call: u32,
     access: &Access,
-) -> Result<Option<(Move, FlightState)>, NoMemory>
+) -> Result<Option<Lead>, NoMemory>
     requires { state.now.base + j < length calls.now }
 {
+    let call = (state.base + j).saturating_add(1).min(u32::MAX as usize) as u32;
     let mut answered = Vec::new(log.setting.alloc);
     let Some(state) = allowed_state(log, calls, state, j, access, &mut answered)? else {
         return Ok(None);
     };
-    let made = Move {
-        call,
-        access: Some(*access),
-        answered,
-    };
-    Ok(Some((made, state)))
-}
-
-// Checks whether a call has no request left, by its number from 0.
-fn is_over(calls: &[ChainCall<'_>], i: usize, progress: &Progress) -> bool {
-    match calls.get(i) {
-        Some(call) => call.requests.len() <= progress.done,
-        None => true,
-    }
+    Ok(Some(Lead {
+        made: Move {
+            call,
+            access: Some(*access),
+            answered,
+        },
+        state,
+        look: None,
+        at,
+        next: 0,
+        has_more: false,
+    }))
 }
 
 // Checks whether a pair is after the last one, and before the next one.
@@ -175,7 +156,7 @@ fn call_after(
     let mut next = None;
     for (j, progress) in state.chains.iter().enumerate() {
         let i = state.base.saturating_add(j);
-        if is_over(calls, i, progress) {
+        if !matches!(calls.get(i), Some(call) if call.requests.len() > progress.done) {
             continue;
         }
         let own = (log.positions.answer_after(i, at), j);
@@ -184,17 +165,6 @@ fn call_after(
         }
     }
     next
-}
-
-// Returns the look that an event calls.
-fn look_of(event: &LogEvent) -> Option<WaitingLook> {
-    match event {
-        LogEvent::Look { id, slot } => Some(WaitingLook {
-            id: *id,
-            slot: *slot,
-        }),
-        _ => None,
-    }
 }
 
 impl Frame {
@@ -222,16 +192,24 @@ impl Frame {
         let Passage::Leads(state) = passage_of(log, calls, self.at, event, &self.state)? else {
             return Ok(None);
         };
-        let made = Move {
-            call: 0,
-            access: None,
-            answered: Vec::new(log.setting.alloc),
+        let look = match event {
+            LogEvent::Look { id, slot } => Some(WaitingLook {
+                id: *id,
+                slot: *slot,
+            }),
+            _ => None,
         };
         Ok(Some(Lead {
-            made,
-            look: look_of(event),
-            at: self.at.saturating_add(1),
+            made: Move {
+                call: 0,
+                access: None,
+                answered: Vec::new(log.setting.alloc),
+            },
             state,
+            look,
+            at: self.at.saturating_add(1),
+            next: 0,
+            has_more: false,
         }))
     }
 
@@ -242,18 +220,13 @@ impl Frame {
         calls: &[ChainCall<'_>],
         j: usize,
     ) -> Result<Option<Lead>, NoMemory> {
-        let Some(lead) = access_from(log, calls, &self.state, j, self.choice)? else {
-            self.has_more = false;
-            return Ok(None);
-        };
-        self.choice = lead.next;
-        self.has_more = lead.has_more;
-        Ok(Some(Lead {
-            made: lead.made,
-            look: None,
-            at: self.at,
-            state: lead.state,
-        }))
+        let lead = access_from(log, calls, self.at, &self.state, j, self.choice)?;
+        self.has_more = false;
+        if let Some(lead) = &lead {
+            self.choice = lead.next;
+            self.has_more = lead.has_more;
+        }
+        Ok(lead)
     }
 
     // Returns the state after the next move that wasn't tried, or `None` if all were tried.
@@ -311,6 +284,16 @@ fn push_look(
 }
 
 impl Search {
+    /// Returns a search without states.
+    pub(crate) fn new(alloc: Global) -> Search {
+        Search {
+            frames: Vec::new(alloc),
+            moves: Vec::new(alloc),
+            dead: IndexSet::new(alloc),
+            dead_until: 0,
+        }
+    }
+
     // Returns the number of a state that is looked up.
     fn key(alloc: Global, at: usize, state: &FlightState) -> Result<Vec<u64>, NoMemory> {
         let mut key = key_of(alloc, state)?;
@@ -327,22 +310,21 @@ impl Search {
         Ok(self.dead.contains(&key))
     }
 
-    // Appends the accesses of the looks that wait no more in a state after the last one.
-    fn push_looks(
-        &mut self,
-        alloc: Global,
-        state: &FlightState,
-        called: Option<WaitingLook>,
-    ) -> Result<(), NoMemory> {
-        if let Some(frame) = self.frames.last() {
-            for look in &frame.state.waiting {
-                push_look(alloc, &mut self.moves, state, *look)?;
-            }
+    // Appends the accesses of the looks that wait no more in the last state: of those that waited
+    // in the one before it, and of the one that was called.
+    fn push_looks(&mut self, alloc: Global, called: Option<WaitingLook>) -> Result<(), NoMemory> {
+        let count = self.frames.len();
+        if count < 2 {
+            return Ok(());
         }
-        if let Some(look) = called {
-            push_look(alloc, &mut self.moves, state, look)?;
+        let (before, state) = (&self.frames[count - 2].state, &self.frames[count - 1].state);
+        for look in &before.waiting {
+            push_look(alloc, &mut self.moves, state, *look)?;
         }
-        Ok(())
+        match called {
+            Some(look) => push_look(alloc, &mut self.moves, state, look),
+            None => Ok(()),
+        }
     }
 
     // Forgets the first half of the states if that half has more than `most`.
@@ -362,15 +344,15 @@ impl Search {
         self.forget(most)?;
         let Lead {
             made,
+            state,
             look,
             at,
-            state,
+            ..
         } = lead;
         let moves = self.moves.len();
         self.moves.push(made)?;
-        self.push_looks(alloc, &state, look)?;
         self.frames.push(Frame::new(at, moves, state))?;
-        Ok(())
+        self.push_looks(alloc, look)
     }
 
     // Leaves the last state, which leads nowhere.
@@ -389,14 +371,18 @@ impl Search {
         Ok(())
     }
 
-    // Goes on until the search ends. Returns true if the moves are a flight.
-    fn run(
+    /// Looks for a flight of the log from a state on. Returns true if the moves are one, and the
+    /// last state is that after them: it tries at most `most` moves after each event, and goes back
+    /// over as many states.
+    pub(crate) fn run(
         &mut self,
         log: &JudgedLog<'_>,
         calls: &[ChainCall<'_>],
+        start: FlightState,
         most: usize,
     ) -> Result<bool, NoMemory> {
         let alloc = log.setting.alloc;
+        self.frames.push(Frame::new(0, 0, start))?;
         let (mut furthest, mut tries) = (0, 0);
         for _ in 0..usize::MAX {
             let Some(frame) = self.frames.last_mut() else {
@@ -420,40 +406,4 @@ impl Search {
         }
         Ok(false)
     }
-
-    // Returns the flight of the moves.
-    fn found(self) -> Option<FoundFlight> {
-        let Search {
-            mut frames,
-            moves,
-            ..
-        } = self;
-        let frame = frames.pop()?;
-        Some(FoundFlight {
-            moves,
-            state: frame.state,
-        })
-    }
-}
-
-/// Returns a flight of the log from a state on, or `None` if it found none: it tries at most `most`
-/// moves after each event, and goes back over as many states.
-pub(crate) fn find(
-    log: &JudgedLog<'_>,
-    calls: &[ChainCall<'_>],
-    start: FlightState,
-    most: usize,
-) -> Result<Option<FoundFlight>, NoMemory> {
-    let alloc = log.setting.alloc;
-    let mut search = Search {
-        frames: Vec::new(alloc),
-        moves: Vec::new(alloc),
-        dead: IndexSet::new(alloc),
-        dead_until: 0,
-    };
-    search.frames.push(Frame::new(0, 0, start))?;
-    if !search.run(log, calls, most)? {
-        return Ok(None);
-    }
-    Ok(search.found())
 }

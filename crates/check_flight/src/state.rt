@@ -9,10 +9,8 @@ ghost use Rattle.fx_order.specs.Slots.{table_of_slots};
 ghost use Rattle.fx_flight.specs.Events.{first_of_call};
 ghost use Rattle.check_outcomes.specs.Rests.{settled_at};
 ghost use Rattle.check_outcomes.specs.Views.{not_begun, run_at};
-ghost use Rattle.check_flight.specs.Judged.{log_in, requests_of, rules_of_log, runs_of_calls};
-ghost use Rattle.check_flight.specs.Judged.{flight_view};
-ghost use Rattle.check_flight.specs.States.{AreFewer, AreWithout, IsLookDenied, LeadsByAnswer};
-ghost use Rattle.check_flight.specs.States.{LeadsByCall};
+ghost use Rattle.check_flight.specs.Judged.{log_in, requests_of, rules_of_log, runs_of_calls, flight_view};
+ghost use Rattle.check_flight.specs.States.{AreFewer, AreWithout, IsLookDenied, LeadsByAnswer, LeadsByCall};
 
 use crate::call::{first_place, look_call, members_at};
 use crate::judged::{ChainCall, JudgedLog};

@@ -15,28 +15,10 @@ ghost use Rattle.check_flight.specs.States.{AreFewer, StepsByAccess};
 use crate::call::{first_place, members_at};
 use crate::judged::{ChainCall, JudgedLog};
 use crate::state::{FlightState, still_waiting};
-use check_outcomes::{Progress, step};
-use fx_base::{Closed, NoMemory};
+use check_outcomes::{Progress, removed_after, step};
+use fx_base::NoMemory;
 use fx_chain::Completion;
 use fx_order::Access;
-use std::alloc::Global;
-
-// Returns the files that were removed after an access, in order of mark.
-fn removed_after(
-    alloc: Global,
-    removed: &[Closed],
-    access: &Access,
-) -> Result<Vec<Closed>, NoMemory>
-    ensures { IfOk result (λ after. IsPermutation
-        (removed.now ++ option_to_list (file_removed_by access.now)) after.items) }
-{
-    let mut after = Vec::from_slice(alloc, removed)?;
-    if let Some(file) = access.removed() {
-        after.push(file)?;
-    }
-    after.sort_unstable_by_key(|file| file.mark);
-    Ok(after)
-}
 
 // Returns the progress of a call after an access, and appends what is answered on the way: of the
 // call that follows those that are over and `j` others. `None` if the state isn't one of the log,

@@ -5,6 +5,7 @@ ghost use Rattle.fx_order.specs.Slots.{ring_of_slots};
 ghost use Rattle.fx_flight.specs.Events.{all_happenings};
 ghost use Rattle.fx_flight.specs.Faults.{fault_of_log};
 ghost use Rattle.fx_flight.specs.Flight.{IsLegalLog};
+ghost use Rattle.check_flight.specs.Judged.{catalogue_in, log_in};
 ghost use Rattle.check_flight.specs.States.{HasNoFlight};
 ghost use Rattle.check_flight.specs.declared.verdict.FlightVerdict.TheVariants.{Faulty, Legal, NotLegal};
 
@@ -81,21 +82,40 @@ fn refuted_beginning(
     Ok(Some(high))
 }
 
-// Returns a flight that a search proposes, if it found one.
-fn proposed(
+// Adds a flight that a search proposes to an empty plan. Returns whether it found one.
+fn proposes(
     log: &JudgedLog<'_>,
     slots: &Slots,
     most: usize,
-) -> Result<Option<FlightPlan>, NoMemory> {
+    plan: &mut FlightPlan,
+) -> Result<bool, NoMemory> {
     let alloc = log.setting.alloc;
     let mut calls = Vec::new(alloc);
     for event in log.events {
         if !push_call(&mut calls, event)? {
-            return Ok(None);
+            return Ok(false);
         }
     }
     let start = first_state(alloc, slots)?;
-    propose(log, &calls, start, most)
+    propose(log, &calls, start, most, plan)
+}
+
+// Checks whether a search proposes a flight of the log. `plan` is empty at first.
+fn is_shown(
+    log: &JudgedLog<'_>,
+    slots: &Slots,
+    most: usize,
+    plan: &mut FlightPlan,
+) -> Result<bool, NoMemory>
+    requires { log.now.setting.size ≡ length slots.now.at.items }
+    ensures { IfOk result (λ yes. IsTrue yes → (submissions registrations : ℕ) → IsLegalLog
+        (ring_of_slots (catalogue_in log.now) slots.now submissions registrations)
+        (log_in log.now)) }
+{
+    if !proposes(log, slots, most, plan)? {
+        return Ok(false);
+    }
+    is_flight(log, slots, plan)
 }
 
 // Checks whether the log has a flight, by a search that goes back over at most `most` states.
@@ -121,10 +141,11 @@ fn has_flight(
         events,
         positions: positions_in(alloc, events)?,
     };
-    let Some(plan) = proposed(&log, slots, most)? else {
-        return Ok(false);
+    let mut plan = FlightPlan {
+        calls: Vec::new(alloc),
+        moves: Vec::new(alloc),
     };
-    is_flight(&log, slots, &plan)
+    is_shown(&log, slots, most, &mut plan)
 }
 
 // Checks whether a request of the log lacked memory (-12).

@@ -1,13 +1,9 @@
-use Rattle.check_flight.proofs.Words.{Identity, arith}
+use Rattle.check_flight.proofs.Words.{arith}
 use Rattle.check_outcomes.proofs.Words.{take_all}
 use Rattle.check_flight.specs.declared.hold.HeldFile.{HeldFile}
-use Rattle.fx_base.specs.declared.mark.Mark.TheVariants.{Registered}
-use Rattle.check_flight.proofs.Judging.{hold_kept, hold_left}
+use Rattle.check_flight.proofs.Judging.{hold_kept, hold_left, no_file}
 use Rattle.check_flight.proofs.hold.without_hold.Goals.{then-hold-id+in_ok-push, else-hold-id}
 use Rattle.check_flight.proofs.hold.without_hold.Goals as goal
-
-abbrev no_file : Identity
-no_file = record { mark = Registered 0 0; entry = 0; tag = 0 }
 
 abbrev no_hold : HeldFile
 no_hold = record { id = 0; file = no_file }

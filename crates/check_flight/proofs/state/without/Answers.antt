@@ -1,14 +1,10 @@
-use Rattle.check_flight.proofs.Words.{◌≡◌, ◌∙◌, Identity, false, false≢true, slice_index_or, sym}
+use Rattle.check_flight.proofs.Words.{◌≡◌, ◌∙◌, false, false≢true, slice_index_or, sym}
 use Rattle.check_outcomes.proofs.Words.{file_Decides, not-false, take_all}
-use Rattle.fx_base.specs.declared.mark.Mark.TheVariants.{Registered}
 use Rattle.fx_order.proofs.Apart.{same_file}
 use Rattle.std.proofs.lemmas.Bool.{not-true}
-use Rattle.check_flight.proofs.Judging.{kept, left_out}
+use Rattle.check_flight.proofs.Judging.{kept, left_out, no_file}
 use Rattle.check_flight.proofs.state.without.Goals.{then-ne+in_ok-push, else-ne}
 use Rattle.check_flight.proofs.state.without.Goals as goal
-
-abbrev no_file : Identity
-no_file = record { mark = Registered 0 0; entry = 0; tag = 0 }
 
 pub loop-other-preserved : goal.loop-other-preserved
 loop-other-preserved c =

@@ -2,7 +2,6 @@ use Rattle.check_flight.proofs.Words.{◌≡◌, ◌+◌, ◌<◌, ◌∙◌, ap
 use Rattle.std.proofs.lemmas.List.{get_or_default}
 use Rattle.check_flight.proofs.Moves.{accesses_at, moves_access}
 use Rattle.check_flight.specs.Player.{accesses_in}
-use Rattle.check_flight.specs.declared.player.FlightPlayer.{FlightPlayer}
 use Rattle.check_flight.specs.declared.player.FlightCall.{FlightCall}
 use Rattle.fx_order.specs.Slots.{table_of_slots}
 use Rattle.std.specs.Prelude.{slice_set}
@@ -17,13 +16,7 @@ returns c = λ _ log read old ring so_far.
     let a = c.in-Some.access.now in
     let call = c.index.result.now in
     let after : FlightCall = record { kind = c.index_mut.result.now.kind; made = call.made + 1 } in
-    let next : FlightPlayer = record {
-      slots = c.make.new.self;
-      calls = with_item c.take_file.new.self.calls i after;
-      removed = c.take_file.new.self.removed;
-      holds = c.take_file.new.self.holds;
-      closed = c.take_file.new.self.closed;
-    } in
+    let next = record c.take_file.new.self { slots = c.make.new.self; calls = with_item c.take_file.new.self.calls i after } in
     let few : i < length self.calls.items = omega (arith, c.if-i-len.false, self.calls.ok.0) in
     let found = c.in-Some.ensures.lookup in
     let mine : accesses_in plans (i + 1) ≡ c.deref.result.now =

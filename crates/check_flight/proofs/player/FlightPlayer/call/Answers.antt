@@ -1,7 +1,6 @@
 use Rattle.check_flight.proofs.Words.{ap, arith, contains_head, refl, ◌∙◌}
 use Rattle.check_flight.proofs.Moves.{done_at, moves_call}
 use Rattle.check_flight.specs.declared.player.CallKind.TheVariants.{Chain}
-use Rattle.check_flight.specs.declared.player.FlightPlayer.{FlightPlayer}
 use Rattle.check_flight.specs.declared.player.FlightCall.{FlightCall}
 use Rattle.fx_chain.specs.Completed.{all_completed}
 use Rattle.fx_chain.specs.Operation.{all_asked}
@@ -16,13 +15,7 @@ returns c = λ _ read old ring so_far.
     let i = c.len-i.result in
     let requests = all_asked c.args.requests.now in
     let call : FlightCall = record { kind = Chain c.args.requests; made = 0 } in
-    let next : FlightPlayer = record {
-      slots = self.slots;
-      calls = c.push.new.self;
-      removed = self.removed;
-      holds = self.holds;
-      closed = self.closed;
-    } in
+    let next = record self { calls = c.push.new.self } in
     let done = done_at c.args.log.now plans i c.args.id c.index-plans-i.result requests c.deref.result.now
     (all_completed c.deref-2.result.now) (omega (arith, c.if-id-i.false, c.if-id-eq0.false)) c.if-i-plans.false
     (c.deref.ensures.value ∙ ap (λ plan. plan.accesses.items) c.index-plans-i.is)

@@ -1,15 +1,11 @@
 use Rattle.check_flight.proofs.Words.{◌≡◌, ◌∙◌, sym, refl}
 use Rattle.check_outcomes.proofs.Words.{not-false, slice_eq-Decides, file_Decides}
-use Rattle.check_outcomes.specs.declared.submission.Progress.{Progress}
+use Rattle.check_outcomes.proofs.Viewing.{progress_Decides}
 use Rattle.std.proofs.Common.{rules}
 use Rattle.std.specs.Bool.{Decides}
-use Rattle.check_outcomes.specs.contracts.submission.ProgressPartialEq.TheImpl.{eq-value}
 use Rattle.check_flight.specs.contracts.state.WaitingLookPartialEq.TheImpl.{eq-value as eq-of-look}
 use Rattle.check_flight.specs.declared.state.WaitingLook.{WaitingLook}
 use Rattle.check_flight.proofs.state.FlightState.is_same.Goals as goal
-
-progress_Decides : (a b : Progress) → Decides (eq-value.it a b) (a ≡ b)
-progress_Decides a b = search rules
 
 pub returns-then-self-other-clause-chains : goal.returns-then-self-other-clause-chains
 returns-then-self-other-clause-chains c = λ _.
