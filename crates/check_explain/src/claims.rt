@@ -2,7 +2,7 @@
 use crate::case::{Act, slots_of};
 use crate::complaint::Complaint;
 use crate::facts::Facts;
-use check_search::{Cell, Claim, Leaves, Resident, Strand, Wants};
+use check_search::{Cell, Claim, Condition, Leaves, Resident, Strand};
 use fx_base::NoMemory;
 use fx_chain::Intent;
 use std::alloc::{AllocError, Global};
@@ -141,16 +141,16 @@ impl ClaimsView<'_> {
         };
         let (expects, leaves) = match (act.intent, act.found, resident) {
             (Intent::Look(_), Some(_), _) if is_out => return Ok(None),
-            (Intent::Take(_), Some(_), _) if is_out => (Wants::Anything, Leaves::Empty),
+            (Intent::Take(_), Some(_), _) if is_out => (Condition::Anything, Leaves::Empty),
             (Intent::Look(_), Some(true), _) => {
-                (Wants::Bytes(self.fits_of(act.line)?), Leaves::Same)
+                (Condition::Bytes(self.fits_of(act.line)?), Leaves::Same)
             }
-            (Intent::Look(_), Some(false), _) => (Wants::Nothing, Leaves::Same),
-            (Intent::Take(_), Some(true), _) => (Wants::Something, Leaves::Empty),
-            (Intent::Take(_), Some(false), _) => (Wants::NothingToTake, Leaves::Same),
-            (Intent::Clear(_), _, _) if act.is_done => (Wants::Anything, Leaves::Empty),
-            (Intent::Put(..), _, Some(file)) => (Wants::Anything, Leaves::File(file)),
-            (Intent::Allocate(_), _, Some(file)) => (Wants::Nothing, Leaves::File(file)),
+            (Intent::Look(_), Some(false), _) => (Condition::Nothing, Leaves::Same),
+            (Intent::Take(_), Some(true), _) => (Condition::Something, Leaves::Empty),
+            (Intent::Take(_), Some(false), _) => (Condition::NothingToTake, Leaves::Same),
+            (Intent::Clear(_), _, _) if act.is_done => (Condition::Anything, Leaves::Empty),
+            (Intent::Put(..), _, Some(file)) => (Condition::Anything, Leaves::File(file)),
+            (Intent::Allocate(_), _, Some(file)) => (Condition::Nothing, Leaves::File(file)),
             _ => return Ok(None),
         };
         Ok(Some(Claim::At(slot, expects, leaves)))
@@ -200,7 +200,7 @@ impl ClaimsView<'_> {
         let (cells, mut strands) = (self.cells()?, self.strands()?);
         if matches!(self.stays, Stays::Swept) {
             for cell in &cells {
-                let sweep = Claim::At(cell.slot, Wants::Anything, Leaves::Empty);
+                let sweep = Claim::At(cell.slot, Condition::Anything, Leaves::Empty);
                 let claims = vec![in self.facts.case.alloc; sweep]?;
                 strands.push(Strand { chain: 0, claims })?;
             }

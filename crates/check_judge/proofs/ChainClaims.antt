@@ -1,9 +1,9 @@
 -- The claims of chains, one member and one chain after another.
 use Rattle.check_judge.proofs.Words.{◌≡◌, ℕ, ◌+◌, ◌<◌, Bool, true, false, List, [], ◌∷◌, length, drop, get_or, refl, Ok, Err, MatchBool, FileEntry}
 use Rattle.check_judge.proofs.Words.{Closed, Completed, all_completed, completed_of, Completion, next_member, canceled, Asked, all_asked, asked_of}
-use Rattle.check_judge.proofs.Words.{Request, Place, IsChainDone, Access, IsAllocationInRange, Possibly, Tells, TellsMember, MemberClaims, Claim}
+use Rattle.check_judge.proofs.Words.{Request, Place, IsChainDone, Access, IsAllocationInRange, Possibly, Yields, YieldsMember, MemberClaims, Claim}
 use Rattle.check_judge.proofs.Words.{Stop, Refuted, add-one, add_assoc, mapped_at, sym, inl, inr, ◌++◌, take, ◌∙◌, length_push, Vec, first_member}
-use Rattle.check_judge.proofs.Words.{accesses_of_chain, AreChainsDone, ChainAccess, AreDone, TellsChains, AreClaims, both_parts, parts_of, too_few}
+use Rattle.check_judge.proofs.Words.{accesses_of_chain, AreChainsDone, ChainAccess, AreDone, YieldsChains, AreClaims, both_parts, parts_of, too_few}
 use Rattle.check_judge.proofs.RequestClaims.{Front}
 use Rattle.check_judge.proofs.StrandClaims.{possible_of_chain, get_push}
 
@@ -24,7 +24,7 @@ module _ (catalogue : List FileEntry) (size : ℕ) (range : ℕ × ℕ) where
 
   module _ (closes : List Closed) (place : Place) (request : Asked) (requests : List Asked) (c : Completed) (cs : List Completed) where
     -- the claims of a member, if the chain was severed before it and if it wasn't
-    first_recorded : (cut : Bool) (recorded : MemberClaims) → TellsMember catalogue size range closes place request c cut (Ok recorded)
+    first_recorded : (cut : Bool) (recorded : MemberClaims) → YieldsMember catalogue size range closes place request c cut (Ok recorded)
         → Front closes (AreLeft cut place (request ∷ requests) (c ∷ cs)) recorded.claims.items (AreLeft recorded.cut (next_member place) requests cs)
     first_recorded true recorded tells = record {
       each = λ accesses left. record {
@@ -51,8 +51,8 @@ module _ (catalogue : List FileEntry) (size : ℕ) (range : ℕ × ℕ) where
     }
 
     -- where there are none, it can't have been
-    first_stops : (cut : Bool) (stop : Stop) → TellsMember catalogue size range closes place request c cut (Err stop)
-        → Tells (AreLeft cut place (request ∷ requests) (c ∷ cs)) closes (Err stop)
+    first_stops : (cut : Bool) (stop : Stop) → YieldsMember catalogue size range closes place request c cut (Err stop)
+        → Yields (AreLeft cut place (request ∷ requests) (c ∷ cs)) closes (Err stop)
     first_stops true (Refuted reason) other = λ accesses left. other (cc (left.1.1))
     first_stops false (Refuted reason) none = λ accesses left.
         let (own, others, d, ds, whole, is, done, behind) = left.1 in
@@ -65,7 +65,7 @@ module _ (catalogue : List FileEntry) (size : ℕ) (range : ℕ × ℕ) where
       {c : Completion} (low : i < length requests) (few : i < length completions) (is : request ≡ get_or requests i request)
       (are : c ≡ get_or completions i c) (cut : Bool) where
     pub next_recorded : (recorded : MemberClaims)
-        → TellsMember catalogue size range closes (member_at place i) (asked_of request) (completed_of c) cut (Ok recorded)
+        → YieldsMember catalogue size range closes (member_at place i) (asked_of request) (completed_of c) cut (Ok recorded)
         → Front closes (AreLeft cut (member_at place i) (drop i (all_asked requests)) (drop i (all_completed completions))) recorded.claims.items
         (AreLeft recorded.cut (member_at place (i + 1)) (drop (i + 1) (all_asked requests)) (drop (i + 1) (all_completed completions)))
     next_recorded recorded tells =
@@ -74,8 +74,8 @@ module _ (catalogue : List FileEntry) (size : ℕ) (range : ℕ × ℕ) where
 
     pub one_stops : {Whole : List Access → Type 0} {claims : List Claim} (stop : Stop)
         → Front closes Whole claims (AreLeft cut (member_at place i) (drop i (all_asked requests)) (drop i (all_completed completions)))
-        → TellsMember catalogue size range closes (member_at place i) (asked_of request) (completed_of c) cut (Err stop)
-        → Tells Whole closes (Err stop)
+        → YieldsMember catalogue size range closes (member_at place i) (asked_of request) (completed_of c) cut (Err stop)
+        → Yields Whole closes (Err stop)
     one_stops (Refuted reason) recorded tells = λ accesses done.
         let p = recorded.each accesses done in
         first_stops closes (member_at place i) (asked_of request) _ (completed_of c) _ cut (Refuted reason) tells p.others
@@ -119,11 +119,11 @@ module _ {catalogue : List FileEntry} {size : ℕ} {range : ℕ × ℕ} {closes 
         let p = parts_of catalogue size submission (i + 1) run (drop (i + 1) runs) order rest (from_here done) in
         ((possible_of_chain size range (i + 1) order done.possible, rw front p.0), rw back p.1)
 
-    pub chain_stops : (stop : Stop) → Tells OfChain closes (Err stop) → TellsChains catalogue size range closes submission runs completions (Err stop)
+    pub chain_stops : (stop : Stop) → Yields OfChain closes (Err stop) → YieldsChains catalogue size range closes submission runs completions (Err stop)
     chain_stops (Refuted reason) tells = λ order done. tells (accesses_of_chain (i + 1) order) (parts order done).0
     chain_stops stop tells = tt
 
-    pub chain_recorded : (recorded : Vec Claim) → Tells OfChain closes (Ok recorded)
+    pub chain_recorded : (recorded : Vec Claim) → Yields OfChain closes (Ok recorded)
         → Sofar catalogue size range closes submission runs completions (i + 1) others (claims ++ recorded ∷ [])
     chain_recorded recorded tells = record {
       long = rw (length_push, so.long);

@@ -18,9 +18,9 @@ module _ (closes : List Closed) (file : Closed) where
   FindsIt a = left_by a ≡ Some file → found_by a ≡ Some file
 
   finds : (a : Access) (claim : Claim) → Fits closes claim a → (Brings claim file → ⊥) → FindsIt a
-  finds a (At slot wants Same) (at, expected, same) none = λ left. sym same ∙ left
-  finds a (At slot wants Empty) (at, expected, (removed, gone)) none = λ left. absurd (none-some file (sym gone ∙ left))
-  finds a (At slot wants (File r)) (at, expected, (removed, (f, is, resident))) none = λ left.
+  finds a (At slot condition Same) (at, expected, same) none = λ left. sym same ∙ left
+  finds a (At slot condition Empty) (at, expected, (removed, gone)) none = λ left. absurd (none-some file (sym gone ∙ left))
+  finds a (At slot condition (File r)) (at, expected, (removed, (f, is, resident))) none = λ left.
       absurd (none (resident.same ∙ same_Some f file (sym is ∙ left)))
   finds a Full fits none = λ left. absurd (none-some file (rw fits at left))
 

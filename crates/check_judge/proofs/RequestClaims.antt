@@ -1,16 +1,16 @@
 -- The claims of requests, by what they intend, and the accesses that fit them.
-use Rattle.check_judge.proofs.Words.{◌≡◌, List, [], ◌∷◌, ◌++◌, Result, Ok, Err, Vec, AllZip, Closed, Access, Fits, Tells, Claim, Stop, Refuted, refl}
+use Rattle.check_judge.proofs.Words.{◌≡◌, List, [], ◌∷◌, ◌++◌, Result, Ok, Err, Vec, AllZip, Closed, Access, Fits, Yields, Claim, Stop, Refuted, refl}
 use Rattle.check_judge.proofs.Words.{sym, ap, subst, ◌∙◌, append_assoc, append-nil, ℕ, ◌+◌, ◌<◌, ℤ, zero, suc, length, drop, Place, ◌||◌, true, All}
 use Rattle.check_judge.proofs.Words.{Contains, Option, Some, ◌⊎◌, inl, inr, ⊎_elim, map, None, IsSome, if◌then◌else◌, is_some, All-head, All-tail}
 use Rattle.check_judge.proofs.Words.{All-map, All-weaker, changed_at, by_equality, unchanged, eq-eqb, ne_eqb, and_from, cases_Bool}
 use Rattle.check_judge.proofs.Words.{list_all-from_AllPass, same_Some, same_size, Table, Permits, table_with, file_removed_by, Looks, Allocates}
 use Rattle.check_judge.proofs.Words.{FindsFull, Takes, LeavesSo, Expected, touched, found_by, left_by, allows, cell_at, cells_after, cell_with, suits}
-use Rattle.check_judge.proofs.Words.{may_leave, is_same, is_taken, IsCell, ShowsFile, has_slot, Cell, At, Full, Wants, Leaves, Same, Empty, File}
+use Rattle.check_judge.proofs.Words.{may_leave, is_same, is_taken, IsCell, ShowsFile, has_slot, Cell, At, Full, Condition, Leaves, Same, Empty, File}
 use Rattle.check_judge.proofs.Words.{Resident, arith, int_lt, false, pos, negsuc, slice_get, FileEntry, bytes_at, installed, Completed, refusal}
 use Rattle.check_judge.proofs.Words.{Operation, Opens, Slot, Any, ENOMEM, AllByRecursion, IsAllocationInRange, IsAnsweredBy, IsDoneAtTable}
 use Rattle.check_judge.proofs.Words.{IsRequestDone, Possibly, true≢false}
-use Rattle.check_judge.specs.Claims.{IsDecided, IsMade, TellsOne}
-use Rattle.check_search.specs.declared.claim.Wants.TheVariants.{Nothing, Something}
+use Rattle.check_judge.specs.Claims.{IsDecided, IsMade, YieldsOne}
+use Rattle.check_search.specs.declared.claim.Condition.TheVariants.{Nothing, Something}
 use Rattle.fx_base.proofs.Entries.{entry_named}
 use Rattle.fx_chain.specs.Intents.{IsOpened, answer_at_table, bytes_asked, bytes_read, intents_of, list_intents}
 use Rattle.fx_chain.specs.Operation.{Closes, Reads, Updates}
@@ -26,7 +26,7 @@ use Rattle.std.proofs.lemmas.Bool.Decides.{nat_tests}
 use Rattle.std.specs.Ordering.{int_eq}
 
 pub tells_so : (P Q : List Access → Type 0) (closes : List Closed) (r : Result (Vec Claim) Stop) → ((own : List Access) → P own → Q own)
-    → Tells Q closes r → Tells P closes r
+    → Yields Q closes r → Yields P closes r
 tells_so P Q closes (Ok claims) so tells = λ own done. tells own (so own done)
 tells_so P Q closes (Err (Refuted reason)) so tells = λ own done. tells own (so own done)
 tells_so P Q closes r so tells = tt
@@ -98,7 +98,7 @@ module _ (R : Intent → Access → Type 0) (xs : List Intent) (made : ℕ) (x :
       parts [] fits = absurd fits
       parts (a ∷ others) fits = (a, others, refl, fits.0, fits.1)
 
-  pub one_recorded : (closes : List Closed) (claim : Claim) → TellsOne (R x) closes (Ok claim) → Front closes (AllZip R (drop made xs)) (claim ∷ []) (AllZip R (drop (made + 1) xs))
+  pub one_recorded : (closes : List Closed) (claim : Claim) → YieldsOne (R x) closes (Ok claim) → Front closes (AllZip R (drop made xs)) (claim ∷ []) (AllZip R (drop (made + 1) xs))
   one_recorded closes claim tells = record {
     each = λ accesses done.
         let n = next_made accesses done in
@@ -106,7 +106,7 @@ module _ (R : Intent → Access → Type 0) (xs : List Intent) (made : ℕ) (x :
   }
 
   pub one_stops : {closes : List Closed} {Whole : List Access → Type 0} {claims : List Claim} (stop : Stop) → Front closes Whole claims (AllZip R (drop made xs))
-      → TellsOne (R x) closes (Err stop) → Tells Whole closes (Err stop)
+      → YieldsOne (R x) closes (Err stop) → Yields Whole closes (Err stop)
   one_stops (Refuted reason) front none = λ own done.
       let p = front.each own done in let n = next_made p.others p.left in none n.0 n.3
   one_stops stop front tells = tt
@@ -160,9 +160,9 @@ module _ (closes : List Closed) where
       (λ same _. rw (sym same) (All-head (IsCell table closes) cell cells all).shows)
       (λ _ later. cell_shows cells slot (All-tail (IsCell table closes) cell cells all) later) has
 
-  suited : (wants : Wants) (found : Option Closed) (shown : Option Resident) → ShowsFile closes found shown → Expected wants found
-      → suits wants shown ≡ true
-  suited wants found shown shows expected = grind arith
+  suited : (condition : Condition) (found : Option Closed) (shown : Option Resident) → ShowsFile closes found shown → Expected condition found
+      → suits condition shown ≡ true
+  suited condition found shown shows expected = grind arith
 
   leaving : (found : Option Closed) (shown : Option Resident) → ShowsFile closes found shown → ((f : Closed) → found ≡ Some f → Contains closes f)
       → may_leave shown ≡ true
@@ -188,8 +188,8 @@ module _ (closes : List Closed) where
     may_go leaves {slot} is left = leaving (found_by a) (cell_at cells slot) (shown_here is) (λ f there. closed f (left.0 ∙ there))
 
     pub allowed : (claim : Claim) → Fits closes claim a → allows cells claim ≡ true
-    allowed (At slot wants leaves) fits =
-        and_from _ _ (suited wants (found_by a) (cell_at cells slot) (shown_here fits.0) fits.1) (may_go leaves fits.0 fits.2)
+    allowed (At slot condition leaves) fits =
+        and_from _ _ (suited condition (found_by a) (cell_at cells slot) (shown_here fits.0) fits.1) (may_go leaves fits.0 fits.2)
     allowed Full fits = list_all-from_AllPass is_taken cells (All-weaker (IsCell table closes) (λ cell. is_taken cell ≡ true)
         (λ cell is. taken table cell is (rw fits at may)) cells all)
 
@@ -208,12 +208,12 @@ module _ (closes : List Closed) where
         (λ cell now. kept_cell file is shows now) cells all)
 
     pub cells_follow : (claim : Claim) → Fits closes claim a → All (IsCell (table_with table a) closes) (cells_after cells claim)
-    cells_follow (At slot wants Same) fits =
+    cells_follow (At slot condition Same) fits =
         let same = at_after table a fits.0 may ∙ unchanged table.at slot (left_by a) (fits.2 ∙ found_at table a fits.0 may) in
         All-weaker (IsCell table closes) (IsCell (table_with table a) closes)
         (λ cell now. moved table closes a cell cell.file now (rw same now.shows)) cells all
-    cells_follow (At slot wants Empty) fits = all_kept None fits.0 (rw fits.2.1 tt)
-    cells_follow (At slot wants (File resident)) fits = all_kept (Some resident) fits.0 (rw fits.2.1.1 fits.2.1.2)
+    cells_follow (At slot condition Empty) fits = all_kept None fits.0 (rw fits.2.1 tt)
+    cells_follow (At slot condition (File resident)) fits = all_kept (Some resident) fits.0 (rw fits.2.1.1 fits.2.1.2)
     cells_follow Full fits = rw fits all
 
 -- The claims of requests, by what they intend.

@@ -40,7 +40,7 @@ of_its_chain (y ∷ order) {x} has = elim (contains_cases y order x has) [
 
 -- a claim is of the slot of its access
 same_slot : (closes : List Closed) (claim : Claim) (a : Access) → Fits closes claim a → touched a ≡ slot_claimed claim
-same_slot closes (At slot wants leaves) a fits = fits.0
+same_slot closes (At slot condition leaves) a fits = fits.0
 same_slot closes Full a fits = ap touched fits
 
 -- the claims of these slots are those of the accesses there

@@ -5,8 +5,8 @@ use Rattle.check_judge.proofs.Words.{ring_of, Reported, MOST_SUBMISSIONS, Submit
 use Rattle.check_judge.proofs.Words.{lines_of, lines_text, named_closes, CameBy, recorded_report, RingSlots, Recorded, IsRingKept, BeginsWith, MayPrintBy}
 use Rattle.check_judge.proofs.Words.{AreAccessPlaces, AreChainsDone, Order, Bool, MatchBool, MatchOption, Option, Prints, PrintsReport, RingContents}
 use Rattle.check_judge.proofs.Words.{false, nat_le, refused_line, too_many_line, ◌↔◌, ring_with_slots, printed_lines, IsOrderOf, ring_left, HasLines}
-use Rattle.check_judge.proofs.Words.{◌++◌, None, Result, Ok, Err, Lines, ReadsReport, ContinuesText, LeadsNowhere, LeadsTo, AreApart, TellsKnown}
-use Rattle.check_judge.proofs.Words.{Fault, IsReportBefore, TellsCloses, each_report_leads_to_one_ring, one_at, IsRefuted, each_order_is_a_history}
+use Rattle.check_judge.proofs.Words.{◌++◌, None, Result, Ok, Err, Lines, ReadsReport, ContinuesText, LeadsNowhere, LeadsTo, AreApart, YieldsKnown}
+use Rattle.check_judge.proofs.Words.{Fault, IsReportBefore, YieldsCloses, each_report_leads_to_one_ring, one_at, IsRefuted, each_order_is_a_history}
 use Rattle.fx_chain.specs.declared.fault.CutFault.{CutFault}
 use Rattle.std.proofs.lemmas.Simd.{map-map}
 use Rattle.check_judge.proofs.OrderFiles.{IsCounted, left_in_range, are_from, may_close_all}
@@ -169,18 +169,18 @@ module _ {catalogue : List FileEntry} {old : RingSlots} {asked : List Asked} (s 
     same_front next others p = found.only (lines_of catalogue p.report, others) p.fits p.split
 
     recorded_files : (next : RingContents) (others : List ℕ) (p : Played next others) (recorded : Result Recorded Fault)
-        → (AreApart catalogue old.slots → TellsKnown catalogue old.slots asked lines recorded) → TellsCloses recorded p.report.closes.files
+        → (AreApart catalogue old.slots → YieldsKnown catalogue old.slots asked lines recorded) → YieldsCloses recorded p.report.closes.files
     recorded_files next others p recorded tells = tells (record { names = s.kept.files.catalogue; marks = one_at ring_before s.kept.is_ring }) p.report
         (may_close_all s p.order) (are_from s p.order) (ap (λ (front : Lines × List ℕ). front.0) (same_front next others p))
 
     -- lines of no report
-    pub none_recorded : (fault : Fault) → (AreApart catalogue old.slots → TellsKnown catalogue old.slots asked lines (Err fault))
+    pub none_recorded : (fault : Fault) → (AreApart catalogue old.slots → YieldsKnown catalogue old.slots asked lines (Err fault))
         → LeadsNowhere ring_before (SubmitsAll asked) text
     none_recorded fault tells next others g =
         let p = played next others g in recorded_files next others p (Err fault) tells
 
     module _ (recorded : Recorded) (has : HasLines catalogue lines recorded)
-        (tells : AreApart catalogue old.slots → TellsKnown catalogue old.slots asked lines (Ok recorded)) where
+        (tells : AreApart catalogue old.slots → YieldsKnown catalogue old.slots asked lines (Ok recorded)) where
       -- the report is the one that was read
       same_report : (next : RingContents) (others : List ℕ) (p : Played next others) → p.report ≡ recorded_report ring_before recorded p.report.closes.room
       same_report next others p =

@@ -10,8 +10,8 @@ pub use Rattle.fx_chain.specs.declared.completion.Completion.{Completion}
 pub use Rattle.fx_chain.specs.declared.completion.Place.{Place}
 pub use Rattle.fx_chain.specs.declared.request.Request.{Request}
 pub use Rattle.fx_chain.specs.declared.request.Target.TheVariants.{Any, Slot}
-pub use Rattle.check_judge.specs.Chains.{AreDone, TellsChains, TellsMember}
-pub use Rattle.check_judge.specs.Claims.{AreClaims, Fits, IsAllocationInRange, IsAnsweredBy, LeavesSo, Possibly, Tells, Expected, found_by, left_by, touched}
+pub use Rattle.check_judge.specs.Chains.{AreDone, YieldsChains, YieldsMember}
+pub use Rattle.check_judge.specs.Claims.{AreClaims, Fits, IsAllocationInRange, IsAnsweredBy, LeavesSo, Possibly, Yields, Expected, found_by, left_by, touched}
 pub use Rattle.check_search.specs.Machine.{Ends, HasNoEnd, IsEndOfClaims, Standing, allows, cell_at, cell_with, cells_after, is_same, is_staying}
 pub use Rattle.check_search.specs.Machine.{is_taken, may_leave, may_stay, next, suits}
 pub use Rattle.check_judge.specs.Played.{HasNoOrder, IsCell, IsOutcome, ShowsFile}
@@ -24,7 +24,7 @@ pub use Rattle.check_search.specs.declared.claim.Claim.TheVariants.{At, Full}
 pub use Rattle.check_search.specs.declared.claim.Leaves.{Leaves}
 pub use Rattle.check_search.specs.declared.claim.Leaves.TheVariants.{Empty, File, Same}
 pub use Rattle.check_search.specs.declared.claim.Resident.{Resident}
-pub use Rattle.check_search.specs.declared.claim.Wants.{Wants}
+pub use Rattle.check_search.specs.declared.claim.Condition.{Condition}
 pub use Rattle.check_judge.specs.declared.judgement.Stop.{Stop}
 pub use Rattle.check_judge.specs.declared.judgement.Stop.TheVariants.{Refuted}
 pub use Rattle.check_search.specs.declared.claim.Strand.{Strand}
@@ -92,7 +92,7 @@ pub use Rattle.check_judge.specs.Ordered.{MayPrintBy, MayPrintAllBy, PrintsAllBy
 pub use Rattle.check_judge.specs.PlaceLists.{AreListsOf, IsListFor}
 pub use Rattle.check_judge.specs.Places.{AreAccessPlaces, IsChainListed, place_at, places_of_chain, own_places, AreChainsListed}
 pub use Rattle.check_judge.specs.Step.{ContinuesText, IsStep, LeadsNowhere, LeadsTo}
-pub use Rattle.check_judge.specs.Recorded.{AreApart, AreFrom, HasLines, Installed, IsFileAtSlot, MayBeClosed, OneInstalled, TellsKnown, TellsCloses}
+pub use Rattle.check_judge.specs.Recorded.{AreApart, AreFrom, HasLines, Installed, IsFileAtSlot, MayBeClosed, OneInstalled, YieldsKnown, YieldsCloses}
 pub use Rattle.check_judge.specs.Recorded.{HasNone, MayCloseAll, HasDistinctMarks}
 pub use Rattle.check_judge.specs.declared.judgement.Fault.{Fault}
 pub use Rattle.check_judge.specs.declared.command.Met.{Met}

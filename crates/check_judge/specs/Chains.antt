@@ -14,7 +14,7 @@ use Rattle.fx_order.specs.Access.{accesses_of}
 use Rattle.fx_order.specs.Requests.{AreChainsDone, IsRequestDone}
 use Rattle.fx_order.specs.declared.access.Access.{Access}
 use Rattle.fx_order.specs.declared.access.ChainAccess.{ChainAccess}
-use Rattle.check_judge.specs.Claims.{AreClaims, IsAllocationInRange, Possibly, Tells}
+use Rattle.check_judge.specs.Claims.{AreClaims, IsAllocationInRange, Possibly, Yields}
 use Rattle.check_judge.specs.declared.chain_claims.MemberClaims.{MemberClaims}
 use Rattle.check_search.specs.declared.claim.Claim.{Claim}
 use Rattle.check_judge.specs.declared.judgement.Stop.{Stop}
@@ -28,30 +28,30 @@ pub record AreDone (catalogue : List FileEntry) (size : ℕ) (range : ℕ × ℕ
   pub done : AreChainsDone catalogue size submission 1 runs order completions
 
 -- these are the claims of the chains of each such order, or there is no such order
-abbrev pub TellsChains : List FileEntry → ℕ → ℕ × ℕ → List Closed → ℕ → List (List Asked)
+abbrev pub YieldsChains : List FileEntry → ℕ → ℕ × ℕ → List Closed → ℕ → List (List Asked)
     → List Completed → Result (Vec (Vec Claim)) Stop → Type 0
-TellsChains catalogue size range closes submission runs completions (Ok claims) =
+YieldsChains catalogue size range closes submission runs completions (Ok claims) =
     (length claims.items ≡ length runs) × ((order : List ChainAccess)
     → AreDone catalogue size range submission runs completions order
     → AreClaims closes claims.items order)
-TellsChains catalogue size range closes submission runs completions (Err (Refuted reason)) =
+YieldsChains catalogue size range closes submission runs completions (Err (Refuted reason)) =
     (order : List ChainAccess)
     → AreDone catalogue size range submission runs completions order → ⊥
-TellsChains catalogue size range closes submission runs completions (Err Unknown) = Unit {0}
-TellsChains catalogue size range closes submission runs completions (Err NoMemory) = Unit {0}
+YieldsChains catalogue size range closes submission runs completions (Err Unknown) = Unit {0}
+YieldsChains catalogue size range closes submission runs completions (Err NoMemory) = Unit {0}
 
 -- a member after the cut of its chain was canceled, and has no claims; another member has the
 -- claims of its request, and cuts the chain if it severs it
-abbrev pub TellsMember : List FileEntry → ℕ → ℕ × ℕ → List Closed → Place → Asked → Completed → Bool
-    → Result MemberClaims Stop → Type 0
-TellsMember catalogue size range closes place request c cut (Ok recorded) =
+abbrev pub YieldsMember : List FileEntry → ℕ → ℕ × ℕ → List Closed → Place → Asked → Completed
+    → Bool → Result MemberClaims Stop → Type 0
+YieldsMember catalogue size range closes place request c cut (Ok recorded) =
     MatchBool cut ((recorded.claims.items ≡ []) × (recorded.cut ≡ true))
-    (Tells (Possibly size range
+    (Yields (Possibly size range
     (λ own. IsRequestDone catalogue size place request.operation own c)) closes (Ok recorded.claims)
     × (recorded.cut ≡ severs request c))
-TellsMember catalogue size range closes place request c cut (Err (Refuted reason)) =
+YieldsMember catalogue size range closes place request c cut (Err (Refuted reason)) =
     MatchBool cut (c ≡ refusal place ECANCELED → ⊥)
     ((accesses : List Access) → Possibly size range
     (λ own. IsRequestDone catalogue size place request.operation own c) accesses → ⊥)
-TellsMember catalogue size range closes place request c cut (Err Unknown) = Unit {0}
-TellsMember catalogue size range closes place request c cut (Err NoMemory) = Unit {0}
+YieldsMember catalogue size range closes place request c cut (Err Unknown) = Unit {0}
+YieldsMember catalogue size range closes place request c cut (Err NoMemory) = Unit {0}

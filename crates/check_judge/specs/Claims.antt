@@ -22,9 +22,10 @@ use Rattle.fx_order.specs.declared.access.Access.TheVariants.{FindsFull}
 use Rattle.fx_order.specs.declared.access.Access.{Access}
 use Rattle.fx_order.specs.declared.access.ChainAccess.{ChainAccess}
 use Rattle.check_search.specs.Residents.{IsResident}
-use Rattle.check_search.specs.declared.claim.Wants.{Wants}
-use Rattle.check_search.specs.declared.claim.Wants.TheVariants.{Anything, Nothing, NothingToTake}
-use Rattle.check_search.specs.declared.claim.Wants.TheVariants.{Something, Bytes}
+use Rattle.check_search.specs.declared.claim.Condition.{Condition}
+use Rattle.check_search.specs.declared.claim.Condition.TheVariants.{Anything, Nothing}
+use Rattle.check_search.specs.declared.claim.Condition.TheVariants.{NothingToTake}
+use Rattle.check_search.specs.declared.claim.Condition.TheVariants.{Something, Bytes}
 use Rattle.check_search.specs.declared.claim.Leaves.{Leaves}
 use Rattle.check_search.specs.declared.claim.Leaves.TheVariants.{Same, Empty, File}
 use Rattle.check_search.specs.declared.claim.Claim.{Claim}
@@ -60,7 +61,7 @@ left_by (Allocates slot file) = Some file
 left_by FindsFull = None
 
 -- the file that was found is one that the claim speaks of
-abbrev pub Expected : Wants → Option Identity → Type 0
+abbrev pub Expected : Condition → Option Identity → Type 0
 Expected Anything found = Unit {0}
 Expected Nothing found = found ≡ None
 Expected NothingToTake found = found ≡ None
@@ -82,17 +83,18 @@ LeavesSo closes (File resident) access =
 
 -- the access is one that the claim speaks of
 abbrev pub Fits : List Closed → Claim → Access → Type 0
-Fits closes (At slot wants leaves) access =
-    (touched access ≡ Some slot) × Expected wants (found_by access) × LeavesSo closes leaves access
+Fits closes (At slot condition leaves) access =
+    (touched access ≡ Some slot) × Expected condition (found_by access)
+    × LeavesSo closes leaves access
 Fits closes Full access = access ≡ FindsFull
 
 -- these are the claims of all that was done so, or nothing was
-abbrev pub Tells : (List Access → Type 0) → List Closed → Result (Vec Claim) Stop → Type 0
-Tells IsDone closes (Ok claims) =
+abbrev pub Yields : (List Access → Type 0) → List Closed → Result (Vec Claim) Stop → Type 0
+Yields IsDone closes (Ok claims) =
     (accesses : List Access) → IsDone accesses → AllZip (Fits closes) claims.items accesses
-Tells IsDone closes (Err (Refuted reason)) = (accesses : List Access) → IsDone accesses → ⊥
-Tells IsDone closes (Err Unknown) = Unit {0}
-Tells IsDone closes (Err NoMemory) = Unit {0}
+Yields IsDone closes (Err (Refuted reason)) = (accesses : List Access) → IsDone accesses → ⊥
+Yields IsDone closes (Err Unknown) = Unit {0}
+Yields IsDone closes (Err NoMemory) = Unit {0}
 
 -- an allocation is at a slot of the table and of its allocation range
 abbrev pub IsAllocationInRange : ℕ → ℕ × ℕ → Access → Type 0
@@ -137,11 +139,11 @@ IsDecided place answer (Allocate file) =
 IsDecided place answer intent = (found : Option Finding) → answer found ≡ answer None
 
 -- this is the claim of each access that was made so, or none was
-abbrev pub TellsOne : (Access → Type 0) → List Closed → Result Claim Stop → Type 0
-TellsOne IsDone closes (Ok claim) = (access : Access) → IsDone access → Fits closes claim access
-TellsOne IsDone closes (Err (Refuted reason)) = (access : Access) → IsDone access → ⊥
-TellsOne IsDone closes (Err Unknown) = Unit {0}
-TellsOne IsDone closes (Err NoMemory) = Unit {0}
+abbrev pub YieldsOne : (Access → Type 0) → List Closed → Result Claim Stop → Type 0
+YieldsOne IsDone closes (Ok claim) = (access : Access) → IsDone access → Fits closes claim access
+YieldsOne IsDone closes (Err (Refuted reason)) = (access : Access) → IsDone access → ⊥
+YieldsOne IsDone closes (Err Unknown) = Unit {0}
+YieldsOne IsDone closes (Err NoMemory) = Unit {0}
 
 -- the claims of each chain, the first one's first, are those of its accesses of an order
 abbrev pub AreClaims : List Closed → List (Vec Claim) → List ChainAccess → Type 0

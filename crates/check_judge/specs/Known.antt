@@ -8,9 +8,9 @@ use Rattle.check_search.specs.declared.claim.Leaves.TheVariants.{Same, Empty, Fi
 
 -- the claim leaves the file at its slot
 abbrev pub Brings : Claim → Identity → Type 0
-Brings (At slot wants Same) file = ⊥
-Brings (At slot wants Empty) file = ⊥
-Brings (At slot wants (File resident)) file = resident.file ≡ file
+Brings (At slot condition Same) file = ⊥
+Brings (At slot condition Empty) file = ⊥
+Brings (At slot condition (File resident)) file = resident.file ≡ file
 Brings Full file = ⊥
 
 -- a claim of a chain does

@@ -60,14 +60,14 @@ pub record MayCloseAll (catalogue : List FileEntry) (slots : Slots) (files : Lis
   pub distinct : HasDistinctMarks files
 
 -- these files are read, one from each line
-abbrev pub TellsFiles : Result (Vec Closed) ℕ → List Closed → Type 0
-TellsFiles (Ok recorded) files = recorded.items ≡ files
-TellsFiles (Err line) files = ⊥
+abbrev pub YieldsFiles : Result (Vec Closed) ℕ → List Closed → Type 0
+YieldsFiles (Ok recorded) files = recorded.items ≡ files
+YieldsFiles (Err line) files = ⊥
 
 -- these files are read, and no fault
-abbrev pub TellsCloses : Result Recorded Fault → List Closed → Type 0
-TellsCloses (Ok recorded) files = recorded.closes.items ≡ files
-TellsCloses (Err fault) files = ⊥
+abbrev pub YieldsCloses : Result Recorded Fault → List Closed → Type 0
+YieldsCloses (Ok recorded) files = recorded.closes.items ≡ files
+YieldsCloses (Err fault) files = ⊥
 
 -- the request, which completed so, installed a file with the mark
 pub record Installed (asked : Asked) (c : Completed) (mark : Mark) : Type 0 where
@@ -89,15 +89,15 @@ AreFrom slots requests completions files =
     All (λ file. IsFileAtSlot slots file ⊎ OneInstalled requests completions file.mark) files
 
 -- each report with these lines, of files that a submission may close, has the files that are read
-abbrev pub TellsAll : List FileEntry → Slots → ReportLines → Result Recorded Fault → Type 0
-TellsAll catalogue slots lines recorded =
+abbrev pub YieldsAll : List FileEntry → Slots → ReportLines → Result Recorded Fault → Type 0
+YieldsAll catalogue slots lines recorded =
     (report : Reported) → MayCloseAll catalogue slots report.closes.files
-    → lines_of catalogue report ≡ lines_in lines → TellsCloses recorded report.closes.files
+    → lines_of catalogue report ≡ lines_in lines → YieldsCloses recorded report.closes.files
 
 -- the same, where each was at a slot or is one that a request installed
-abbrev pub TellsKnown :
+abbrev pub YieldsKnown :
     List FileEntry → Slots → List Asked → ReportLines → Result Recorded Fault → Type 0
-TellsKnown catalogue slots requests lines recorded =
+YieldsKnown catalogue slots requests lines recorded =
     (report : Reported) → MayCloseAll catalogue slots report.closes.files
     → AreFrom slots requests report.completions report.closes.files
-    → lines_of catalogue report ≡ lines_in lines → TellsCloses recorded report.closes.files
+    → lines_of catalogue report ≡ lines_in lines → YieldsCloses recorded report.closes.files

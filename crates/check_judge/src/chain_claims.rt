@@ -4,8 +4,8 @@ ghost use Rattle.fx_chain.specs.Accepted.{IsChain, IsWithinLimits, members_of};
 ghost use Rattle.fx_chain.specs.Completed.{all_completed, completed_of};
 ghost use Rattle.fx_chain.specs.Operation.{all_asked, asked_of};
 ghost use Rattle.fx_order.specs.Requests.{IsChainDone};
-ghost use Rattle.check_judge.specs.Claims.{Possibly, Tells};
-ghost use Rattle.check_judge.specs.Chains.{TellsChains, TellsMember};
+ghost use Rattle.check_judge.specs.Claims.{Possibly, Yields};
+ghost use Rattle.check_judge.specs.Chains.{YieldsChains, YieldsMember};
 
 use crate::judgement::{Reason, Stop};
 use crate::request_claims::{ClaimSetting, claims_of_request};
@@ -31,7 +31,7 @@ fn claims_of_member(
     cut: bool,
 ) -> Result<MemberClaims, Stop>
     requires { IsWithinLimits (asked_of member.0.now) }
-    ensures { TellsMember setting.now.catalogue.now setting.now.size setting.now.range
+    ensures { YieldsMember setting.now.catalogue.now setting.now.size setting.now.range
         setting.now.closes.now place (asked_of member.entry.0.now) (completed_of member.entry.1.now)
         cut result }
 {
@@ -67,7 +67,7 @@ fn claims_of_chain(
     requires limits { All (λ r. IsWithinLimits (asked_of r)) requests.now }
     requires members { place.member + length requests.now < 2 ^ 32 }
     requires as_many { length completions.now ≡ length requests.now }
-    ensures { Tells (Possibly setting.now.size setting.now.range (λ own. IsChainDone
+    ensures { Yields (Possibly setting.now.size setting.now.range (λ own. IsChainDone
         setting.now.catalogue.now setting.now.size place (all_asked requests.now) own
         (all_completed completions.now))) setting.now.closes.now result }
 {
@@ -106,7 +106,7 @@ pub(crate) fn claims_of_chains(
 ) -> Result<Vec<Vec<Claim>>, Stop>
     requires within { All (IsChain (all_asked parts.now.requests.now)) parts.now.chains.now }
     requires numbers { 1 + length parts.now.chains.now < 2 ^ 32 }
-    ensures { TellsChains setting.now.catalogue.now setting.now.size setting.now.range
+    ensures { YieldsChains setting.now.catalogue.now setting.now.size setting.now.range
         setting.now.closes.now parts.now.submission
         (map (members_of (all_asked parts.now.requests.now)) parts.now.chains.now)
         (all_completed parts.now.completions.now) result }

@@ -5,7 +5,7 @@ ghost use Rattle.fx_base.specs.CloseList.{IsInOrderOfMark};
 ghost use Rattle.fx_base.specs.declared.open_file.Closed.{Closed as File};
 ghost use Rattle.check_lines.specs.ClosedView.{named_close_of};
 ghost use Rattle.check_lines.specs.Lines.{named_close, named_closes};
-ghost use Rattle.check_judge.specs.Recorded.{AreApart, HasDistinctMarks, HasNone, IsFileAtSlot, MayBeClosed, TellsFiles, AreFrom, Installed, OneInstalled};
+ghost use Rattle.check_judge.specs.Recorded.{AreApart, HasDistinctMarks, HasNone, IsFileAtSlot, MayBeClosed, YieldsFiles, AreFrom, Installed, OneInstalled};
 ghost use Rattle.fx_chain.specs.Completed.{all_completed, completed_of};
 ghost use Rattle.fx_chain.specs.Operation.{all_asked, asked_of};
 
@@ -92,7 +92,7 @@ pub(crate) fn files_recorded(
         named_closes catalogue.now files.items ≡ map named_close_of lines.now)) }
     ensures only { IfOk result (λ recorded. AreApart catalogue.now slots.now → (files : List File)
         → All (MayBeClosed catalogue.now slots.now) files
-        → named_closes catalogue.now files ≡ map named_close_of lines.now → TellsFiles recorded files) }
+        → named_closes catalogue.now files ≡ map named_close_of lines.now → YieldsFiles recorded files) }
 {
     let mut files = Vec::new(alloc);
     for (i, line) in lines.iter().enumerate() {

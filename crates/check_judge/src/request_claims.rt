@@ -10,10 +10,10 @@ ghost use Rattle.fx_chain.specs.Refusal.{refusal_of};
 ghost use Rattle.fx_chain.specs.declared.intent.Finding.TheVariants.{At as FoundAt};
 ghost use Rattle.fx_order.specs.Requests.{IsRefused, IsRequestDone};
 ghost use Rattle.fx_order.specs.declared.access.Access.{Access as OneAccess};
-ghost use Rattle.check_judge.specs.Claims.{Fits, IsAnsweredBy, IsDecided, IsMade, Possibly, Tells, TellsOne};
+ghost use Rattle.check_judge.specs.Claims.{Fits, IsAnsweredBy, IsDecided, IsMade, Possibly, Yields, YieldsOne};
 
 use crate::judgement::{Reason, Stop};
-use check_search::{Claim, Leaves, Wants, resident_for};
+use check_search::{Claim, Condition, Leaves, resident_for};
 use fx_base::{Catalogue, Closed, Errno, NoMemory};
 use fx_chain::{Completion, Finding, Intent, Place, Request, answer_of, intent_by, refusal_of};
 use std::alloc::Global;
@@ -44,7 +44,7 @@ struct Answered<'a> {
 // Returns the claims of a refused request.
 fn refused(alloc: Global, place: Place, errno: Errno, c: &Completion) -> Result<Vec<Claim>, Stop>
     ensures { (closes : List FileAt)
-        → Tells (λ own. IsRefused place errno own (completed_of c.now)) closes result }
+        → Yields (λ own. IsRefused place errno own (completed_of c.now)) closes result }
 {
     if !c.is_refusal(place, errno) {
         return Err(Stop::Refuted(Reason::Member(place)));
@@ -112,7 +112,7 @@ fn claim_by(
         → Fits it.now.setting.closes.now claim access × (completed_of it.now.c.now
         ≡ answer_at_table it.now.setting.catalogue.now it.now.place
         (operation_of it.now.request.now.op) (Some (FoundAt file))) }
-    ensures { TellsOne (IsMade it.now.setting.size it.now.setting.range (answer_at_table
+    ensures { YieldsOne (IsMade it.now.setting.size it.now.setting.range (answer_at_table
         it.now.setting.catalogue.now it.now.place (operation_of it.now.request.now.op))
         (completed_of it.now.c.now) intent) it.now.setting.closes.now result }
 {
@@ -130,7 +130,7 @@ fn claim_of(it: &Answered<'_>, intent: Intent) -> Result<Claim, Stop>
         (operation_of it.now.request.now.op) ≡ None }
     requires decided { IsDecided it.now.place (answer_at_table it.now.setting.catalogue.now
         it.now.place (operation_of it.now.request.now.op)) intent }
-    ensures { TellsOne (IsMade it.now.setting.size it.now.setting.range (answer_at_table
+    ensures { YieldsOne (IsMade it.now.setting.size it.now.setting.range (answer_at_table
         it.now.setting.catalogue.now it.now.place (operation_of it.now.request.now.op))
         (completed_of it.now.c.now) intent) it.now.setting.closes.now result }
 {
@@ -138,14 +138,19 @@ fn claim_of(it: &Answered<'_>, intent: Intent) -> Result<Claim, Stop>
     match intent {
         Intent::Put(slot, file) => {
             let leaves = Leaves::File(resident_for(it.setting.closes, file));
-            claim_by(it, intent, None, Claim::At(slot, Wants::Anything, leaves))
+            claim_by(
+                it,
+                intent,
+                None,
+                Claim::At(slot, Condition::Anything, leaves),
+            )
         }
         Intent::Clear(slot) => {
             claim_by(
                 it,
                 intent,
                 None,
-                Claim::At(slot, Wants::Anything, Leaves::Empty),
+                Claim::At(slot, Condition::Anything, Leaves::Empty),
             )
         }
         Intent::Look(slot) => {
@@ -154,22 +159,22 @@ fn claim_of(it: &Answered<'_>, intent: Intent) -> Result<Claim, Stop>
                     it,
                     intent,
                     None,
-                    Claim::At(slot, Wants::Nothing, Leaves::Same),
+                    Claim::At(slot, Condition::Nothing, Leaves::Same),
                 );
             }
             if c.place != place || c.res as usize != c.got.len() {
                 return Err(Stop::Refuted(Reason::Member(place)));
             }
             let fits = fits_of(it)?;
-            Ok(Claim::At(slot, Wants::Bytes(fits), Leaves::Same))
+            Ok(Claim::At(slot, Condition::Bytes(fits), Leaves::Same))
         }
         Intent::Take(slot) => {
             if c.res < 0 {
-                let claim = Claim::At(slot, Wants::NothingToTake, Leaves::Same);
+                let claim = Claim::At(slot, Condition::NothingToTake, Leaves::Same);
                 return claim_by(it, intent, None, claim);
             }
             let file = Some(place.installed(0, 0));
-            let claim = Claim::At(slot, Wants::Something, Leaves::Empty);
+            let claim = Claim::At(slot, Condition::Something, Leaves::Empty);
             claim_by(it, intent, file, claim)
         }
         Intent::Allocate(file) => {
@@ -181,7 +186,7 @@ fn claim_of(it: &Answered<'_>, intent: Intent) -> Result<Claim, Stop>
                 return Err(Stop::Refuted(Reason::Member(place)));
             }
             let resident = resident_for(it.setting.closes, file);
-            Ok(Claim::At(slot, Wants::Nothing, Leaves::File(resident)))
+            Ok(Claim::At(slot, Condition::Nothing, Leaves::File(resident)))
         }
     }
 }
@@ -191,7 +196,7 @@ fn claims_of_intents(it: &Answered<'_>) -> Result<Vec<Claim>, Stop>
     requires limits { IsWithinLimits (asked_of it.now.request.now) }
     requires accepted { refusal_of it.now.setting.catalogue.now it.now.setting.size
         (operation_of it.now.request.now.op) ≡ None }
-    ensures { Tells (Possibly it.now.setting.size it.now.setting.range (IsAnsweredBy
+    ensures { Yields (Possibly it.now.setting.size it.now.setting.range (IsAnsweredBy
         it.now.setting.catalogue.now it.now.place it.now.entry
         (operation_of it.now.request.now.op) (completed_of it.now.c.now)))
         it.now.setting.closes.now result }
@@ -250,7 +255,7 @@ pub(crate) fn claims_of_request(
     c: &Completion,
 ) -> Result<Vec<Claim>, Stop>
     requires { IsWithinLimits (asked_of request.now) }
-    ensures { Tells (Possibly setting.now.size setting.now.range (λ own. IsRequestDone
+    ensures { Yields (Possibly setting.now.size setting.now.range (λ own. IsRequestDone
         setting.now.catalogue.now setting.now.size place (operation_of request.now.op) own
         (completed_of c.now))) setting.now.closes.now result }
 {

@@ -7,7 +7,7 @@ ghost use Rattle.check_judge.specs.Claims.{AreClaims};
 ghost use Rattle.check_judge.specs.Strands.{AreStrands, strand_for};
 ghost use Rattle.check_search.specs.AtSlots.{keeps};
 
-use check_search::{Cell, Claim, Leaves, Strand, Wants, apply, cell_at, claim_of, has_slot};
+use check_search::{Cell, Claim, Condition, Leaves, Strand, apply, cell_at, claim_of, has_slot};
 use fx_base::{Closed, NoMemory};
 use fx_order::{Access, ChainAccess, Slots};
 use std::alloc::Global;
@@ -77,12 +77,12 @@ pub(crate) fn strands_of(
 fn access_of(claim: &Claim, found: Option<Closed>) -> Access {
     match claim {
         Claim::Full => Access::FindsFull,
-        Claim::At(slot, wants, leaves) => match (wants, leaves) {
-            (Wants::NothingToTake, _) => Access::Takes(*slot, None),
+        Claim::At(slot, condition, leaves) => match (condition, leaves) {
+            (Condition::NothingToTake, _) => Access::Takes(*slot, None),
             (_, Leaves::Same) => Access::Looks(*slot, found),
-            (Wants::Something, Leaves::Empty) => Access::Takes(*slot, found),
+            (Condition::Something, Leaves::Empty) => Access::Takes(*slot, found),
             (_, Leaves::Empty) => Access::Clears(*slot, found),
-            (Wants::Nothing, Leaves::File(resident)) => Access::Allocates(*slot, resident.file),
+            (Condition::Nothing, Leaves::File(resident)) => Access::Allocates(*slot, resident.file),
             (_, Leaves::File(resident)) => Access::Puts(*slot, resident.file, found),
         },
     }

@@ -11,7 +11,7 @@ ghost use Rattle.check_judge.specs.Answer.{IsCommandVerdict};
 ghost use Rattle.check_judge.specs.Kept.{IsRingKept};
 ghost use Rattle.check_judge.specs.Places.{AreAccessPlaces};
 ghost use Rattle.fx_order.specs.Requests.{AreChainsDone};
-ghost use Rattle.check_judge.specs.Recorded.{AreApart, HasLines, TellsAll, TellsKnown};
+ghost use Rattle.check_judge.specs.Recorded.{AreApart, HasLines, YieldsAll, YieldsKnown};
 ghost use Rattle.fx_table.specs.declared.limits.TheConstants.{MAX_CHAINS};
 
 use crate::command::CommandVerdict;
@@ -120,7 +120,7 @@ fn recorded_by(
 ) -> Result<Result<Recorded, Fault>, NoMemory>
     ensures lines { IfOk result (λ recorded. IfOk recorded (HasLines catalogue.now lines)) }
     ensures only { IfOk result (λ recorded. AreApart catalogue.now ring.now.slots
-        → TellsAll catalogue.now ring.now.slots lines recorded) }
+        → YieldsAll catalogue.now ring.now.slots lines recorded) }
 {
     let ReportLines {
         completions,
@@ -164,7 +164,7 @@ fn recorded_of(
 ) -> Result<Result<Recorded, Fault>, NoMemory>
     ensures lines { IfOk result (λ recorded. IfOk recorded (HasLines catalogue.now lines)) }
     ensures only { IfOk result (λ recorded. AreApart catalogue.now ring.now.slots
-        → TellsKnown catalogue.now ring.now.slots (all_asked requests.now) lines recorded) }
+        → YieldsKnown catalogue.now ring.now.slots (all_asked requests.now) lines recorded) }
 {
     let recorded = match recorded_by(alloc, catalogue, ring, lines)? {
         Ok(recorded) => recorded,

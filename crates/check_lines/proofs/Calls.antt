@@ -9,10 +9,10 @@ use Rattle.check_lines.proofs.Words.{too_many_line, MatchOption, fault_of, CutFa
 use Rattle.fx_language.specs.Instruction.{Instruction, MakesSparse, RegistersList, SetsRange, SubmitsAll, Unregisters, UpdatesRing}
 use Rattle.fx_order.specs.declared.ring_slots.RingSlots.{RingSlots}
 use Rattle.fx_order.specs.declared.slots.Slots.{Slots}
-use Rattle.check_lines.specs.Calls.{after_call, call_of, unless_refused, IsCall, count_behind, word_unless, memory_word}
+use Rattle.check_lines.specs.Calls.{after_call, call_of, unless_refused, IsCall, accepted_following, word_unless, memory_word}
 use Rattle.check_lines.proofs.Entries.{none_holds, inside_of, IsAtOne, all_in_order, all_removed, closes_printed}
 use Rattle.std.proofs.Common.{append_assoc}
-pub use Rattle.check_lines.specs.Calls.{AnswersFound, Call, IsLineOf, IsNoSubmission, TellsCall as Tells, TellsClosed}
+pub use Rattle.check_lines.specs.Calls.{AnswersFound, Call, IsLineOf, IsNoSubmission, YieldsCall as Tells, YieldsClosed}
 use Rattle.check_lines.proofs.Decimals.{one_result}
 
 -- what holds of the ring of a call, whether or not it is refused
@@ -107,7 +107,7 @@ TakesMemory _ = Unit {0}
 
 -- an accepted call prints its result, and the lines of the files that it closes, if any
 pub told_closed : (ring : RingState) (head : List ℕ) (closed : Option (List Closed)) {closes : CloseListView} {line : List ℕ}
-    → HasClosed (unwrap_or closed []) closes → line ≡ head ++ closes_text ring.catalogue closes.files → TellsClosed ring head closed line
+    → HasClosed (unwrap_or closed []) closes → line ≡ head ++ closes_text ring.catalogue closes.files → YieldsClosed ring head closed line
 told_closed ring head None {closes} has is =
     let none : closes.files ≡ [] = nil_from_length closes.files (length_permutation [] closes.files has.same_files) in
     is ∙ ap (λ (files : List Closed). head ++ closes_text ring.catalogue files) none ∙ append-nil head
@@ -140,7 +140,7 @@ there ring _ = tt
 
 -- so success has one line
 one_told : (ring : RingState) (head : List ℕ) (closed : Option (List Closed)) (a b : List ℕ) → IsRing ring → IfSome closed (All (IsAtOne ring.at))
-    → TellsClosed ring head closed a → TellsClosed ring head closed b → a ≡ b
+    → YieldsClosed ring head closed a → YieldsClosed ring head closed b → a ≡ b
 one_told ring head None a b is_ring all first second = first ∙ sym second
 one_told ring head (Some files) a b is_ring all (closes, has, is) second =
     is ∙ sym (closes_printed ring ring files files closes head b is_ring refl all refl has second)
@@ -151,13 +151,13 @@ one_line ring command a b is_ring =
     let call = call_of ring command in one_told ring (result_line call.word (pos call.res)) call.closed a b is_ring (there ring command)
 
 -- and it isn't the line of an allocation failure
-tail_of : (ring : RingState) (head : List ℕ) (closed : Option (List Closed)) (line : List ℕ) → TellsClosed ring head closed line
+tail_of : (ring : RingState) (head : List ℕ) (closed : Option (List Closed)) (line : List ℕ) → YieldsClosed ring head closed line
     → (tail : List ℕ) × (line ≡ head ++ tail)
 tail_of ring head None line tells = ([], tells ∙ sym (append-nil head))
 tail_of ring head (Some files) line (closes, has, is) = (closes_text ring.catalogue closes.files, is)
 
 pub not_refused : (ring : RingState) (word : List ℕ) (n : ℕ) (closed : Option (List Closed)) (line behind more : List ℕ) → n < 2 ^ 31
-    → TellsClosed ring (result_line word (pos n)) closed line → line ++ behind ≡ result_line word (negated ENOMEM) ++ more → ⊥
+    → YieldsClosed ring (result_line word (pos n)) closed line → line ++ behind ≡ result_line word (negated ENOMEM) ++ more → ⊥
 not_refused ring word n closed line behind more few tells same =
     let (tail, is) = tail_of ring (result_line word (pos n)) closed line tells in
     let e : pos n ≡ negsuc 11 = (one_result word (pos n) (negated ENOMEM) (tail ++ behind) more few (omega arith)
@@ -198,7 +198,7 @@ uncounted b is = grind arith
 
 -- and of a submission that isn't counted
 refused_parts : (x : Option CutFault) {count : ℕ} (same reports : Type 0) (line many : List ℕ) (text : CutFault → List ℕ)
-    → count_behind count x ≡ count
+    → accepted_following count x ≡ count
     → MatchOption x (MatchBool (nat_le MOST_SUBMISSIONS count) (same × (line ≡ many)) reports) (λ fault. same × (line ≡ text fault))
     ↔ (same × MatchOption x (line ≡ many) (λ fault. line ≡ text fault))
 refused_parts (Some fault) same reports line many text is = ((λ p. p), (λ p. p))

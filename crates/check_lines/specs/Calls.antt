@@ -86,12 +86,13 @@ AnswersFound (Some errno) word accepted line = line ≡ result_line word (negate
 AnswersFound None word accepted line = accepted line
 
 -- the line of a result, and the lines of the files, if the call lists them
-abbrev pub TellsClosed : RingState → List ℕ → Option (List Closed) → List ℕ → Type 0
-TellsClosed ring head None line = line ≡ head
-TellsClosed ring head (Some files) line = PrintsClosed ring files head line
+abbrev pub YieldsClosed : RingState → List ℕ → Option (List Closed) → List ℕ → Type 0
+YieldsClosed ring head None line = line ≡ head
+YieldsClosed ring head (Some files) line = PrintsClosed ring files head line
 
-abbrev pub TellsCall : RingState → Call → List ℕ → Type 0
-TellsCall ring call line = TellsClosed ring (result_line call.word (pos call.res)) call.closed line
+abbrev pub YieldsCall : RingState → Call → List ℕ → Type 0
+YieldsCall ring call line =
+    YieldsClosed ring (result_line call.word (pos call.res)) call.closed line
 
 -- the line of a call between submissions, or of a refused submission, where it finds memory
 abbrev pub IsLineOf : RingState → Instruction → List ℕ → Type 0
@@ -99,7 +100,7 @@ IsLineOf ring (SubmitsAll asked) line =
     MatchOption (fault_of asked) (line ≡ too_many_line) (λ fault. line ≡ refused_line fault)
 IsLineOf ring command line =
     AnswersFound (call_of ring command).refusal (call_of ring command).word
-    (TellsCall ring (call_of ring command)) line
+    (YieldsCall ring (call_of ring command)) line
 
 -- the word of a call that isn't refused
 abbrev pub word_unless : Option Errno → List ℕ → Option (List ℕ)
@@ -113,13 +114,13 @@ memory_word ring (SubmitsAll asked) = None
 memory_word ring command = word_unless (call_of ring command).refusal (call_of ring command).word
 
 -- the count of accepted submissions behind requests, by their first fault
-abbrev pub count_behind : ℕ → Option CutFault → ℕ
-count_behind count (Some fault) = count
-count_behind count None = if nat_le MOST_SUBMISSIONS count then count else count + 1
+abbrev pub accepted_following : ℕ → Option CutFault → ℕ
+accepted_following count (Some fault) = count
+accepted_following count None = if nat_le MOST_SUBMISSIONS count then count else count + 1
 
 -- behind so many accepted submissions the command is none that is accepted
 abbrev pub IsCall : ℕ → Instruction → Type 0
-IsCall count (SubmitsAll asked) = count_behind count (fault_of asked) ≡ count
+IsCall count (SubmitsAll asked) = accepted_following count (fault_of asked) ≡ count
 IsCall count _ = Unit {0}
 
 -- the command isn't a submission

@@ -8,7 +8,7 @@ ghost use Rattle.fx_chain.specs.Runs.{runs_of};
 ghost use Rattle.fx_language.specs.Instruction.{SubmitsAll, instruction_of};
 ghost use Rattle.fx_ring.specs.declared.ring.TheConstants.{MOST_SUBMISSIONS};
 ghost use Rattle.fx_table.specs.declared.limits.TheConstants.{MAX_CHAINS};
-ghost use Rattle.check_lines.specs.Calls.{IsCall, count_behind, HasEntries, call_of, memory_word};
+ghost use Rattle.check_lines.specs.Calls.{IsCall, accepted_following, HasEntries, call_of, memory_word};
 ghost use Rattle.fx_order.specs.Slots.{ring_with_slots};
 
 use fx_base::{Catalogue, Errno};
@@ -25,7 +25,7 @@ pub fn is_accepted(requests: &[Request], submissions: u32) -> bool
     ensures few { IsTrue result → submissions < MOST_SUBMISSIONS }
     ensures chains { IsTrue result → length (runs_of (all_asked requests.now)) ≤ MAX_CHAINS }
     ensures refused { result ≡ false
-        → count_behind submissions (fault_of (all_asked requests.now)) ≡ submissions }
+        → accepted_following submissions (fault_of (all_asked requests.now)) ≡ submissions }
 {
     check(requests).is_ok() && submissions < MOST_SUBMISSIONS
 }

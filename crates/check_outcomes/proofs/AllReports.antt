@@ -9,9 +9,9 @@ use Rattle.check_outcomes.proofs.Words.{recorded_states, settled_in, AreRecorded
 use Rattle.check_outcomes.proofs.Words.{PlayState, has_none, is_idle_at, PlayedSubmission, cases_Bool, AreParts, AreClosed, ArePartsIn}
 use Rattle.check_outcomes.proofs.Words.{HasReadsAloneIn, IsTurnOfPart, IsTurnOfReader, ChainAccess, each_history_is_an_order, HasMemory, AreAllStates}
 use Rattle.check_outcomes.proofs.Words.{StateView, IsReportBy, MayReport, IsPossibleIn, IsPossible, IsRecordedAt, OfEach, says, PossibleAnswer}
-use Rattle.check_outcomes.proofs.Words.{PossibleReport, contains_mapped, HasEnd, ring_at, IsAnswer, HasEachAnswer, HasEachEnd, ring_behind, recorded_from}
+use Rattle.check_outcomes.proofs.Words.{PossibleReport, contains_mapped, HasEnd, ring_at, IsAnswer, HasEachAnswer, HasEachEnd, ring_following, recorded_from}
 use Rattle.check_outcomes.proofs.Words.{IsConfirmedPlay, RecordedState, recorded_state_of, all_recorded, answers_of, HasEachReport, IsOverIn, HasReport, IsRecordedOf}
-use Rattle.check_outcomes.proofs.Words.{TellsOf, IsOver, All-from_recursion, All-map, get_or_from_slice_get, slice_get-get_or}
+use Rattle.check_outcomes.proofs.Words.{ReportsOf, IsOver, All-from_recursion, All-map, get_or_from_slice_get, slice_get-get_or}
 use Rattle.check_outcomes.specs.declared.parts.PartNumbers.{PartNumbers}
 use Rattle.check_outcomes.proofs.Idle.{are_idle, none_for, none_left, over_idle}
 use Rattle.check_outcomes.proofs.Lists.{each_run}
@@ -57,19 +57,19 @@ module _ {claimed : Claimed} (many : length (runs_in claimed.submission.now) ≡
       rw (is, number) (λ turn awake a next may. (explored turn awake a next may).is)
 
   -- and with what is recorded
-  recorded_closed : IsTrue claimed.submission.now.tells → AreRecordedClosed claimed.submission.now.catalogue.now claimed.submission.now.size
+  recorded_closed : IsTrue claimed.submission.now.with_reports → AreRecordedClosed claimed.submission.now.catalogue.now claimed.submission.now.size
       (parts_by claimed) (length (runs_in claimed.submission.now)) (recorded_states claimed)
-  recorded_closed tells state there chain low high =
+  recorded_closed with_reports state there chain low high =
       let sub = claimed.submission.now in
       let (here, inside, is) = contains_map (recorded_by claimed) claimed.found.now.states.items state there in
       let number : chain ≡ chain - 1 + 1 = omega arith in
       let explored = All-contains (IsStateExploredBy claimed) claimed.found.now.states.items here each inside (chain - 1) (omega arith) in
       let rest : Rest = (view_in sub here).rests (chain - 1 + 1) in
-      rw (is, number) (λ turn a next may. ⊎_elim (λ asleep. absurd (rw (none_left sub rest tells asleep) at next))
+      rw (is, number) (λ turn a next may. ⊎_elim (λ asleep. absurd (rw (none_left sub rest with_reports asleep) at next))
       (λ awake. (explored (record {
         part = λ other from to less. idles here other (turn.part other from to less);
         reader = λ alone other from less same. idles here other (turn.reader alone other from less same);
-      }) awake a next may).recorded tells)
+      }) awake a next may).recorded with_reports)
       (cases_Bool (idle_by claimed rest)))
     where
       idles : (here : PlayState) (other : ℕ) → has_none ((view_in claimed.submission.now here).rests other) ≡ true
@@ -138,7 +138,7 @@ all_by {claimed} {slots} {first} recorded many start listed inside among size in
         inside = inside;
         closed = rw (← size) (closed_all many each);
       };
-      recorded = λ tells submissions registrations number. record {
+      recorded = λ with_reports submissions registrations number. record {
         parts = parts_by claimed;
         apart = parts_in claimed slots many in_parts;
         first = recorded_by claimed first;
@@ -146,10 +146,10 @@ all_by {claimed} {slots} {first} recorded many start listed inside among size in
           table = start.table;
           removed = start.removed;
           chains = rw (← size, ← number) (starts claimed first (λ chain recorded. (recorded_by claimed first).recorded chain ≡ recorded) many start.chains
-              (λ i few. rw (less_one i, start.kept tells) (start.chains i few).recorded_is));
+              (λ i few. rw (less_one i, start.kept with_reports) (start.chains i few).recorded_is));
         };
         inside = among;
-        closed = rw (← size) (recorded_closed many each tells);
+        closed = rw (← size) (recorded_closed many each with_reports);
       };
     }
 
@@ -158,7 +158,7 @@ all_by {claimed} {slots} {first} recorded many start listed inside among size in
 -- an order of accesses is one history
 pub may_of : {old : RingState} {asked : List Asked} {order : List ChainAccess} {report : Reported} {slots : Slots} → old.size ≤ MOST_SLOTS
     → IsAccepted asked → IsReportBy old asked order report slots → (ring : RingContents) → ring_of ring ≡ old
-    → (left : RingContents) × (ring_of left ≡ ring_behind old slots) × MayReport ring asked report left
+    → (left : RingContents) × (ring_of left ≡ ring_following old slots) × MayReport ring asked report left
 may_of {asked} {order} {report} small accepted by ring same =
     let is = subst (λ (r : RingState). IsOrderOf order r asked report) (sym same) by.is in
     let (left, left_is, history) = each_order_is_a_history ring asked report (ring_left order (ring_of ring))
@@ -181,8 +181,8 @@ each_answer {place} answers all ring left c same may there =
     let completions = may.report.completions in
     All-contains P completions c (All-from_recursion P completions (shown P all same may.may).0) may.inside (ap Some (sym there))
 
-pub ring_same : (old : RingState) (slots : Slots) (order : List ChainAccess) (state : StateView) → ring_behind old slots ≡ ring_left order old
-    → state.table ≡ table_of_slots slots → ring_at old state ≡ ring_behind old slots
+pub ring_same : (old : RingState) (slots : Slots) (order : List ChainAccess) (state : StateView) → ring_following old slots ≡ ring_left order old
+    → state.table ≡ table_of_slots slots → ring_at old state ≡ ring_following old slots
 ring_same old slots order state leaves is =
     λ i. record old { size = (sym leaves i).size; range = (sym leaves i).range; at = (is i).at; submissions = old.submissions + 1 }
 
@@ -215,11 +215,11 @@ ends_by {claimed} {slots} reports all recorded each submissions registrations nu
     let old = ring_of_slots sub.catalogue.now slots submissions registrations in
     let end = (shown (said_by claimed) (all.are submissions registrations number) same may).1 in
     let (here, inside, is) = contains_map (view_in sub) claimed.found.now.states.items end.state end.inside in
-    let telling = All-contains (IsRecordedAt sub reports) claimed.found.now.states.items here recorded inside (rw is at end.over) in
-    let its = All-contains (IsPossibleIn sub slots) reports telling.0 each telling.1 submissions registrations number in
-    rw (end.leaves ∙ ring_same old telling.0.slots telling.0.order.items end.state its.by.leaves
-    (ap (λ (v : StateView). v.table) is ∙ sym telling.2.table))
-    (contains_mapped (λ (p : PossibleReport). ring_behind old p.slots) reports telling.0 telling.1)
+    let way_report = All-contains (IsRecordedAt sub reports) claimed.found.now.states.items here recorded inside (rw is at end.over) in
+    let its = All-contains (IsPossibleIn sub slots) reports way_report.0 each way_report.1 submissions registrations number in
+    rw (end.leaves ∙ ring_same old way_report.0.slots way_report.0.order.items end.state its.by.leaves
+    (ap (λ (v : StateView). v.table) is ∙ sym way_report.2.table))
+    (contains_mapped (λ (p : PossibleReport). ring_following old p.slots) reports way_report.0 way_report.1)
 
 -- What was looked through shows all reports.
 
@@ -252,14 +252,14 @@ same_report submission completions same none =
     λ j. record { submission = submission; completions = completions; closes = record { files = sym same j; room = sym none j } }
 
 -- a report that tells of the state that a history comes to tells of the history's
-tells_of : {sub : PlayedSubmission} {old : RingState} {submissions : ℕ} (here : PlayState) (report : Reported) (left : RingState) {possible : PossibleReport}
+fits_the_report : {sub : PlayedSubmission} {old : RingState} {submissions : ℕ} (here : PlayState) (report : Reported) (left : RingState) {possible : PossibleReport}
     → sub.number ≡ submissions + 1 → old.submissions ≡ submissions → length (runs_in sub) ≡ length sub.chains.now
     → (one : IsOneOrder old (all_asked sub.requests.now) report left) (states : List RecordedState)
     → (has : HasReport old (all_asked sub.requests.now) states report left) → has.here ≡ recorded_state_of sub.number (runs_in sub) here
-    → IsTrue sub.tells → IsRecordedOf sub here possible → IsPossible old (all_asked sub.requests.now) possible → TellsOf old report left possible
-tells_of {sub} {old} here report left {possible} number counted many one states has is tells leaves its =
-    let recorded = leaves.recorded tells in
-    let answers = here.telling.answers.items in
+    → IsTrue sub.with_reports → IsRecordedOf sub here possible → IsPossible old (all_asked sub.requests.now) possible → ReportsOf old report left possible
+fits_the_report {sub} {old} here report left {possible} number counted many one states has is with_reports leaves its =
+    let recorded = leaves.recorded with_reports in
+    let answers = here.way_report.answers.items in
     let same_many = length-map answers (λ (v : Vec Completion). all_completed v.items) in
     let all = recorded_all (recorded_state_of sub.number (runs_in sub) here).recorded 1 (runs_in sub) (answers_of answers) (omega (arith, recorded.chains))
     (λ k few. ap (λ (n : ℕ). slice_index_or (answers_of answers) n []) (less_one k)) in
@@ -273,23 +273,23 @@ tells_of {sub} {old} here report left {possible} number counted many one states 
 
 pub reports_by : {claimed : Claimed} {slots : Slots} (reports : List PossibleReport) → AreAllBy claimed slots
     → All (IsRecordedAt claimed.submission.now reports) claimed.found.now.states.items → All (IsPossibleIn claimed.submission.now slots) reports
-    → IsTrue claimed.submission.now.tells → OfEach claimed.submission.now slots (λ old requests. HasEachReport old requests reports)
-reports_by {claimed} {slots} reports all recorded each tells submissions registrations number ring left report same may =
+    → IsTrue claimed.submission.now.with_reports → OfEach claimed.submission.now slots (λ old requests. HasEachReport old requests reports)
+reports_by {claimed} {slots} reports all recorded each with_reports submissions registrations number ring left report same may =
     let sub = claimed.submission.now in
     let old = ring_of_slots sub.catalogue.now slots submissions registrations in
     let requests = all_asked sub.requests.now in
     let one = subst (λ (r : RingState). IsOneOrder r requests report (ring_of left)) same
     (each_history_is_an_order ring left requests report may.history) in
-    let has = each_report_is_listed old requests (recorded_states claimed) (all.recorded tells submissions registrations number) report (ring_of left)
+    let has = each_report_is_listed old requests (recorded_states claimed) (all.recorded with_reports submissions registrations number) report (ring_of left)
     may.memory one in
     let (here, inside, is) = contains_map (recorded_by claimed) claimed.found.now.states.items has.here has.inside in
     let over : IsOverIn sub here = λ chain low high.
     let rest : Rest = (view_in sub here).rests chain in
     over_idle sub rest (none_for rest (subst (λ (h : RecordedState). IsOver has_none (length (runs_in sub)) h.state) is has.over chain low high)) in
-    let telling = All-contains (IsRecordedAt sub reports) claimed.found.now.states.items here recorded inside over in
-    let its = All-contains (IsPossibleIn sub slots) reports telling.0 each telling.1 submissions registrations number in (
-      telling.0,
-      telling.1,
-      tells_of here report (ring_of left) number (λ _. submissions) (as_many requests sub.chains.now sub.runs)
-          one (recorded_states claimed) has is tells telling.2 its,
+    let way_report = All-contains (IsRecordedAt sub reports) claimed.found.now.states.items here recorded inside over in
+    let its = All-contains (IsPossibleIn sub slots) reports way_report.0 each way_report.1 submissions registrations number in (
+      way_report.0,
+      way_report.1,
+      fits_the_report here report (ring_of left) number (λ _. submissions) (as_many requests sub.chains.now sub.runs)
+          one (recorded_states claimed) has is with_reports way_report.2 its,
     )

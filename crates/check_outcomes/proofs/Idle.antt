@@ -13,15 +13,15 @@ pub over_idle : (submission : PlayedSubmission) (rest : Rest) → rest.requests 
 over_idle submission rest none = rw none
 
 -- nothing is left, or reads, and they aren't asked for
-cases : (tells asks : Bool) {reads : Bool} → (if tells then false else (reads && not asks)) ≡ true → (tells ≡ false) × (reads ≡ true) × (asks ≡ false)
+cases : (with_reports asks : Bool) {reads : Bool} → (if with_reports then false else (reads && not asks)) ≡ true → (with_reports ≡ false) × (reads ≡ true) × (asks ≡ false)
 cases true asks is = absurd (false≢true is)
 cases false true is = absurd (false≢true (and_parts _ _ is).1)
 cases false false is = (refl, (and_parts _ _ is).0, refl)
 
 idle_cases : (submission : PlayedSubmission) (rest : Rest) → is_state_idle submission rest ≡ true
-    → (rest.requests ≡ []) ⊎ ((submission.tells ≡ false) × (are_reads rest.requests ≡ true) × (asks_from submission.asked rest.place ≡ false))
+    → (rest.requests ≡ []) ⊎ ((submission.with_reports ≡ false) × (are_reads rest.requests ≡ true) × (asks_from submission.asked rest.place ≡ false))
 idle_cases submission rest is = ⊎_elim (λ none. inl (nil_from_length rest.requests none))
-    (λ some. inr (cases submission.tells (asks_from submission.asked rest.place) (rw (ne_eqb (length rest.requests) 0 some) at is)))
+    (λ some. inr (cases submission.with_reports (asks_from submission.asked rest.place) (rw (ne_eqb (length rest.requests) 0 some) at is)))
     (cases_eq (length rest.requests) 0)
 
 -- the place of a request that is left is asked from there
@@ -39,8 +39,8 @@ are_idle claimed = record {
 }
 
 -- where the answers of reads are recorded, a chain that is idle is over
-pub none_left : (submission : PlayedSubmission) (rest : Rest) → submission.tells ≡ true → is_state_idle submission rest ≡ true → rest.requests ≡ []
-none_left submission rest tells is = ⊎_elim (λ none. none) (λ some. absurd (false≢true (sym some.0 ∙ tells))) (idle_cases submission rest is)
+pub none_left : (submission : PlayedSubmission) (rest : Rest) → submission.with_reports ≡ true → is_state_idle submission rest ≡ true → rest.requests ≡ []
+none_left submission rest with_reports is = ⊎_elim (λ none. none) (λ some. absurd (false≢true (sym some.0 ∙ with_reports))) (idle_cases submission rest is)
 
 pub none_for : (rest : Rest) → has_none rest ≡ true → rest.requests ≡ []
 none_for rest is = nil_from_length rest.requests (eqb-true _ 0 is)
@@ -51,7 +51,7 @@ all_reads [] = refl
 all_reads (request ∷ requests) = λ i. is_read (asked_of request).operation && all_reads requests i
 
 -- where some are left, these decide it
-pub idle_some : (submission : PlayedSubmission) (requests : List Asked) (place : Place) (made : ℕ) → (length requests ≡ 0 → ⊥) → submission.tells ≡ false
+pub idle_some : (submission : PlayedSubmission) (requests : List Asked) (place : Place) (made : ℕ) → (length requests ≡ 0 → ⊥) → submission.with_reports ≡ false
     → is_state_idle submission (rest_for place requests made) ≡ (are_reads requests && not (asks_from submission.asked place))
 idle_some submission [] place made some silent = absurd (some refl)
 idle_some submission (request ∷ requests) place made some silent = rw (ne_eqb (length (request ∷ requests)) 0 some, silent)

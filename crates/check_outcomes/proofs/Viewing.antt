@@ -140,7 +140,7 @@ among submission runs states there state k is table chains =
 -- these are reads and are asked for
 pub idle_some_here : (submission : PlayedSubmission) (state : PlayState) (i : ℕ) (own left : List Request) {progress : Progress} {reads asks : Bool}
     → all_asked own ≡ slice_index_or (runs_in submission) i [] → slice_index_or state.chains.items i not_begun ≡ progress
-    → all_asked left ≡ drop progress.done (all_asked own) → (length left ≡ 0 → ⊥) → submission.tells ≡ false
+    → all_asked left ≡ drop progress.done (all_asked own) → (length left ≡ 0 → ⊥) → submission.with_reports ≡ false
     → reads ≡ list_all (λ request. is_read (asked_of request).operation) left
     → asks ≡ asks_from submission.asked (moved (first_member submission.number (i + 1)) progress.done)
     → is_idle_at submission state i ≡ (reads && not asks)
@@ -196,12 +196,12 @@ start_more {submission} {recorded} {chains} {i} many same each mine {done} settl
 
 -- what a chain answers follows what it answered before, and the answers of the others stay
 leads_on : {submission : PlayedSubmission} {state : PlayState} {i : ℕ} {a : Access} {own : List Completed} {next : PlayState}
-    → IsStepTo submission state i a own next → IsRecordedOn state.telling i a own next.telling
+    → IsStepTo submission state i a own next → IsRecordedOn state.way_report i a own next.way_report
     → LeadsOn (rules_in submission) (recorded_state_of submission.number (runs_in submission) state) (i + 1) a
     (recorded_state_of submission.number (runs_in submission) next)
 leads_on {state} {i} {own} to on =
-    let before : List (List Completed) = answers_of state.telling.answers.items in
-    let many = length-map state.telling.answers.items (λ (v : Vec Completion). all_completed v.items) in
+    let before : List (List Completed) = answers_of state.way_report.answers.items in
+    let many = length-map state.way_report.answers.items (λ (v : Vec Completion). all_completed v.items) in
     record {
       leads = to.leads;
       own = rw (← to.recorded, less_one i, on.answers) (get_or-set_same before i (slice_index_or before i [] ++ own) [] (omega (arith, on.there)));
@@ -214,7 +214,7 @@ pub explored : {claimed : Claimed} {state : PlayState} {i : ℕ} {a : Access} (r
     → IsStepTo claimed.submission.now state i a (all_completed recorded) next
     → All (λ c. said_by claimed (completed_of c)) recorded
     → Contains (states_of claimed) (view_in claimed.submission.now next)
-    → (IsTrue claimed.submission.now.tells → IsRecordedOn state.telling i a (all_completed recorded) next.telling)
+    → (IsTrue claimed.submission.now.with_reports → IsRecordedOn state.way_report i a (all_completed recorded) next.way_report)
     → Contains (recorded_states claimed) (recorded_by claimed next)
     → IsExploredBy claimed state i a
 explored {claimed} recorded {next} to said inside on among = record {
@@ -224,5 +224,5 @@ explored {claimed} recorded {next} to said inside on among = record {
     inside = inside;
     leads = to.leads;
   };
-  recorded = λ tells. (recorded_by claimed next, among, leads_on to (on tells));
+  recorded = λ with_reports. (recorded_by claimed next, among, leads_on to (on with_reports));
 }

@@ -15,8 +15,8 @@ pub use Rattle.std.proofs.lemmas.Bool.{and_parts, cases_Bool, cases_eq, ne_eqb, 
 pub use Rattle.check_outcomes.specs.Listed.{AreAllBy, IsAnswerIn, IsAtStart, IsExploredBy, IsExploredInTurn, IsConfirmedPlay, IsPossibleIn}
 pub use Rattle.check_outcomes.specs.Listed.{IsStateExploredBy, IsRecordedAt, IsRecordedOf, OfEach, report_of_play, said_by, says, settled_in}
 pub use Rattle.check_outcomes.specs.Listed.{states_of, IsFirstState, recorded_by, recorded_states}
-pub use Rattle.check_outcomes.specs.Outcomes.{HasEachAnswer, HasEachEnd, HasEachReport, IsAnswer, IsPossible, IsReportBy, MayReport, TellsOf}
-pub use Rattle.check_outcomes.specs.Outcomes.{ring_behind}
+pub use Rattle.check_outcomes.specs.Outcomes.{HasEachAnswer, HasEachEnd, HasEachReport, IsAnswer, IsPossible, IsReportBy, MayReport, ReportsOf}
+pub use Rattle.check_outcomes.specs.Outcomes.{ring_following}
 pub use Rattle.check_outcomes.specs.Reports.{AreRecordedClosed, EachReportIsListed, HasReport, LeadsOn, RecordedState}
 pub use Rattle.check_outcomes.specs.Stands.{Settles, StepsChain, asks_from, gone_on, moved, rest_for, rest_in}
 pub use Rattle.check_outcomes.specs.Tellings.{IsRecordedOn, all_recorded, answers_of}

@@ -23,7 +23,7 @@ use Rattle.fx_ring.specs.Submission.{Reported}
 use Rattle.fx_ring.specs.declared.report.Report.{Report}
 use Rattle.fx_order.specs.declared.access.ChainAccess.{ChainAccess}
 use Rattle.check_outcomes.specs.Outcomes.{IsAnswer, IsPossible, IsReportBy, MayReport, answered}
-use Rattle.check_outcomes.specs.Outcomes.{ring_behind}
+use Rattle.check_outcomes.specs.Outcomes.{ring_following}
 use Rattle.check_outcomes.specs.declared.closed.Claimed.{Claimed}
 use Rattle.check_outcomes.specs.declared.outcomes.PossibleAnswer.{PossibleAnswer}
 use Rattle.check_outcomes.specs.declared.player.OrderPlay.{OrderPlay}
@@ -59,7 +59,7 @@ IsRecordedBy claimed state i a =
 pub record IsExploredBy (claimed : Claimed) (state : PlayState) (i : ℕ) (a : Access) : Type 0 where
   pub is : IsExplored (rules_in claimed.submission.now) (said_by claimed) (states_of claimed)
       (view_in claimed.submission.now state) (i + 1) a
-  pub recorded : IsTrue claimed.submission.now.tells → IsRecordedBy claimed state i a
+  pub recorded : IsTrue claimed.submission.now.with_reports → IsRecordedBy claimed state i a
 
 -- the chain's accesses are explored in its turn, unless it is idle
 abbrev pub IsExploredInTurn : Claimed → PlayState → ℕ → Type 0
@@ -96,9 +96,9 @@ pub record IsFirstState (submission : PlayedSubmission) (slots : Slots)
   pub table : table_of_slots state.slots ≡ table_of_slots slots
   pub chains : (i : ℕ) → i < length submission.chains.now
       → IsAtStart submission recorded state.chains.items i
-  pub kept : IsTrue submission.tells
-      → answers_of state.telling.answers.items ≡ answers_of recorded
-  pub removed : state.telling.removed.items ≡ []
+  pub kept : IsTrue submission.with_reports
+      → answers_of state.way_report.answers.items ≡ answers_of recorded
+  pub removed : state.way_report.removed.items ≡ []
 
 -- the states are all of the submission at these slots, and what is answered at the place is said
 pub record AreAllBy (claimed : Claimed) (slots : Slots) : Type 0 where
@@ -106,7 +106,7 @@ pub record AreAllBy (claimed : Claimed) (slots : Slots) : Type 0 where
       → AreAllStates (is_state_idle claimed.submission.now) (said_by claimed)
       (ring_of_slots claimed.submission.now.catalogue.now slots submissions registrations)
       (all_asked claimed.submission.now.requests.now) (states_of claimed)
-  pub recorded : IsTrue claimed.submission.now.tells → (submissions registrations : ℕ)
+  pub recorded : IsTrue claimed.submission.now.with_reports → (submissions registrations : ℕ)
       → claimed.submission.now.number ≡ submissions + 1 → AreAllRecorded
       (ring_of_slots claimed.submission.now.catalogue.now slots submissions registrations)
       (all_asked claimed.submission.now.requests.now) (recorded_states claimed)
@@ -130,7 +130,7 @@ pub record IsConfirmedPlay (old : RingState) (requests : List Asked) (order : Li
     (report : Reported) (left : Slots) : Type 0 where
   pub by : IsReportBy old requests order report left
   pub may : (ring : RingContents) → ring_of ring ≡ old
-      → (new : RingContents) × (ring_of new ≡ ring_behind old left)
+      → (new : RingContents) × (ring_of new ≡ ring_following old left)
       × MayReport ring requests report new
 
 abbrev pub IsPlayIn : PlayedSubmission → Slots → OrderPlay → Slots → Type 0
@@ -151,15 +151,15 @@ pub record IsReportOf (submission : PlayedSubmission) (state : PlayState) (repor
     : Type 0 where
   pub submission_is : report.submission ≡ submission.number
   pub completions : all_completed report.completions.items
-      ≡ all_recorded (answers_of state.telling.answers.items)
-  pub chains : length state.telling.answers.items ≡ length submission.chains.now
-  pub closes : report.closes.files ≡ state.telling.removed.items
+      ≡ all_recorded (answers_of state.way_report.answers.items)
+  pub chains : length state.way_report.answers.items ≡ length submission.chains.now
+  pub closes : report.closes.files ≡ state.way_report.removed.items
 
 -- a report leaves the table of a state, and has what was recorded, where the submission keeps it
 pub record IsRecordedOf (submission : PlayedSubmission) (state : PlayState)
     (possible : PossibleReport) : Type 0 where
   pub table : table_of_slots possible.slots ≡ table_of_slots state.slots
-  pub recorded : IsTrue submission.tells → IsReportOf submission state possible.report
+  pub recorded : IsTrue submission.with_reports → IsReportOf submission state possible.report
 
 -- where the state is over, one of the reports tells of it
 abbrev pub IsRecordedAt : PlayedSubmission → List PossibleReport → PlayState → Type 0

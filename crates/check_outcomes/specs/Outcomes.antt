@@ -28,8 +28,8 @@ pub record MayAnswer (ring : RingContents) (requests : List Asked) (c : Complete
   pub inside : Contains report.completions c
 
 -- the ring behind a submission that leaves these slots
-abbrev pub ring_behind : RingState → Slots → RingState
-ring_behind old slots =
+abbrev pub ring_following : RingState → Slots → RingState
+ring_following old slots =
     ring_of_slots old.catalogue slots (old.submissions + 1) old.registrations
 
 -- the requests' accesses, in this order, come to this report and leave these slots, and each
@@ -38,7 +38,7 @@ pub record IsReportBy (old : RingState) (requests : List Asked) (order : List Ch
     (report : Reported) (slots : Slots) : Type 0 where
   pub is : IsOrderOf order old requests report
   pub memory : All HasMemory report.completions
-  pub leaves : ring_behind old slots ≡ ring_left order old
+  pub leaves : ring_following old slots ≡ ring_left order old
 
 -- an answer at the place that comes of each ring with this state, by the order that stands with it
 pub record IsAnswer (old : RingState) (requests : List Asked) (place : Place) (answer
@@ -49,7 +49,7 @@ pub record IsAnswer (old : RingState) (requests : List Asked) (place : Place) (a
   pub inside : Contains report.completions (completed_of answer.completion)
   pub there : answer.completion.place ≡ place
   pub may : (ring : RingContents) → ring_of ring ≡ old
-      → (left : RingContents) × (ring_of left ≡ ring_behind old answer.slots)
+      → (left : RingContents) × (ring_of left ≡ ring_following old answer.slots)
       × MayAnswer ring requests (completed_of answer.completion) left
 
 abbrev pub answered : List PossibleAnswer → List Completed
@@ -62,31 +62,31 @@ HasEachAnswer old requests place answers =
     → MayAnswer ring requests c left → c.place ≡ place → Contains (answered answers) c
 
 -- the rings that these reports leave
-abbrev pub rings_behind : RingState → List PossibleReport → List RingState
-rings_behind old reports = map (λ possible. ring_behind old possible.slots) reports
+abbrev pub rings_following : RingState → List PossibleReport → List RingState
+rings_following old reports = map (λ possible. ring_following old possible.slots) reports
 
 -- the state of whatever ring the submission may leave is that of one of these reports
 abbrev pub HasEachEnd : RingState → List Asked → List PossibleReport → Type 0
 HasEachEnd old requests reports =
     (ring left : RingContents) (report : Reported) → ring_of ring ≡ old
-    → MayReport ring requests report left → Contains (rings_behind old reports) (ring_of left)
+    → MayReport ring requests report left → Contains (rings_following old reports) (ring_of left)
 
 -- a report that comes of each ring with this state, by the order that stands with it
 pub record IsPossible (old : RingState) (requests : List Asked) (possible : PossibleReport)
     : Type 0 where
   pub by : IsReportBy old requests possible.order.items (reported possible.report) possible.slots
   pub may : (ring : RingContents) → ring_of ring ≡ old
-      → (left : RingContents) × (ring_of left ≡ ring_behind old possible.slots)
+      → (left : RingContents) × (ring_of left ≡ ring_following old possible.slots)
       × MayReport ring requests (reported possible.report) left
   pub entries : All (λ file. file.entry < length old.catalogue) possible.report.closes.files
 
 -- it tells of this report, whose files are in order of mark too, and leaves this ring
-pub record TellsOf (old : RingState) (report : Reported) (left : RingState)
+pub record ReportsOf (old : RingState) (report : Reported) (left : RingState)
     (possible : PossibleReport) : Type 0 where
   pub submission : report.submission ≡ possible.report.submission
   pub completions : report.completions ≡ all_completed possible.report.completions.items
   pub closes : IsPermutation possible.report.closes.files report.closes.files
-  pub leaves : left ≡ ring_behind old possible.slots
+  pub leaves : left ≡ ring_following old possible.slots
 
 -- whatever report the submission may come to, one of these tells of it
 abbrev pub HasEachReport : RingState → List Asked → List PossibleReport → Type 0
@@ -94,4 +94,4 @@ HasEachReport old requests reports =
     (ring left : RingContents) (report : Reported) → ring_of ring ≡ old
     → MayReport ring requests report left
     → (possible : PossibleReport) × Contains reports possible
-    × TellsOf old report (ring_of left) possible
+    × ReportsOf old report (ring_of left) possible

@@ -10,7 +10,7 @@ use Rattle.fx_chain.specs.Completed.{Completed, all_completed}
 use Rattle.fx_chain.specs.declared.completion.Completion.{Completion}
 use Rattle.fx_order.specs.Access.{file_removed_by}
 use Rattle.fx_order.specs.declared.access.Access.{Access}
-use Rattle.check_outcomes.specs.declared.telling.WayReport.{WayReport}
+use Rattle.check_outcomes.specs.declared.way_report.WayReport.{WayReport}
 
 -- what each chain answered
 abbrev pub answers_of : List (Vec Completion) → List (List Completed)

@@ -41,8 +41,8 @@ view_of_state submission runs state = record {
 abbrev pub recorded_state_of : ℕ → List (List Asked) → PlayState → RecordedState
 recorded_state_of submission runs state = record {
   state = view_of_state submission runs state;
-  recorded = λ chain. slice_index_or (answers_of state.telling.answers.items) (chain - 1) [];
-  removed = state.telling.removed.items;
+  recorded = λ chain. slice_index_or (answers_of state.way_report.answers.items) (chain - 1) [];
+  removed = state.way_report.removed.items;
 }
 
 abbrev pub runs_in : PlayedSubmission → List (List Asked)
@@ -95,7 +95,7 @@ ArePartsIn submission slots numbers =
 abbrev pub is_state_idle : PlayedSubmission → Rest → Bool
 is_state_idle submission rest =
     if length rest.requests == 0 then true
-    else (if submission.tells then false
+    else (if submission.with_reports then false
     else (are_reads rest.requests && not (asks_from submission.asked rest.place)))
 
 -- whether a chain is, by its number from 0

@@ -15,7 +15,7 @@ use fx_order::Slots;
 // request its answer, the bytes of a read, and the files that it removed, each with its numbers in
 // the key.
 fn weight_recorded(submission: &PlayedSubmission<'_>) -> usize {
-    if !submission.tells {
+    if !submission.with_reports {
         return 0;
     }
     let mut weight = submission.chains.len().saturating_mul(32);

@@ -7,7 +7,7 @@ ghost use Rattle.check_outcomes.specs.Views.{recorded_state_of, view_of_state};
 use crate::parts::PartNumbers;
 use crate::state::PlayState;
 use crate::submission::PlayedSubmission;
-use crate::telling::WayReport;
+use crate::way_report::WayReport;
 use fx_base::{Closed, Mark, NoMemory};
 use fx_chain::Completion;
 use fx_order::Access;
@@ -79,9 +79,9 @@ fn number_of(n: usize) -> u32 {
 // Appends the answers as two numbers, and the removed files. If the two numbers of different
 // answers are the same by chance, one of two states is left out, and then it is seen that the list
 // isn't whole.
-fn push_telling(key: &mut Vec<u32>, telling: &WayReport) -> Result<(), NoMemory> {
+fn push_way_report(key: &mut Vec<u32>, way_report: &WayReport) -> Result<(), NoMemory> {
     let mut hasher = FoldHasher::default();
-    for own in &telling.answers {
+    for own in &way_report.answers {
         hasher.write_usize(own.len());
         for c in own {
             hasher.write_i32(c.res);
@@ -92,7 +92,7 @@ fn push_telling(key: &mut Vec<u32>, telling: &WayReport) -> Result<(), NoMemory>
     let hash = hasher.finish();
     key.push((hash >> 32) as u32)?;
     key.push((hash % (1 << 32)) as u32)?;
-    for file in &telling.removed {
+    for file in &way_report.removed {
         push_file(key, &Some(*file))?;
     }
     Ok(())
@@ -108,7 +108,7 @@ pub(crate) fn key_of(alloc: Global, state: &PlayState) -> Result<Vec<u32>, NoMem
     for file in &state.slots.at {
         push_file(&mut key, file)?;
     }
-    push_telling(&mut key, &state.telling)?;
+    push_way_report(&mut key, &state.way_report)?;
     Ok(key)
 }
 

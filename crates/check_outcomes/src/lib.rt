@@ -14,8 +14,8 @@ mod parts;
 mod player;
 mod state;
 mod submission;
-mod telling;
 mod turns;
+mod way_report;
 
 pub use answering::next_accesses;
 pub use found::push_file;
@@ -23,4 +23,4 @@ pub use outcomes::{
     PossibleAnswer, PossibleAnswers, PossibleReport, PossibleReports, may_answer, may_report,
 };
 pub use submission::{Progress, chain_accesses, settle, step};
-pub use telling::removed_after;
+pub use way_report::removed_after;

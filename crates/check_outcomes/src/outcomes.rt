@@ -17,7 +17,7 @@ use crate::found::{FoundStates, FoundStep};
 use crate::player::{OrderPlay, confirm, play_to};
 use crate::state::PlayState;
 use crate::submission::PlayedSubmission;
-use crate::telling::are_same as are_same_answers;
+use crate::way_report::are_same as are_same_answers;
 use check_search::Limits;
 use fx_base::{Catalogue, CloseList, Closed, NoMemory};
 use fx_chain::{Completion, Place, Request, cut};
@@ -141,23 +141,29 @@ fn are_recorded(completions: &[Completion], answers: &[Vec<Completion>]) -> bool
 fn is_report_of(submission: &PlayedSubmission<'_>, state: &PlayState, report: &Report) -> bool
     ensures { IsTrue result → IsReportOf submission.now state.now report.now }
 {
-    let telling = &state.telling;
-    if report.submission != submission.number || telling.answers.len() != submission.chains.len() {
+    let way_report = &state.way_report;
+    if report.submission != submission.number
+        || way_report.answers.len() != submission.chains.len()
+    {
         return false;
     }
-    are_recorded(&report.completions, &telling.answers)
-        && report.closes.files() == telling.removed.as_slice()
+    are_recorded(&report.completions, &way_report.answers)
+        && report.closes.files() == way_report.removed.as_slice()
 }
 
 // Checks whether a report leaves the ring of a state, and has its answers and removed files, if the
 // submission keeps these.
-fn tells_of(submission: &PlayedSubmission<'_>, state: &PlayState, possible: &PossibleReport) -> bool
+fn fits_the_report(
+    submission: &PlayedSubmission<'_>,
+    state: &PlayState,
+    possible: &PossibleReport,
+) -> bool
     ensures { IsTrue result → IsRecordedOf submission.now state.now possible.now }
 {
     if !possible.slots.is_same(&state.slots) {
         return false;
     }
-    !submission.tells || is_report_of(submission, state, &possible.report)
+    !submission.with_reports || is_report_of(submission, state, &possible.report)
 }
 
 // Checks whether the reports are those of the states in which each chain is idle, in their order.
@@ -176,7 +182,7 @@ fn are_all_recorded(
         let Some(possible) = reports.get(number) else {
             return false;
         };
-        if !tells_of(submission, state, possible) {
+        if !fits_the_report(submission, state, possible) {
             return false;
         }
         number = number.saturating_add(1);
@@ -194,7 +200,7 @@ fn reports_in(
         All (IsPossibleIn submission.now slots.now) found.reports.items) }
     ensures ends { IfOk result (λ found. IsTrue found.are_all → OfEach submission.now slots.now
         (λ old requests. HasEachEnd old requests found.reports.items)) }
-    ensures all { IfOk result (λ found. IsTrue found.are_all → IsTrue submission.now.tells
+    ensures all { IfOk result (λ found. IsTrue found.are_all → IsTrue submission.now.with_reports
         → OfEach submission.now slots.now
         (λ old requests. HasEachReport old requests found.reports.items)) }
 {
@@ -223,7 +229,7 @@ fn reports_of(
         All (IsPossibleIn submission.now slots.now) found.reports.items) }
     ensures ends { IfOk result (λ found. IsTrue found.are_all → OfEach submission.now slots.now
         (λ old requests. HasEachEnd old requests found.reports.items)) }
-    ensures all { IfOk result (λ found. IsTrue found.are_all → IsTrue submission.now.tells
+    ensures all { IfOk result (λ found. IsTrue found.are_all → IsTrue submission.now.with_reports
         → OfEach submission.now slots.now
         (λ old requests. HasEachReport old requests found.reports.items)) }
 {
@@ -233,10 +239,10 @@ fn reports_of(
 
 /// Returns reports that the submission can produce if no allocation fails, starting from `slots`
 /// after `submissions` accepted submissions. Each has an order of accesses that yields it. If
-/// `are_all` is true, the submission can leave no other slots than those of the reports. If `tells`
-/// is true as well, it can produce no other report; else reports that leave the same slots count as
-/// one. If `are_all` is false, that was not shown within the limits. No request may have a fault
-/// ([`fx_chain::check`]).
+/// `are_all` is true, the submission can leave no other slots than those of the reports. If
+/// `with_reports` is true as well, it can produce no other report; else reports that leave the same
+/// slots count as one. If `are_all` is false, that was not shown within the limits. No request may
+/// have a fault ([`fx_chain::check`]).
 ///
 /// # Errors
 /// `NoMemory` if an allocation fails.
@@ -246,7 +252,7 @@ pub fn may_report(
     slots: &Slots,
     submissions: u32,
     requests: &[Request],
-    tells: bool,
+    with_reports: bool,
     limits: Limits,
 ) -> Result<PossibleReports, NoMemory>
     requires catalogue { IsCatalogue catalogue.now }
@@ -259,7 +265,7 @@ pub fn may_report(
     ensures ends { IfOk result (λ found. IsTrue found.are_all → (registrations : ℕ) → HasEachEnd
         (ring_of_slots catalogue.now slots.now submissions registrations)
         (all_asked requests.now) found.reports.items) }
-    ensures all { IfOk result (λ found. IsTrue found.are_all → IsTrue tells
+    ensures all { IfOk result (λ found. IsTrue found.are_all → IsTrue with_reports
         → (registrations : ℕ) → HasEachReport
         (ring_of_slots catalogue.now slots.now submissions registrations)
         (all_asked requests.now) found.reports.items) }
@@ -272,7 +278,7 @@ pub fn may_report(
         number: submissions + 1,
         requests,
         chains: &chains,
-        tells,
+        with_reports,
         asked: None,
     };
     reports_of(&submission, slots, limits)
@@ -417,7 +423,7 @@ pub fn may_answer(
         number: submissions + 1,
         requests,
         chains: &chains,
-        tells: false,
+        with_reports: false,
         asked: Some(place),
     };
     answers_of(&submission, slots, place, limits)

@@ -8,7 +8,7 @@ ghost use Rattle.check_outcomes.specs.Listed.{IsPlayIn};
 use crate::found::{FoundStates, FoundStep};
 use crate::state::{PlayState, accesses_of, next_state, start};
 use crate::submission::PlayedSubmission;
-use crate::telling::sort_by_mark;
+use crate::way_report::sort_by_mark;
 use fx_base::{Closed, Errno, NoMemory};
 use fx_chain::Completion;
 use fx_order::{Access, ChainAccess, Slots, SubmissionReport, slots_left};

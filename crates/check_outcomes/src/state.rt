@@ -10,7 +10,7 @@ ghost use Rattle.check_outcomes.specs.Tellings.{IsRecordedOn, answers_of};
 ghost use Rattle.check_outcomes.specs.Views.{HasEachNextIn, IsOverIn, IsStepTo, has_reads_at, is_idle_at, not_begun};
 
 use crate::submission::{PlayedSubmission, Progress, chain_accesses, left, settle, step};
-use crate::telling::{WayReport, are_all_same, push_lists};
+use crate::way_report::{WayReport, are_all_same, push_lists};
 use fx_base::NoMemory;
 use fx_chain::{Completion, Request};
 use fx_order::{Access, OrderSetting, Slots};
@@ -23,7 +23,7 @@ pub struct PlayState {
     /// The chains.
     pub chains: Vec<Progress>,
     /// The answers and removed files on the way, if the submission keeps them.
-    pub telling: WayReport,
+    pub way_report: WayReport,
 }
 
 // Checks whether each of these requests is a read.
@@ -39,16 +39,16 @@ impl PlayState {
         ensures table { IsTrue result
             → table_of_slots self.now.slots ≡ table_of_slots other.now.slots }
         ensures chains { IsTrue result → self.now.chains.items ≡ other.now.chains.items }
-        ensures answers { IsTrue result → answers_of self.now.telling.answers.items
-            ≡ answers_of other.now.telling.answers.items }
+        ensures answers { IsTrue result → answers_of self.now.way_report.answers.items
+            ≡ answers_of other.now.way_report.answers.items }
         ensures removed { IsTrue result
-            → self.now.telling.removed.items ≡ other.now.telling.removed.items }
+            → self.now.way_report.removed.items ≡ other.now.way_report.removed.items }
     {
         if !self.slots.is_same(&other.slots) || self.chains != other.chains {
             return false;
         }
-        are_all_same(&self.telling.answers, &other.telling.answers)
-            && self.telling.removed == other.telling.removed
+        are_all_same(&self.way_report.answers, &other.way_report.answers)
+            && self.way_report.removed == other.way_report.removed
     }
 
     /// Returns how far a chain has come, by its number from 0.
@@ -70,7 +70,7 @@ impl PlayState {
         if left.is_empty() {
             return true;
         }
-        if submission.tells {
+        if submission.with_reports {
             return false;
         }
         are_reads(left) && !submission.asks_after(i, progress.done)
@@ -121,37 +121,37 @@ pub(crate) fn start(
         recorded.push(answers)?;
     }
     let slots = slots.copy(alloc)?;
-    let mut telling = WayReport::none(alloc);
-    if submission.tells {
-        push_lists(alloc, &mut telling.answers, recorded)?;
+    let mut way_report = WayReport::none(alloc);
+    if submission.with_reports {
+        push_lists(alloc, &mut way_report.answers, recorded)?;
     }
     Ok(PlayState {
         slots,
         chains,
-        telling,
+        way_report,
     })
 }
 
 // Returns the answers and removed files after an access of a chain, by the chain's number from 0,
 // that answers this: none, if the submission doesn't keep them.
-fn telling_after(
+fn way_report_after(
     submission: &PlayedSubmission<'_>,
-    telling: &WayReport,
+    way_report: &WayReport,
     i: usize,
     own: &[Completion],
     access: &Access,
 ) -> Result<Option<WayReport>, NoMemory>
-    ensures { IfOk result (λ after. IfSome after (λ after. IsTrue submission.now.tells
-        → IsRecordedOn telling.now i access.now (all_completed own.now) after)) }
+    ensures { IfOk result (λ after. IfSome after (λ after. IsTrue submission.now.with_reports
+        → IsRecordedOn way_report.now i access.now (all_completed own.now) after)) }
 {
     let alloc = submission.alloc;
-    if !submission.tells {
+    if !submission.with_reports {
         return Ok(Some(WayReport::none(alloc)));
     }
-    if i >= telling.answers.len() {
+    if i >= way_report.answers.len() {
         return Ok(None);
     }
-    let after = telling.after(alloc, i, own, access)?;
+    let after = way_report.after(alloc, i, own, access)?;
     Ok(Some(after))
 }
 
@@ -168,8 +168,8 @@ pub(crate) fn next_state(
     requires { recorded.old.items ≡ [] }
     ensures step { IfOk result (λ next. IfSome next (IsStepTo submission.now state.now i access.now
         (all_completed recorded.new.items))) }
-    ensures recorded { IfOk result (λ next. IfSome next (λ next. IsTrue submission.now.tells
-        → IsRecordedOn state.now.telling i access.now (all_completed recorded.new.items) next.telling)) }
+    ensures recorded { IfOk result (λ next. IfSome next (λ next. IsTrue submission.now.with_reports
+        → IsRecordedOn state.now.way_report i access.now (all_completed recorded.new.items) next.way_report)) }
 {
     let alloc = submission.alloc;
     if state.slots.at.len() != submission.size as usize || !state.slots.permits(access) {
@@ -193,13 +193,14 @@ pub(crate) fn next_state(
     chains[i] = after;
     let mut slots = state.slots.copy(alloc)?;
     slots.make(access);
-    let Some(telling) = telling_after(submission, &state.telling, i, recorded, access)? else {
+    let Some(way_report) = way_report_after(submission, &state.way_report, i, recorded, access)?
+    else {
         return Ok(None);
     };
     Ok(Some(PlayState {
         slots,
         chains,
-        telling,
+        way_report,
     }))
 }
 

@@ -35,7 +35,7 @@ pub(crate) struct PlayedSubmission<'a> {
     pub(crate) number: u32,
     pub(crate) requests: &'a [Request],
     pub(crate) chains: &'a [Chain],
-    pub(crate) tells: bool,
+    pub(crate) with_reports: bool,
     pub(crate) asked: Option<Place>,
     pub ghost catalogued: { IsCatalogue catalogue.now },
     pub ghost accepted: { IsAccepted (all_asked requests.now) },

@@ -5,7 +5,7 @@ use Rattle.check_search.proofs.Words.{◌∷◌, and_parts, not-true, true≢fal
 use Rattle.check_search.proofs.Words.{ap, subst, ◌∙◌, arith, Option, Some, None, slice_get, slice_index, slice_set, slice_index_or, length, eq-eqb}
 use Rattle.check_search.proofs.Words.{if◌then◌else◌, option_and_then, cases_lt, by_equality, IsHopeless, NoneHelps, may_find, no_help, Standing}
 use Rattle.check_search.proofs.Words.{allows, cell_at, cells_after, claim_at, may_leave, suits, with_cell, slot_claimed, Cell, Claim, At, Full}
-use Rattle.check_search.proofs.Words.{Leaves, Same, Empty, File, Resident, Wants, Strand}
+use Rattle.check_search.proofs.Words.{Leaves, Same, Empty, File, Resident, Condition, Strand}
 use Rattle.check_search.proofs.Reaching.{after, both_steps, none_ends}
 
 -- what is at a slot once one was written: what was there, or what was written
@@ -60,11 +60,11 @@ changed cells slot claim s x wanted may either (inr hit) =
 
 stays_unfit : (cells : List Cell) (slot : ℕ) (claim step : Claim) → allows cells step ≡ true
     → (may_leave (cell_at cells slot) ≡ false) ⊎ (no_help slot claim step ≡ true) → Unfit cells slot claim (cell_at (cells_after cells step) slot)
-stays_unfit cells slot claim (At s wants Same) may either = inl refl
-stays_unfit cells slot claim (At s wants Empty) may either =
-    changed cells slot claim s None (suits wants (cell_at cells s)) may either (written cells s None slot)
-stays_unfit cells slot claim (At s wants (File r)) may either =
-    changed cells slot claim s (Some r) (suits wants (cell_at cells s)) may either (written cells s (Some r) slot)
+stays_unfit cells slot claim (At s condition Same) may either = inl refl
+stays_unfit cells slot claim (At s condition Empty) may either =
+    changed cells slot claim s None (suits condition (cell_at cells s)) may either (written cells s None slot)
+stays_unfit cells slot claim (At s condition (File r)) may either =
+    changed cells slot claim s (Some r) (suits condition (cell_at cells s)) may either (written cells s (Some r) slot)
 stays_unfit cells slot claim Full may either = inl refl
 
 -- a claim of a chain that may be made next
@@ -93,33 +93,33 @@ module _ (strands : List Strand) (at : Standing) (d : ℕ) (step : Claim) (is_ne
         }
       ]
 
-module _ (strands : List Strand) (c k slot : ℕ) (strand : Strand) (wants : Wants) (leaves : Leaves)
-    (is : slice_get strands c ≡ Some strand) (waits : slice_get strand.claims.items k ≡ Some (At slot wants leaves)) where
+module _ (strands : List Strand) (c k slot : ℕ) (strand : Strand) (condition : Condition) (leaves : Leaves)
+    (is : slice_get strands c ≡ Some strand) (waits : slice_get strand.claims.items k ≡ Some (At slot condition leaves)) where
   at_place : (places : List ℕ) → claim_at strands places c ≡ slice_get strand.claims.items (slice_index places c)
   at_place places = ap (option_and_then (λ (s : Strand). slice_get s.claims.items (slice_index places c))) is
 
   -- it isn't the one that is made
   still : (at : Standing) (d : ℕ) (step : Claim) → claim_at strands at.places d ≡ Some step → allows at.cells step ≡ true
-      → slice_index at.places c ≤ k → may_find (At slot wants leaves) (cell_at at.cells slot) ≡ false → slice_index (after at d step).places c ≤ k
+      → slice_index at.places c ≤ k → may_find (At slot condition leaves) (cell_at at.cells slot) ≡ false → slice_index (after at d step).places c ≤ k
   still at d step is_next may early unfit = elim (index_written at.places d (slice_index at.places d + 1) c) [
     | inl same ↦ omega arith
     | inr hit ↦ elim (cases_lt (slice_index at.places c) k) [
       | inl less ↦ let here = ap (slice_index at.places) hit.0 in let now = hit.1 in omega arith
       | inr last ↦
           let place : slice_index at.places c ≡ k = omega arith in
-          let step_is : step ≡ At slot wants leaves = same_Some step (At slot wants leaves) (sym is_next
+          let step_is : step ≡ At slot condition leaves = same_Some step (At slot condition leaves) (sym is_next
           ∙ (ap (claim_at strands at.places) (sym hit.0) ∙ (at_place at.places ∙ (ap (slice_get strand.claims.items) place ∙ waits)))) in
           absurd (true≢false (sym may ∙ (ap (allows at.cells) step_is ∙ unfit)))
     ]
   ]
 
-  pub never_ends : (at : Standing) → slice_index at.places c ≤ k → IsHopeless strands at slot (At slot wants leaves) → HasNoEnd strands at
+  pub never_ends : (at : Standing) → slice_index at.places c ≤ k → IsHopeless strands at slot (At slot condition leaves) → HasNoEnd strands at
   unfolding HasNoEnd
   never_ends at early hopeless = none_ends strands
-      (λ x. (slice_index x.places c ≤ k) × IsHopeless strands x slot (At slot wants leaves))
-      (λ x so end. past_none strand.claims.items (slice_index x.places c) k (At slot wants leaves) so.0 waits (sym (at_place x.places) ∙ end.over c))
+      (λ x. (slice_index x.places c ≤ k) × IsHopeless strands x slot (At slot condition leaves))
+      (λ x so end. past_none strand.claims.items (slice_index x.places c) k (At slot condition leaves) so.0 waits (sym (at_place x.places) ∙ end.over c))
       (λ x d step is_next may so.
-      (still x d step is_next may so.0 so.1.unfit, hopeless_then strands x d step is_next may slot (At slot wants leaves) so.1)) at (early, hopeless)
+      (still x d step is_next may so.0 so.1.unfit, hopeless_then strands x d step is_next may slot (At slot condition leaves) so.1)) at (early, hopeless)
 
 -- the element that was read at a place
 pub get_at : {X : Type 0} (xs : List X) (k : ℕ) (x : X) → k < length xs → x ≡ slice_index_or xs k x → slice_get xs k ≡ Some x
@@ -129,8 +129,8 @@ get_at xs k x lt is = slice_get_read xs (length xs) k x refl lt is
 pub vain : (strands : List Strand) (at : Standing) (c k slot : ℕ) (strand : Strand) (claim : Claim) → slot_claimed claim ≡ Some slot
     → slice_get strands c ≡ Some strand → slice_index at.places c ≤ k → slice_get strand.claims.items k ≡ Some claim
     → IsHopeless strands at slot claim → HasNoEnd strands at
-vain strands at c k slot strand (At s wants leaves) of is early waits hopeless =
+vain strands at c k slot strand (At s condition leaves) of is early waits hopeless =
     let same : s ≡ slot = cc in
-    never_ends strands c k s strand wants leaves is waits at early
-    (subst (λ (n : ℕ). IsHopeless strands at n (At s wants leaves)) (sym same) hopeless)
+    never_ends strands c k s strand condition leaves is waits at early
+    (subst (λ (n : ℕ). IsHopeless strands at n (At s condition leaves)) (sym same) hopeless)
 vain strands at c k slot strand Full of is early waits hopeless = absurd (cc)

@@ -32,8 +32,8 @@ chosen true x y is = (refl, cc)
 chosen false x y is = absurd (cc)
 
 test_keeps : (cells : List Cell) (claim : Claim) → is_test claim ≡ true → cells_after cells claim ≡ cells
-test_keeps cells (At slot wants Empty) is = absurd (cc)
-test_keeps cells (At slot wants (File resident)) is = absurd (cc)
+test_keeps cells (At slot condition Empty) is = absurd (cc)
+test_keeps cells (At slot condition (File resident)) is = absurd (cc)
 test_keeps cells claim is = refl
 
 abbrev standing : List ℕ → List Cell → Standing

@@ -5,7 +5,7 @@ use Rattle.check_search.proofs.Words.{◌&&◌, not, true, false, sym, ap, count
 use Rattle.check_search.proofs.Words.{is_something, leaving_files, staying, to_come, ne_eqb, and_parts, not-true, drop_all, get_or_from_slice_get}
 use Rattle.check_search.proofs.Words.{slice_get_within, ◌∙◌, arith, cond, drop, length, length-set, slice_get, slice_index, slice_set, is_some}
 use Rattle.check_search.proofs.Words.{eq-eqb, list_all, Standing, allows, cell_at, claim_at, IsEndOfClaims, is_staying, may_leave, may_stay, suits}
-use Rattle.check_search.proofs.Words.{Full, Same, Wants, Something, Strand, next, Leaves, drop-cons, ⊎_elim, ◌≢◌, cases_lt}
+use Rattle.check_search.proofs.Words.{Full, Same, Condition, Something, Strand, next, Leaves, drop-cons, ⊎_elim, ◌≢◌, cases_lt}
 use Rattle.check_search.specs.Machine.{HasNoEnd}
 use Rattle.std.proofs.lemmas.List.Sums.{sum_by-cons}
 use Rattle.check_search.specs.declared.dead.SlotChange.{SlotChange}
@@ -28,8 +28,8 @@ slots_stay cells slot file None = any_stays (λ cell. cell.in_range) (λ _ _. re
 slots_stay cells slot file (Some k) = any_stays (λ cell. cell.slot == k) (λ _ _. refl) cells slot file
 
 pub slots_after : (cells : List Cell) (claim : Claim) (o : Option ℕ) → has_slot (cells_after cells claim) o ≡ has_slot cells o
-slots_after cells (At slot wants Empty) o = slots_stay cells slot None o
-slots_after cells (At slot wants (File resident)) o = slots_stay cells slot (Some resident) o
+slots_after cells (At slot condition Empty) o = slots_stay cells slot None o
+slots_after cells (At slot condition (File resident)) o = slots_stay cells slot (Some resident) o
 slots_after cells claim o = refl
 
 -- From a state where the files of a slot don't come out even, no end is reached.
@@ -65,16 +65,16 @@ keeps slot step same none =
     record { stays = omega arith; leaves = omega arith; some = λ has. omega arith }
 
 -- a change of another slot
-elsewhere : (cells : List Cell) (slot s : ℕ) (wants : Wants) (leaves : Leaves) (x : Option Resident) → s ≢ slot
-    → Does slot (At s wants leaves) (cell_at cells slot) (cell_at (with_cell cells s x) slot)
-elsewhere cells slot s wants leaves x other =
-    keeps slot (At s wants leaves) (⊎_elim (λ same. same) (λ hit. absurd (other hit.0)) (written cells s x slot))
-    (λ change. ap (λ (b : Bool). cond (is_change leaves wants change && b) 1 0) (ne_eqb s slot other)
-    ∙ ap (λ (b : Bool). cond b 1 0) (and-false (is_change leaves wants change)))
+elsewhere : (cells : List Cell) (slot s : ℕ) (condition : Condition) (leaves : Leaves) (x : Option Resident) → s ≢ slot
+    → Does slot (At s condition leaves) (cell_at cells slot) (cell_at (with_cell cells s x) slot)
+elsewhere cells slot s condition leaves x other =
+    keeps slot (At s condition leaves) (⊎_elim (λ same. same) (λ hit. absurd (other hit.0)) (written cells s x slot))
+    (λ change. ap (λ (b : Bool). cond (is_change leaves condition change && b) 1 0) (ne_eqb s slot other)
+    ∙ ap (λ (b : Bool). cond b 1 0) (and-false (is_change leaves condition change)))
 
-something : (wants : Wants) (now : Option Resident) → is_something wants ≡ true → suits wants now ≡ true → is_some now ≡ true
+something : (condition : Condition) (now : Option Resident) → is_something condition ≡ true → suits condition now ≡ true → is_some now ≡ true
 something Something now is suited = suited
-something wants now is suited = absurd (cc)
+something condition now is suited = absurd (cc)
 
 -- a file that may leave
 none_stays : (x : Option Resident) → may_leave x ≡ true → staying x ≡ 0
@@ -94,43 +94,43 @@ one_or_other : (b : Bool) → ◌≡◌ {A = ℕ} (cond b 1 0 + cond (not b) 1 0
 one_or_other true = omega arith
 one_or_other false = omega arith
 
-module _ (cells : List Cell) (slot : ℕ) (wants : Wants) (has : has_slot cells (Some slot) ≡ true) where
+module _ (cells : List Cell) (slot : ℕ) (condition : Condition) (has : has_slot cells (Some slot) ≡ true) where
   abbrev here : Option Resident → Option Resident
   here x = cell_at (with_cell cells slot x) slot
 
-  emptied : allows cells (At slot wants Empty) ≡ true → Does slot (At slot wants Empty) (cell_at cells slot) (here None)
+  emptied : allows cells (At slot condition Empty) ≡ true → Does slot (At slot condition Empty) (cell_at cells slot) (here None)
   emptied may =
-      let parts = and_parts (suits wants (cell_at cells slot)) (may_leave (cell_at cells slot)) may in
+      let parts = and_parts (suits condition (cell_at cells slot)) (may_leave (cell_at cells slot)) may in
       let stay : staying (here None) ≡ 0 = ap staying (written_here cells slot None has) in
       let leave : leaving_files (here None) ≡ 0 = ap leaving_files (written_here cells slot None has) in
       let none = none_stays (cell_at cells slot) parts.1 in
-      let taken = one_taken (is_something wants && (slot == slot)) (cell_at cells slot) parts.1
-      (λ is. something wants (cell_at cells slot) (and_parts (is_something wants) (slot == slot) is).0 parts.0) in
-      let empties : one Empties slot (At slot wants Empty) ≡ 1 = ap (λ (b : Bool). cond b 1 0) (eq-eqb slot slot refl) in
+      let taken = one_taken (is_something condition && (slot == slot)) (cell_at cells slot) parts.1
+      (λ is. something condition (cell_at cells slot) (and_parts (is_something condition) (slot == slot) is).0 parts.0) in
+      let empties : one Empties slot (At slot condition Empty) ≡ 1 = ap (λ (b : Bool). cond b 1 0) (eq-eqb slot slot refl) in
       record { stays = omega arith; leaves = omega arith; some = λ _. omega arith }
 
-  brought : (r : Resident) → allows cells (At slot wants (File r)) ≡ true → Does slot (At slot wants (File r)) (cell_at cells slot) (here (Some r))
+  brought : (r : Resident) → allows cells (At slot condition (File r)) ≡ true → Does slot (At slot condition (File r)) (cell_at cells slot) (here (Some r))
   brought r may =
-      let parts = and_parts (suits wants (cell_at cells slot)) (may_leave (cell_at cells slot)) may in
+      let parts = and_parts (suits condition (cell_at cells slot)) (may_leave (cell_at cells slot)) may in
       let stay : staying (here (Some r)) ≡ cond (not r.leaves) 1 0 = ap staying (written_here cells slot (Some r) has) in
       let leave : leaving_files (here (Some r)) ≡ cond r.leaves 1 0 = ap leaving_files (written_here cells slot (Some r) has) in
       let none = none_stays (cell_at cells slot) parts.1 in
       let hit : (b : Bool) → (b && (slot == slot)) ≡ b = λ b. ap (λ (c : Bool). b && c) (eq-eqb slot slot refl) ∙ and-true b in
-      let leaves : one Leaving slot (At slot wants (File r)) ≡ cond r.leaves 1 0 = ap (λ (b : Bool). cond b 1 0) (hit r.leaves) in
-      let stays : one Staying slot (At slot wants (File r)) ≡ cond (not r.leaves) 1 0 = ap (λ (b : Bool). cond b 1 0) (hit (not r.leaves)) in
+      let leaves : one Leaving slot (At slot condition (File r)) ≡ cond r.leaves 1 0 = ap (λ (b : Bool). cond b 1 0) (hit r.leaves) in
+      let stays : one Staying slot (At slot condition (File r)) ≡ cond (not r.leaves) 1 0 = ap (λ (b : Bool). cond b 1 0) (hit (not r.leaves)) in
       let all = one_or_other r.leaves in
       record { stays = omega arith; leaves = omega arith; some = λ _. omega arith }
 
 does : (cells : List Cell) (slot : ℕ) (step : Claim) → has_slot cells (Some slot) ≡ true → allows cells step ≡ true
     → Does slot step (cell_at cells slot) (cell_at (cells_after cells step) slot)
 does cells slot Full has may = keeps slot Full refl (λ _. refl)
-does cells slot (At s wants Same) has may = keeps slot (At s wants Same) refl (λ _. refl)
-does cells slot (At s wants Empty) has may =
-    by_equality slot s (λ _. Does slot (At s wants Empty) (cell_at cells slot) (cell_at (with_cell cells s None) slot))
-    (λ same. rw same (emptied cells s wants (rw same at has) may)) (λ other. elsewhere cells slot s wants Empty None (λ e. other (sym e)))
-does cells slot (At s wants (File r)) has may =
-    by_equality slot s (λ _. Does slot (At s wants (File r)) (cell_at cells slot) (cell_at (with_cell cells s (Some r)) slot))
-    (λ same. rw same (brought cells s wants (rw same at has) r may)) (λ other. elsewhere cells slot s wants (File r) (Some r) (λ e. other (sym e)))
+does cells slot (At s condition Same) has may = keeps slot (At s condition Same) refl (λ _. refl)
+does cells slot (At s condition Empty) has may =
+    by_equality slot s (λ _. Does slot (At s condition Empty) (cell_at cells slot) (cell_at (with_cell cells s None) slot))
+    (λ same. rw same (emptied cells s condition (rw same at has) may)) (λ other. elsewhere cells slot s condition Empty None (λ e. other (sym e)))
+does cells slot (At s condition (File r)) has may =
+    by_equality slot s (λ _. Does slot (At s condition (File r)) (cell_at cells slot) (cell_at (with_cell cells s (Some r)) slot))
+    (λ same. rw same (brought cells s condition (rw same at has) r may)) (λ other. elsewhere cells slot s condition (File r) (Some r) (λ e. other (sym e)))
 
 -- a claim that is made is one less to come
 one_less : (change : SlotChange) (slot : ℕ) (strands : List Strand) (places : List ℕ) (d : ℕ) (step : Claim) → length places ≡ length strands

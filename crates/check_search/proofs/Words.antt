@@ -15,8 +15,8 @@ pub use Rattle.check_search.specs.declared.claim.Claim.TheVariants.{At, Full}
 pub use Rattle.check_search.specs.declared.claim.Leaves.{Leaves}
 pub use Rattle.check_search.specs.declared.claim.Leaves.TheVariants.{Empty, File, Same}
 pub use Rattle.check_search.specs.declared.claim.Resident.{Resident}
-pub use Rattle.check_search.specs.declared.claim.Wants.{Wants}
-pub use Rattle.check_search.specs.declared.claim.Wants.TheVariants.{Something}
+pub use Rattle.check_search.specs.declared.claim.Condition.{Condition}
+pub use Rattle.check_search.specs.declared.claim.Condition.TheVariants.{Something}
 pub use Rattle.check_search.specs.declared.node.Packing.{Packing}
 pub use Rattle.check_search.specs.declared.claim.Strand.{Strand}
 pub use Rattle.std.proofs.Common.{All, Bool, Contains, IsTrue, List, None, Option, Some, [], ap, arith, cond, drop, drop-cons, eq-eqb, false, get_or}

@@ -12,7 +12,7 @@ has_slot cells (Some slot) = list_any (λ cell. cell.slot == slot) cells
 has_slot cells None = list_any (λ cell. cell.in_range) cells
 
 abbrev pub slot_claimed : Claim → Option ℕ
-slot_claimed (At slot wants leaves) = Some slot
+slot_claimed (At slot condition leaves) = Some slot
 slot_claimed Full = None
 
 abbrev pub keeps : List Cell → Claim → Bool

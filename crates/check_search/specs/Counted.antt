@@ -8,16 +8,17 @@ use Rattle.check_search.specs.declared.claim.Claim.TheVariants.{At, Full}
 use Rattle.check_search.specs.declared.claim.Leaves.{Leaves}
 use Rattle.check_search.specs.declared.claim.Leaves.TheVariants.{Same, Empty, File}
 use Rattle.check_search.specs.declared.claim.Resident.{Resident}
-use Rattle.check_search.specs.declared.claim.Wants.{Wants}
-use Rattle.check_search.specs.declared.claim.Wants.TheVariants.{Anything, Nothing, NothingToTake}
-use Rattle.check_search.specs.declared.claim.Wants.TheVariants.{Something, Bytes}
+use Rattle.check_search.specs.declared.claim.Condition.{Condition}
+use Rattle.check_search.specs.declared.claim.Condition.TheVariants.{Anything, Nothing}
+use Rattle.check_search.specs.declared.claim.Condition.TheVariants.{NothingToTake}
+use Rattle.check_search.specs.declared.claim.Condition.TheVariants.{Something, Bytes}
 use Rattle.check_search.specs.declared.dead.SlotChange.{SlotChange}
 use Rattle.check_search.specs.declared.dead.SlotChange.TheVariants.{Takes, Empties, Leaving}
 use Rattle.check_search.specs.declared.dead.SlotChange.TheVariants.{Staying}
 use Rattle.check_search.specs.declared.claim.Strand.{Strand}
 use Rattle.check_search.specs.AtSlots.{has_slot}
 
-abbrev pub is_something : Wants → Bool
+abbrev pub is_something : Condition → Bool
 is_something Anything = false
 is_something Nothing = false
 is_something NothingToTake = false
@@ -25,20 +26,20 @@ is_something Something = true
 is_something (Bytes fits) = false
 
 -- what is left at the slot is such a change
-abbrev pub is_change : Leaves → Wants → SlotChange → Bool
-is_change Same wants change = false
-is_change Empty wants Takes = is_something wants
-is_change Empty wants Empties = true
-is_change Empty wants Leaving = false
-is_change Empty wants Staying = false
-is_change (File resident) wants Takes = false
-is_change (File resident) wants Empties = false
-is_change (File resident) wants Leaving = resident.leaves
-is_change (File resident) wants Staying = not resident.leaves
+abbrev pub is_change : Leaves → Condition → SlotChange → Bool
+is_change Same condition change = false
+is_change Empty condition Takes = is_something condition
+is_change Empty condition Empties = true
+is_change Empty condition Leaving = false
+is_change Empty condition Staying = false
+is_change (File resident) condition Takes = false
+is_change (File resident) condition Empties = false
+is_change (File resident) condition Leaving = resident.leaves
+is_change (File resident) condition Staying = not resident.leaves
 
 -- the claim makes such a change of the slot
 abbrev pub changes : SlotChange → ℕ → Claim → Bool
-changes change slot (At at wants leaves) = is_change leaves wants change && (at == slot)
+changes change slot (At at condition leaves) = is_change leaves condition change && (at == slot)
 changes change slot Full = false
 
 -- how many claims that make such a change are still to be made

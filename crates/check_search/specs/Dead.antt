@@ -9,9 +9,9 @@ use Rattle.check_search.specs.declared.claim.Strand.{Strand}
 
 -- the other claim changes nothing at the slot, or leaves what the claim may not be made with
 abbrev pub no_help : ℕ → Claim → Claim → Bool
-no_help slot claim (At at wants Same) = true
-no_help slot claim (At at wants Empty) = not (at == slot) || not (may_find claim None)
-no_help slot claim (At at wants (File resident)) =
+no_help slot claim (At at condition Same) = true
+no_help slot claim (At at condition Empty) = not (at == slot) || not (may_find claim None)
+no_help slot claim (At at condition (File resident)) =
     not (at == slot) || not (may_find claim (Some resident))
 no_help slot claim Full = true
 

@@ -5,9 +5,10 @@ use Rattle.std.specs.Prelude.{◌∷◌, map, slice_get, slice_index, slice_inde
 use Rattle.std.specs.Prelude.{Some, None, option_and_then, if◌then◌else◌, is_some, Contains}
 use Rattle.std.specs.List.{list_all}
 use Rattle.check_search.specs.declared.claim.Resident.{Resident}
-use Rattle.check_search.specs.declared.claim.Wants.{Wants}
-use Rattle.check_search.specs.declared.claim.Wants.TheVariants.{Anything, Nothing, NothingToTake}
-use Rattle.check_search.specs.declared.claim.Wants.TheVariants.{Something, Bytes}
+use Rattle.check_search.specs.declared.claim.Condition.{Condition}
+use Rattle.check_search.specs.declared.claim.Condition.TheVariants.{Anything, Nothing}
+use Rattle.check_search.specs.declared.claim.Condition.TheVariants.{NothingToTake}
+use Rattle.check_search.specs.declared.claim.Condition.TheVariants.{Something, Bytes}
 use Rattle.check_search.specs.declared.claim.Leaves.{Leaves}
 use Rattle.check_search.specs.declared.claim.Leaves.TheVariants.{Same, Empty, File}
 use Rattle.check_search.specs.declared.claim.Claim.{Claim}
@@ -22,7 +23,7 @@ cell_at [] slot = None
 cell_at (cell ∷ cells) slot = if cell.slot == slot then cell.file else cell_at cells slot
 
 -- the file found is one that the claim speaks of
-abbrev pub suits : Wants → Option Resident → Bool
+abbrev pub suits : Condition → Option Resident → Bool
 suits Anything found = true
 suits Nothing found = not (is_some found)
 suits NothingToTake found = not (is_some found)
@@ -53,12 +54,13 @@ is_same (File resident) = false
 
 -- the claim may be made where this is at its slot
 abbrev pub may_find : Claim → Option Resident → Bool
-may_find (At slot wants leaves) found = suits wants found && (is_same leaves || may_leave found)
+may_find (At slot condition leaves) found =
+    suits condition found && (is_same leaves || may_leave found)
 may_find Full found = true
 
 -- the access may be made where the slots have these files
 abbrev pub allows : List Cell → Claim → Bool
-allows cells (At slot wants leaves) = may_find (At slot wants leaves) (cell_at cells slot)
+allows cells (At slot condition leaves) = may_find (At slot condition leaves) (cell_at cells slot)
 allows cells Full = list_all is_taken cells
 
 abbrev pub cell_with : ℕ → Option Resident → Cell → Cell
@@ -69,9 +71,9 @@ with_cell cells slot file = map (cell_with slot file) cells
 
 -- the files at the slots then
 abbrev pub cells_after : List Cell → Claim → List Cell
-cells_after cells (At slot wants Same) = cells
-cells_after cells (At slot wants Empty) = with_cell cells slot None
-cells_after cells (At slot wants (File resident)) = with_cell cells slot (Some resident)
+cells_after cells (At slot condition Same) = cells
+cells_after cells (At slot condition Empty) = with_cell cells slot None
+cells_after cells (At slot condition (File resident)) = with_cell cells slot (Some resident)
 cells_after cells Full = cells
 
 -- how many claims of each chain were made, and the files at the slots
@@ -129,9 +131,9 @@ LeadsInside strands standings at = (c : ℕ) → StepLeadsInside strands standin
 
 -- a claim that changes nothing
 abbrev pub is_test : Claim → Bool
-is_test (At slot wants Same) = true
-is_test (At slot wants Empty) = false
-is_test (At slot wants (File resident)) = false
+is_test (At slot condition Same) = true
+is_test (At slot condition Empty) = false
+is_test (At slot condition (File resident)) = false
 is_test Full = true
 
 -- the next claim of a chain only tests, may be made, and leads to one of these

@@ -3,7 +3,7 @@ ghost use Rattle.std.specs.Prelude.{◌≡◌, IsTrue, ◌↔◌};
 ghost use Rattle.std.specs.List.{list_all};
 ghost use Rattle.check_search.specs.Machine.{allows, cell_at, cells_after, is_staying, is_taken, may_find, may_leave, may_stay, suits, with_cell};
 
-use crate::claim::{Claim, Leaves, Resident, Wants};
+use crate::claim::{Claim, Condition, Leaves, Resident};
 
 /// A slot, and what is there.
 #[derive(Clone, Copy, PartialEq, Eq)]
@@ -29,14 +29,14 @@ pub fn cell_at(cells: &[Cell], slot: u32) -> Option<Resident>
 }
 
 // Checks whether the file found is one that a claim speaks of.
-fn suits(wants: &Wants, found: Option<Resident>) -> bool
-    ensures { result ≡ suits wants.now found }
+fn suits(condition: &Condition, found: Option<Resident>) -> bool
+    ensures { result ≡ suits condition.now found }
 {
-    match wants {
-        Wants::Anything => true,
-        Wants::Nothing | Wants::NothingToTake => found.is_none(),
-        Wants::Something => found.is_some(),
-        Wants::Bytes(fits) => match found {
+    match condition {
+        Condition::Anything => true,
+        Condition::Nothing | Condition::NothingToTake => found.is_none(),
+        Condition::Something => found.is_some(),
+        Condition::Bytes(fits) => match found {
             Some(resident) => fits[resident.file.entry as usize],
             None => false,
         },
@@ -68,8 +68,8 @@ pub(crate) fn may_find(claim: &Claim, found: Option<Resident>) -> bool
     ensures { result ≡ may_find claim.now found }
 {
     match claim {
-        Claim::At(_, wants, leaves) => {
-            suits(wants, found) && (matches!(leaves, Leaves::Same) || may_leave(found))
+        Claim::At(_, condition, leaves) => {
+            suits(condition, found) && (matches!(leaves, Leaves::Same) || may_leave(found))
         }
         Claim::Full => true,
     }

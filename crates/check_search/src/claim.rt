@@ -17,7 +17,7 @@ pub struct Resident {
 
 /// The condition on what an access found at its slot.
 #[derive(Clone, Copy, PartialEq)]
-pub enum Wants {
+pub enum Condition {
     /// A file or no file.
     Anything,
     /// No file.
@@ -46,7 +46,7 @@ pub enum Leaves {
 #[derive(Clone, Copy)]
 pub enum Claim {
     /// An access of a slot.
-    At(u32, Wants, Leaves),
+    At(u32, Condition, Leaves),
     /// Each slot of the allocation range had a file.
     Full,
 }

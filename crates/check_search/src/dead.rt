@@ -7,7 +7,7 @@ ghost use Rattle.check_search.specs.Dead.{IsHopeless, NoneHelps, no_help};
 ghost use Rattle.check_search.specs.declared.claim.Claim.{Claim as OneClaim};
 
 use crate::cell::{cell_at, may_find, may_leave};
-use crate::claim::{Claim, Leaves, Resident, Strand, Wants, has_slot};
+use crate::claim::{Claim, Condition, Leaves, Resident, Strand, has_slot};
 use crate::node::{SearchNode, place_of};
 
 /// A change that a claim makes to its slot.
@@ -24,11 +24,11 @@ pub enum SlotChange {
 }
 
 // Checks whether what a claim leaves at its slot is such a change.
-fn is_change(leaves: &Leaves, wants: &Wants, change: SlotChange) -> bool
-    ensures { result ≡ is_change leaves.now wants.now change }
+fn is_change(leaves: &Leaves, condition: &Condition, change: SlotChange) -> bool
+    ensures { result ≡ is_change leaves.now condition.now change }
 {
     match (leaves, change) {
-        (Leaves::Empty, SlotChange::Takes) => matches!(wants, Wants::Something),
+        (Leaves::Empty, SlotChange::Takes) => matches!(condition, Condition::Something),
         (Leaves::Empty, SlotChange::Empties) => true,
         (Leaves::File(file), SlotChange::Leaving) => file.leaves,
         (Leaves::File(file), SlotChange::Staying) => !file.leaves,
@@ -41,7 +41,7 @@ pub(crate) fn is_changing(change: SlotChange, slot: u32, claim: &Claim) -> bool
     ensures { result ≡ changes change slot claim.now }
 {
     match claim {
-        Claim::At(at, wants, leaves) => is_change(leaves, wants, change) && *at == slot,
+        Claim::At(at, condition, leaves) => is_change(leaves, condition, change) && *at == slot,
         Claim::Full => false,
     }
 }

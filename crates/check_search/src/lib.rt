@@ -18,7 +18,7 @@ mod walk;
 
 pub use cell::{Cell, apply, cell_at};
 pub use certificate::{Web, shows_no_end};
-pub use claim::{Claim, Leaves, Resident, Strand, Wants, has_slot, resident_for};
+pub use claim::{Claim, Condition, Leaves, Resident, Strand, has_slot, resident_for};
 pub use component::components;
 pub use dead::{is_dead_by, is_uneven};
 pub use node::{claim_of, start_of};

@@ -2,7 +2,7 @@
 //! it.
 
 use crate::cell::{may_find, may_leave};
-use crate::claim::{Claim, Leaves, Resident, Wants};
+use crate::claim::{Claim, Condition, Leaves, Resident};
 use crate::node::is_test;
 use crate::steps::ClaimStep;
 use fx_base::NoMemory;
@@ -39,8 +39,8 @@ pub struct Tally<'a> {
 // Checks whether both may be made with the same files.
 fn is_alike(one: &Claim, other: &Claim) -> bool {
     match (one, other) {
-        (Claim::At(_, wants, _), Claim::At(_, others, _)) => {
-            wants == others && is_test(one) == is_test(other)
+        (Claim::At(_, condition, _), Claim::At(_, others, _)) => {
+            condition == others && is_test(one) == is_test(other)
         }
         _ => false,
     }
@@ -97,14 +97,14 @@ impl<'a> Tally<'a> {
         if step.class < self.classes.len() {
             count(&mut self.classes[step.class].left, is_more);
         }
-        let Claim::At(_, wants, leaves) = step.claim else {
+        let Claim::At(_, condition, leaves) = step.claim else {
             return;
         };
         let left = match leaves {
             Leaves::Same => return,
             Leaves::Empty => {
                 count(&mut self.empties, is_more);
-                if matches!(wants, Wants::Something) {
+                if matches!(condition, Condition::Something) {
                     count(&mut self.takes, is_more);
                 }
                 None

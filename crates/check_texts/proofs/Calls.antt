@@ -2,7 +2,7 @@
 -- ring, and print one line.
 use Rattle.check_texts.proofs.Words.{Errno, ENOMEM, call_of, fault_of, Asked, CutFault, Instruction, SetsRange, SubmitsAll, MOST_SLOTS, refused_line}
 use Rattle.check_texts.proofs.Words.{too_many_line, IsRing, RingContents, RingState, ring_of, Reported, MOST_SUBMISSIONS, Prints, PrintsReport}
-use Rattle.check_texts.proofs.Words.{HasEachNextStage, IsLineOf, LeadsRing, MayLeadTo, Stage, after_call, count_after, count_behind, kept_text}
+use Rattle.check_texts.proofs.Words.{HasEachNextStage, IsLineOf, LeadsRing, MayLeadTo, Stage, after_call, count_after, accepted_following, kept_text}
 use Rattle.check_texts.proofs.Words.{IsCall, FoundMemory, Bool, List, None, Option, Some, [], ap, arith, inl, nat_le, refl, sym, ℕ, ⊎_elim, ◌++◌, ◌+◌}
 use Rattle.check_texts.proofs.Words.{◌<◌, ◌∙◌, ◌≡◌, ◌≤◌, MatchBool, MatchOption, Contains, ◌^◌, negated, AnswersFound, refusal_other, HasFound}
 use Rattle.fx_chain.proofs.Cases.{either_way}
@@ -12,15 +12,15 @@ use Rattle.check_lines.proofs.Calls.{Call, Tells, not_refused, Answers, Fails, a
 
 -- what a submission comes to: nothing changes and it isn't counted, or it has a report and is
 cases : {R : Type 0} (x : Option CutFault) {count : ℕ} {same reports : Type 0} (line many : List ℕ) (text : CutFault → List ℕ)
-    → (same → count_behind count x ≡ count → R) → (reports → count_behind count x ≡ count + 1 → R)
+    → (same → accepted_following count x ≡ count → R) → (reports → accepted_following count x ≡ count + 1 → R)
     → MatchOption x (MatchBool (nat_le MOST_SUBMISSIONS count) (same × (line ≡ many)) reports) (λ fault. same × (line ≡ text fault)) → R
 cases (Some fault) line many text stays goes = λ prints. stays prints.0 refl
 cases None {count} line many text stays goes =
     either_way (nat_le MOST_SUBMISSIONS count) (λ full prints. stays prints.0 (rw full)) (λ room prints. goes prints (rw room))
 
 pub submission_cases : {R : Type 0} (old next : RingContents) (asked : List Asked) (line : List ℕ)
-    → (ring_of next ≡ ring_of old → count_behind old.submissions (fault_of asked) ≡ old.submissions → R)
-    → (PrintsReport old asked next line → count_behind old.submissions (fault_of asked) ≡ old.submissions + 1 → R)
+    → (ring_of next ≡ ring_of old → accepted_following old.submissions (fault_of asked) ≡ old.submissions → R)
+    → (PrintsReport old asked next line → accepted_following old.submissions (fault_of asked) ≡ old.submissions + 1 → R)
     → Prints old (SubmitsAll asked) next line → R
 submission_cases old next asked line = cases (fault_of asked) line too_many_line refused_line
 

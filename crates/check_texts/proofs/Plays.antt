@@ -1,6 +1,6 @@
 -- Plays in which memory is found: cut at a submission, and whole.
 use Rattle.check_texts.proofs.Words.{fault_of, Asked, Instruction, SubmitsAll, Meaning, RingContents, Reported, Prints, contains_none, LeadsAll}
-use Rattle.check_texts.proofs.Words.{count_after_all, count_behind, FoundMemory, IsReportFound, IsTextFound, PrintsAllFound, List, None, Option, Some}
+use Rattle.check_texts.proofs.Words.{count_after_all, accepted_following, FoundMemory, IsReportFound, IsTextFound, PrintsAllFound, List, None, Option, Some}
 use Rattle.check_texts.proofs.Words.{[], ap, arith, inl, inr, refl, subst, sym, ℕ, ⊎_elim, ◌++◌, ◌+◌, ◌∷◌, ◌≡◌, ◌≤◌, ◌⊎◌, append_assoc}
 use Rattle.check_texts.proofs.Words.{option_to_list, Contains, FileEntry, Completed, Place, RingState, files_of_ring, new_ring, ring_of, HasEachLast}
 use Rattle.check_texts.proofs.Words.{HasEachSaidFrom, MayEnd, MayLeadAllTo, MayLeadTo, MaySay, Stage, stage, MayAnswerIn, Bool, ◌<◌, ◌∙◌}
@@ -72,7 +72,7 @@ pub record ReportAt (ring : RingContents) (front : List Instruction) (asked : Li
 pub report_at : {ring : RingContents} (front : List Instruction) {asked : List Asked} (behind : List Instruction) (text : List ℕ)
     (reports : List Reported) {report : Reported} → PrintsAllFound ring (front ++ SubmitsAll asked ∷ behind) text reports → Contains reports report
     → report.submission ≡ count_after_all ring.submissions front + 1
-    → count_behind (count_after_all ring.submissions front) (fault_of asked) ≡ count_after_all ring.submissions front + 1
+    → accepted_following (count_after_all ring.submissions front) (fault_of asked) ≡ count_after_all ring.submissions front + 1
     → ReportAt ring front asked report
 report_at {ring} [] {asked} behind text reports (next, line, others, own, later, prints, memory, split, parts, rest) inside number counted =
     let counts = leads_counts ring next (SubmitsAll asked) line own prints memory in
@@ -138,7 +138,7 @@ module _ (script : Meaning) (place : Place) (front : List Instruction) (asked : 
 
   -- an answer of a play is said behind the first commands
   pub answer_is_said : (keeps : Bool) (stages : List Stage) (said : List Completed) {c : Completed}
-      → count_behind (count_after_all 0 front) (fault_of asked) ≡ place.submission
+      → accepted_following (count_after_all 0 front) (fault_of asked) ≡ place.submission
       → HasEachLast keeps (new_ring script.catalogue) front stages → HasEachSaidFrom stages asked place said → MayAnswerIn script place c
       → Contains said c
   answer_is_said keeps stages said {c} counted last each may =

@@ -1,12 +1,12 @@
 -- Accepted submissions at a ring that is kept as slots, and their reports.
 use Rattle.check_texts.proofs.Words.{Closed, List, [], arith, false, if◌then◌else◌, inl, inr, length, slice_index_or, suc, sym, true, zero, ℕ, ◌<◌}
 use Rattle.check_texts.proofs.Words.{◌∷◌, ◌≡◌, add-one, cases_Bool, IsPermutation-refl, HasEachEnd, HasEachReport, IsAnswer, IsPossible, IsTrue}
-use Rattle.check_texts.proofs.Words.{ring_behind, PossibleAnswer, PossibleReport, FileEntry, completed_of, fault_of, Asked, Place, Instruction}
+use Rattle.check_texts.proofs.Words.{ring_following, PossibleAnswer, PossibleReport, FileEntry, completed_of, fault_of, Asked, Place, Instruction}
 use Rattle.check_texts.proofs.Words.{SubmitsAll, MOST_SLOTS, closes_text, IsRing, RingContents, RingState, ring_of, Reported, reported}
 use Rattle.check_texts.proofs.Words.{MOST_SUBMISSIONS, Prints, PrintsReport, contains_map, contains_mapped, HasEachNextStage, LeadsRing, MayEnd}
-use Rattle.check_texts.proofs.Words.{MayLeadTo, MaySay, Stage, count_behind, stage_reported, IsReportFound, Bool, None, Some, ap, map, refl}
+use Rattle.check_texts.proofs.Words.{MayLeadTo, MaySay, Stage, accepted_following, stage_reported, IsReportFound, Bool, None, Some, ap, map, refl}
 use Rattle.check_texts.proofs.Words.{slice_get, ◌++◌, ◌+◌, ◌∙◌, ◌≤◌, lt-leb, All, Contains, All-cons, All-nil, All-weaker, All-contains}
-use Rattle.check_texts.proofs.Words.{All-contains_itself, HasClosed, IsReportBy, MayReport, TellsOf, each_closed_file_is_known, completion_lines}
+use Rattle.check_texts.proofs.Words.{All-contains_itself, HasClosed, IsReportBy, MayReport, ReportsOf, each_closed_file_is_known, completion_lines}
 use Rattle.std.specs.List.Sorted.{IsPermutation}
 use Rattle.std.proofs.lemmas.List.Sorted.{All-permutation, IsPermutation-sym, IsPermutation-cons, IsPermutation-middle}
 use Rattle.fx_order.proofs.Words.{IsPermutation-trans}
@@ -86,7 +86,7 @@ has_closed files = record {
 -- What an accepted submission may come to at a ring that is kept as slots.
 
 pub counted_one : (requests : List Asked) {count : ℕ} → fault_of requests ≡ None → count < MOST_SUBMISSIONS
-    → count_behind count (fault_of requests) ≡ count + 1
+    → accepted_following count (fault_of requests) ≡ count + 1
 counted_one requests {count} faultless few = rw (faultless, lt-leb MOST_SUBMISSIONS count few)
 
 -- a report that memory is found for is printed
@@ -109,7 +109,7 @@ module _ (keeps : Bool) (old : Stage) (asked : List Asked) (faultless : fault_of
       (left, report_text ring.catalogue report, report_leads faultless (rw (sym same) at few) may, rw (behind, sym same))
 
 pub answer_may_say : {old : RingState} {asked : List Asked} {place : Place} {answer : PossibleAnswer} {commands : List Instruction} → fault_of asked ≡ None
-    → old.submissions < MOST_SUBMISSIONS → IsAnswer old asked place answer → MayEnd (ring_behind old answer.slots) commands
+    → old.submissions < MOST_SUBMISSIONS → IsAnswer old asked place answer → MayEnd (ring_following old answer.slots) commands
     → MaySay old asked commands place (completed_of answer.completion)
 answer_may_say faultless few is ends = record {
   there = is.there;
@@ -126,7 +126,7 @@ few_left by few = let same = ap (λ (r : RingState). r.size) by.leaves in omega 
 
 -- a submission that is counted has a report
 has_report : {old : RingState} (ring next : RingContents) (asked : List Asked) (line : List ℕ) → ring_of ring ≡ old
-    → count_behind old.submissions (fault_of asked) ≡ old.submissions + 1 → LeadsRing ring (SubmitsAll asked) next line
+    → accepted_following old.submissions (fault_of asked) ≡ old.submissions + 1 → LeadsRing ring (SubmitsAll asked) next line
     → (report : Reported) × IsReportFound ring asked next line report
 has_report ring next asked line same counted (None, prints, stays) =
     absurd (omega (arith, submission_counts ring next asked line prints, rw (sym same) at counted, stays))
@@ -135,14 +135,14 @@ has_report ring next asked line same counted (Some report, prints, found) = (rep
 -- and one that isn't has none
 pub no_report : {ring next : RingContents} {asked : List Asked} {line : List ℕ} {report : Reported}
     → IsReportFound ring asked next line report → Prints ring (SubmitsAll asked) next line
-    → count_behind ring.submissions (fault_of asked) ≡ ring.submissions → ⊥
+    → accepted_following ring.submissions (fault_of asked) ≡ ring.submissions → ⊥
 no_report {ring} {next} {asked} {line} found prints stays =
     omega (arith, submission_counts ring next asked line prints, history_counts found.may.history, stays)
 
 -- where a report tells of another one, both print the same
 module _ (old : RingState) (asked : List Asked) (is_ring : IsRing old) (accepted : IsAccepted asked) (ring next : RingContents)
     (same : ring_of ring ≡ old) (report : Reported) (may : MayReport ring asked report next)
-    (possible : PossibleReport) (is : IsPossible old asked possible) (tells : TellsOf old report (ring_of next) possible) where
+    (possible : PossibleReport) (is : IsPossible old asked possible) (tells : ReportsOf old report (ring_of next) possible) where
   abbrev told : Reported
   told = reported possible.report
 
@@ -171,7 +171,7 @@ module _ (old : RingState) (asked : List Asked) (is_ring : IsRing old) (accepted
 pub reports_are_all : (keeps : Bool) (old : Stage) {asked : List Asked} (reports : List PossibleReport) (stages : List Stage) → IsRing old.ring
     → IsAccepted asked → All (IsPossible old.ring asked) reports
     → ((s : Stage) → Contains (map (stage_reported keeps old) reports) s → Contains stages s)
-    → count_behind old.ring.submissions (fault_of asked) ≡ old.ring.submissions + 1 → HasEachEnd old.ring asked reports
+    → accepted_following old.ring.submissions (fault_of asked) ≡ old.ring.submissions + 1 → HasEachEnd old.ring asked reports
     → (IsTrue keeps → HasEachReport old.ring asked reports) → HasEachNextStage keeps old (SubmitsAll asked) stages
 reports_are_all true old {asked} reports stages is_ring accepted each inside counted ends all ring next line same leads =
     let (report, found) = has_report ring next asked line same counted leads in
@@ -181,7 +181,7 @@ reports_are_all true old {asked} reports stages is_ring accepted each inside cou
     (inside _ (contains_mapped (stage_reported true old) reports possible there))
 reports_are_all false old {asked} reports stages is_ring accepted each inside counted ends all ring next line same leads =
     let (report, found) = has_report ring next asked line same counted leads in
-    let (possible, there, is) = contains_map (λ (p : PossibleReport). ring_behind old.ring p.slots) reports (ring_of next)
+    let (possible, there, is) = contains_map (λ (p : PossibleReport). ring_following old.ring p.slots) reports (ring_of next)
     (ends ring next report same found.may) in
     rw is (inside _ (contains_mapped (stage_reported false old) reports possible there))
 

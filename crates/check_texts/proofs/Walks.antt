@@ -1,9 +1,9 @@
 -- Commands that lead on, one after another, and the rings that they lead to.
-use Rattle.check_texts.proofs.Words.{IsAnswer, ring_behind, PossibleAnswer, FileEntry, shown, Asked, Place, Instruction, SubmitsAll, ring_with_files}
+use Rattle.check_texts.proofs.Words.{IsAnswer, ring_following, PossibleAnswer, FileEntry, shown, Asked, Place, Instruction, SubmitsAll, ring_with_files}
 use Rattle.check_texts.proofs.Words.{shows_ring, ring_with_slots, IsRing, RingContents, new_ring, ring_of, LeadsRing, LeadsAll, MayLeadAllTo}
 use Rattle.check_texts.proofs.Words.{MayLeadTo, Stage, stage_of, Reached, Bool, List, [], ap, refl, subst, sym, ℕ, ◌∷◌, ◌≡◌, from_here, fault_of}
 use Rattle.check_texts.proofs.Words.{SetsRange, instruction_of, instructions_of, Command, RingState, Reported, MOST_SUBMISSIONS, Prints}
-use Rattle.check_texts.proofs.Words.{AreStagesFrom, HasEachFrom, HasEachLast, count_after, count_after_all, count_behind, kept_text, stage}
+use Rattle.check_texts.proofs.Words.{AreStagesFrom, HasEachFrom, HasEachLast, count_after, count_after_all, accepted_following, kept_text, stage}
 use Rattle.check_texts.proofs.Words.{FoundMemory, None, Option, Some, arith, drop, false, if◌then◌else◌, length, nat_le, slice_index_or, take, true}
 use Rattle.check_texts.proofs.Words.{◌++◌, ◌+◌, ◌<◌, ◌∙◌, ◌≤◌, append-nil, append_assoc, map-append, map_more, Contains, none_rings, take-append-drop}
 use Rattle.fx_ring.proofs.SubmittedRing.{submitted_rings}
@@ -47,7 +47,7 @@ next_ring keeps {catalogue} from command is leads =
 -- that of a ring behind a submission that gave an answer
 pub answer_ring : {catalogue : List FileEntry} (from : Reached) {asked : List Asked} {place : Place} {answer : PossibleAnswer}
     → IsRing (ring_with_slots catalogue from.ring) → IsAnswer (ring_with_slots catalogue from.ring) asked place answer
-    → IsRing (ring_behind (ring_with_slots catalogue from.ring) answer.slots)
+    → IsRing (ring_following (ring_with_slots catalogue from.ring) answer.slots)
 answer_ring {catalogue} from {asked} is a =
     let (start, shows) = shown catalogue from.ring in
     let (left, behind, may) = a.may start shows in
@@ -64,7 +64,7 @@ pub history_counts : {old next : RingContents} {asked : List Asked} {report : Re
 history_counts history = ap (λ (r : RingState). r.submissions) history.after
 
 pub submission_counts : (old next : RingContents) (asked : List Asked) (line : List ℕ) → Prints old (SubmitsAll asked) next line
-    → next.submissions ≡ count_behind old.submissions (fault_of asked)
+    → next.submissions ≡ accepted_following old.submissions (fault_of asked)
 submission_counts old next asked line =
     submission_cases old next asked line (λ same is. ap (λ (r : RingState). r.submissions) same ∙ sym is) (λ p is. history_counts p.1 ∙ sym is)
 
@@ -85,7 +85,7 @@ counted_bool : (b : Bool) (count : ℕ) → count ≤ (if b then count else coun
 counted_bool b count = grind arith
 
 pub after_grows : (command : Instruction) (count : ℕ) → count ≤ count_after count command
-after_grows (SubmitsAll asked) count = elim (fault_of asked) as (λ x. count ≤ count_behind count x) [
+after_grows (SubmitsAll asked) count = elim (fault_of asked) as (λ x. count ≤ accepted_following count x) [
   | Some fault ↦ omega arith
   | None ↦ counted_bool (nat_le MOST_SUBMISSIONS count) count
 ]

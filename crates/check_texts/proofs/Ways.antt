@@ -6,8 +6,8 @@ use Rattle.check_texts.proofs.Words.{ring_with_slots, stages_of, HasEachNextStag
 use Rattle.check_texts.proofs.Words.{Grows, bytes_decides, list_any, map-append, string_bytes, ◌||◌, append_assoc, instruction_of, concat}
 use Rattle.check_texts.proofs.Words.{length-append, length-map, All-contains, Contains-append_cases, Contains-append_left, Contains-append_right}
 use Rattle.check_texts.proofs.Words.{Contains-push, Contains-push_cases, contains_cases, contains_head, contains_only, contains_tail, each_all}
-use Rattle.check_texts.proofs.Words.{PrintsEnd, AreBare, AreDistinct, AreTextsOf, CountsUpTo, GoesBy, HasWays, IsBare, IsBehind, IsWay}
-use Rattle.check_texts.proofs.Words.{ways_behind, Global, String, string_eq, min, not, ◌-◌, ◌^◌, AreExits, AreWaysBy, IsRest, IsRestOf, bare}
+use Rattle.check_texts.proofs.Words.{PrintsEnd, AreBare, AreDistinct, AreTextsOf, CountsUpTo, GoesBy, HasWays, IsBare, IsAfterLine, IsWay}
+use Rattle.check_texts.proofs.Words.{ways_after, Global, String, string_eq, min, not, ◌-◌, ◌^◌, AreExits, AreWaysBy, IsRest, IsRestOf, bare}
 use Rattle.check_texts.proofs.Words.{commands_in, texts_in, Layer, none_rings}
 use Rattle.std.specs.Borrow.{Bor}
 use Rattle.check_texts.specs.declared.layers.Exits.{Exits}
@@ -42,7 +42,7 @@ distinct_append (x ∷ xs) ys (new, one) other apart = (
   distinct_append xs ys one other (λ y here there. apart y (contains_tail x xs y here) there),
 )
 
-pub distinct_behind : (line : List ℕ) (ways : List (List (List ℕ))) → AreDistinct ways → AreDistinct (ways_behind line ways)
+pub distinct_behind : (line : List ℕ) (ways : List (List (List ℕ))) → AreDistinct ways → AreDistinct (ways_after line ways)
 distinct_behind line [] none = tt
 distinct_behind line (way ∷ ways) (new, others) = (
   λ inside.
@@ -82,9 +82,9 @@ module _ (catalogue : List FileEntry) (command : Instruction) (commands : List I
       (counts : (m n : ℕ) → CountsUpTo old.ways m → CountsUpTo later.ways n → CountsUpTo new.ways (m + n))
       (texts : (own others : List (List (List ℕ))) → AreTextsOf own old.is_whole (texts_in old.endings.items)
       → AreTextsOf others later.is_whole (texts_in later.endings.items)
-      → AreTextsOf (own ++ ways_behind s.printed others) new.is_whole (texts_in new.endings.items)) where
+      → AreTextsOf (own ++ ways_after s.printed others) new.is_whole (texts_in new.endings.items)) where
     abbrev those : List (List (List ℕ))
-    those = ways_behind s.printed rest.ways
+    those = ways_after s.printed rest.ways
 
     parts_of : (way : List (List ℕ)) → Contains those way → (other : List (List ℕ)) × Contains rest.ways other × (way ≡ s.printed ∷ other)
     parts_of way inside = contains_map (λ (w : List (List ℕ)). s.printed ∷ w) rest.ways way inside
@@ -263,28 +263,28 @@ counts_sum {a} {b} m n is one other = record {
 
 -- the texts of ways, and those that begin with a line
 module _ (line : List ℕ) (ways others : List (List (List ℕ))) (old later new : List (List ℕ)) where
-  behind_text : (text : List ℕ) → Contains (map concat (ways_behind line others)) text
+  behind_text : (text : List ℕ) → Contains (map concat (ways_after line others)) text
       → (other : List ℕ) × Contains (map concat others) other × (text ≡ line ++ other)
   behind_text text inside =
-      let (way, has, is) = contains_map concat (ways_behind line others) text inside in
+      let (way, has, is) = contains_map concat (ways_after line others) text inside in
       let (rest, there, way_is) = contains_map (λ (w : List (List ℕ)). line ∷ w) others way has in
       (concat rest, contains_mapped concat others rest there, is ∙ ap concat way_is)
 
-  text_behind : (other : List ℕ) → Contains (map concat others) other → Contains (map concat (ways_behind line others)) (line ++ other)
+  text_behind : (other : List ℕ) → Contains (map concat others) other → Contains (map concat (ways_after line others)) (line ++ other)
   text_behind other inside =
       let (way, has, is) = contains_map concat others other inside in
-      subst (λ (t : List ℕ). Contains (map concat (ways_behind line others)) (line ++ t)) (sym is)
-      (contains_mapped concat (ways_behind line others) (line ∷ way) (contains_mapped (λ (w : List (List ℕ)). line ∷ w) others way has))
+      subst (λ (t : List ℕ). Contains (map concat (ways_after line others)) (line ++ t)) (sym is)
+      (contains_mapped concat (ways_after line others) (line ∷ way) (contains_mapped (λ (w : List (List ℕ)). line ∷ w) others way has))
 
-  pub texts_more : {was all own_all : Bool} → Grows (IsBehind line later) old new
+  pub texts_more : {was all own_all : Bool} → Grows (IsAfterLine line later) old new
       → (IsTrue own_all → (text : List ℕ) → Contains later text → Contains new (line ++ text))
       → {whole : Bool} → (IsTrue whole → IsTrue was × (IsTrue own_all × IsTrue all))
-      → AreTextsOf ways was old → AreTextsOf others all later → AreTextsOf (ways ++ ways_behind line others) whole new
+      → AreTextsOf ways was old → AreTextsOf others all later → AreTextsOf (ways ++ ways_after line others) whole new
   texts_more grows there parts own rest = record {
-    each = λ text inside. subst (λ (l : List (List ℕ)). Contains l text) (sym (map-append concat ways (ways_behind line others)))
-        (⊎_elim (λ here. Contains-append_left (map concat ways) (map concat (ways_behind line others)) text (own.each text here))
-        (λ it. Contains-append_right (map concat ways) (map concat (ways_behind line others)) text
-        (subst (Contains (map concat (ways_behind line others))) (sym it.2) (text_behind it.0 (rest.each it.0 it.1))))
+    each = λ text inside. subst (λ (l : List (List ℕ)). Contains l text) (sym (map-append concat ways (ways_after line others)))
+        (⊎_elim (λ here. Contains-append_left (map concat ways) (map concat (ways_after line others)) text (own.each text here))
+        (λ it. Contains-append_right (map concat ways) (map concat (ways_after line others)) text
+        (subst (Contains (map concat (ways_after line others))) (sym it.2) (text_behind it.0 (rest.each it.0 it.1))))
         (grows.from text inside));
     all = λ whole text inside.
         let three = parts whole in
@@ -292,8 +292,8 @@ module _ (line : List ℕ) (ways others : List (List (List ℕ))) (old later new
         (λ has.
         let (other, stands, is) = behind_text text has in
         subst (Contains new) (sym is) (there three.1.0 other (rest.all three.1.1 other stands)))
-        (Contains-append_cases (map concat ways) (map concat (ways_behind line others)) text
-        (subst (λ (l : List (List ℕ)). Contains l text) (map-append concat ways (ways_behind line others)) inside));
+        (Contains-append_cases (map concat ways) (map concat (ways_after line others)) text
+        (subst (λ (l : List (List ℕ)). Contains l text) (map-append concat ways (ways_after line others)) inside));
   }
 
 -- a text that isn't among the keys of a set

@@ -1,12 +1,12 @@
 -- The names that most proofs of this crate use.
-pub use Rattle.check_outcomes.specs.Outcomes.{HasEachEnd, HasEachReport, IsAnswer, IsPossible, ring_behind, IsReportBy, MayReport, TellsOf}
+pub use Rattle.check_outcomes.specs.Outcomes.{HasEachEnd, HasEachReport, IsAnswer, IsPossible, ring_following, IsReportBy, MayReport, ReportsOf}
 pub use Rattle.check_outcomes.specs.declared.outcomes.PossibleAnswer.{PossibleAnswer}
 pub use Rattle.check_outcomes.specs.declared.outcomes.PossibleReport.{PossibleReport}
 pub use Rattle.fx_base.specs.Catalogue.{FileEntry}
 pub use Rattle.fx_base.specs.declared.errno.Errno.{Errno}
 pub use Rattle.fx_base.specs.declared.errno.Errno.TheVariants.{ENOMEM}
 pub use Rattle.fx_base.specs.declared.open_file.Closed.{Closed}
-pub use Rattle.check_lines.specs.Calls.{call_of, IsCall, IsLineOf, after_call, count_behind, AnswersFound}
+pub use Rattle.check_lines.specs.Calls.{call_of, IsCall, IsLineOf, after_call, accepted_following, AnswersFound}
 pub use Rattle.check_lines.proofs.Entries.{AreOf, all_closed, all_of_ring, few_of_ring, shown, refusal_other, end_printed}
 pub use Rattle.check_lines.proofs.Cuts.{from_here}
 pub use Rattle.fx_chain.specs.Completed.{Completed, completed_of, negated}
@@ -49,7 +49,7 @@ pub use Rattle.std.specs.Prelude.{All, Contains, IfSome, IsTrue, string_eq, min,
 pub use Rattle.std.proofs.lemmas.List.Elements.{Contains-append_left, Contains-push, Contains-push_cases, Contains-append_cases}
 pub use Rattle.std.proofs.lemmas.List.Elements.{Contains-append_right, All-cons, All-nil, All-weaker, All-contains, All-contains_itself, All-push}
 pub use Rattle.fx_ring.proofs.Rings.{none_rings}
-pub use Rattle.check_texts.specs.Ways.{AreBare, AreDistinct, AreTextsOf, CountsUpTo, GoesBy, HasWays, IsBare, IsBehind, IsWay, ways_behind}
+pub use Rattle.check_texts.specs.Ways.{AreBare, AreDistinct, AreTextsOf, CountsUpTo, GoesBy, HasWays, IsBare, IsAfterLine, IsWay, ways_after}
 pub use Rattle.check_texts.specs.Layers.{AreExits, AreWaysBy, IsRest, IsRestOf, bare, commands_in, texts_in, IsLayer}
 pub use Rattle.check_texts.specs.declared.layers.Layer.{Layer}
 pub use Rattle.check_texts.specs.declared.rests.TextEnd.{TextEnd}

@@ -6,7 +6,7 @@ use Rattle.fx_chain.specs.Completed.{Completed, completed_of}
 use Rattle.fx_chain.specs.Faults.{fault_of}
 use Rattle.fx_chain.specs.Operation.{Asked, all_asked}
 use Rattle.fx_chain.specs.declared.completion.Place.{Place}
-use Rattle.check_outcomes.specs.Outcomes.{ring_behind}
+use Rattle.check_outcomes.specs.Outcomes.{ring_following}
 use Rattle.check_outcomes.specs.declared.outcomes.PossibleReport.{PossibleReport}
 use Rattle.fx_ring.specs.Ring.{IsRing, RingContents, RingState, ring_of}
 use Rattle.fx_ring.specs.Submission.{Reported, reported}
@@ -14,7 +14,7 @@ use Rattle.fx_language.specs.Instruction.{Instruction, SubmitsAll, instructions_
 use Rattle.fx_order.specs.Slots.{ring_with_slots}
 use Rattle.fx_script.specs.Play.{Prints}
 use Rattle.fx_script.specs.Text.{report_text}
-use Rattle.check_lines.specs.Calls.{count_behind}
+use Rattle.check_lines.specs.Calls.{accepted_following}
 use Rattle.check_texts.specs.Texts.{FoundMemory, IsReportFound, PrintsAllFound}
 use Rattle.check_texts.specs.declared.walk.Inquiry.{Inquiry}
 use Rattle.check_texts.specs.declared.request_answers.Said.{Said}
@@ -22,7 +22,7 @@ use Rattle.check_texts.specs.declared.walk.Reached.{Reached}
 
 -- the count of accepted submissions behind a command
 abbrev pub count_after : ℕ → Instruction → ℕ
-count_after count (SubmitsAll asked) = count_behind count (fault_of asked)
+count_after count (SubmitsAll asked) = accepted_following count (fault_of asked)
 count_after count _ = count
 
 -- the same behind commands
@@ -120,7 +120,7 @@ stages_of catalogue rings = map (stage_of catalogue) rings
 -- where a report leads
 abbrev pub stage_reported : Bool → Stage → PossibleReport → Stage
 stage_reported keeps old possible = record {
-  ring = ring_behind old.ring possible.slots;
+  ring = ring_following old.ring possible.slots;
   printed = kept_text keeps
       (old.printed ++ report_text old.ring.catalogue (reported possible.report));
 }
@@ -161,7 +161,7 @@ pub record IsAskedIn (commands : List Instruction) (place : Place) (asking : Inq
   pub split : commands ≡ instructions_of asking.front.now
       ++ SubmitsAll (all_asked asking.requests.now) ∷ instructions_of asking.behind.now
   pub number : place.submission ≡ count_after_all 0 (instructions_of asking.front.now) + 1
-  pub counted : count_behind (count_after_all 0 (instructions_of asking.front.now))
+  pub counted : accepted_following (count_after_all 0 (instructions_of asking.front.now))
       (fault_of (all_asked asking.requests.now)) ≡ place.submission
 
 abbrev pub said_in : List Said → List Completed

@@ -61,12 +61,12 @@ pub record AreTextsOf (ways : List (List (List ℕ))) (are_all : Bool)
       → Contains texts text
 
 -- the text is one of these, behind a line
-abbrev pub IsBehind : List ℕ → List (List ℕ) → List ℕ → Type 0
-IsBehind line later text = (other : List ℕ) × Contains later other × (text ≡ line ++ other)
+abbrev pub IsAfterLine : List ℕ → List (List ℕ) → List ℕ → Type 0
+IsAfterLine line later text = (other : List ℕ) × Contains later other × (text ≡ line ++ other)
 
 -- ways behind a line
-abbrev pub ways_behind : List ℕ → List (List (List ℕ)) → List (List (List ℕ))
-ways_behind line others = map (λ way. line ∷ way) others
+abbrev pub ways_after : List ℕ → List (List (List ℕ)) → List (List (List ℕ))
+ways_after line others = map (λ way. line ∷ way) others
 
 -- what every ring is, without what was printed before
 abbrev pub IsBare : Stage → Type 0

@@ -34,7 +34,7 @@ pub(crate) fn both(one: bool, other: bool) -> bool
 ///
 /// # Errors
 /// `NoMemory` if an allocation fails.
-pub(crate) fn printed_behind(
+pub(crate) fn printed_after(
     setting: &WalkSetting<'_>,
     before: &str,
     line: &str,
@@ -127,7 +127,7 @@ fn push_report(
 {
     let past = spent.keep_order(setting.alloc, from, &possible.order)?;
     let line = report_text(setting.alloc, &possible.report, setting.catalogue)?;
-    let printed = printed_behind(setting, from.printed.as_str(), line.as_str())?;
+    let printed = printed_after(setting, from.printed.as_str(), line.as_str())?;
     let ring = from.ring_after(setting.alloc, &possible.slots)?;
     push_new(
         setting,
@@ -199,7 +199,7 @@ fn push_call(
         (stages_of setting.now.catalogue.now rings.new.items)) }
 {
     let called = call(setting.alloc, setting.catalogue, &from.ring, command)?;
-    let printed = printed_behind(setting, from.printed.as_str(), called.line.as_str())?;
+    let printed = printed_after(setting, from.printed.as_str(), called.line.as_str())?;
     push_new(
         setting,
         spent,

@@ -7,11 +7,11 @@ ghost use Rattle.fx_order.specs.Slots.{ring_with_slots};
 ghost use Rattle.check_texts.specs.Rings.{Grows, MayLeadTo, Stage, stage_of, stages_of};
 ghost use Rattle.check_texts.specs.Layers.{AreExits, AreWaysBy, IsLayer, IsRest, IsRestOf, bare};
 ghost use Rattle.check_texts.specs.Layers.{commands_in, texts_in};
-ghost use Rattle.check_texts.specs.Ways.{AreBare, AreTextsOf, CountsUpTo, IsBare, IsBehind};
-ghost use Rattle.check_texts.specs.Ways.{ways_behind};
+ghost use Rattle.check_texts.specs.Ways.{AreBare, AreTextsOf, CountsUpTo, IsBare, IsAfterLine};
+ghost use Rattle.check_texts.specs.Ways.{ways_after};
 
 use crate::layers::{Exits, Layers};
-use crate::next::{are_same, both, printed_behind};
+use crate::next::{are_same, both, printed_after};
 use crate::walk::{Reached, Spent, WalkSetting};
 use check_lines::{close_in_order, copy_of, files_at};
 use fx_base::NoMemory;
@@ -67,7 +67,7 @@ fn push_endings(
     later: &[TextEnd],
 ) -> Result<bool, NoMemory>
     requires told { setting.now.keeps ≡ true }
-    ensures grows { IfOk result (λ _. Grows (IsBehind (string_bytes exit.now.printed)
+    ensures grows { IfOk result (λ _. Grows (IsAfterLine (string_bytes exit.now.printed)
         (texts_in later.now)) (texts_in endings.old.items) (texts_in endings.new.items)) }
     ensures all { IfOk result (λ all. IsTrue all → (text : List ℕ)
         → Contains (texts_in later.now) text
@@ -77,7 +77,7 @@ fn push_endings(
         if endings.len() >= setting.most || !spent.has_place(setting.limits) {
             return Ok(false);
         }
-        let text = printed_behind(setting, exit.printed.as_str(), ending.text.as_str())?;
+        let text = printed_after(setting, exit.printed.as_str(), ending.text.as_str())?;
         let mut orders = Vec::from_slice(setting.alloc, &ending.orders)?;
         if let Some(past) = exit.past {
             orders.push(past)?;
@@ -150,7 +150,7 @@ fn push_ways(
     ensures texts { OnOk result ((ways others : List (List (List ℕ)))
         → AreTextsOf ways rest.old.is_whole (texts_in rest.old.endings.items)
         → AreTextsOf others later.now.is_whole (texts_in later.now.endings.items)
-        → AreTextsOf (ways ++ ways_behind (string_bytes exit.now.printed) others)
+        → AreTextsOf (ways ++ ways_after (string_bytes exit.now.printed) others)
         rest.new.is_whole (texts_in rest.new.endings.items)) }
 {
     let is_whole = push_endings(setting, spent, &mut rest.endings, exit, &later.endings)?;

@@ -1,5 +1,5 @@
 use Rattle.check_judge.proofs.Words.{◌-◌, Some, Ok, length, sym, length-map, all_asked, asked_of, ReadsReport, lines_text, lines_in, CameBy}
-use Rattle.check_judge.proofs.Words.{BeginsWith, AreApart, HasLines, TellsKnown, ring_with_slots}
+use Rattle.check_judge.proofs.Words.{BeginsWith, AreApart, HasLines, YieldsKnown, ring_with_slots}
 use Rattle.check_judge.proofs.Plays.{begins_with}
 use Rattle.check_judge.proofs.Submissions.{none_ordered, none_read, none_recorded, one_ordered, accepted_goes, accepted_keeps, ordered_done, ordered_is}
 use Rattle.check_judge.proofs.Submissions.{same_slots}
@@ -24,7 +24,7 @@ module _ (c : In-Ok) where
   has = rw c.in-Ok.is at c.in_ok-recorded.ensures.lines
 
   tells : AreApart c.args.catalogue.now c.args.ring.now.slots
-      → TellsKnown c.args.catalogue.now c.args.ring.now.slots (all_asked c.args.requests.now) c.in-Some.front.0 (Ok c.in-Ok.recorded)
+      → YieldsKnown c.args.catalogue.now c.args.ring.now.slots (all_asked c.args.requests.now) c.in-Some.front.0 (Ok c.in-Ok.recorded)
   tells = rw c.in-Ok.is at c.in_ok-recorded.ensures.only
 
 -- the accesses that lead to them

@@ -13,4 +13,4 @@ loop-state-preserved c =
     let found = c.in-Some.ensures.lookup in
     one_more_of (IsRecordedAt c.args.submission.now c.args.reports.now) c.args.states.now
     c.loop-state.invariant c.loop-state-test.true c.state-item.is
-    (λ over. (c.in-Some.possible.now, (c.loop-state.number, found.3.0, sym found.1), c.tells_of.ensures c.if-not-tells_of.false))
+    (λ over. (c.in-Some.possible.now, (c.loop-state.number, found.3.0, sym found.1), c.fits_the_report.ensures c.if-not-fits_the_report.false))

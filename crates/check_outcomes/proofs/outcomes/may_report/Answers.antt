@@ -10,5 +10,5 @@ returns-clause-ends c = IfOk-weaker c.reports_of.result _ _ (λ found ends yes r
     c.reports_of.ensures.ends
 
 pub returns-clause-all : goal.returns-clause-all
-returns-clause-all c = IfOk-weaker c.reports_of.result _ _ (λ found all yes tells registrations. all yes tells c.args.submissions registrations refl)
+returns-clause-all c = IfOk-weaker c.reports_of.result _ _ (λ found all yes with_reports registrations. all yes with_reports c.args.submissions registrations refl)
     c.reports_of.ensures.all

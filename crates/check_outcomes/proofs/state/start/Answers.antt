@@ -24,12 +24,12 @@ pub returns : goal.returns
 returns c = record {
   table = c.in_ok-slots.ensures;
   chains = λ i few. c.loop-i.invariant.each i (omega (arith, few, c.loop-i-test.false));
-  kept = λ tells. elim c.if-submission.branch [
-    | then-submission+in_ok-push_lists w ↦ rw w.telling-is (rw (c.none-telling.ensures.answers, w.deref.ensures.value) at w.in_ok-push_lists.ensures)
-    | else-submission w ↦ absurd (false≢true (sym w.if-submission.false ∙ tells))
+  kept = λ with_reports. elim c.if-submission.branch [
+    | then-submission+in_ok-push_lists w ↦ rw w.way_report-is (rw (c.none-way_report.ensures.answers, w.deref.ensures.value) at w.in_ok-push_lists.ensures)
+    | else-submission w ↦ absurd (false≢true (sym w.if-submission.false ∙ with_reports))
   ];
   removed = elim c.if-submission.branch [
-    | then-submission+in_ok-push_lists w ↦ rw w.telling-is c.none-telling.ensures.removed
-    | else-submission w ↦ rw w.telling-is c.none-telling.ensures.removed
+    | then-submission+in_ok-push_lists w ↦ rw w.way_report-is c.none-way_report.ensures.removed
+    | else-submission w ↦ rw w.way_report-is c.none-way_report.ensures.removed
   ];
 }

@@ -1,6 +1,6 @@
 use Rattle.check_outcomes.proofs.Words.{sym, ◌∙◌, all_completed, completed_of, Vec, Completion}
 use Rattle.check_outcomes.proofs.Viewing.{completion_same, same_each}
-use Rattle.check_outcomes.proofs.telling.are_all_same.Goals as goal
+use Rattle.check_outcomes.proofs.way_report.are_all_same.Goals as goal
 
 pub returns : goal.returns
 returns c = λ is. same_each (λ (own : Vec Completion). all_completed own.items)

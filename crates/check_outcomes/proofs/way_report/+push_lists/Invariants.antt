@@ -1,5 +1,5 @@
 use Rattle.check_outcomes.proofs.Words.{length}
-use Rattle.check_outcomes.proofs.telling.+push_lists.Given as goal
+use Rattle.check_outcomes.proofs.way_report.+push_lists.Given as goal
 
 abbrev pub decreases-push_lists : goal.decreases-push_lists
 decreases-push_lists l = length l.more.now
