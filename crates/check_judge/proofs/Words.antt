@@ -36,7 +36,7 @@ pub use Rattle.fx_order.specs.Access.{table_with}
 pub use Rattle.fx_order.specs.declared.access.Access.TheVariants.{Allocates, FindsFull, Looks, Puts, Takes}
 pub use Rattle.fx_order.specs.Order.{IsOneOrder, table_of, IsOrderOf, ring_left}
 pub use Rattle.fx_order.specs.Requests.{AreChainsDone, IsChainDone, IsDoneAtTable, IsRequestDone}
-pub use Rattle.fx_chain.specs.Intents.{gives, positions_of}
+pub use Rattle.fx_chain.specs.Intents.{completion_of_read, positions_of}
 pub use Rattle.fx_order.specs.Slots.{ring_with_slots, table_of_slots}
 pub use Rattle.fx_order.specs.declared.access.Access.{Access}
 pub use Rattle.fx_order.specs.declared.access.ChainAccess.{ChainAccess}

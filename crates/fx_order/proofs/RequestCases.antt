@@ -4,7 +4,7 @@ use Rattle.fx_order.proofs.Words.{◌≡◌, ℕ, zero, suc, ◌+◌, ◌<◌, �
 use Rattle.fx_order.proofs.Words.{◌∙◌, arith, inl, inr, Option, Some, slice_get, slice_get_within, leb-false, list_any, or_parts, zero-add, add-zero}
 use Rattle.fx_order.proofs.Words.{int_eq, Submitted, Closed, Place, installed, is_bad_entry, list_installs, list_installs-cons, Access, FileEntry}
 use Rattle.fx_order.proofs.Words.{IsCatalogue, name_at, Errno, EBADF, ENFILE, ENOMEM, refusal_of, Operation, Opens, Reads, Closes, Updates, Target}
-use Rattle.fx_order.proofs.Words.{Completed, completed, refusal, Any, Slot, Allocates, gives, IsDoneAtTable, IsRequestDone, InstallsAt}
+use Rattle.fx_order.proofs.Words.{Completed, completed, refusal, Any, Slot, Allocates, completion_of_read, IsDoneAtTable, IsRequestDone, InstallsAt}
 use Rattle.fx_order.proofs.Words.{installs_of, is_long_update, LONGEST_UPDATE, positions_of, applied, None, either_option}
 use Rattle.fx_order.proofs.Apart.{Own, own_both, own_none, own_one, own_weaker}
 use Rattle.fx_order.proofs.Intents.{as_many, same_opened, single}
@@ -100,7 +100,7 @@ unless_refused place P own c catalogue size operation refused done given =
 -- The answer is an error, the bytes of a file, or a number.
 
 module _ (catalogue : List FileEntry) (place : Place) (Q : Completed → Type 0) where
-  read_so : (off len : ℕ) (found : Option Finding) → Q (refusal place EBADF) → ((file : Closed) → Q (gives catalogue place file off len))
+  read_so : (off len : ℕ) (found : Option Finding) → Q (refusal place EBADF) → ((file : Closed) → Q (completion_of_read catalogue place file off len))
       → Q (read_answer catalogue place off len found)
   read_so off len (Some (At (Some file))) missed given = given file
   read_so off len found missed given = missed
@@ -145,7 +145,7 @@ module _ (catalogue : List FileEntry) (place : Place) where
       at_table (inr x) = let many = as_many place x.0.0 operation own x.0.2 in omega arith
 
   module _ (size : ℕ) (Q : Completed → Type 0) (own : List Access) (c : Completed) (failed : (errno : Errno) → Q (refusal place errno))
-      (given : (file : Closed) (off len : ℕ) → Q (gives catalogue place file off len))
+      (given : (file : Closed) (off len : ℕ) → Q (completion_of_read catalogue place file off len))
       (number : (n : ℕ) → n ≤ size → Q (completed place (pos n) []))
       (free : (slot : ℕ) (file : Closed) → own ≡ Allocates slot file ∷ [] → Q (completed place (pos slot) [])) where
     free_so : {file : Closed} (a : Access) → IsOf (Allocate file) a → own ≡ a ∷ [] → c ≡ allocated place (Some (finding_of a)) → Q c

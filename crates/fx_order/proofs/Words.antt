@@ -18,7 +18,7 @@ pub use Rattle.fx_chain.specs.Chains.{chains_of}
 pub use Rattle.fx_chain.specs.Completed.{Completed, all_completed, completed, completed_of, next_member, refusal}
 pub use Rattle.fx_chain.specs.Explains.{Explains, canceled, first_member, severs}
 pub use Rattle.fx_chain.specs.Faults.{is_long_update}
-pub use Rattle.fx_chain.specs.Intents.{InstallsAt, gives, positions_from, positions_of}
+pub use Rattle.fx_chain.specs.Intents.{InstallsAt, completion_of_read, positions_from, positions_of}
 pub use Rattle.fx_chain.specs.Operation.{Asked, Closes, Opens, Operation, Reads, Updates, all_asked, asked_of, operation_of}
 pub use Rattle.fx_chain.specs.Runs.{runs_of}
 pub use Rattle.fx_chain.specs.Weights.{all_installs, installs_of, list_installs}
