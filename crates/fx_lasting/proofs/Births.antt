@@ -16,7 +16,7 @@ use Rattle.fx_lasting.proofs.Words.{HasNoFile, HoldAgrees, IsAllowed, GuardAgree
 use Rattle.fx_lasting.proofs.FreeNodes.{some_free, entry_is, named_by}
 use Rattle.fx_lasting.proofs.Words.{IsInStock, Bool, cond, le-ltb, get_or}
 use Rattle.fx_lasting.proofs.Unheld.{NodeNow, in_phase}
-use Rattle.fx_lasting.proofs.Words.{HasItsPlace, Written, Unlabelled}
+use Rattle.fx_lasting.proofs.Words.{HasItsPlace, Placement, as_written, Unlabelled}
 
 -- a pass that looks for a node works with none
 names_nothing : {d : Work} → HasNoFile d → named_by d ≡ 0
@@ -36,7 +36,7 @@ module _ (turn : Turn) where
       go (leaving j t nx m f) at o = let a = o.counts in let b = o.few_takes in let c = o.few_marks in let d = o.few_visits in absurd (omega arith)
       go (retired f) at o = let a = o.counts in absurd (omega arith)
       go (emptied j) at o = let a = o.counts in absurd (omega arith)
-      go (kept j) at o = let a = o.counts in absurd (omega arith)
+      go (kept j lost) at o = let a = o.counts in absurd (omega arith)
 
   free_zero : {n : ℕ} → n < nodes_of v.start → r.phase n ≡ free → word_at st.words (word_of v.start n) ≡ 0
   free_zero l is = (in_phase turn l is).counts
@@ -143,12 +143,15 @@ module _ (turn : Turn) where
     abbrev words₁ : List ℕ
     words₁ = node_words turn n its.0 birth_word
 
+    abbrev new : Placement
+    new = as_written 0 Unlabelled
+
     abbrev born_after : After turn
-    born_after = after turn n its.0 (placed id Unlabelled) r.history words₁ homes₁ r.debt (Placing n Unlabelled) v.glance
+    born_after = after turn n its.0 (placed id new) r.history words₁ homes₁ r.debt (Placing n new) v.glance
 
     birth : Agrees v.start (end turn born_after)
     birth = let o = its_log turn in let h = rw works at o.hold in let node = in_phase turn its.0 its.1 in let same = node_slot turn n its.0 birth_word in
-        node_kept turn n its.0 (placed id Unlabelled) r.history words₁ homes₁ r.debt (Placing n Unlabelled) v.glance record {
+        node_kept turn n its.0 (placed id new) r.history words₁ homes₁ r.debt (Placing n new) v.glance record {
           words = length-set st.words (word_of v.start n) birth_word;
           homes = length-set st.homes n none;
           grows = grows_none x.number r.history;
@@ -171,20 +174,21 @@ module _ (turn : Turn) where
           its_stock = λ _. rw works at o.allowed;
           at_slot = λ s f is. cc (sym its.1 ∙ is);
           open_file = λ j u f other there holds is. let bad : None ≡ Some f = sym (ap file_in its.1) ∙ is in cc bad;
-          guards = λ p e other range. guards_else turn n its.0 (placed id Unlabelled) r.history words₁ homes₁ r.debt (Placing n Unlabelled) v.glance same p e
+          guards = λ p e other range. guards_else turn n its.0 (placed id new) r.history words₁ homes₁ r.debt (Placing n new) v.glance same p e
               (node_hold turn n its.0 birth_word p range.1) refl (λ may. rw its.1 at may);
           node = let t = sum_set (taken_of n) st.views id v (w turn born_after) here in let a = ap (taking n) works in let b = node.untaken in
               rw (node_here turn n its.0 birth_word) record {
                 counts = refl;
+                few_lost = omega arith;
                 at_home = set_here st.homes n none (let a = r.shape.homes in let b = its.0 in omega arith);
                 untaken = omega arith;
                 unowed = node.unowed;
               };
-          known = does_now st.views id v (w turn born_after) (Placing n Unlabelled) here refl;
+          known = does_now st.views id v (w turn born_after) (Placing n new) here refl;
           held = o.held ∙ ap held_in works;
           allowed = rw works at o.allowed;
-          its_own = own_keeps turn n its.0 (placed id Unlabelled) r.history words₁ homes₁ r.debt (Placing n Unlabelled) v.glance same refl
-              (node_hold turn n its.0 birth_word x.number (in_range turn).1 ∙ h.0, h.1) tt (its.0, changed_here r.phase n (placed id Unlabelled) n refl);
+          its_own = own_keeps turn n its.0 (placed id new) r.history words₁ homes₁ r.debt (Placing n new) v.glance same refl
+              (node_hold turn n its.0 birth_word x.number (in_range turn).1 ∙ h.0, h.1) tt (its.0, changed_here r.phase n (placed id new) n refl);
           holds = λ m. let a = ap (λ (d : Work). if_file m (held_in d)) works in omega arith;
         }
 
@@ -217,7 +221,7 @@ module _ (turn : Turn) where
         × (word_at st.words (hold_word_of v.start x.number) ≡ 0) × (r.debt x.number ≡ 0)
     its_calm = let o = its_log turn in ⊎_elim
         (λ (e : v.work ≡ Emptying n). let h = rw e at o.hold in (ap held_in e, ap busy e, λ m. ap (taking m) e, h.0, h.1))
-        (λ (e : (l : Written) × (v.work ≡ Placing n l)). let h = rw e.1 at o.hold in
+        (λ (e : (l : Placement) × (v.work ≡ Placing n l)). let h = rw e.1 at o.hold in
         (ap held_in e.1, ap busy e.1, λ m. ap (taking m) e.1, h.0, h.1)) works
 
     abbrev homes₀ : Homes
@@ -281,7 +285,7 @@ module _ (turn : Turn) where
 
     after_rest : HasNoFile (rested v.work) × IsAllowed x.stock x.listed (rested v.work) × ((m : ℕ) → rested v.work ≡ Searching m → m ≡ n)
     after_rest = ⊎_elim (λ (e : v.work ≡ Emptying n). rw e (inl refl, tt, λ m bad. cc bad))
-        (λ (e : (l : Written) × (v.work ≡ Placing n l)). let block = rw e.1 at (its_log turn).allowed in
+        (λ (e : (l : Placement) × (v.work ≡ Placing n l)). let block = rw e.1 at (its_log turn).allowed in
         rw e.1 (inr (n, refl), block, λ m is. let same : n ≡ m = cc is in sym same))
         works
 

@@ -2,7 +2,7 @@
 use Rattle.fx_lasting.proofs.Words.{◌≡◌, ◌<◌, ◌≤◌, ℕ, ◌*◌, arith, ⊎_elim, Start, LastingTable, list_place, slot_place, hold_place}
 use Rattle.fx_lasting.proofs.Words.{node_place, word_of, hold_word_of, nodes_of, slots_of, HasPlace, IsAtWork, Sat, Emptying, Placing}
 use Rattle.fx_lasting.proofs.Words.{LastingPass, IsPassOfTable, Option, Closed, List, Bool, cond, le-ltb, length, pass_in, get_elem?, some, ◌∙◌, sym, mul-le-mul_right, ap, groups_in, group_place, range_at_start, IsGroup}
-use Rattle.fx_lasting.proofs.Words.{tag_place, number_place, tag_word_of, number_word_of, Written}
+use Rattle.fx_lasting.proofs.Words.{tag_place, number_place, tag_word_of, number_word_of, Placement}
 use Rattle.fx_lasting.proofs.Groups.{few_groups}
 use Rattle.fx_lasting.specs.declared.layout.TheConstants.{MOST_NODES}
 use Rattle.fx_lasting.proofs.Running.{its_inside, stock_is}
@@ -66,7 +66,7 @@ number_word t n is = omega (arith, is, t.same_size, t.key.0)
 -- the node whose place is with the pass
 pub place_inside : {k : Start} {p n : ℕ} {x : Option Closed} {m : Sat} → IsAtWork k p m → HasPlace n x m → n < nodes_of k
 place_inside {n = n} {m = m} at has = ⊎_elim (λ (e : m.0.work ≡ Emptying n). its_inside at e)
-    (λ (e : (l : Written) × (m.0.work ≡ Placing n l)). its_inside at e.1) has.work
+    (λ (e : (l : Placement) × (m.0.work ≡ Placing n l)). its_inside at e.1) has.work
 
 -- a table has few nodes
 pub few_nodes : (t : LastingTable) → nodes_of t.table.shared.key ≤ MOST_NODES

@@ -45,7 +45,7 @@ module _ {k : Start} {s : Shared} (r : Agrees k s) (all_idle : (i : ℕ) (u : Vi
   removed_none m n (placed i l) a o = refl
   removed_none m n (seated i f) a o = refl
   removed_none m n (emptied i) a o = refl
-  removed_none m n (kept i) a o = refl
+  removed_none m n (kept i lost) a o = refl
 
   pub settled_end : IsSettled end
   settled_end = record {
@@ -72,7 +72,7 @@ module _ {k : Start} {s : Shared} (r : Agrees k s) (all_idle : (i : ℕ) (u : Vi
   home_by {n} (leaving i t nx z f) a o = let bad = nobody i o in absurd (omega arith)
   home_by {n} (retired f) a o = let w = a.somebody in let h = untaken n in let q = unowed n in absurd (omega arith)
   home_by {n} (emptied i) a o = let bad = nobody i o in absurd (omega arith)
-  home_by {n} (kept i) a o = let bad = nobody i o in absurd (omega arith)
+  home_by {n} (kept i lost) a o = let bad = nobody i o in absurd (omega arith)
 
   pub home_file : {n : ℕ} → n < nodes_of k → (x : Option Closed) × (get_elem? s.homes n ≡ some (some x)) × AtItsSlot n x
   home_file {n} l = home_by (r.phase n) (r.each_node n l) (r.each_owner n l)

@@ -3,7 +3,7 @@ use Rattle.fx_lasting.proofs.Words.{◌≡◌, ◌≢◌, ℕ, ◌+◌, ◌<◌,
 use Rattle.fx_lasting.proofs.Words.{inr, some, some-injective, get_elem?, set_here, set_else, stands_at, ⊎_elim, ◌⊎◌, dite}
 use Rattle.fx_lasting.proofs.Words.{ℕ_discrete, dec_le, SlotAgrees, NodeAgrees, OwnerAgrees, WorkAgrees, LogAgrees}
 use Rattle.fx_lasting.proofs.Words.{HoldAgrees, GuardAgrees, Does, GlanceAgrees, Heats, MayBeUnmarked, in_stock, Contains, IsHot, HoldsAt, Home}
-use Rattle.fx_lasting.proofs.Words.{IsFileOfNode, IsVacant, full_name_in, count_in, word_of, hold_word_of, slots_of, nodes_of, state_after_all, held_in, Nodes}
+use Rattle.fx_lasting.proofs.Words.{IsFileOfNode, IsVacant, IsBorn, full_name_in, count_in, word_of, hold_word_of, slots_of, nodes_of, state_after_all, held_in, Nodes}
 use Rattle.fx_lasting.proofs.Words.{Start, tally, Phase, free, placed, seated, leaving, retired, emptied, kept, owner, Glance, Log}
 use Rattle.fx_lasting.proofs.Words.{View, Work, Idle, Announced, Counted, Guarded, Owing, Yielding, Searching, Placing, Retiring, Emptying, Keeping, Nothing}
 use Rattle.fx_lasting.proofs.Words.{Hot, Cold, Heating, taken_of, owed, sum_by, suc}
@@ -17,7 +17,7 @@ abbrev pub busy : Work → ℕ
 busy (Placing n w) = n + 1
 busy (Retiring f n takes next marks) = n + 1
 busy (Emptying n) = n + 1
-busy (Keeping n) = n + 1
+busy (Keeping n lost) = n + 1
 busy _ = 0
 
 -- the label of a file, if there is one
@@ -33,7 +33,7 @@ written_of (retired f) is = ap (λ (o : Option File). label_in o) is
 written_of free is = absurd (cc is)
 written_of (placed j l) is = absurd (cc is)
 written_of (emptied j) is = absurd (cc is)
-written_of (kept j) is = absurd (cc is)
+written_of (kept j lost) is = absurd (cc is)
 
 -- the pass of a node is known in other views too, if what is done with it is
 pub owner_map : (views others : List View) (n : ℕ)
@@ -42,7 +42,7 @@ pub owner_map : (views others : List View) (n : ℕ)
 owner_map views others n f (placed j l) o = f j (Placing n l) refl o
 owner_map views others n f (leaving j t next marks g) o = f j (Retiring g n t next marks) refl o
 owner_map views others n f (emptied j) o = f j (Emptying n) refl o
-owner_map views others n f (kept j) o = f j (Keeping n) refl o
+owner_map views others n f (kept j lost) o = f j (Keeping n lost) refl o
 owner_map views others n f _ o = tt
 
 pub does_now : (views : List View) (id : ℕ) (v w : View) (d : Work) → get_elem? views id ≡ some v → w.work ≡ d → Does (set views id w) id d
@@ -87,12 +87,22 @@ module _ {at at' : ℕ → Option File} (size : ℕ) {takes_at takes_at' : ℕ �
     unowed = owed ∙ o.unowed;
   }
 
+  born_same : {lost : ℕ} {lies : Home} → IsBorn at size takes_at node_of next n word taken owing home lost lies
+      → IsBorn at' size takes_at' node_of next' n word' taken' owing' home' lost lies
+  born_same {lost} o = record {
+    counts = ap (λ (z : ℕ). z + lost) worded ∙ o.counts;
+    few_lost = o.few_lost;
+    at_home = homed ∙ o.at_home;
+    untaken = counted ∙ o.untaken;
+    unowed = owed ∙ o.unowed;
+  }
+
   pub node_same : (ph : Phase) → ((s : ℕ) (f : File) → ph ≡ seated s f → at s ≡ Some f → (at' s ≡ at s) × (takes_at' s ≡ takes_at s))
       → NodeAgrees at size takes_at node_of next n word taken owing home ph
       → NodeAgrees at' size takes_at' node_of next' n word' taken' owing' home' ph
   node_same free same o = vacant_same o
-  node_same (placed j l) same o = vacant_same o
-  node_same (kept j) same o = vacant_same o
+  node_same (placed j l) same o = born_same o
+  node_same (kept j lost) same o = born_same o
   node_same (seated s f) same o = let z = same s f refl o.there in let a = o.counts in let b = z.1 in record {
     file = file_same later homed o.file;
     counts = omega arith;
@@ -198,7 +208,7 @@ module _ (turn : Turn) (a : After turn) where
     work_stays (Placing m w) is at = (at.0, same_for at.1 refl)
     work_stays (Retiring f m t next marks) is at = (at.0, same_for at.1 refl)
     work_stays (Emptying m) is at = (at.0, same_for at.1 refl)
-    work_stays (Keeping m) is at = (at.0, same_for at.1 refl)
+    work_stays (Keeping m lost) is at = (at.0, same_for at.1 refl)
     work_stays Idle is at = tt
     work_stays (Announced m) is at = at
     work_stays (Owing m) is at = at
@@ -232,7 +242,7 @@ module _ (turn : Turn) (a : After turn) where
       go (Placing n w) g = tt
       go (Retiring f n t nx m) g = tt
       go (Emptying n) g = tt
-      go (Keeping n) g = tt
+      go (Keeping n lost) g = tt
 
 -- how far a look-up is, where no slot's word and no take of the pass has changed
 pub sees_same : (k : Start) {word word' : ℕ → ℕ} (deed : ℕ → Deed) → ((s : ℕ) → s < slots_of k → word' s ≡ word s) → (g : Glance)
@@ -260,4 +270,4 @@ module _ (turn : Turn) (words' : List ℕ) (same : (s : ℕ) → s < slots_of tu
       go (placed j l) o m = absurd m
       go (retired f) o m = absurd m
       go (emptied j) o m = absurd m
-      go (kept j) o m = absurd m
+      go (kept j lost) o m = absurd m

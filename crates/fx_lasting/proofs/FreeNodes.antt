@@ -67,7 +67,7 @@ named_by (Yielding f n) = n + 1
 named_by (Placing n w) = n + 1
 named_by (Retiring f n t nx m) = n + 1
 named_by (Emptying n) = n + 1
-named_by (Keeping n) = n + 1
+named_by (Keeping n lost) = n + 1
 named_by _ = 0
 
 abbrev uses : ℕ → View → ℕ
@@ -86,7 +86,7 @@ is_free (seated s f) = inr (λ e. cc e)
 is_free (leaving s t nx m f) = inr (λ e. cc e)
 is_free (retired f) = inr (λ e. cc e)
 is_free (emptied s) = inr (λ e. cc e)
-is_free (kept s) = inr (λ e. cc e)
+is_free (kept s lost) = inr (λ e. cc e)
 
 -- an entry of a list of numbers
 pub entry_is : (l : List ℕ) (i : ℕ) → i < length l → get_elem? l i ≡ some (get_or l i 0)
@@ -120,7 +120,7 @@ module _ {k : Start} {st : Shared} (r : Agrees k st) where
   owes_use n word (Placing m w) o = absurd (let a = o.1 in omega arith)
   owes_use n word (Retiring f m t nx z) o = absurd (let a = o.1 in omega arith)
   owes_use n word (Emptying m) o = absurd (let a = o.1 in omega arith)
-  owes_use n word (Keeping m) o = absurd (let a = o.1 in omega arith)
+  owes_use n word (Keeping m lost) o = absurd (let a = o.1 in omega arith)
 
   -- a pass works with a node that isn't free, unless a slot names it
   used : (n : ℕ) → n < nodes_of k → ((s : ℕ) → r.where_is n ≢ at_slot s) → (ph : Phase) → r.phase n ≡ ph → (ph ≡ free → ⊥)
@@ -141,7 +141,7 @@ module _ {k : Start} {st : Shared} (r : Agrees k st) where
       let a = used_by n y.0 y.1 y.3 (owes_use n _ y.1.work (rw z.3 at h')) in omega arith)
       (λ some_taken. let a = sum_le_at (taken_of n) (uses n) st.views (λ i u e. takes_use n u.work) in omega arith)
   used n l away (emptied j) is not_free o own = let a = does_use n j own refl in omega arith
-  used n l away (kept j) is not_free o own = let a = does_use n j own refl in omega arith
+  used n l away (kept j lost) is not_free o own = let a = does_use n j own refl in omega arith
 
   -- The nodes of a stock, while its pass looks for one
   module _ (id : ℕ) (v : View) (x : Log) (here : get_elem? st.views id ≡ some v) (one : v.logs ≡ x ∷ []) (still : named_by v.work ≡ 0) where

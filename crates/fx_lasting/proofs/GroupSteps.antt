@@ -36,7 +36,7 @@ is_inside k phase seat (Searching n) o = o.0
 is_inside k phase seat (Placing n w) o = o.0
 is_inside k phase seat (Retiring f n t nx m) o = o.0
 is_inside k phase seat (Emptying n) o = o.0
-is_inside k phase seat (Keeping n) o = o.0
+is_inside k phase seat (Keeping n lost) o = o.0
 
 module _ (k : Start) (s : Shared) (r : Agrees k s) where
   -- a seat without a pass owes nothing

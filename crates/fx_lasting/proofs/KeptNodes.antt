@@ -2,8 +2,8 @@
 use Rattle.fx_lasting.proofs.Words.{◌≡◌, ℕ, ◌<◌, List, [], ◌∷◌, set, sym, refl, ap, ◌∙◌, subst, arith, Option, Some, None, none, some}
 use Rattle.fx_lasting.proofs.Words.{keeps, takes, gives, rest, set_here, set_else, Closed, WorkAgrees, nodes_of, word_of, if_file, taken_of, taking}
 use Rattle.fx_lasting.proofs.Words.{held_in, placed, free, kept, emptied, owner, file_in, removed_in, changed_here, Work, Idle, Placing, Emptying, Keeping}
-use Rattle.fx_lasting.proofs.Words.{Parks, Resumes, SettlesNode, ParksKeep, ResumesKeep, SettlesKeep, birth_word, step, inr, dite, ℕ_discrete}
-use Rattle.fx_lasting.proofs.Words.{sum_set, length-set, Agrees, Unlabelled, IsInStock}
+use Rattle.fx_lasting.proofs.Words.{Parks, Resumes, SettlesNode, ParksKeep, ResumesKeep, SettlesKeep, birth_word, step, inl, inr, ⊎_elim, ◌⊎◌, dec_le, dite}
+use Rattle.fx_lasting.proofs.Words.{sum_set, length-set, Agrees, Unlabelled, IsInStock, Placement, as_written, MayCarry, most_carried, ◌-◌, ◌+◌, ◌≤◌}
 use Rattle.fx_lasting.proofs.Histories.{grows_none, each_changed}
 use Rattle.fx_lasting.proofs.Frames.{busy, does_now}
 use Rattle.fx_lasting.proofs.Keeping.{Turn, turn_of, After, Homes, word_at, Made, by_turn, its_log, its_work, in_range, tells, tells_less, w, end}
@@ -13,6 +13,12 @@ use Rattle.fx_lasting.proofs.Calm.{read_after, read_kept}
 use Rattle.fx_lasting.proofs.Peeking.{goes_still, still}
 use Rattle.fx_lasting.proofs.Unheld.{in_phase}
 
+-- a word has lost few takes, or not
+pub carries_or : (word : ℕ) → MayCarry word ⊎ (MayCarry word → ⊥)
+carries_or word = dite (dec_le word birth_word)
+    (λ low. dite (dec_le birth_word (word + most_carried)) (λ few. inl (low, few)) (λ more. inr (λ is. more is.1)))
+    (λ high. inr (λ is. high is.0))
+
 module _ (turn : Turn) (n : ℕ) where
   open turn use {st, v, r, id, x, here, one}
 
@@ -20,7 +26,10 @@ module _ (turn : Turn) (n : ℕ) where
   found = word_at st.words (word_of v.start n)
 
   -- a pass that took the closed file of a node of its stock out
-  module _ (works : v.work ≡ Emptying n) (stocked : IsInStock x.stock n) (is : found ≡ birth_word) where
+  module _ (works : v.work ≡ Emptying n) (stocked : IsInStock x.stock n) (is : MayCarry found) where
+    abbrev less : ℕ
+    less = birth_word - found
+
     at_out : (n < nodes_of v.start) × (r.phase n ≡ emptied id)
     at_out = subst (WorkAgrees v.start r.phase id) works (its_work turn)
 
@@ -31,12 +40,12 @@ module _ (turn : Turn) (n : ℕ) where
     words₁ = node_words turn n at_out.0 found
 
     abbrev park_after : After turn
-    park_after = after turn n at_out.0 (kept id) r.history words₁ homes₁ r.debt (Keeping n) v.glance
+    park_after = after turn n at_out.0 (kept id less) r.history words₁ homes₁ r.debt (Keeping n less) v.glance
 
     parked : Agrees v.start (end turn park_after)
     parked = let o = its_log turn in let l = at_out.0 in let ph = at_out.1 in let h = rw works at o.hold in let node = in_phase turn l ph in
         let same = node_slot turn n l found in
-        node_kept turn n l (kept id) r.history words₁ homes₁ r.debt (Keeping n) v.glance record {
+        node_kept turn n l (kept id less) r.history words₁ homes₁ r.debt (Keeping n less) v.glance record {
           words = length-set st.words (word_of v.start n) found;
           homes = length-set st.homes n (some None);
           grows = grows_none x.number r.history;
@@ -59,20 +68,21 @@ module _ (turn : Turn) (n : ℕ) where
           its_stock = λ bad. cc (sym ph ∙ bad);
           at_slot = λ s f e. cc (sym ph ∙ e);
           open_file = λ j u f other there holds e. let bad : None ≡ Some f = sym (ap file_in ph) ∙ e in cc bad;
-          guards = λ p e other range. guards_else turn n l (kept id) r.history words₁ homes₁ r.debt (Keeping n) v.glance same p e
+          guards = λ p e other range. guards_else turn n l (kept id less) r.history words₁ homes₁ r.debt (Keeping n less) v.glance same p e
               (node_hold turn n l found p range.1) refl (λ may. rw ph at may);
           node = let t = sum_set (taken_of n) st.views id v (w turn park_after) here in let a = ap (taking n) works in let b = node.untaken in
               rw (node_here turn n l found) record {
-                counts = is;
+                counts = let a = is.0 in omega arith;
+                few_lost = let a = is.1 in omega arith;
                 at_home = set_here st.homes n (some None) (let a = r.shape.homes in let b = l in omega arith);
                 untaken = omega arith;
                 unowed = node.unowed;
               };
-          known = does_now st.views id v (w turn park_after) (Keeping n) here refl;
+          known = does_now st.views id v (w turn park_after) (Keeping n less) here refl;
           held = o.held ∙ ap held_in works;
           allowed = stocked;
-          its_own = own_keeps turn n l (kept id) r.history words₁ homes₁ r.debt (Keeping n) v.glance same refl
-              (node_hold turn n l found x.number (in_range turn).1 ∙ h.0, h.1) tt (l, changed_here r.phase n (kept id) n refl);
+          its_own = own_keeps turn n l (kept id less) r.history words₁ homes₁ r.debt (Keeping n less) v.glance same refl
+              (node_hold turn n l found x.number (in_range turn).1 ∙ h.0, h.1) tt (l, changed_here r.phase n (kept id less) n refl);
           holds = λ m. let a = ap (λ (d : Work). if_file m (held_in d)) works in omega arith;
         }
 
@@ -92,17 +102,17 @@ module _ (turn : Turn) (n : ℕ) where
 
   pub parks : v.work ≡ Emptying n → IsInStock x.stock n → (slots : ℕ) (carried : List (ℕ × Option Closed)) → carried ≡ (n, None) ∷ []
       → Made turn carried (word_of v.start n) (λ word. word) (Parks (step slots (word_of v.start n) 0 0 none) (v, carried))
-  parks works stocked slots carried has = dite (ℕ_discrete found birth_word) (λ is. parks_out works stocked is slots carried has) (λ more. (
+  parks works stocked slots carried has = ⊎_elim (λ is. parks_out works stocked is slots carried has) (λ more. (
     w turn (read_after turn v.work v.glance r.history),
     keeps,
     tt,
     read_kept turn v.work v.glance (word_of v.start n) (still turn),
     record { keeps = λ m _ is. absurd (more is); lost = λ _. goes_still turn carried },
-  ))
+  )) (carries_or found)
 
   -- a pass that keeps the node
-  module _ (works : v.work ≡ Keeping n) where
-    at_rest : (n < nodes_of v.start) × (r.phase n ≡ kept id)
+  module _ (lost : ℕ) (works : v.work ≡ Keeping n lost) where
+    at_rest : (n < nodes_of v.start) × (r.phase n ≡ kept id lost)
     at_rest = subst (WorkAgrees v.start r.phase id) works (its_work turn)
 
     abbrev homes₂ : Homes
@@ -111,13 +121,16 @@ module _ (turn : Turn) (n : ℕ) where
     abbrev words₂ : List ℕ
     words₂ = node_words turn n at_rest.0 found
 
+    abbrev again_so : Placement
+    again_so = as_written lost Unlabelled
+
     abbrev again_after : After turn
-    again_after = after turn n at_rest.0 (placed id Unlabelled) r.history words₂ homes₂ r.debt (Placing n Unlabelled) v.glance
+    again_after = after turn n at_rest.0 (placed id again_so) r.history words₂ homes₂ r.debt (Placing n again_so) v.glance
 
     again : Agrees v.start (end turn again_after)
     again = let o = its_log turn in let l = at_rest.0 in let ph = at_rest.1 in let h = rw works at o.hold in let node = in_phase turn l ph in
         let same = node_slot turn n l found in
-        node_kept turn n l (placed id Unlabelled) r.history words₂ homes₂ r.debt (Placing n Unlabelled) v.glance record {
+        node_kept turn n l (placed id again_so) r.history words₂ homes₂ r.debt (Placing n again_so) v.glance record {
           words = length-set st.words (word_of v.start n) found;
           homes = length-set st.homes n none;
           grows = grows_none x.number r.history;
@@ -140,20 +153,21 @@ module _ (turn : Turn) (n : ℕ) where
           its_stock = λ bad. cc (sym ph ∙ bad);
           at_slot = λ s f e. cc (sym ph ∙ e);
           open_file = λ j u f other there holds e. let bad : None ≡ Some f = sym (ap file_in ph) ∙ e in cc bad;
-          guards = λ p e other range. guards_else turn n l (placed id Unlabelled) r.history words₂ homes₂ r.debt (Placing n Unlabelled) v.glance same p e
+          guards = λ p e other range. guards_else turn n l (placed id again_so) r.history words₂ homes₂ r.debt (Placing n again_so) v.glance same p e
               (node_hold turn n l found p range.1) refl (λ may. rw ph at may);
           node = let t = sum_set (taken_of n) st.views id v (w turn again_after) here in let a = ap (taking n) works in let b = node.untaken in
               rw (node_here turn n l found) record {
                 counts = node.counts;
+                few_lost = node.few_lost;
                 at_home = set_here st.homes n none (let a = r.shape.homes in let b = l in omega arith);
                 untaken = omega arith;
                 unowed = node.unowed;
               };
-          known = does_now st.views id v (w turn again_after) (Placing n Unlabelled) here refl;
+          known = does_now st.views id v (w turn again_after) (Placing n again_so) here refl;
           held = o.held ∙ ap held_in works;
           allowed = rw works at o.allowed;
-          its_own = own_keeps turn n l (placed id Unlabelled) r.history words₂ homes₂ r.debt (Placing n Unlabelled) v.glance same refl
-              (node_hold turn n l found x.number (in_range turn).1 ∙ h.0, h.1) tt (l, changed_here r.phase n (placed id Unlabelled) n refl);
+          its_own = own_keeps turn n l (placed id again_so) r.history words₂ homes₂ r.debt (Placing n again_so) v.glance same refl
+              (node_hold turn n l found x.number (in_range turn).1 ∙ h.0, h.1) tt (l, changed_here r.phase n (placed id again_so) n refl);
           holds = λ m. let a = ap (λ (d : Work). if_file m (held_in d)) works in omega arith;
         }
 
@@ -165,8 +179,13 @@ module _ (turn : Turn) (n : ℕ) where
       (in_phase turn at_rest.0 at_rest.1).at_home,
       again,
       record {
-        goes = λ m works'. let same : n ≡ m = cc (sym works ∙ works') in rw (← same)
-            (tells turn again_after refl carried ((n, None) ∷ carried) [] (grows_none x.number r.history) r.legal refl at_rest.0, refl);
+        goes = λ m more works'. let same : n ≡ m = cc (sym works ∙ works') in let as_many : lost ≡ more = cc (sym works ∙ works') in
+            rw (← same, ← as_many) (
+              tells turn again_after refl carried ((n, None) ∷ carried) [] (grows_none x.number r.history) r.legal refl at_rest.0,
+              refl,
+              (in_phase turn at_rest.0 at_rest.1).counts,
+              (in_phase turn at_rest.0 at_rest.1).few_lost,
+            );
       },
     )
 
@@ -238,11 +257,11 @@ parks_keep k slots id i n m x has works stocked carries place = by_turn slots (�
     (λ st r here _ fits. parks (turn_of m x has.1 id st r here) n works stocked slots m.1 carries)
 
 pub resumes_keep : ResumesKeep Resumes
-resumes_keep k slots id i n m x has works place = by_turn slots (λ _. Unit {0}) (λ k. word_of k n) (λ word. word)
+resumes_keep k slots id i n lost m x has works place = by_turn slots (λ _. Unit {0}) (λ k. word_of k n) (λ word. word)
     (λ i. Resumes (step slots i 0 0 none) m) has tt place
-    (λ st r here _ fits. resumes (turn_of m x has.1 id st r here) n works slots m.1)
+    (λ st r here _ fits. resumes (turn_of m x has.1 id st r here) n lost works slots m.1)
 
 pub settles_keep : SettlesKeep SettlesNode
-settles_keep k slots id i n m x has works place = by_turn slots (λ _. Unit {0}) (λ k. word_of k n) (λ _. 0)
+settles_keep k slots id i n lost m x has works place = by_turn slots (λ _. Unit {0}) (λ k. word_of k n) (λ _. 0)
     (λ i _. SettlesNode (step slots i 0 0 none) m 0) has tt place
-    (λ st r here _ fits. settles (turn_of m x has.1 id st r here) n works slots m.1)
+    (λ st r here _ fits. settles (turn_of m x has.1 id st r here) n lost works slots m.1)

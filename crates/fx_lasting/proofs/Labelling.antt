@@ -3,7 +3,7 @@ use Rattle.fx_lasting.proofs.Words.{◌≡◌, ◌≢◌, ℕ, ◌+◌, ◌<◌,
 use Rattle.fx_lasting.proofs.Words.{none, keeps, step, length-set, get_or-set_other, get_or-set_same, Closed, File, Agrees, WorkAgrees, HoldsAt, Labels}
 use Rattle.fx_lasting.proofs.Words.{slots_of, nodes_of, slot_place, group_place, list_place, question_place, word_of, hold_word_of, tag_word_of}
 use Rattle.fx_lasting.proofs.Words.{number_word_of, held_in, if_file, taken_of, taking, HoldsOn, Phase, placed, owner, file_in, removed_in, written_in}
-use Rattle.fx_lasting.proofs.Words.{changed_here, sum_set, Work, Placing, Written, Unlabelled, Tag, Label, label_of, number_of_mark, Goes, Log, first_log}
+use Rattle.fx_lasting.proofs.Words.{changed_here, sum_set, Work, Placing, Placement, Written, as_written, Unlabelled, Tag, Label, label_of, number_of_mark, Goes, Log, first_log}
 use Rattle.fx_lasting.proofs.Words.{Tags, Numbers, ReadsTag, ReadsNumber, TagsKeep, NumbersKeep, ReadsTagKeep, ReadsNumberKeep}
 use Rattle.fx_lasting.proofs.Histories.{grows_none, each_changed}
 use Rattle.fx_lasting.proofs.Frames.{busy, does_now, written_of}
@@ -20,12 +20,21 @@ use Rattle.fx_lasting.proofs.Unheld.{in_phase}
 held_file : {d : Work} {f : File} {n : ℕ} → HoldsOn d f n → held_in d ≡ Some f
 held_file holds = ⊎_elim (λ is. ap held_in is) (λ is. ap held_in is) holds
 
+-- the file that a pass is about to install, and the tag that is written
+abbrev placement_in : Work → Placement
+placement_in (Placing n l) = l
+placement_in _ = as_written 0 Unlabelled
+
+abbrev tag_in : Written → ℕ
+tag_in (Tag t) = t
+tag_in _ = 0
+
 module _ (turn : Turn) where
   open turn use {st, v, r, id, x, here, one}
 
   -- The pass has the place of the node, and stores one word of its label
-  module _ (n : ℕ) (l : Written) (works : v.work ≡ Placing n l) (place new : ℕ) (low : word_of v.start n < place) (high : place < word_of v.start n + 4)
-      (l' : Written) where
+  module _ (n : ℕ) (l : Placement) (works : v.work ≡ Placing n l) (place new : ℕ) (low : word_of v.start n < place) (high : place < word_of v.start n + 4)
+      (l' : Placement) (as_many : l'.lost ≡ l.lost) where
     its : (n < nodes_of v.start) × (r.phase n ≡ placed id l)
     its = subst (WorkAgrees v.start r.phase id) works (its_work turn)
 
@@ -50,7 +59,7 @@ module _ (turn : Turn) where
     abbrev stored_after : After turn
     stored_after = after turn n its.0 (placed id l') r.history words' st.homes r.debt (Placing n l') v.glance
 
-    stored : ((m : ℕ) → m ≢ n → LabelSame v.start words' st.words m) → Labels v.start words' n l' → Agrees v.start (end turn stored_after)
+    stored : ((m : ℕ) → m ≢ n → LabelSame v.start words' st.words m) → Labels v.start words' n l'.written → Agrees v.start (end turn stored_after)
     stored else label = let o = its_log turn in let h = rw works at o.hold in let node = in_phase turn its.0 its.1 in
         node_kept turn n its.0 (placed id l') r.history words' st.homes r.debt (Placing n l') v.glance record {
           words = length-set st.words place new;
@@ -78,7 +87,8 @@ module _ (turn : Turn) where
           guards = λ p e other range. guards_else turn n its.0 (placed id l') r.history words' st.homes r.debt (Placing n l') v.glance same_slots p e
               (same_hold p range.1) refl (λ may. rw its.1 at may);
           node = let t = sum_set (taken_of n) st.views id v (w turn stored_after) here in let a = ap (taking n) works in let b = node.untaken in record {
-            counts = same_node n ∙ node.counts;
+            counts = ap (λ (z : ℕ). z + l'.lost) (same_node n) ∙ (ap (λ (z : ℕ). word_at st.words (word_of v.start n) + z) as_many ∙ node.counts);
+            few_lost = let e = as_many in let f = node.few_lost in omega arith;
             at_home = node.at_home;
             untaken = omega arith;
             unowed = node.unowed;
@@ -95,34 +105,34 @@ module _ (turn : Turn) where
     goes carried = record { stepped = tells turn stored_after refl carried carried [] (grows_none x.number r.history) r.legal refl its.0; carried = refl }
 
   -- the tag
-  tag : (n tag : ℕ) → v.work ≡ Placing n Unlabelled → (slots : ℕ) (carried : List (ℕ × Option Closed))
+  tag : (n lost tag : ℕ) → v.work ≡ Placing n (as_written lost Unlabelled) → (slots : ℕ) (carried : List (ℕ × Option Closed))
       → Made turn carried (tag_word_of v.start n) (λ _. tag) (λ _. Tags (step slots (tag_word_of v.start n) tag 0 none) (v, carried) tag)
-  tag n t works slots carried = let place = tag_word_of v.start n in
+  tag n lost t works slots carried = let place = tag_word_of v.start n in
       let low : word_of v.start n < place = omega arith in let high : place < word_of v.start n + 4 = omega arith in
-      let inside = (its n Unlabelled works place t low high (Tag t)).0 in (
-        w turn (stored_after n Unlabelled works place t low high (Tag t)),
+      let inside = (its n (as_written lost Unlabelled) works place t low high (as_written lost (Tag t)) refl).0 in (
+        w turn (stored_after n (as_written lost Unlabelled) works place t low high (as_written lost (Tag t)) refl),
         keeps,
         tt,
-        stored n Unlabelled works place t low high (Tag t)
+        stored n (as_written lost Unlabelled) works place t low high (as_written lost (Tag t)) refl
             (λ m other. (
               get_or-set_other st.words place (tag_word_of v.start m) t 0 (λ bad. other (omega (arith, bad))),
               get_or-set_other st.words place (number_word_of v.start m) t 0 (λ bad. omega (arith, bad)),
             ))
             (get_or-set_same st.words place t 0 (omega (arith, r.shape.words, inside))),
-        record { goes = λ m works'. let e : n ≡ m = cc (sym works ∙ works') in rw (← e) (goes n Unlabelled works place t low high (Tag t) carried) },
+        record { goes = λ m more works'. let e : n ≡ m = cc (sym works ∙ works') in let f : lost ≡ more = ap (λ (d : Work). (placement_in d).lost) (sym works ∙ works') in rw (← e, ← f) (goes n (as_written lost Unlabelled) works place t low high (as_written lost (Tag t)) refl carried) },
       )
 
   -- the number
-  number : (n t number : ℕ) → v.work ≡ Placing n (Tag t) → (slots : ℕ) (carried : List (ℕ × Option Closed))
+  number : (n lost t number : ℕ) → v.work ≡ Placing n (as_written lost (Tag t)) → (slots : ℕ) (carried : List (ℕ × Option Closed))
       → Made turn carried (number_word_of v.start n) (λ _. number)
       (λ _. Numbers (step slots (number_word_of v.start n) number 0 none) (v, carried) number)
-  number n t new works slots carried = let place = number_word_of v.start n in
+  number n lost t new works slots carried = let place = number_word_of v.start n in
       let low : word_of v.start n < place = omega arith in let high : place < word_of v.start n + 4 = omega arith in
-      let at = its n (Tag t) works place new low high (Label t new) in (
-        w turn (stored_after n (Tag t) works place new low high (Label t new)),
+      let at = its n (as_written lost (Tag t)) works place new low high (as_written lost (Label t new)) refl in (
+        w turn (stored_after n (as_written lost (Tag t)) works place new low high (as_written lost (Label t new)) refl),
         keeps,
         tt,
-        stored n (Tag t) works place new low high (Label t new)
+        stored n (as_written lost (Tag t)) works place new low high (as_written lost (Label t new)) refl
             (λ m other. (
               get_or-set_other st.words place (tag_word_of v.start m) new 0 (λ bad. omega (arith, bad)),
               get_or-set_other st.words place (number_word_of v.start m) new 0 (λ bad. other (omega (arith, bad))),
@@ -132,8 +142,8 @@ module _ (turn : Turn) where
               get_or-set_same st.words place new 0 (omega (arith, r.shape.words, at.0)),
             ),
         record {
-          goes = λ m u works'. let e : n ≡ m = cc (sym works ∙ works') in let f : t ≡ u = cc (sym works ∙ works') in
-              rw (← e, ← f) (goes n (Tag t) works place new low high (Label t new) carried);
+          goes = λ m more u works'. let e : n ≡ m = cc (sym works ∙ works') in let f : t ≡ u = ap (λ (d : Work). tag_in (placement_in d).written) (sym works ∙ works') in
+              let g : lost ≡ more = ap (λ (d : Work). (placement_in d).lost) (sym works ∙ works') in rw (← e, ← f, ← g) (goes n (as_written lost (Tag t)) works place new low high (as_written lost (Label t new)) refl carried);
         },
       )
 
@@ -194,14 +204,14 @@ module _ (turn : Turn) where
     )
 
 pub tags_keep : TagsKeep Tags
-tags_keep k slots id i n t m x has works place = by_turn slots (λ _. Unit {0}) (λ k. tag_word_of k n) (λ _. t)
+tags_keep k slots id i n lost t m x has works place = by_turn slots (λ _. Unit {0}) (λ k. tag_word_of k n) (λ _. t)
     (λ i _. Tags (step slots i t 0 none) m t) has tt place
-    (λ st r here _ fits. tag (turn_of m x has.1 id st r here) n t works slots m.1)
+    (λ st r here _ fits. tag (turn_of m x has.1 id st r here) n lost t works slots m.1)
 
 pub numbers_keep : NumbersKeep Numbers
-numbers_keep k slots id i n t new m x has works place = by_turn slots (λ _. Unit {0}) (λ k. number_word_of k n) (λ _. new)
+numbers_keep k slots id i n lost t new m x has works place = by_turn slots (λ _. Unit {0}) (λ k. number_word_of k n) (λ _. new)
     (λ i _. Numbers (step slots i new 0 none) m new) has tt place
-    (λ st r here _ fits. number (turn_of m x has.1 id st r here) n t new works slots m.1)
+    (λ st r here _ fits. number (turn_of m x has.1 id st r here) n lost t new works slots m.1)
 
 pub reads_tag_keep : ReadsTagKeep ReadsTag
 reads_tag_keep k slots id i n f m x has holds place = by_turn slots (λ _. Unit {0}) (λ k. tag_word_of k n) (λ word. word)

@@ -109,7 +109,7 @@ module _ (turn : Turn) (n : ℕ) where
       go free is o = let a = o.unowed in absurd (omega arith)
       go (placed j l) is o = let a = o.unowed in absurd (omega arith)
       go (emptied j) is o = let a = o.unowed in absurd (omega arith)
-      go (kept j) is o = let a = o.unowed in absurd (omega arith)
+      go (kept j lost) is o = let a = o.unowed in absurd (omega arith)
 
   -- the debt of the pass is paid
   abbrev paid : ℕ → ℕ

@@ -24,7 +24,7 @@ allowed_more stock l (Owing n) ok = tt
 allowed_more stock l (Yielding f n) ok = tt
 allowed_more stock l (Retiring f n t nx m) ok = tt
 allowed_more stock l (Emptying n) ok = tt
-allowed_more stock l (Keeping n) ok = ok
+allowed_more stock l (Keeping n lost) ok = ok
 
 module _ (turn : Turn) (not_yet : turn.x.listed ≡ false) (fits : word_at turn.st.words (list_place turn.x.number) < 18446744073709551616) where
   open turn use {st, v, r, id, x, here, one}

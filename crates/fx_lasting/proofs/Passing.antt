@@ -142,7 +142,7 @@ holds_on (Searching n) is = absurd (cc is)
 holds_on (Placing n l) is = absurd (cc is)
 holds_on (Retiring g n t nx m) is = absurd (cc is)
 holds_on (Emptying n) is = absurd (cc is)
-holds_on (Keeping n) is = absurd (cc is)
+holds_on (Keeping n lost) is = absurd (cc is)
 
 -- a pass that looks nothing up, outside a change
 pub at_rest : {id : TableId} {k : Start} {p : LastingPass} → IsPassOf id k p → {m' : Sat} {xs : List Action} {w : Work} {n : ℕ}
@@ -163,7 +163,7 @@ module _ (passes visit entry : ℕ) (idle guarded keeps : Bool) (stock : List �
   work_may : (w : Work) → Is w → doing_in w ≡ DoesNothing → MayPlace keeps stock entry w
   work_may Idle knows is = rw knows.1 (inl refl)
   work_may (Searching n) knows is = rw knows.1 (inr (n, refl))
-  work_may (Keeping n) knows is = rw knows.1 (n, refl, knows.2)
+  work_may (Keeping n lost) knows is = rw knows.1 (n, lost, refl, knows.2)
   work_may (Counted f n) knows is = absurd (cc is)
   work_may (Guarded f n) knows is = absurd (cc is)
   work_may (Retiring f n t nx m) knows is = absurd (cc is)
@@ -172,7 +172,7 @@ module _ (passes visit entry : ℕ) (idle guarded keeps : Bool) (stock : List �
   work_flag : (w : Work) → Is w → doing_in w ≡ DoesNothing → idle ≡ true
   work_flag Idle knows is = knows.0
   work_flag (Searching n) knows is = knows.0
-  work_flag (Keeping n) knows is = knows.0
+  work_flag (Keeping n lost) knows is = knows.0
   work_flag (Counted f n) knows is = absurd (cc is)
   work_flag (Guarded f n) knows is = absurd (cc is)
   work_flag (Retiring f n t nx m) knows is = absurd (cc is)
@@ -182,17 +182,17 @@ module _ (passes visit entry : ℕ) (idle guarded keeps : Bool) (stock : List �
   work_unkept : (w : Work) → Is w → (doing_in w ≡ DoesNothing → ⊥) → keeps ≡ false
   work_unkept Idle knows busy = knows.1
   work_unkept (Searching n) knows busy = knows.1
-  work_unkept (Keeping n) knows busy = absurd (busy refl)
+  work_unkept (Keeping n lost) knows busy = absurd (busy refl)
   work_unkept (Counted f n) knows busy = knows.1
   work_unkept (Guarded f n) knows busy = knows.1
   work_unkept (Retiring f n t nx m) knows busy = knows.1
   work_unkept _ knows busy = absurd knows
 
   -- a pass that keeps a node is idle, and the node is at its next entry
-  work_kept : (w : Work) → Is w → keeps ≡ true → (n : ℕ) × (w ≡ Keeping n) × (idle ≡ true) × (get_elem? stock entry ≡ some n)
+  work_kept : (w : Work) → Is w → keeps ≡ true → (n : ℕ) × (lost : ℕ) × (w ≡ Keeping n lost) × (idle ≡ true) × (get_elem? stock entry ≡ some n)
   work_kept Idle knows is = let bad : true ≡ false = sym is ∙ knows.1 in absurd (cc bad)
   work_kept (Searching n) knows is = let bad : true ≡ false = sym is ∙ knows.1 in absurd (cc bad)
-  work_kept (Keeping n) knows is = (n, refl, knows.0, knows.2)
+  work_kept (Keeping n lost) knows is = (n, lost, refl, knows.0, knows.2)
   work_kept (Counted f n) knows is = let bad : true ≡ false = sym is ∙ knows.1 in absurd (cc bad)
   work_kept (Guarded f n) knows is = let bad : true ≡ false = sym is ∙ knows.1 in absurd (cc bad)
   work_kept (Retiring f n t nx m) knows is = let bad : true ≡ false = sym is ∙ knows.1 in absurd (cc bad)
@@ -202,7 +202,7 @@ module _ (passes visit entry : ℕ) (idle guarded keeps : Bool) (stock : List �
     work_guarded : (w : Work) → Is w → doing_in w ≡ Holding f hold → guarded ≡ true → w ≡ Guarded f hold.node
     work_guarded Idle knows is guards = absurd (cc is)
     work_guarded (Searching n) knows is guards = absurd (cc is)
-    work_guarded (Keeping n) knows is guards = absurd (cc is)
+    work_guarded (Keeping n lost) knows is guards = absurd (cc is)
     work_guarded (Counted g n) knows is guards = let bad : false ≡ true = sym knows.2 ∙ guards in absurd (cc bad)
     work_guarded (Guarded g n) knows is guards = let same : g ≡ f = cc is in let value : hold_at g n ≡ hold = cc is in
         λ i. Guarded (same i) (ap (λ (h : Hold). h.node) value i)
@@ -212,7 +212,7 @@ module _ (passes visit entry : ℕ) (idle guarded keeps : Bool) (stock : List �
     work_counted : (w : Work) → Is w → doing_in w ≡ Holding f hold → guarded ≡ false → w ≡ Counted f hold.node
     work_counted Idle knows is guards = absurd (cc is)
     work_counted (Searching n) knows is guards = absurd (cc is)
-    work_counted (Keeping n) knows is guards = absurd (cc is)
+    work_counted (Keeping n lost) knows is guards = absurd (cc is)
     work_counted (Counted g n) knows is guards = let same : g ≡ f = cc is in let value : hold_at g n ≡ hold = cc is in
         λ i. Counted (same i) (ap (λ (h : Hold). h.node) value i)
     work_counted (Guarded g n) knows is guards = let bad : false ≡ true = sym guards ∙ knows.2 in absurd (cc bad)
@@ -222,7 +222,7 @@ module _ (passes visit entry : ℕ) (idle guarded keeps : Bool) (stock : List �
   work_retiring : (f : File) (retired : Retired) (w : Work) → Is w → doing_in w ≡ Retires f retired → IsToRetire passes visit f retired w
   work_retiring f retired Idle knows is = absurd (cc is)
   work_retiring f retired (Searching n) knows is = absurd (cc is)
-  work_retiring f retired (Keeping n) knows is = absurd (cc is)
+  work_retiring f retired (Keeping n lost) knows is = absurd (cc is)
   work_retiring f retired (Counted g n) knows is = absurd (cc is)
   work_retiring f retired (Guarded g n) knows is = absurd (cc is)
   work_retiring f retired (Retiring g n t nx m) knows is = let same : g ≡ f = cc is in let value : retired_at g n t ≡ retired = cc is in (
@@ -250,7 +250,7 @@ module _ {id : TableId} {k : Start} {p : LastingPass} (fits : IsPassOf id k p) w
   its_unkept = work_unkept k.passes p.next_visit p.next_entry p.idle p.guarded p.keeps p.stock.items p.seat.me.0.work fits.knows
 
   pub its_kept : p.keeps ≡ true
-      → (n : ℕ) × (p.seat.me.0.work ≡ Keeping n) × (p.idle ≡ true) × (get_elem? p.stock.items p.next_entry ≡ some n)
+      → (n : ℕ) × (lost : ℕ) × (p.seat.me.0.work ≡ Keeping n lost) × (p.idle ≡ true) × (get_elem? p.stock.items p.next_entry ≡ some n)
   its_kept = work_kept k.passes p.next_visit p.next_entry p.idle p.guarded p.keeps p.stock.items p.seat.me.0.work fits.knows
 
   pub its_guarded : {f : File} {hold : Hold} → (view_of p).doing ≡ Holding f hold → p.guarded ≡ true → p.seat.me.0.work ≡ Guarded f hold.node

@@ -3,7 +3,7 @@
 use Rattle.fx_lasting.proofs.Words.{◌≡◌, ◌≢◌, ℕ, ◌+◌, ◌^◌, ◌<◌, ◌≤◌, List, [], ◌∷◌, sym, refl, ap, ◌∙◌, Option, Some, None, none}
 use Rattle.fx_lasting.proofs.Words.{keeps, gives, rest, eqb, Closed, File, Take, Names, slots_of, slot_place, file_word_of, state_after_all}
 use Rattle.fx_lasting.proofs.Words.{node_of_number, HasNoFile, IsOffCount, Placing, Outside, Sees, TakesIf, Replaces, SeesKeep, TakesIfKeep, ReplacesKeep}
-use Rattle.fx_lasting.proofs.Words.{step, exchanged, subst, without_file, some, label_of, pass_event}
+use Rattle.fx_lasting.proofs.Words.{step, exchanged, subst, without_file, some, label_of, as_written, pass_event}
 use Rattle.fx_lasting.proofs.HeldFiles.{one_after}
 use Rattle.fx_lasting.proofs.StockMoves.{names_a_node}
 use prog.Atomic.{either}
@@ -74,11 +74,11 @@ module _ (turn : Turn) (s : ℕ) (inside : s < slots_of turn.v.start) (carried :
     )
 
   -- It is exchanged for the word of the file that the pass places
-  module _ (n : ℕ) (file : Closed) (works : turn.v.work ≡ Placing n (label_of file)) (small : file.entry < 2 ^ 8) (out : turn.v.change ≡ Outside)
+  module _ (n lost : ℕ) (file : Closed) (works : turn.v.work ≡ Placing n (as_written lost (label_of file))) (small : file.entry < 2 ^ 8) (out : turn.v.change ≡ Outside)
       (carries : carried ≡ (n, Some file) ∷ []) (number : ℕ) (late : turn.r.next_number ≤ number) (on_n : turn.r.node_of number ≡ n)
       (slots old_word : ℕ) where
     abbrev Puts : ℕ → Type 0
-    Puts y = Made turn carried (slot_place s) (λ _. y) (Replaces (step slots (slot_place s) old_word (file_word_of n file.entry) none) (v, carried))
+    Puts y = Made turn carried (slot_place s) (λ _. y) (Replaces (step slots (slot_place s) old_word (file_word_of n file.entry + lost) none) (v, carried))
 
     puts_not : slot_word st.words s ≢ old_word → Puts (slot_word st.words s)
     puts_not other = (
@@ -86,30 +86,30 @@ module _ (turn : Turn) (s : ℕ) (inside : s < slots_of turn.v.start) (carried :
       keeps,
       tt,
       read_kept turn v.work v.glance (slot_place s) (still turn),
-      record { wins = λ m e f w' c' at is. absurd (other is); loses = λ _. sees_slot slots old_word (file_word_of n file.entry) },
+      record { wins = λ m more e f w' c' at is. absurd (other is); loses = λ _. sees_slot slots old_word (file_word_of n file.entry + lost) },
     )
 
-    puts : slot_word st.words s ≡ old_word → Puts (file_word_of n file.entry)
-    puts is = let does = putting turn s inside n file works small out slots carried carries number late on_n in (
-      w turn (installed turn s inside there refl n file works small out number late on_n
-          (put_action turn s inside n file works small out slots carried carries number late on_n)),
+    puts : slot_word st.words s ≡ old_word → Puts (file_word_of n file.entry + lost)
+    puts is = let does = putting turn s inside n lost file works small out slots carried carries number late on_n in (
+      w turn (installed turn s inside there refl n lost file works small out number late on_n
+          (put_action turn s inside n lost file works small out slots carried carries number late on_n)),
       gives,
       tt,
-      rw carries (installation_agrees turn s inside there refl n file works small out number late on_n
-          (put_action turn s inside n file works small out slots carried carries number late on_n) does),
+      rw carries (installation_agrees turn s inside there refl n lost file works small out number late on_n
+          (put_action turn s inside n lost file works small out slots carried carries number late on_n) does),
       record {
-        wins = λ m e other works' carries' at _. let same_f : file ≡ other = cc (ap file_carried (sym carries ∙ carries')) in
+        wins = λ m more e other works' carries' at _. let same_f : file ≡ other = cc (ap file_carried (sym carries ∙ carries')) in
             let same : n ≡ m = cc (sym works ∙ works') in rw (← same_f, slot_back s) (
               there,
               number,
               named,
               sym (r.numbering number) ∙ (on_n ∙ same),
               names_a_node turn inside,
-              installation_tells turn s inside there refl n file works small out number late on_n
-                  (put_action turn s inside n file works small out slots carried carries number late on_n) does carried (rest carried) e (at ∙ ap some (sym same)),
+              installation_tells turn s inside there refl n lost file works small out number late on_n
+                  (put_action turn s inside n lost file works small out slots carried carries number late on_n) does carried (rest carried) e (at ∙ ap some (sym same)),
               refl,
               one_after v.start st r s inside
-                  (pass_event x (put_action turn s inside n file works small out slots carried carries number late on_n)) (λ _. refl),
+                  (pass_event x (put_action turn s inside n lost file works small out slots carried carries number late on_n)) (λ _. refl),
             );
         loses = λ other. absurd (other is);
       },
@@ -127,11 +127,11 @@ takes_if_keep k slots id i s old new m x has works inside off place made = rw ma
     (takes turn s is.0 m.1 works is.1 slots old) (takes_not turn s is.0 m.1 works is.1 slots old)))
 
 pub replaces_keep : ReplacesKeep Replaces
-replaces_keep k slots id i s n old new file m x has works carries small inside out place made = rw made (by_turn slots
-    (λ k. s < slots_of k) (λ _. slot_place s) (λ word. either (eqb word old) (file_word_of n file.entry) word)
-    (λ i. Replaces (step slots i old (file_word_of n file.entry) none) m) has inside place
+replaces_keep k slots id i s n lost old new file m x has works carries small inside out place made = rw made (by_turn slots
+    (λ k. s < slots_of k) (λ _. slot_place s) (λ word. either (eqb word old) (file_word_of n file.entry + lost) word)
+    (λ i. Replaces (step slots i old (file_word_of n file.entry + lost) none) m) has inside place
     (λ st r here is fits. let turn = turn_of m x has.1 id st r here in let new = new_number turn works in
-    exchanged (word_at st.words (slot_place s)) old (file_word_of n file.entry)
-    (Puts turn s is m.1 n file works small out carries new.0 new.1 new.2 slots old)
-    (puts turn s is m.1 n file works small out carries new.0 new.1 new.2 slots old)
-    (puts_not turn s is m.1 n file works small out carries new.0 new.1 new.2 slots old)))
+    exchanged (word_at st.words (slot_place s)) old (file_word_of n file.entry + lost)
+    (Puts turn s is m.1 n lost file works small out carries new.0 new.1 new.2 slots old)
+    (puts turn s is m.1 n lost file works small out carries new.0 new.1 new.2 slots old)
+    (puts_not turn s is m.1 n lost file works small out carries new.0 new.1 new.2 slots old)))

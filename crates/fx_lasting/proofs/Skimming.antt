@@ -20,7 +20,7 @@ speaks stock l debt (Searching n) some hold allowed = absurd (some hold.0)
 speaks stock l debt (Placing n w) some hold allowed = absurd (some hold.0)
 speaks stock l debt (Retiring f n t nx m) some hold allowed = absurd (some hold.0)
 speaks stock l debt (Emptying n) some hold allowed = absurd (some hold.0)
-speaks stock l debt (Keeping n) some hold allowed = absurd (some hold.0)
+speaks stock l debt (Keeping n lost) some hold allowed = absurd (some hold.0)
 
 module _ (turn : Turn) (f : File) (n t : ℕ) (nx : Round) (m : ℕ) (works : turn.v.work ≡ Retiring f n t nx m) (index : ℕ) (inside : index < 16)
     (low : nx.next ≤ 64 * index + 1) (between : (p : ℕ) → nx.next ≤ p → p ≤ 64 * index → IsPassed turn.x.number nx p) where
@@ -64,7 +64,7 @@ module _ (turn : Turn) (f : File) (n t : ℕ) (nx : Round) (m : ℕ) (works : tu
   guard_on p (Placing k w) ne range hold guard = tt
   guard_on p (Retiring h k a b c) ne range hold guard = tt
   guard_on p (Emptying k) ne range hold guard = tt
-  guard_on p (Keeping k) ne range hold guard = tt
+  guard_on p (Keeping k lost) ne range hold guard = tt
 
   skimmed : Visited turn f n t nx m works st.words r.debt nx' m
   skimmed = let a = (node turn f n t nx m works).few_marks in record {

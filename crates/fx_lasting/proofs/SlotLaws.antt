@@ -12,7 +12,8 @@ use Rattle.fx_lasting.proofs.Words.{name_made, name_left, no_file_left, no_takes
 use Rattle.fx_lasting.proofs.StockMoves.{names_a_node, where_moved, stock_moved, moved_names, moved_slot, moved_stock, moved_stocks, one_entry}
 use Rattle.std.proofs.lemmas.Nat.{mod-mul-add}
 use Rattle.std.proofs.Math.Nat.{le-mul_of_pos_right}
-use Rattle.fx_lasting.proofs.Words.{Labels, Written, written_in, label_of}
+use Rattle.fx_lasting.proofs.Words.{Labels, Placement, written_in, label_of, as_written, most_carried, takes_are_few}
+use Rattle.fx_lasting.proofs.Words.{name_carried, full_name_carried, entry_carried, takes_carried, heat_carried}
 use prog.Atomic.{either}
 use Rattle.atomic_table.specs.Table.{put_back}
 use Rattle.fx_lasting.proofs.Histories.{grows_one, legal_more, part_mine, held_mine, each_changed, same_shape}
@@ -87,7 +88,7 @@ module _ (act : ℕ → Option File → Action) (does : IsRemoval act) (turn : T
     stock = its_stock turn;
     stocks = λ n q e other at. at;
     names = no_file_left (found turn s inside);
-    no_takes = (no_takes_left (found turn s inside)).0;
+    few_takes = let a = (no_takes_left (found turn s inside)).0 in omega arith;
     no_heat = (no_takes_left (found turn s inside)).1;
     seat = tt;
     seat_apart = λ f is. absurd (cc is);
@@ -153,7 +154,7 @@ takes_out_keep k slots id i s m x has works inside off place = by_turn slots (λ
     (λ st r here is fits. removal_made Take taken (turn_of m x has.1 id st r here) s is.0 works is.1 slots m.1 fits)
 
 -- a number that none had before, and which says the node
-pub new_number : (turn : Turn) {n : ℕ} {l : Written} → turn.v.work ≡ Placing n l → (m : ℕ) × (turn.r.next_number ≤ m) × (turn.r.node_of m ≡ n)
+pub new_number : (turn : Turn) {n : ℕ} {l : Placement} → turn.v.work ≡ Placing n l → (m : ℕ) × (turn.r.next_number ≤ m) × (turn.r.node_of m ≡ n)
 new_number turn {n} {l} works = let r = turn.r in let nodes = nodes_of turn.v.start in
     let low = (subst (WorkAgrees turn.v.start r.phase turn.id) works (its_work turn)).0 in (
       r.next_number * nodes + n,
@@ -163,7 +164,7 @@ new_number turn {n} {l} works = let r = turn.r in let nodes = nodes_of turn.v.st
 
 -- The slot gets the file that a pass places, under a number that none had before.
 module _ (turn : Turn) (s : ℕ) (inside : s < slots_of turn.v.start) (old : Option File) (was : (state_after_all turn.v.start turn.r.history).at s ≡ old)
-    (n : ℕ) (file : Closed) (works : turn.v.work ≡ Placing n (label_of file)) (small : file.entry < 2 ^ 8) (out : turn.v.change ≡ Outside)
+    (n lost : ℕ) (file : Closed) (works : turn.v.work ≡ Placing n (as_written lost (label_of file))) (small : file.entry < 2 ^ 8) (out : turn.v.change ≡ Outside)
     (number : ℕ) (late : turn.r.next_number ≤ number) (on_n : turn.r.node_of number ≡ n) (a : Action) where
   open turn use {st, v, r, id, x, here, one}
 
@@ -176,11 +177,11 @@ module _ (turn : Turn) (s : ℕ) (inside : s < slots_of turn.v.start) (old : Opt
   abbrev h₂ : List Event
   h₂ = pass_event x a ∷ r.history
 
-  its : (n < nodes_of v.start) × (r.phase n ≡ placed id (label_of file))
+  its : (n < nodes_of v.start) × (r.phase n ≡ placed id (as_written lost (label_of file)))
   its = subst (WorkAgrees v.start r.phase id) works (its_work turn)
 
   abbrev new_word : ℕ
-  new_word = file_word_of n file.entry
+  new_word = file_word_of n file.entry + lost
 
   abbrev homes₁ : Homes
   homes₁ = set st.homes n (some (Some file))
@@ -232,8 +233,11 @@ module _ (turn : Turn) (s : ℕ) (inside : s < slots_of turn.v.start) (old : Opt
     total_now : (m : ℕ) → sum_by (taken_of m) (set st.views id (w turn installed)) ≡ sum_by (taken_of m) st.views
     total_now m = let t = sum_set (taken_of m) st.views id v (w turn installed) here in let b = ap (taking m) works in let c = untaken m in omega arith
 
-    no_count : count_in new_word ≡ 0
-    no_count = file_takes_made n file.entry
+    few_lost : lost ≤ most_carried
+    few_lost = (in_phase turn its.0 its.1).few_lost
+
+    its_count : count_in new_word ≡ lost
+    its_count = takes_carried n file.entry lost few_lost
 
     abbrev Node₁ : ℕ → Phase → Type 0
     Node₁ m = NodeAgrees (state_after_all v.start h₂).at (slots_of v.start) (λ i. count_in (slot_word (slot_words turn s inside new_word) i)) r.node_of
@@ -242,7 +246,7 @@ module _ (turn : Turn) (s : ℕ) (inside : s < slots_of turn.v.start) (old : Opt
 
     node_here₁ : Node₁ n (seated s new_file)
     node_here₁ = let o = in_phase turn its.0 its.1 in let c = o.counts in let u = o.untaken in let t = total_now n in
-        let z = ap count_in (slot_here turn s inside new_word) in let y = no_count in record {
+        let z = ap count_in (slot_here turn s inside new_word) in let y = its_count in record {
           file = record {
             at_home = set_here st.homes n (some (Some file)) (let a = r.shape.homes in let b = its.0 in omega arith);
             its_node = on_n;
@@ -272,18 +276,18 @@ module _ (turn : Turn) (s : ℕ) (inside : s < slots_of turn.v.start) (old : Opt
       homes = length-set st.homes n (some (Some file));
       later = omega (arith, late);
       removed_else = removed_same;
-      named_new = moved_names turn s inside n its_entry new_word (name_made n file.entry small);
+      named_new = moved_names turn s inside n its_entry new_word (name_carried n file.entry lost small few_lost);
       named_else = moved_slot turn s inside n its_entry;
       stock = moved_stock turn s inside n its_entry;
       stocks = moved_stocks turn s inside n its_entry;
-      names = (full_name_made n file.entry small ∙ ap (λ (i : ℕ). i + 1) (sym on_n), file_entry_made n file.entry small);
-      no_takes = no_count;
-      no_heat = file_heat_made n file.entry;
+      names = (full_name_carried n file.entry lost small few_lost ∙ ap (λ (i : ℕ). i + 1) (sym on_n), entry_carried n file.entry lost small few_lost);
+      few_takes = let a = its_count in let b = takes_are_few v.start.passes lost few_lost in omega arith;
+      no_heat = heat_carried n file.entry lost few_lost;
       seat = rw on_n (its.0, changed_here r.phase n (seated s new_file) n refl);
       seat_apart = λ f is. let e : number ≡ f.number = (let z : new_file ≡ f = cc is in ap (λ (y : File). y.number) z) in
           subst (λ (i : ℕ). NotOf r.node_of (r.node_of i) old) e (rw on_n apart);
-      kept = λ m. each_changed (λ m ph. (ph ≡ r.phase m) ⊎ ((l : Written) × (r.phase m ≡ placed id l))) r.phase
-          (λ same. inr (label_of file, ap r.phase same ∙ its.1)) (λ other. inl refl);
+      kept = λ m. each_changed (λ m ph. (ph ≡ r.phase m) ⊎ ((l : Placement) × (r.phase m ≡ placed id l))) r.phase
+          (λ same. inr (as_written lost (label_of file), ap r.phase same ∙ its.1)) (λ other. inl refl);
       labels = λ m l apart. each_changed (λ m ph. Labels v.start st.words m (written_in ph)) r.phase
           (λ same. subst (λ (i : ℕ). Labels v.start st.words i (label_of file)) (sym same)
           (subst (λ (ph : Phase). Labels v.start st.words n (written_in ph)) its.1 (r.each_label n its.0))) (λ other. r.each_label m l);
@@ -322,7 +326,7 @@ abbrev pub file_carried : List (ℕ × Option Closed) → Option Closed
 file_carried [] = None
 file_carried (c ∷ cs) = c.1
 
-module _ (turn : Turn) (s : ℕ) (inside : s < slots_of turn.v.start) (n : ℕ) (file : Closed) (works : turn.v.work ≡ Placing n (label_of file))
+module _ (turn : Turn) (s : ℕ) (inside : s < slots_of turn.v.start) (n lost : ℕ) (file : Closed) (works : turn.v.work ≡ Placing n (as_written lost (label_of file)))
     (small : file.entry < 2 ^ 8) (out : turn.v.change ≡ Outside) (slots : ℕ) (carried : List (ℕ × Option Closed))
     (carries : carried ≡ (n, Some file) ∷ []) (number : ℕ) (late : turn.r.next_number ≤ number) (on_n : turn.r.node_of number ≡ n) where
   open turn use {st, v, r, id, x, here, one}
@@ -333,36 +337,36 @@ module _ (turn : Turn) (s : ℕ) (inside : s < slots_of turn.v.start) (n : ℕ) 
   abbrev pub put_action : Action
   put_action = Put s (numbered number file) put_old
 
-  pub putting : Effect turn s inside put_old refl n file works small out number late on_n put_action
+  pub putting : Effect turn s inside put_old refl n lost file works small out number late on_n put_action
   putting = record {
     legal = legal_more v.start r.legal (let z = (same_shape v.start r.history).0 in (omega arith, r.fresh number late, refl)) tt;
     state = refl;
     held = held_mine (pass_event x put_action) r.history refl;
   }
 
-  pub install_made : Made turn carried (slot_place s) (λ _. file_word_of n file.entry)
-      (Installs (step slots (slot_place s) (file_word_of n file.entry) 0 none) (v, carried))
+  pub install_made : Made turn carried (slot_place s) (λ _. file_word_of n file.entry + lost)
+      (Installs (step slots (slot_place s) (file_word_of n file.entry + lost) 0 none) (v, carried))
   install_made = (
-    w turn (installed turn s inside put_old refl n file works small out number late on_n put_action),
+    w turn (installed turn s inside put_old refl n lost file works small out number late on_n put_action),
     gives,
     tt,
-    rw carries (installation_agrees turn s inside put_old refl n file works small out number late on_n put_action putting),
+    rw carries (installation_agrees turn s inside put_old refl n lost file works small out number late on_n put_action putting),
     record {
       replaced = put_old;
       names = found_so turn s inside put_old refl;
       named = names_a_node turn inside;
-      stepped = λ m e other works' carries' at. let same_f : file ≡ other = cc (ap file_carried (sym carries ∙ carries')) in
+      stepped = λ m more e other works' carries' at. let same_f : file ≡ other = cc (ap file_carried (sym carries ∙ carries')) in
           let same : n ≡ m = cc (sym works ∙ works') in rw (← same_f, slot_back s) (
             number,
             sym (r.numbering number) ∙ (on_n ∙ same),
-            installation_tells turn s inside put_old refl n file works small out number late on_n put_action putting
+            installation_tells turn s inside put_old refl n lost file works small out number late on_n put_action putting
                 carried (rest carried) e (at ∙ ap some (sym same)),
           );
       carried = refl;
     },
   )
 
-module _ (turn : Turn) (slots s n old_word : ℕ) (file : Closed) (carried : List (ℕ × Option Closed)) (works : turn.v.work ≡ Placing n (label_of file))
+module _ (turn : Turn) (slots s n lost old_word : ℕ) (file : Closed) (carried : List (ℕ × Option Closed)) (works : turn.v.work ≡ Placing n (as_written lost (label_of file)))
     (carries : carried ≡ (n, Some file) ∷ []) (small : file.entry < 2 ^ 8) (out : turn.v.change ≡ Outside) (in_range : IsInRange turn.v.start s)
     (empty : full_name_in old_word ≡ 0) (number : ℕ) (late : turn.r.next_number ≤ number) (on_n : turn.r.node_of number ≡ n) where
   open turn use {st, v, r, id, x, here, one}
@@ -374,15 +378,15 @@ module _ (turn : Turn) (slots s n old_word : ℕ) (file : Closed) (carried : Lis
   within = let a = r.shape.range in let b = in_range.1 in omega arith
 
   abbrev Goal : ℕ → Type 0
-  Goal y = Made turn carried (slot_place s) (λ _. y) (Exchanges (step slots (slot_place s) old_word (file_word_of n file.entry) none) (v, carried))
+  Goal y = Made turn carried (slot_place s) (λ _. y) (Exchanges (step slots (slot_place s) old_word (file_word_of n file.entry + lost) none) (v, carried))
 
-  lost : word ≢ old_word → Goal word
-  lost other = (
+  fails : word ≢ old_word → Goal word
+  fails other = (
     w turn (read_after turn v.work v.glance r.history),
     keeps,
     tt,
     read_kept turn v.work v.glance (slot_place s) (still turn),
-    record { wins = λ m e f w' c' at is. absurd (other is); loses = λ _. goes_still turn carried },
+    record { wins = λ m more e f w' c' at is. absurd (other is); loses = λ _. goes_still turn carried },
   )
 
   module _ (is : word ≡ old_word) where
@@ -392,7 +396,7 @@ module _ (turn : Turn) (slots s n old_word : ℕ) (file : Closed) (carried : Lis
     abbrev alloc : Action
     alloc = Allocate s (numbered number file)
 
-    allocating : Effect turn s within None at_none n file works small out number late on_n alloc
+    allocating : Effect turn s within None at_none n lost file works small out number late on_n alloc
     allocating = record {
       legal = legal_more v.start r.legal (let z = (same_shape v.start r.history).0 in let y = (same_shape v.start r.history).1 in
           let p = ap (λ (p : ℕ × ℕ). p.0) y in let q = ap (λ (p : ℕ × ℕ). p.1) y in let low = in_range.0 in let high = in_range.1 in let l = within in
@@ -401,26 +405,26 @@ module _ (turn : Turn) (slots s n old_word : ℕ) (file : Closed) (carried : Lis
       held = held_mine (pass_event x alloc) r.history refl;
     }
 
-    won : Goal (file_word_of n file.entry)
+    won : Goal (file_word_of n file.entry + lost)
     won = (
-      w turn (installed turn s within None at_none n file works small out number late on_n alloc),
+      w turn (installed turn s within None at_none n lost file works small out number late on_n alloc),
       gives,
       tt,
       subst (λ (l : List (ℕ × Option Closed)). Agrees v.start record {
-        words = set st.words (slot_place s) (file_word_of n file.entry);
+        words = set st.words (slot_place s) (file_word_of n file.entry + lost);
         homes = put_back st.homes l;
-        views = set st.views id (w turn (installed turn s within None at_none n file works small out number late on_n alloc));
-      }) (sym carries) (installation_agrees turn s within None at_none n file works small out number late on_n alloc allocating),
+        views = set st.views id (w turn (installed turn s within None at_none n lost file works small out number late on_n alloc));
+      }) (sym carries) (installation_agrees turn s within None at_none n lost file works small out number late on_n alloc allocating),
       record {
-        wins = λ m e other works' carries' at _. let same_f : file ≡ other = cc (ap file_carried (sym carries ∙ carries')) in
+        wins = λ m more e other works' carries' at _. let same_f : file ≡ other = cc (ap file_carried (sym carries ∙ carries')) in
             let same : n ≡ m = cc (sym works ∙ works') in (
               number,
               sym (r.numbering number) ∙ (on_n ∙ same),
               names_a_node turn within,
               rw (← same_f, slot_back s)
-                  (subst (λ (b : Bool). Stepped (as_swapped e (name_in word - 1) (v, carried)) ([] ▷ alloc) Idle v.glance (uncounted b true (group_of (range_at_start v.start) s)) (w turn (installed turn s within None at_none n file works small out number late on_n alloc), rest carried))
+                  (subst (λ (b : Bool). Stepped (as_swapped e (name_in word - 1) (v, carried)) ([] ▷ alloc) Idle v.glance (uncounted b true (group_of (range_at_start v.start) s)) (w turn (installed turn s within None at_none n lost file works small out number late on_n alloc), rest carried))
                   (in_range_so (range_at_start v.start) s in_range.0 in_range.1)
-                  (installation_tells turn s within None at_none n file works small out number late on_n alloc allocating carried (rest carried) e (at ∙ ap some (sym same)))),
+                  (installation_tells turn s within None at_none n lost file works small out number late on_n alloc allocating carried (rest carried) e (at ∙ ap some (sym same)))),
               refl,
             );
         loses = λ other. absurd (other is);
@@ -428,18 +432,18 @@ module _ (turn : Turn) (slots s n old_word : ℕ) (file : Closed) (carried : Lis
     )
 
 pub installs_keep : InstallsKeep Installs
-installs_keep k slots id i s n new file m x has works carries small inside out place made = rw made (by_turn slots
-    (λ k. s < slots_of k) (λ _. slot_place s) (λ _. file_word_of n file.entry)
-    (λ i. Installs (step slots i (file_word_of n file.entry) 0 none) m) has inside place
+installs_keep k slots id i s n lost new file m x has works carries small inside out place made = rw made (by_turn slots
+    (λ k. s < slots_of k) (λ _. slot_place s) (λ _. file_word_of n file.entry + lost)
+    (λ i. Installs (step slots i (file_word_of n file.entry + lost) 0 none) m) has inside place
     (λ st r here is fits. let turn = turn_of m x has.1 id st r here in let new = new_number turn works in
-    install_made turn s is n file works small out slots m.1 carries new.0 new.1 new.2))
+    install_made turn s is n lost file works small out slots m.1 carries new.0 new.1 new.2))
 
 pub exchanges_keep : ExchangesKeep Exchanges
-exchanges_keep k slots id i s n old new file m x has works carries small out in_range place empty made = rw made (by_turn slots
-    (λ k. IsInRange k s) (λ _. slot_place s) (λ word. either (eqb word old) (file_word_of n file.entry) word)
-    (λ i. Exchanges (step slots i old (file_word_of n file.entry) none) m) has in_range place
+exchanges_keep k slots id i s n lost old new file m x has works carries small out in_range place empty made = rw made (by_turn slots
+    (λ k. IsInRange k s) (λ _. slot_place s) (λ word. either (eqb word old) (file_word_of n file.entry + lost) word)
+    (λ i. Exchanges (step slots i old (file_word_of n file.entry + lost) none) m) has in_range place
     (λ st r here is fits. let turn = turn_of m x has.1 id st r here in let new = new_number turn works in
-    exchanged (word_at st.words (slot_place s)) old (file_word_of n file.entry)
-    (Goal turn slots s n old file m.1 works carries small out is empty new.0 new.1 new.2)
-    (won turn slots s n old file m.1 works carries small out is empty new.0 new.1 new.2)
-    (lost turn slots s n old file m.1 works carries small out is empty new.0 new.1 new.2)))
+    exchanged (word_at st.words (slot_place s)) old (file_word_of n file.entry + lost)
+    (Goal turn slots s n lost old file m.1 works carries small out is empty new.0 new.1 new.2)
+    (won turn slots s n lost old file m.1 works carries small out is empty new.0 new.1 new.2)
+    (fails turn slots s n lost old file m.1 works carries small out is empty new.0 new.1 new.2)))

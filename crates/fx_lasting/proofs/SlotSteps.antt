@@ -86,7 +86,7 @@ module _ (turn : Turn) (s : ℕ) (inside : s < slots_of turn.v.start) (new : ℕ
       go (placed j l) o m = absurd m
       go (retired f) o m = absurd m
       go (emptied j) o m = absurd m
-      go (kept j) o m = absurd m
+      go (kept j lost) o m = absurd m
 
   module _ (p : SlotStep) where
     at_is : (i : ℕ) → (state_after_all v.start h').at i ≡ (state_after_all v.start r.history).at i
@@ -160,7 +160,7 @@ module _ (turn : Turn) (s : ℕ) (inside : s < slots_of turn.v.start) (new : ℕ
     node_now n l (leaving j t nx m f) is = same_else n l (leaving j t nx m f) is (λ h bad. cc bad)
     node_now n l (retired f) is = same_else n l (retired f) is (λ h bad. cc bad)
     node_now n l (emptied j) is = same_else n l (emptied j) is (λ h bad. cc bad)
-    node_now n l (kept j) is = same_else n l (kept j) is (λ h bad. cc bad)
+    node_now n l (kept j lost) is = same_else n l (kept j lost) is (λ h bad. cc bad)
 
     pub slot_kept : Agrees v.start (end turn slot_after)
     slot_kept = step_kept turn slot_after record {

@@ -1,11 +1,11 @@
 -- The words of slots, full and empty: what is read of a word that was made.
-use Rattle.std.proofs.Common.{◌≡◌, ◌≢◌, ℕ, ◌+◌, ◌/◌, ◌%◌, ◌^◌, ◌<◌, ap, ◌∙◌, arith, cond, eqb, eq-eqb, ne_eqb}
+use Rattle.std.proofs.Common.{◌≡◌, ◌≢◌, ℕ, ◌+◌, ◌/◌, ◌%◌, ◌^◌, ◌<◌, ◌≤◌, ap, ◌∙◌, arith, cond, eqb, eq-eqb, ne_eqb, Bool, true, false}
 use Rattle.std.specs.Prelude.{bit_and}
 use Rattle.std.proofs.lemmas.Nat.Bits.{and_high_mask}
 use mathlib.Core.Logic.{dite}
 use native.Mathlib.Decide.{ℕ_discrete}
 use Rattle.fx_words.specs.Words.{name_in, entry_in}
-use Rattle.fx_lasting.specs.Parts.{full_name_in, file_word_of, empty_word_of, without_file, name_mask, count_in, heat_in}
+use Rattle.fx_lasting.specs.Parts.{full_name_in, file_word_of, empty_word_of, without_file, name_mask, count_in, heat_in, cold_takes, most_carried}
 
 -- the bit of a word that says that the slot is full
 abbrev pub full_bit : ℕ → ℕ
@@ -41,6 +41,30 @@ file_takes_made node entry = omega arith
 
 pub file_heat_made : (node entry : ℕ) → heat_in (file_word_of node entry) ≡ 0
 file_heat_made node entry = omega arith
+
+-- that word, if it begins with some takes
+pub name_carried : (node entry lost : ℕ) → entry < 2 ^ 8 → lost ≤ most_carried → name_in (file_word_of node entry + lost) ≡ node + 1
+name_carried node entry lost small few = omega arith
+
+pub full_name_carried : (node entry lost : ℕ) → entry < 2 ^ 8 → lost ≤ most_carried → full_name_in (file_word_of node entry + lost) ≡ node + 1
+full_name_carried node entry lost small few = when_full (file_word_of node entry + lost) (omega arith) ∙ name_carried node entry lost small few
+
+pub entry_carried : (node entry lost : ℕ) → entry < 2 ^ 8 → lost ≤ most_carried → entry_in (file_word_of node entry + lost) ≡ entry
+entry_carried node entry lost small few = omega arith
+
+pub takes_carried : (node entry lost : ℕ) → lost ≤ most_carried → count_in (file_word_of node entry + lost) ≡ lost
+takes_carried node entry lost few = omega arith
+
+pub heat_carried : (node entry lost : ℕ) → lost ≤ most_carried → heat_in (file_word_of node entry + lost) ≡ 0
+heat_carried node entry lost few = omega arith
+
+-- a slot whose word begins with some takes is cold
+pub takes_are_few : (passes lost : ℕ) → lost ≤ most_carried → lost ≤ cold_takes passes
+takes_are_few passes lost few = go (eqb passes 1)
+  where
+    go : (one : Bool) → lost ≤ cond one 524288 16
+    go true = omega arith
+    go false = omega arith
 
 -- the word of an empty slot
 pub empty_name_made : (node : ℕ) → name_in (empty_word_of node) ≡ node + 1

@@ -6,7 +6,7 @@ use Rattle.fx_lasting.proofs.Words.{get_elem?, Bool, true, false, inl, inr, ⊎_
 use Rattle.fx_lasting.proofs.Words.{State, held_by, with_removed, changed_at, changed_here, changed_else, Agrees, NodeAgrees, OwnerAgrees, WorkAgrees}
 use Rattle.fx_lasting.proofs.Words.{SlotAgrees, Names, IsSeated, HoldAgrees, GuardAgrees, MayBeUnmarked, IsAllowed, RangeCounts, Nodes}
 use Rattle.fx_lasting.proofs.Words.{IsHistory, state_after_all, slots_of, nodes_of, range_at_start, slot_place, word_of, hold_word_of, count_in}
-use Rattle.fx_lasting.proofs.Words.{full_name_in, heat_in, IsHot, Deed, untouched, has_heated, owed, taken_of, taking, held_in, if_file, sum_by, sum_set, Phase, free, placed, seated}
+use Rattle.fx_lasting.proofs.Words.{full_name_in, heat_in, IsHot, cold_takes, Deed, untouched, has_heated, owed, taken_of, taking, held_in, if_file, sum_by, sum_set, Phase, free, placed, seated}
 use Rattle.fx_lasting.proofs.Words.{leaving, retired, emptied, kept, owner, file_in, removed_in, first_visit, retiring_work, Found, Work, Change, Idle, Retiring}
 use Rattle.fx_lasting.proofs.Words.{length-set}
 use Rattle.fx_lasting.proofs.Counts.{tally_same, tally_none}
@@ -15,7 +15,7 @@ use Rattle.fx_lasting.proofs.Frames.{does_now, slot_same, file_same, Leaves, kee
 use Rattle.fx_lasting.proofs.Keeping.{Turn, After, Homes, word_at, slot_word, step_kept, w, end, its_log, in_range}
 use Rattle.fx_lasting.proofs.Places.{slot_words, slot_here, slot_node, slot_else, slot_hold, slot_list, slot_label}
 use Rattle.fx_lasting.proofs.Keeping.{labels_same}
-use Rattle.fx_lasting.proofs.Words.{Labels, Written, written_in, label_of}
+use Rattle.fx_lasting.proofs.Words.{Labels, Placement, written_in, label_of}
 use Rattle.fx_lasting.proofs.Unheld.{in_phase}
 
 -- the node isn't that of the file
@@ -139,12 +139,12 @@ module _ (turn : Turn) (s : ℕ) (inside : s < slots_of turn.v.start) where
         pub stocks : (n q e : ℕ) → q ≢ x.number → r.where_is n ≡ in_stock q e → where_is' n ≡ in_stock q e
         -- the new file of the slot
         pub names : Names r.node_of new_word new
-        pub no_takes : count_in new_word ≡ 0
+        pub few_takes : count_in new_word ≤ cold_takes v.start.passes
         pub no_heat : heat_in new_word ≡ 0
         pub seat : IsSeated v.start r.node_of phase₁ s new
         pub seat_apart : (f : File) → new ≡ Some f → NotOf r.node_of (r.node_of f.number) old
         -- the phases change at most where the pass was placing
-        pub kept : (n : ℕ) → (phase₁ n ≡ r.phase n) ⊎ ((l : Written) × (r.phase n ≡ placed id l))
+        pub kept : (n : ℕ) → (phase₁ n ≡ r.phase n) ⊎ ((l : Placement) × (r.phase n ≡ placed id l))
         pub nodes : (n : ℕ) → n < nodes_of v.start → NotOf r.node_of n old → Node n (phase₁ n)
         pub old_home : (f : File) → old ≡ Some f → get_elem? homes' (r.node_of f.number) ≡ get_elem? st.homes (r.node_of f.number)
         pub owners : (n : ℕ) → n < nodes_of v.start → NotOf r.node_of n old → OwnerAgrees (set st.views id (w turn swap_after)) n (phase₁ n)
@@ -167,7 +167,7 @@ module _ (turn : Turn) (s : ℕ) (inside : s < slots_of turn.v.start) where
             go (Some f) is = changed_else phase₁ (r.node_of f.number) (gone_as f) n (apart f is)
 
         -- a node that is neither the old file's nor placed
-        same_phase : {n : ℕ} {ph : Phase} → r.phase n ≡ ph → NotOf r.node_of n old → ((l : Written) → ph ≢ placed id l) → phase' n ≡ ph
+        same_phase : {n : ℕ} {ph : Phase} → r.phase n ≡ ph → NotOf r.node_of n old → ((l : Placement) → ph ≢ placed id l) → phase' n ≡ ph
         same_phase {n} is apart other = else_phase apart ∙ ⊎_elim (λ same. same ∙ is) (λ mine. absurd (other mine.0 (sym is ∙ mine.1))) (p.kept n)
 
         at_else : (i : ℕ) → i ≢ s → after.at i ≡ state.at i
@@ -232,7 +232,7 @@ module _ (turn : Turn) (s : ℕ) (inside : s < slots_of turn.v.start) where
             go apart (placed j l) is m = absurd m
             go apart (retired f) is m = absurd m
             go apart (emptied j) is m = absurd m
-            go apart (kept j) is m = absurd m
+            go apart (kept j lost) is m = absurd m
 
         slots_on : (q i : ℕ) → SlotGoesOn (slot_word st.words i) (slot_word (slot_words turn s inside new_word) i) (r.deed i q) (deed' i q)
         slots_on q i = dite (ℕ_discrete i s)
@@ -295,7 +295,7 @@ module _ (turn : Turn) (s : ℕ) (inside : s < slots_of turn.v.start) where
           slots = λ i l. dite (ℕ_discrete i s) (λ same. rw (same, slot_here turn s inside new_word, at_here) record {
             names = p.names;
             seat = seat_now new refl p.seat;
-            takes = let a = p.no_takes in omega arith;
+            takes = let a = p.few_takes in omega arith;
             heat = p.no_heat ∙ sym (tally_same (λ q. has_heated (deed' s q)) (λ q. false) v.start.passes
                 (λ q low high. ap (λ (f : ℕ → Deed). has_heated (f q)) (changed_here r.deed s (λ p. untouched) s refl)) ∙ tally_none v.start.passes);
           }) (λ other. slot_other i l other);

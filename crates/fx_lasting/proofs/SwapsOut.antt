@@ -60,7 +60,7 @@ module _ (act : ℕ → Option File → Action) (does : IsRemoval act) (turn : T
     stock = moved_stock turn s inside n stocked;
     stocks = moved_stocks turn s inside n stocked;
     names = empty_file_made n;
-    no_takes = (empty_takes_made n).0;
+    few_takes = let a = (empty_takes_made n).0 in omega arith;
     no_heat = (empty_takes_made n).1;
     seat = tt;
     seat_apart = λ f is. absurd (cc is);

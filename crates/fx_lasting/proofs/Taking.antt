@@ -350,7 +350,7 @@ module _ (turn : Turn) (s : ℕ) (inside : s < slots_of turn.v.start) where
         go (Placing n w) o = o.0
         go (Retiring f n t nx m) o = o.0
         go (Emptying n) o = o.0
-        go (Keeping n) o = o.0
+        go (Keeping n lost) o = o.0
 
     pub heats_up : (slots : ℕ) (carried : List (ℕ × Option Closed))
         → Made turn carried (slot_place s) (λ word. (word + heat_unit) % 2 ^ 64) (HeatsSlot (step slots (slot_place s) heat_unit 0 none) (v, carried))

@@ -4,7 +4,7 @@ use Rattle.fx_lasting.proofs.Words.{numbered, Allocate, Sat, Work, Glance, Chang
 use Rattle.fx_lasting.proofs.Words.{Stepped, LastingTable, IsInRange, List, Action, Start, group_of, range_at_start}
 use Rattle.fx_lasting.specs.Passes.{node_of_number}
 use Rattle.fx_lasting.proofs.Words.{◌▷▷◌, ◌-◌, IsAtWork, IsInStock, NamesANode, as_swapped, pass_in, name_in, nodes_of, get_elem?, some}
-use Rattle.fx_lasting.proofs.Words.{label_of}
+use Rattle.fx_lasting.proofs.Words.{label_of, as_written, most_carried}
 use Rattle.fx_lasting.specs.Tries.{IsPlacing, HasAllocated, StillPlaces, group_steps}
 use Rattle.fx_lasting.proofs.Groups.{by_size}
 use Rattle.fx_lasting.proofs.Running.{runs_one, runs_goes, runs_within, turns_then, does_then, swapped_then, at_swapped, still_at_work}
@@ -18,8 +18,8 @@ in_range t slot low high = let a = ap (λ (z : ℕ × ℕ). z.0) t.same_range in
     (omega (arith, a, low), omega (arith, a, b, high))
 
 -- a load from which the pass learns nothing
-pub peeked : {m m' : Sat} {n : ℕ} {file : Closed} → IsPlacing n file m → Goes m [] m.0.work m.0.glance m'
-    → Runs m [] (Placing n (label_of file)) m.0.glance m.0.change 1 m'
+pub peeked : {m m' : Sat} {n lost : ℕ} {file : Closed} → IsPlacing n lost file m → Goes m [] m.0.work m.0.glance m'
+    → Runs m [] (Placing n (as_written lost (label_of file))) m.0.glance m.0.change 1 m'
 peeked {m} {m'} p goes = subst (λ (w : Work). Runs m [] w m.0.glance m.0.change 1 m') p.work (runs_goes goes)
 
 -- a pass that owed nothing owes nothing again
@@ -27,14 +27,14 @@ back_outside : {m m' : Sat} {xs : List Action} {w : Work} {n : ℕ} → m.0.chan
     → Runs m xs w m.0.glance m.0.change n m'
 back_outside {m} {m'} {xs} {w} {n} out r = subst (λ (c : Change). Runs m xs w m.0.glance c n m') (sym out) r
 
-module _ {m m₁ m₂ : Sat} {n i slots found old new : ℕ} {file : Closed} (p : IsPlacing n file m) (out : m.0.change ≡ Outside)
+module _ {m m₁ m₂ : Sat} {n lost i slots found old new : ℕ} {file : Closed} (p : IsPlacing n lost file m) (out : m.0.change ≡ Outside)
     (goes : Goes m [] m.0.work m.0.glance m₁) (tries : Exchanges (step slots i old new none) m₁ found m₂) where
   pub still_there : m₁.1 ≡ (n, Some file) ∷ []
   still_there = goes.carried ∙ p.place
 
   -- the slot has another word now
-  pub lost_still : (found ≡ old → ⊥) → StillPlaces n file 3 m m₂
-  lost_still lost = let goes' = tries.loses lost in (
+  pub lost_still : (found ≡ old → ⊥) → StillPlaces n lost file 3 m m₂
+  lost_still other = let goes' = tries.loses other in (
     runs_within (omega arith) (does_then (peeked p goes) (subst (λ (w : Work). Runs m₁ [] w m₁.0.glance m₁.0.change 1 m₂) (peeked p goes).work
         (runs_goes goes'))),
     goes'.carried ∙ goes.carried,
@@ -51,7 +51,7 @@ module _ {m m₁ m₂ : Sat} {n i slots found old new : ℕ} {file : Closed} (p 
         (Inside (group_of (range_at_start m₁.0.start) (slot_of i))) m₂ × (m₂.1 ≡ rest m₁.1)
 
     wins : (e : ℕ) → get_elem? (pass_in m).stock e ≡ some n → Wins e
-    wins e at = tries.wins n e file (peeked p goes).work still_there (ap (λ (l : List ℕ). get_elem? l e) same_stock ∙ at) won
+    wins e at = tries.wins n lost e file (peeked p goes).work still_there (ap (λ (l : List ℕ). get_elem? l e) same_stock ∙ at) won
 
     pub won_run : (e : ℕ) → get_elem? (pass_in m).stock e ≡ some n → (number : ℕ) × (node_of_number m.0.start number ≡ n)
         × Runs (as_swapped e (name_in found - 1) m) ([] ▷ Allocate slot (numbered number file)) Idle m.0.glance (Inside (group_of (range_at_start m.0.start) slot)) 2 m₂
@@ -82,12 +82,12 @@ module _ {m m₁ m₂ : Sat} {n i slots found old new : ℕ} {file : Closed} (p 
     )
 
 -- some slots in a row
-pub still_then : {m m' m'' : Sat} {n a b : ℕ} (file : Closed) → StillPlaces n file a m m' → StillPlaces n file b m' m'' → StillPlaces n file (a + b) m m''
+pub still_then : {m m' m'' : Sat} {n lost a b : ℕ} (file : Closed) → StillPlaces n lost file a m m' → StillPlaces n lost file b m' m'' → StillPlaces n lost file (a + b) m m''
 still_then file one two = (does_then one.0 two.0, two.1 ∙ one.1)
 
-pub allocated_then : {m m' m'' : Sat} {n a b slot : ℕ} (named : ℕ) {file : Closed} → StillPlaces n file a m m' → HasAllocated n file slot named b m' m''
+pub allocated_then : {m m' m'' : Sat} {n lost a b slot : ℕ} (named : ℕ) {file : Closed} → StillPlaces n lost file a m m' → HasAllocated n file slot named b m' m''
     → HasAllocated n file slot named (a + b) m m''
-allocated_then {m} {m'} {m''} {n} {a} {b} {slot} named {file} one two = (
+allocated_then {m} {m'} {m''} {n} {lost} {a} {b} {slot} named {file} one two = (
   subst (λ (k : Start). named < nodes_of k) one.0.start two.0,
   two.1,
   λ e at. let z = two.2 e (ap (λ (l : List ℕ). get_elem? l e) one.0.stock ∙ at) in (
@@ -98,15 +98,15 @@ allocated_then {m} {m'} {m''} {n} {a} {b} {slot} named {file} one two = (
   ),
 )
 
-pub still_within : {m m' : Sat} {n a b : ℕ} (file : Closed) → a ≤ b → StillPlaces n file a m m' → StillPlaces n file b m m'
+pub still_within : {m m' : Sat} {n lost a b : ℕ} (file : Closed) → a ≤ b → StillPlaces n lost file a m m' → StillPlaces n lost file b m m'
 still_within file few one = (runs_within few one.0, one.1)
 
 pub allocated_within : (m m' : Sat) (n slot named : ℕ) (file : Closed) {a b : ℕ} → a ≤ b → HasAllocated n file slot named a m m'
     → HasAllocated n file slot named b m m'
 allocated_within m m' n slot named file few one = (one.0, one.1, λ e at. let z = one.2 e at in (z.0, z.1, runs_within few z.2))
 
-pub still_placing : {m m' : Sat} {n a : ℕ} {file : Closed} → IsPlacing n file m → StillPlaces n file a m m' → IsPlacing n file m'
-still_placing {n = n} p s = record { work = s.0.work; place = s.1 ∙ p.place; stocked = subst (λ (l : List ℕ). IsInStock l n) (sym s.0.stock) p.stocked }
+pub still_placing : {m m' : Sat} {n lost a : ℕ} {file : Closed} → IsPlacing n lost file m → StillPlaces n lost file a m m' → IsPlacing n lost file m'
+still_placing {n = n} p s = record { work = s.0.work; few_lost = p.few_lost; place = s.1 ∙ p.place; stocked = subst (λ (l : List ℕ). IsInStock l n) (sym s.0.stock) p.stocked }
 
 -- a pass that goes on with another node in its stock
 pub swapped_does : {m m' m'' : Sat} {xs ys : List Action} {w w' : Work} {n n' : ℕ} (entry node : ℕ) → Runs m xs w m.0.glance m.0.change n m'
@@ -120,10 +120,11 @@ pub stocked_at : (stock : List ℕ) (m m' : Sat) (e n : ℕ) → stock ≡ (pass
 stocked_at stock m m' e n its same at = ap (λ (l : List ℕ). get_elem? l e) (same ∙ sym its) ∙ at
 
 -- a pass that has put a file into the place of a node of its stock
-pub is_placing : (stock : List ℕ) (m : Sat) {m' : Sat} {n most : ℕ} (e : ℕ) {file : Closed} → Runs m [] (Placing n (label_of file)) m.0.glance m.0.change most m' → stock ≡ (pass_in m).stock
-    → get_elem? stock e ≡ some n → m'.1 ≡ (n, Some file) ∷ [] → IsPlacing n file m'
-is_placing stock m {n = n} e run its at place = record {
+pub is_placing : (stock : List ℕ) (m : Sat) {m' : Sat} {n lost most : ℕ} (e : ℕ) {file : Closed} → lost ≤ most_carried → Runs m [] (Placing n (as_written lost (label_of file))) m.0.glance m.0.change most m' → stock ≡ (pass_in m).stock
+    → get_elem? stock e ≡ some n → m'.1 ≡ (n, Some file) ∷ [] → IsPlacing n lost file m'
+is_placing stock m {n = n} e few run its at place = record {
   work = run.work;
+  few_lost = few;
   place = place;
   stocked = (e, ap (λ (l : List ℕ). get_elem? l e) (run.stock ∙ sym its) ∙ at);
 }

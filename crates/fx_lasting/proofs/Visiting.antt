@@ -134,7 +134,7 @@ module _ (turn : Turn) (f : File) (n t : ℕ) (nx : Round) (m : ℕ) (works : tu
     guard_else words' m' same p (Placing k w) ne not_pass guard = tt
     guard_else words' m' same p (Retiring h k a b c) ne not_pass guard = tt
     guard_else words' m' same p (Emptying k) ne not_pass guard = tt
-    guard_else words' m' same p (Keeping k) ne not_pass guard = tt
+    guard_else words' m' same p (Keeping k lost) ne not_pass guard = tt
 
     -- this pass holds nothing of the node that isn't marked, if its word doesn't name it
     guard_here : word ≢ announced n → (e : Work) → HoldAgrees word (r.debt pass) e → GuardAgrees (slot_word st.words) r.phase pass (r.debt pass) e
@@ -152,7 +152,7 @@ module _ (turn : Turn) (f : File) (n t : ℕ) (nx : Round) (m : ℕ) (works : tu
     guard_here not_so (Placing k w) hold guard = tt
     guard_here not_so (Retiring h k a b c) hold guard = tt
     guard_here not_so (Emptying k) hold guard = tt
-    guard_here not_so (Keeping k) hold guard = tt
+    guard_here not_so (Keeping k lost) hold guard = tt
 
     unnamed : word ≢ announced n → Visited st.words r.debt (round_at nx pass) m
     unnamed not_so = let guards : (p : ℕ) (e : Work) → p ≢ x.number → (0 < p) × (p ≤ v.start.passes)
@@ -197,7 +197,7 @@ module _ (turn : Turn) (f : File) (n t : ℕ) (nx : Round) (m : ℕ) (works : tu
     clean_debt (Placing k w) hold is = hold.1
     clean_debt (Retiring h k a b c) hold is = hold.1
     clean_debt (Emptying k) hold is = hold.1
-    clean_debt (Keeping k) hold is = hold.1
+    clean_debt (Keeping k lost) hold is = hold.1
 
     -- the marked word, and the debt
     now_marked : (e : Work) → HoldAgrees word (r.debt pass) e → word ≡ announced n → HoldAgrees (announced n + mark) (n + 1) e
@@ -215,7 +215,7 @@ module _ (turn : Turn) (f : File) (n t : ℕ) (nx : Round) (m : ℕ) (works : tu
     now_marked (Placing k w) hold is = absurd (let a = hold.0 in omega arith)
     now_marked (Retiring h k a b c) hold is = absurd (let a = hold.0 in omega arith)
     now_marked (Emptying k) hold is = absurd (let a = hold.0 in omega arith)
-    now_marked (Keeping k) hold is = absurd (let a = hold.0 in omega arith)
+    now_marked (Keeping k lost) hold is = absurd (let a = hold.0 in omega arith)
 
     -- a pass that owes is excused
     excused : (slot_word' : ℕ → ℕ) (phase' : ℕ → Phase) (e : Work) → GuardAgrees slot_word' phase' pass (n + 1) e
@@ -229,7 +229,7 @@ module _ (turn : Turn) (f : File) (n t : ℕ) (nx : Round) (m : ℕ) (works : tu
     excused sw phase' (Placing k w) = tt
     excused sw phase' (Retiring h k a b c) = tt
     excused sw phase' (Emptying k) = tt
-    excused sw phase' (Keeping k) = tt
+    excused sw phase' (Keeping k lost) = tt
 
     abbrev debt₁ : ℕ → ℕ
     debt₁ = changed_at r.debt pass (n + 1)

@@ -71,7 +71,7 @@ module _ (k : Start) (s : Shared) (r : Agrees k s) where
   is_there n f free at o is = absurd (cc is)
   is_there n f (placed seat l) at o is = absurd (cc is)
   is_there n f (emptied seat) at o is = absurd (cc is)
-  is_there n f (kept seat) at o is = absurd (cc is)
+  is_there n f (kept seat lost) at o is = absurd (cc is)
 
   -- so no file of its number was closed
   unclosed : (n : ℕ) (f : File) → HoldsAt k r.phase f n → closes_of f.number r.history ≡ []
@@ -112,7 +112,7 @@ module _ (k : Start) (s : Shared) (r : Agrees k s) where
         go (Placing m w) is at = absurd (omega arith)
         go (Retiring g m t rd k) is at = absurd (omega arith)
         go (Emptying m) is at = absurd (omega arith)
-        go (Keeping m) is at = absurd (omega arith)
+        go (Keeping m lost) is at = absurd (omega arith)
 
     owes : (seat : ℕ) (w : Work) (word debt : ℕ) → debt ≡ n + 1 → HoldAgrees word debt w → WorkAgrees k r.phase seat w → Uses f n w
     owes seat (Announced m) word debt is h at = ⊎_elim (λ clean. let a = clean.1 in absurd (omega arith)) (λ full. let a = full.1 in omega arith) h
@@ -126,7 +126,7 @@ module _ (k : Start) (s : Shared) (r : Agrees k s) where
     owes seat (Placing m w) word debt is h at = let a = h.1 in absurd (omega arith)
     owes seat (Retiring g m t rd k) word debt is h at = let a = h.1 in absurd (omega arith)
     owes seat (Emptying m) word debt is h at = let a = h.1 in absurd (omega arith)
-    owes seat (Keeping m) word debt is h at = let a = h.1 in absurd (omega arith)
+    owes seat (Keeping m lost) word debt is h at = let a = h.1 in absurd (omega arith)
 
     abbrev HasOne : Type 0
     HasOne = (seat : ℕ) × (v : View) × (get_elem? s.views seat ≡ some v) × Uses f n v.work
@@ -150,7 +150,7 @@ module _ (k : Start) (s : Shared) (r : Agrees k s) where
   user_of number n f (placed seat l) at o who is = absurd (cc is)
   user_of number n f (seated slot g) at o who is = absurd (cc is)
   user_of number n f (emptied seat) at o who is = absurd (cc is)
-  user_of number n f (kept seat) at o who is = absurd (cc is)
+  user_of number n f (kept seat lost) at o who is = absurd (cc is)
 
   pub user_is : (number : ℕ) (f : File) → (state_after_all k r.history).removed number ≡ Some f → HasUser k s f
   user_is number f is = let on = r.node_of number in let now : removed_in number (r.phase on) ≡ Some f = sym (r.removed number) ∙ is in

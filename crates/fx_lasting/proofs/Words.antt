@@ -5,7 +5,7 @@ pub use Rattle.atomic_table.specs.Table.{Act, keeps, Valid, stepped, carried_aft
 pub use Rattle.fx_base.specs.declared.open_file.Closed.{Closed}
 pub use Rattle.fx_lasting.specs.Agrees.{HoldAgrees, MayBeUnmarked, GuardAgrees, GlanceAgrees, Heats, LogAgrees, ViewAgrees, Agrees, NodeAgrees, Does}
 pub use Rattle.fx_lasting.specs.Agrees.{OwnerAgrees, HoldsAt, WorkAgrees, IsAllowed, IsIdleIn, IsToVisit, NamesNode, Nodes, Names, IsSeated}
-pub use Rattle.fx_lasting.specs.Agrees.{SlotAgrees, Home, IsFileOfNode, IsVacant, Labels}
+pub use Rattle.fx_lasting.specs.Agrees.{SlotAgrees, Home, IsFileOfNode, IsVacant, IsBorn, Labels}
 pub use Rattle.fx_lasting.specs.AtWork.{IsAtWork, IsReleasing, HasPlace, MayPlace}
 pub use Rattle.fx_lasting.specs.Groups.{owing, owing_of, is_in, uncounted, account, GroupCounts, AreFull, HasQuestionOf, HasVisitedFull, RangeCounts}
 pub use Rattle.fx_lasting.specs.Counts.{tally, owed}
@@ -16,7 +16,7 @@ pub use Rattle.fx_lasting.specs.Laws.{ConfirmsKeep, WithdrawsKeep, TakesOnceKeep
 pub use Rattle.fx_lasting.specs.Laws.{ChecksKeep, BreaksKeep, BeginsKeep, CountsKeep, DecidesKeep, IsGroup}
 pub use Rattle.fx_lasting.specs.Laws.{PeeksKeep, InstallsKeep, StepsDownKeep, LettingGoKeeps, SeeksKeep, BirthsKeep, RestsKeep, VisitsKeep, MarksKeep}
 pub use Rattle.fx_lasting.specs.LabelSteps.{Tags, Numbers, ReadsTag, ReadsNumber}
-pub use Rattle.fx_lasting.specs.Labels.{number_of_mark, label_of, HasWritten}
+pub use Rattle.fx_lasting.specs.Labels.{number_of_mark, label_of, as_written, HasWritten}
 pub use Rattle.fx_lasting.specs.KeepSteps.{Parks, Resumes, SettlesNode}
 pub use Rattle.fx_lasting.specs.Laws.{ParksKeep, ResumesKeep, SettlesKeep}
 pub use Rattle.fx_lasting.specs.Laws.{HasItsPlace, TagsKeep, NumbersKeep, ReadsTagKeep, ReadsNumberKeep}
@@ -27,12 +27,13 @@ pub use Rattle.fx_lasting.specs.Layout.{group_size, groups_in, group_of, group_s
 pub use Rattle.fx_lasting.specs.Opens.{word_for, node_for, home_for, first_file, OpensWith}
 pub use Rattle.fx_lasting.specs.Deeds.{Deed, untouched, over, heated, has_acted, has_heated}
 pub use Rattle.fx_lasting.specs.Parts.{heat_unit, count_in, heat_in, IsHot, cold_takes, birth_word, closed_word, retirement_amount, announced, mark}
-pub use Rattle.fx_lasting.specs.Parts.{bit_of, IsListedIn, full_name_in, file_node_in, file_word_of, empty_word_of, without_file, name_mask}
+pub use Rattle.fx_lasting.specs.Parts.{bit_of, IsListedIn, full_name_in, file_node_in, file_word_of, empty_word_of, without_file, name_mask, most_carried, MayCarry}
 pub use Rattle.fx_lasting.specs.Passes.{node_of_number, HasNoFile, Shared, Sat, state_at_start, slots_of, range_at_start, nodes_of, stock_len, first_stock}
 pub use Rattle.fx_lasting.specs.Stocks.{Whereabouts, at_slot, in_stock, IsInStock, NamesItsNode, IsStockOf, StockAgrees}
 pub use Rattle.fx_lasting.proofs.SlotWords.{full_bit, when_full, when_empty, name_of_file, same_full_name, name_made, full_name_made, file_entry_made}
 pub use Rattle.fx_lasting.proofs.SlotWords.{file_takes_made, file_heat_made, empty_name_made, empty_file_made, empty_takes_made, name_left, no_file_left}
-pub use Rattle.fx_lasting.proofs.SlotWords.{no_takes_left, mask_leaves_name}
+pub use Rattle.fx_lasting.proofs.SlotWords.{no_takes_left, mask_leaves_name, name_carried, full_name_carried, entry_carried, takes_carried}
+pub use Rattle.fx_lasting.proofs.SlotWords.{heat_carried, takes_are_few}
 pub use Rattle.std.specs.Prelude.{bit_and}
 pub use Rattle.fx_lasting.specs.Passes.{word_of, hold_word_of, logs_of, lengths, state_after_all, IsHistory, new_log, first_log, held_in, if_file}
 pub use Rattle.fx_lasting.specs.Passes.{held_of, taking, taken_of, tag_word_of, number_word_of, HoldsOn}
@@ -63,6 +64,7 @@ pub use Rattle.fx_lasting.specs.declared.view.Work.{Work}
 pub use Rattle.fx_lasting.specs.declared.view.Work.TheVariants.{Idle, Announced, Counted, Guarded, Owing, Yielding, Searching, Placing, Retiring}
 pub use Rattle.fx_lasting.specs.declared.view.Work.TheVariants.{Emptying, Keeping}
 pub use Rattle.fx_lasting.specs.declared.view.Written.{Written}
+pub use Rattle.fx_lasting.specs.declared.view.Placement.{Placement}
 pub use Rattle.fx_lasting.specs.declared.view.Written.TheVariants.{Nothing as Unlabelled, Tag, Label}
 pub use Rattle.fx_plain.proofs.Cells.{changed_here, changed_else, by_equality}
 pub use Rattle.fx_plain.specs.Contents.{state_of, Contents, IsPrepared}
@@ -78,7 +80,7 @@ pub use Rattle.fx_table.proofs.SumLemmas.{contains_head, contains_map, contains_
 pub use Rattle.fx_table.proofs.SumLemmas.{one_less_at, counted_once, found_by, found_sum, sum_at, sum_two, sum_set, sum_le_at, sum_of, sum_zero_at}
 pub use Rattle.fx_table.proofs.SumLemmas.{sum_only}
 pub use Rattle.fx_words.specs.Words.{name_in, entry_in, named}
-pub use Rattle.std.proofs.Common.{bit_or, eq-eqb, ne_eqb, length-append, true, map, get_or, IsSome, ◌*◌, get_or-set_other, get_or-set_same, ◌/◌}
+pub use Rattle.std.proofs.Common.{IsTrue, ◌↔◌, bit_or, eq-eqb, ne_eqb, length-append, true, map, get_or, IsSome, ◌*◌, get_or-set_other, get_or-set_same, ◌/◌}
 pub use Rattle.std.proofs.Common.{lt-ltb, le-ltb, Option, Some, None, slice_index, ◌+◌, ◌-◌, ◌%◌, ◌^◌, false, eqb, inl, ◌++◌, ◌⊎◌, inr, ⊎_elim}
 pub use Rattle.std.proofs.Common.{length-set, ◌≡◌, ◌≢◌, ℕ, zero, suc, ◌<◌, ◌≤◌, Bool, cond, nat_lt, List, [], ◌∷◌, length, set, sym, refl, ap, ◌∙◌}
 pub use Rattle.std.proofs.Common.{subst, arith, rules, All, take, drop, reverse, vec_capacity, nat_eq}

@@ -19,7 +19,7 @@ use Rattle.fx_lasting.specs.Deeds.{Deed, untouched, over, heated, has_acted, has
 use Rattle.fx_lasting.specs.Labels.{HasWritten}
 use Rattle.fx_lasting.specs.Layout.{list_place, slot_place, words_for}
 use Rattle.fx_lasting.specs.Parts.{full_name_in, IsHot, count_in, heat_in, cold_takes, birth_word}
-use Rattle.fx_lasting.specs.Parts.{closed_word}
+use Rattle.fx_lasting.specs.Parts.{closed_word, most_carried}
 use Rattle.fx_lasting.specs.Parts.{announced, mark, bit_of, IsListedIn}
 use Rattle.fx_lasting.specs.Passes.{Shared, slots_of, range_at_start, nodes_of}
 use Rattle.fx_lasting.specs.Passes.{word_of, tag_word_of, number_word_of}
@@ -89,6 +89,14 @@ module _ (at : ℕ → Option File) (size : ℕ) (takes_at : ℕ → ℕ) (node_
     pub untaken : taken ≡ 0
     pub unowed : owing ≡ 0
 
+  -- it has no file, and its word is that of a birth, less the few takes that it has lost
+  pub record IsBorn (lost : ℕ) (lies : Home) : Type 0 where
+    pub counts : word + lost ≡ birth_word
+    pub few_lost : lost ≤ most_carried
+    pub at_home : home ≡ lies
+    pub untaken : taken ≡ 0
+    pub unowed : owing ≡ 0
+
   -- its file is at the slot: nothing is owed to it
   pub record IsAtSlot (slot : ℕ) (f : File) : Type 0 where
     pub file : IsFileOfNode node_of next_number node home f
@@ -121,12 +129,12 @@ module _ (at : ℕ → Option File) (size : ℕ) (takes_at : ℕ → ℕ) (node_
   -- what the node's phase says
   abbrev pub NodeAgrees : Phase → Type 0
   NodeAgrees free = IsVacant 0 (some (some None))
-  NodeAgrees (placed seat written) = IsVacant birth_word (some none)
+  NodeAgrees (placed seat placement) = IsBorn placement.lost (some none)
   NodeAgrees (seated slot f) = IsAtSlot slot f
   NodeAgrees (leaving seat takes round marks f) = IsLeaving takes round marks f
   NodeAgrees (retired f) = IsRetired f
   NodeAgrees (emptied seat) = IsEmptied
-  NodeAgrees (kept seat) = IsVacant birth_word (some (some None))
+  NodeAgrees (kept seat lost) = IsBorn lost (some (some None))
 
 -- the label of the node is so, as far as it is written
 abbrev pub Labels : Start → List ℕ → ℕ → Written → Type 0
@@ -140,11 +148,11 @@ Does views seat work = (v : View) × (get_elem? views seat ≡ some v) × (v.wor
 
 -- a node that a pass works with alone is known to the pass
 abbrev pub OwnerAgrees : List View → ℕ → Phase → Type 0
-OwnerAgrees views node (placed seat written) = Does views seat (Placing node written)
+OwnerAgrees views node (placed seat placement) = Does views seat (Placing node placement)
 OwnerAgrees views node (leaving seat takes round marks f) =
     Does views seat (Retiring f node takes round marks)
 OwnerAgrees views node (emptied seat) = Does views seat (Emptying node)
-OwnerAgrees views node (kept seat) = Does views seat (Keeping node)
+OwnerAgrees views node (kept seat lost) = Does views seat (Keeping node lost)
 OwnerAgrees views node _ = Unit {0}
 
 -- the file of the node is open
@@ -164,18 +172,18 @@ WorkAgrees k phase seat (Guarded f node) = HoldsAt k phase f node
 WorkAgrees k phase seat (Owing node) = node < nodes_of k
 WorkAgrees k phase seat (Yielding f node) = HoldsAt k phase f node
 WorkAgrees k phase seat (Searching node) = IsIn k phase node free
-WorkAgrees k phase seat (Placing node written) = IsIn k phase node (placed seat written)
+WorkAgrees k phase seat (Placing node placement) = IsIn k phase node (placed seat placement)
 WorkAgrees k phase seat (Retiring f node takes round marks) =
     IsIn k phase node (leaving seat takes round marks f)
 WorkAgrees k phase seat (Emptying node) = IsIn k phase node (emptied seat)
-WorkAgrees k phase seat (Keeping node) = IsIn k phase node (kept seat)
+WorkAgrees k phase seat (Keeping node lost) = IsIn k phase node (kept seat lost)
 
 -- a pass looks for a free node in its own stock, places its files there, and keeps a node of it;
 -- and it announces a node, or holds a file by its hold word, only if it is listed
 abbrev pub IsAllowed : List ℕ → Bool → Work → Type 0
 IsAllowed stock listed (Searching node) = IsInStock stock node
-IsAllowed stock listed (Placing node written) = IsInStock stock node
-IsAllowed stock listed (Keeping node) = IsInStock stock node
+IsAllowed stock listed (Placing node placement) = IsInStock stock node
+IsAllowed stock listed (Keeping node lost) = IsInStock stock node
 IsAllowed stock listed (Announced node) = listed ≡ true
 IsAllowed stock listed (Guarded f node) = listed ≡ true
 IsAllowed stock listed _ = Unit {0}

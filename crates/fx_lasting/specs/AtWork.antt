@@ -36,5 +36,6 @@ pub record HasPlace (node : ℕ) (inside : Option Identity) (m : Sat) : Type 0 w
 
 -- the pass keeps the node at this entry of its stock, or looks for one
 abbrev pub MayPlace : Bool → List ℕ → ℕ → Work → Type 0
-MayPlace true stock entry w = (node : ℕ) × (w ≡ Keeping node) × (get_elem? stock entry ≡ some node)
+MayPlace true stock entry w =
+    (node : ℕ) × (lost : ℕ) × (w ≡ Keeping node lost) × (get_elem? stock entry ≡ some node)
 MayPlace false stock entry w = HasNoFile w

@@ -17,7 +17,7 @@ use Rattle.fx_plain.specs.declared.event.Action.TheVariants.{Close, Take}
 use Rattle.fx_words.specs.Words.{entry_in, name_in}
 use Rattle.fx_lasting.specs.Agrees.{Names}
 use Rattle.fx_lasting.specs.HeldFiles.{IsOneOnItsNode}
-use Rattle.fx_lasting.specs.Labels.{label_of}
+use Rattle.fx_lasting.specs.Labels.{label_of, as_written}
 use Rattle.fx_lasting.specs.Layout.{slot_lines, list_place, group_of, group_len}
 use Rattle.fx_lasting.specs.Parts.{full_name_in, heat_in, IsHot, count_in, cold_takes, announced}
 use Rattle.fx_lasting.specs.Parts.{IsListedIn}
@@ -73,10 +73,10 @@ IsInside k (Guarded f node) = node < nodes_of k
 IsInside k (Owing node) = node < nodes_of k
 IsInside k (Yielding f node) = node < nodes_of k
 IsInside k (Searching node) = node < nodes_of k
-IsInside k (Placing node written) = node < nodes_of k
+IsInside k (Placing node placement) = node < nodes_of k
 IsInside k (Retiring f node takes round marks) = node < nodes_of k
 IsInside k (Emptying node) = node < nodes_of k
-IsInside k (Keeping node) = node < nodes_of k
+IsInside k (Keeping node lost) = node < nodes_of k
 
 -- the pass of the seat is listed
 abbrev pub IsOnList : Sat → Type 0
@@ -226,12 +226,12 @@ pub record Seeks (st : At) (m : Sat) (found : ℕ) (m' : Sat) : Type 0 where
 -- Birth: the place of the node is with the pass
 pub record Births (st : At) (m : Sat) (found : ℕ) (m' : Sat) : Type 0 where
   pub goes : (node : ℕ) → m.0.work ≡ Searching node
-      → Stepped m [] (Placing node Unlabelled) m.0.glance m.0.change m'
+      → Stepped m [] (Placing node (as_written 0 Unlabelled)) m.0.glance m.0.change m'
       × (m'.1 ≡ (node, None) ∷ m.1)
 
 -- what a pass does after a rest: a node whose file was not installed is free
 abbrev pub rested : Work → Work
-rested (Placing node written) = Searching node
+rested (Placing node placement) = Searching node
 rested _ = Idle
 
 -- Rest: the place is home, without a file
@@ -315,7 +315,8 @@ pub record Installs (st : At) (m : Sat) (found : ℕ) (m' : Sat) : Type 0 where
   pub replaced : Option File
   pub names : Found found replaced
   pub named : NamesANode m.0.start found
-  pub stepped : (n entry : ℕ) (file : Identity) → m.0.work ≡ Placing n (label_of file)
+  pub stepped : (n lost entry : ℕ) (file : Identity)
+      → m.0.work ≡ Placing n (as_written lost (label_of file))
       → m.1 ≡ (n, Some file) ∷ []
       → get_elem? (pass_in m).stock entry ≡ some n
       → (number : ℕ) × (node_of_number m.0.start number ≡ n)
@@ -388,7 +389,8 @@ pub record Peeks (st : At) (m : Sat) (found : ℕ) (m' : Sat) : Type 0 where
 
 -- Exchange: the file that the pass places is at the slot, which was empty; or nothing changed
 pub record Exchanges (st : At) (m : Sat) (found : ℕ) (m' : Sat) : Type 0 where
-  pub wins : (n entry : ℕ) (file : Identity) → m.0.work ≡ Placing n (label_of file)
+  pub wins : (n lost entry : ℕ) (file : Identity)
+      → m.0.work ≡ Placing n (as_written lost (label_of file))
       → m.1 ≡ (n, Some file) ∷ []
       → get_elem? (pass_in m).stock entry ≡ some n → found ≡ st.first
       → (number : ℕ) × (node_of_number m.0.start number ≡ n) × NamesANode m.0.start found
@@ -416,7 +418,8 @@ pub record TakesIf (st : At) (m : Sat) (found : ℕ) (m' : Sat) : Type 0 where
 -- Replace, if the slot's word is the one that the pass saw: the file that the pass places is at the
 -- slot then; or nothing changed
 pub record Replaces (st : At) (m : Sat) (found : ℕ) (m' : Sat) : Type 0 where
-  pub wins : (n entry : ℕ) (file : Identity) → m.0.work ≡ Placing n (label_of file)
+  pub wins : (n lost entry : ℕ) (file : Identity)
+      → m.0.work ≡ Placing n (as_written lost (label_of file))
       → m.1 ≡ (n, Some file) ∷ []
       → get_elem? (pass_in m).stock entry ≡ some n → found ≡ st.first
       → (replaced : Option File) × (number : ℕ) × Names (node_of_number m.0.start) found replaced

@@ -52,12 +52,12 @@ LooksByTake slot m (Err Empty) m' = Runs m ([] ▷ Look slot None) Idle Nothing 
 -- a pass with the place of a node, whose file is closed: it keeps the node, which is at the entry
 -- of its stock, or has the place still
 abbrev pub Parked : (node : ℕ) → List ℕ → (entry : ℕ) → Sat → Bool → Sat → Type 0
-Parked node stock entry m true m' = Does m [] (Keeping node) 1 m' × (m'.1 ≡ [])
+Parked node stock entry m true m' = (lost : ℕ) × Does m [] (Keeping node lost) 1 m' × (m'.1 ≡ [])
     × (get_elem? stock entry ≡ some node)
 Parked node stock entry m false m' = Does m [] (Emptying node) 1 m' × (m'.1 ≡ m.1)
 
 -- a pass that took the closed file of a node out: it keeps the node, or is idle
 abbrev pub TakenOut : (node : ℕ) → List ℕ → (entry : ℕ) → Sat → Bool → Sat → Type 0
-TakenOut node stock entry m true m' = Does m [] (Keeping node) 2 m' × (m'.1 ≡ [])
-    × (get_elem? stock entry ≡ some node)
+TakenOut node stock entry m true m' = (lost : ℕ) × Does m [] (Keeping node lost) 2 m'
+    × (m'.1 ≡ []) × (get_elem? stock entry ≡ some node)
 TakenOut node stock entry m false m' = Does m [] Idle 2 m' × (m'.1 ≡ [])

@@ -1,7 +1,7 @@
 -- The kinds of step on the two words of a node's label: their effect on the pass that makes them.
 use Rattle.std.specs.Prelude.{◌≡◌, ℕ, []}
 use Rattle.fx_plain.specs.declared.event.File.{File}
-use Rattle.fx_lasting.specs.Labels.{number_of_mark}
+use Rattle.fx_lasting.specs.Labels.{number_of_mark, as_written}
 use Rattle.fx_lasting.specs.Passes.{Sat, HoldsOn, node_of_number}
 use Rattle.fx_lasting.specs.Effects.{At, Goes, pass_in}
 use Rattle.fx_lasting.specs.declared.view.Work.TheVariants.{Placing}
@@ -9,13 +9,13 @@ use Rattle.fx_lasting.specs.declared.view.Written.TheVariants.{Nothing, Tag, Lab
 
 -- Tag: the pass has stored the tag of the file that it places
 pub record Tags (st : At) (m : Sat) (found : ℕ) (m' : Sat) : Type 0 where
-  pub goes : (node : ℕ) → m.0.work ≡ Placing node Nothing
-      → Goes m [] (Placing node (Tag st.first)) m.0.glance m'
+  pub goes : (node lost : ℕ) → m.0.work ≡ Placing node (as_written lost Nothing)
+      → Goes m [] (Placing node (as_written lost (Tag st.first))) m.0.glance m'
 
 -- Number: the pass has stored the number of the file that it places, and so its label
 pub record Numbers (st : At) (m : Sat) (found : ℕ) (m' : Sat) : Type 0 where
-  pub goes : (node tag : ℕ) → m.0.work ≡ Placing node (Tag tag)
-      → Goes m [] (Placing node (Label tag st.first)) m.0.glance m'
+  pub goes : (node lost tag : ℕ) → m.0.work ≡ Placing node (as_written lost (Tag tag))
+      → Goes m [] (Placing node (as_written lost (Label tag st.first))) m.0.glance m'
 
 -- Read, of the tag's word of a node: it is the tag of the file that the pass holds
 pub record ReadsTag (st : At) (m : Sat) (found : ℕ) (m' : Sat) : Type 0 where

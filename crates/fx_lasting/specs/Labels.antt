@@ -3,6 +3,7 @@ use Rattle.std.specs.Prelude.{◌≡◌, ℕ, ◌+◌, ◌*◌, ◌^◌}
 use Rattle.fx_base.specs.Identity.{Identity}
 use Rattle.fx_base.specs.declared.mark.Mark.{Mark}
 use Rattle.fx_base.specs.declared.mark.Mark.TheVariants.{Registered, Submitted}
+use Rattle.fx_lasting.specs.declared.view.Placement.{Placement}
 use Rattle.fx_lasting.specs.declared.view.Written.{Written}
 use Rattle.fx_lasting.specs.declared.view.Written.TheVariants.{Nothing, Tag, Label}
 
@@ -14,6 +15,11 @@ number_of_mark (Submitted submission chain member entry) = 0
 -- both words of a file's label
 abbrev pub label_of : Identity → Written
 label_of file = Label file.tag (number_of_mark file.mark)
+
+-- a file that is about to be installed on a node whose word has lost so many takes, and so much of
+-- the file's label is written
+abbrev pub as_written : ℕ → Written → Placement
+as_written lost written = record { lost = lost; written = written }
 
 -- the tag's word and the number's word have what is written
 abbrev pub HasWritten : Written → ℕ → ℕ → Type 0

@@ -9,7 +9,7 @@ use Rattle.fx_base.specs.Identity.{Identity}
 use Rattle.fx_plain.specs.declared.event.File.{File}
 use Rattle.fx_lasting.specs.Agrees.{Agrees, IsIdleIn}
 use Rattle.fx_lasting.specs.Groups.{is_in, uncounted}
-use Rattle.fx_lasting.specs.Labels.{label_of}
+use Rattle.fx_lasting.specs.Labels.{label_of, as_written}
 use Rattle.fx_lasting.specs.Layout.{question_place, group_place, list_place}
 use Rattle.fx_lasting.specs.Layout.{slot_place, groups_in, group_of}
 use Rattle.fx_lasting.specs.Parts.{heat_unit, birth_word, announced, mark, retirement_amount}
@@ -25,6 +25,7 @@ use Rattle.fx_lasting.specs.declared.view.Change.{Change}
 use Rattle.fx_lasting.specs.declared.view.Change.TheVariants.{Outside, Lowered, Inside}
 use Rattle.fx_lasting.specs.declared.view.Glance.TheVariants.{None as Nothing, Hot, Cold, Heating}
 use Rattle.fx_lasting.specs.declared.view.Log.{Log}
+use Rattle.fx_lasting.specs.declared.view.Placement.{Placement}
 use Rattle.fx_lasting.specs.declared.view.Round.{Round}
 use Rattle.fx_lasting.specs.declared.view.Start.{Start}
 use Rattle.fx_lasting.specs.declared.view.View.{View}
@@ -33,7 +34,6 @@ use Rattle.fx_lasting.specs.declared.view.Work.TheVariants.{Idle, Announced, Cou
 use Rattle.fx_lasting.specs.declared.view.Work.TheVariants.{Owing}
 use Rattle.fx_lasting.specs.declared.view.Work.TheVariants.{Yielding, Searching, Placing, Retiring}
 use Rattle.fx_lasting.specs.declared.view.Work.TheVariants.{Emptying, Keeping}
-use Rattle.fx_lasting.specs.declared.view.Written.{Written}
 use Rattle.fx_lasting.specs.declared.view.Written.TheVariants.{Nothing as Unlabelled, Tag}
 
 -- the effect of a kind of step on its pass
@@ -126,14 +126,15 @@ BirthsKeep tells = (k : Start) (slots id i node : ℕ) (m : Sat) (x : Log) → H
 
 -- a pass stores the tag of its file in the node's word for it
 abbrev pub TagsKeep : Kind → Type 0
-TagsKeep tells = (k : Start) (slots id i node tag : ℕ) (m : Sat) (x : Log) → HasPass k m x
-    → m.0.work ≡ Placing node Unlabelled → i ≡ tag_word_of k node
+TagsKeep tells = (k : Start) (slots id i node lost tag : ℕ) (m : Sat) (x : Log) → HasPass k m x
+    → m.0.work ≡ Placing node (as_written lost Unlabelled) → i ≡ tag_word_of k node
     → Allows (Agrees k) slots id m i (λ _. tag) (λ _. tells (step slots i tag 0 none) m tag)
 
 -- and then the number
 abbrev pub NumbersKeep : Kind → Type 0
-NumbersKeep tells = (k : Start) (slots id i node tag number : ℕ) (m : Sat) (x : Log)
-    → HasPass k m x → m.0.work ≡ Placing node (Tag tag) → i ≡ number_word_of k node
+NumbersKeep tells = (k : Start) (slots id i node lost tag number : ℕ) (m : Sat) (x : Log)
+    → HasPass k m x → m.0.work ≡ Placing node (as_written lost (Tag tag))
+    → i ≡ number_word_of k node
     → Allows (Agrees k) slots id m i (λ _. number)
     (λ _. tells (step slots i number 0 none) m number)
 
@@ -151,7 +152,8 @@ ReadsNumberKeep tells = (k : Start) (slots id i node : ℕ) (f : File) (m : Sat)
 
 -- the node's place is with the pass, whose file is closed or was not installed
 abbrev pub HasItsPlace : Work → ℕ → Type 0
-HasItsPlace w node = (w ≡ Emptying node) ⊎ ((written : Written) × (w ≡ Placing node written))
+HasItsPlace w node =
+    (w ≡ Emptying node) ⊎ ((placement : Placement) × (w ≡ Placing node placement))
 
 -- a pass stores 0 in the word of a node whose file is closed or was not installed
 abbrev pub RestsKeep : Kind → Type 0
@@ -167,14 +169,14 @@ ParksKeep tells = (k : Start) (slots id i n : ℕ) (m : Sat) (x : Log) → HasPa
 
 -- a pass loads the word of the node that it keeps, to place a file there
 abbrev pub ResumesKeep : Kind → Type 0
-ResumesKeep tells = (k : Start) (slots id i n : ℕ) (m : Sat) (x : Log) → HasPass k m x
-    → m.0.work ≡ Keeping n → i ≡ word_of k n
+ResumesKeep tells = (k : Start) (slots id i n lost : ℕ) (m : Sat) (x : Log) → HasPass k m x
+    → m.0.work ≡ Keeping n lost → i ≡ word_of k n
     → Allows (Agrees k) slots id m i (λ word. word) (tells (step slots i 0 0 none) m)
 
 -- a pass stores 0 in the word of the node that it keeps
 abbrev pub SettlesKeep : Kind → Type 0
-SettlesKeep tells = (k : Start) (slots id i n : ℕ) (m : Sat) (x : Log) → HasPass k m x
-    → m.0.work ≡ Keeping n → i ≡ word_of k n
+SettlesKeep tells = (k : Start) (slots id i n lost : ℕ) (m : Sat) (x : Log) → HasPass k m x
+    → m.0.work ≡ Keeping n lost → i ≡ word_of k n
     → Allows (Agrees k) slots id m i (λ _. 0) (λ _. tells (step slots i 0 0 none) m 0)
 
 -- the pass is the one that retires a file, or one that the round needn't visit
@@ -306,12 +308,13 @@ abbrev pub PeeksKeep : Kind → Type 0
 PeeksKeep tells = (k : Start) (slots id i : ℕ) (m : Sat) (x : Log) → HasPass k m x
     → Allows (Agrees k) slots id m i (λ word. word) (tells (step slots i 0 0 none) m)
 
--- a pass swaps the word of the file that it places into a slot
+-- a pass swaps the word of the file that it places into a slot. The word begins with the takes that
+-- the node's word has lost
 abbrev pub InstallsKeep : Kind → Type 0
-InstallsKeep tells = (k : Start) (slots id i slot n new : ℕ) (file : Identity) (m : Sat) (x : Log)
-    → HasPass k m x → m.0.work ≡ Placing n (label_of file) → m.1 ≡ (n, Some file) ∷ []
-    → file.entry < 2 ^ 8 → slot < slots_of k → m.0.change ≡ Outside
-    → i ≡ slot_place slot → new ≡ file_word_of n file.entry
+InstallsKeep tells = (k : Start) (slots id i slot n lost new : ℕ) (file : Identity) (m : Sat)
+    (x : Log) → HasPass k m x → m.0.work ≡ Placing n (as_written lost (label_of file))
+    → m.1 ≡ (n, Some file) ∷ [] → file.entry < 2 ^ 8 → slot < slots_of k → m.0.change ≡ Outside
+    → i ≡ slot_place slot → new ≡ file_word_of n file.entry + lost
     → Allows (Agrees k) slots id m i (λ _. new) (tells (step slots i new 0 none) m)
 
 -- an idle pass leaves of a slot's word the name alone, for an update
@@ -337,10 +340,10 @@ SwapsOutKeep tells = (k : Start) (slots id i slot n new : ℕ) (m : Sat) (x : Lo
 
 -- a pass exchanges the word of an empty slot of the range for the word of the file that it places
 abbrev pub ExchangesKeep : Kind → Type 0
-ExchangesKeep tells = (k : Start) (slots id i slot n old new : ℕ) (file : Identity) (m : Sat)
-    (x : Log) → HasPass k m x → m.0.work ≡ Placing n (label_of file) → m.1 ≡ (n, Some file) ∷ []
-    → file.entry < 2 ^ 8 → m.0.change ≡ Outside → IsInRange k slot → i ≡ slot_place slot
-    → full_name_in old ≡ 0 → new ≡ file_word_of n file.entry
+ExchangesKeep tells = (k : Start) (slots id i slot n lost old new : ℕ) (file : Identity) (m : Sat)
+    (x : Log) → HasPass k m x → m.0.work ≡ Placing n (as_written lost (label_of file))
+    → m.1 ≡ (n, Some file) ∷ [] → file.entry < 2 ^ 8 → m.0.change ≡ Outside → IsInRange k slot
+    → i ≡ slot_place slot → full_name_in old ≡ 0 → new ≡ file_word_of n file.entry + lost
     → Allows (Agrees k) slots id m i (λ word. either (word == old) new word)
     (tells (step slots i old new none) m)
 
@@ -360,9 +363,9 @@ TakesIfKeep tells = (k : Start) (slots id i slot old new : ℕ) (m : Sat) (x : L
 
 -- a pass exchanges the word of a slot that it saw for the word of the file that it places
 abbrev pub ReplacesKeep : Kind → Type 0
-ReplacesKeep tells = (k : Start) (slots id i slot n old new : ℕ) (file : Identity) (m : Sat)
-    (x : Log) → HasPass k m x → m.0.work ≡ Placing n (label_of file) → m.1 ≡ (n, Some file) ∷ []
-    → file.entry < 2 ^ 8 → slot < slots_of k → m.0.change ≡ Outside → i ≡ slot_place slot
-    → new ≡ file_word_of n file.entry
+ReplacesKeep tells = (k : Start) (slots id i slot n lost old new : ℕ) (file : Identity) (m : Sat)
+    (x : Log) → HasPass k m x → m.0.work ≡ Placing n (as_written lost (label_of file))
+    → m.1 ≡ (n, Some file) ∷ [] → file.entry < 2 ^ 8 → slot < slots_of k → m.0.change ≡ Outside
+    → i ≡ slot_place slot → new ≡ file_word_of n file.entry + lost
     → Allows (Agrees k) slots id m i (λ word. either (word == old) new word)
     (tells (step slots i old new none) m)

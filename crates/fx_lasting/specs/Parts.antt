@@ -1,5 +1,5 @@
 -- The parts of words, as numbers.
-use Rattle.std.specs.Prelude.{◌≡◌, ℕ, ◌+◌, ◌-◌, ◌*◌, ◌/◌, ◌%◌, ◌^◌, ◌<◌, ◌==◌, if◌then◌else◌}
+use Rattle.std.specs.Prelude.{◌≡◌, ℕ, ◌+◌, ◌-◌, ◌*◌, ◌/◌, ◌%◌, ◌^◌, ◌<◌, ◌≤◌, ◌==◌, if◌then◌else◌}
 use Rattle.std.specs.Prelude.{Option}
 use Rattle.std.specs.Int.{bit_at}
 use Rattle.fx_words.specs.Words.{name_in, named, slot_word_of}
@@ -63,6 +63,15 @@ IsListedIn word pass = bit_at word (bit_of pass) ≡ 1
 -- left
 abbrev pub birth_word : ℕ
 birth_word = 2 ^ 32 + 1
+
+-- the most takes that the word of a node may have lost whose pass keeps it: so few that the next
+-- file's slot, whose word begins with them, is cold
+abbrev pub most_carried : ℕ
+most_carried = 8
+
+-- the word of a node has lost so few
+abbrev pub MayCarry : ℕ → Type 0
+MayCarry word = (word ≤ birth_word) × (birth_word ≤ word + most_carried)
 
 abbrev pub closed_word : ℕ
 closed_word = 1

@@ -2,6 +2,7 @@
 use Rattle.std.specs.Prelude.{ℕ, ◌+◌, ◌==◌, if◌then◌else◌, Option, Some, None}
 use Rattle.fx_plain.specs.declared.event.File.{File}
 use Rattle.fx_lasting.specs.Labels.{label_of}
+use Rattle.fx_lasting.specs.declared.view.Placement.{Placement}
 use Rattle.fx_lasting.specs.declared.view.Round.{Round}
 use Rattle.fx_lasting.specs.declared.view.Written.{Written}
 use Rattle.fx_lasting.specs.declared.view.Written.TheVariants.{Nothing}
@@ -10,8 +11,8 @@ use Rattle.fx_lasting.specs.declared.view.Written.TheVariants.{Nothing}
 pub data Phase : Type 0 where
   -- it has no file
   free : Phase
-  -- the pass at the seat is about to install its file, and has stored so much of the file's label
-  placed : ℕ → Written → Phase
+  -- the pass at the seat is about to install its file, and has come so far
+  placed : ℕ → Placement → Phase
   -- its file is at the slot
   seated : ℕ → File → Phase
   -- its file was removed by the pass at the seat, which found `takes` takes, has come so far on its
@@ -21,15 +22,16 @@ pub data Phase : Type 0 where
   retired : File → Phase
   -- its file is closed, and the pass at the seat is about to take it out
   emptied : ℕ → Phase
-  -- it has no file, and the pass at the seat keeps it for its next one: its word is that of a birth
-  kept : ℕ → Phase
+  -- it has no file, and the pass at the seat keeps it for its next one: its word is that of a birth,
+  -- less `lost` takes
+  kept : (seat lost : ℕ) → Phase
 
 -- the seat that alone may go on with it, plus 1, or 0
 abbrev pub owner : Phase → ℕ
-owner (placed seat written) = seat + 1
+owner (placed seat placement) = seat + 1
 owner (leaving seat takes round marks f) = seat + 1
 owner (emptied seat) = seat + 1
-owner (kept seat) = seat + 1
+owner (kept seat lost) = seat + 1
 owner _ = 0
 
 -- its file, while it is open
@@ -41,7 +43,7 @@ file_in _ = None
 
 -- the label that its two words have: that of its file
 abbrev pub written_in : Phase → Written
-written_in (placed seat written) = written
+written_in (placed seat placement) = placement.written
 written_in (seated slot f) = label_of f.identity
 written_in (leaving seat takes round marks f) = label_of f.identity
 written_in (retired f) = label_of f.identity

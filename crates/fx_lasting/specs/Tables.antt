@@ -87,7 +87,7 @@ module _ (passes : ℕ) (idle guarded keeps : Bool) (visit : ℕ) (stock : List 
   abbrev pub IsBetweenCalls : Work → Type 0
   IsBetweenCalls Idle = (idle ≡ true) × (keeps ≡ false)
   IsBetweenCalls (Searching node) = (idle ≡ true) × (keeps ≡ false)
-  IsBetweenCalls (Keeping node) =
+  IsBetweenCalls (Keeping node lost) =
       (idle ≡ true) × (keeps ≡ true) × (get_elem? stock entry ≡ some node)
   IsBetweenCalls (Counted f node) = (idle ≡ false) × (keeps ≡ false) × (guarded ≡ false)
   IsBetweenCalls (Guarded f node) = (idle ≡ false) × (keeps ≡ false) × (guarded ≡ true)

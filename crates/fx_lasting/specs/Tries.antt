@@ -1,5 +1,5 @@
 -- A pass that searches the allocation range for an empty slot.
-use Rattle.std.specs.Prelude.{◌≡◌, ℕ, ◌+◌, ◌*◌, ◌<◌, [], ◌∷◌, Option, Some, None, Result, Ok}
+use Rattle.std.specs.Prelude.{◌≡◌, ℕ, ◌+◌, ◌*◌, ◌<◌, ◌≤◌, [], ◌∷◌, Option, Some, None, Result, Ok}
 use Rattle.std.specs.Prelude.{Err}
 use mathlib.Core.Option.{some}
 use lib.ListN.{get_elem?}
@@ -13,8 +13,9 @@ use Rattle.fx_table.specs.Opening.{Opening, size_of}
 use Rattle.fx_table.specs.Pass.{PassView}
 use Rattle.fx_table.specs.declared.values.Doing.TheVariants.{Idle as DoesNothing}
 use Rattle.fx_lasting.specs.Ends.{Does}
-use Rattle.fx_lasting.specs.Labels.{label_of}
+use Rattle.fx_lasting.specs.Labels.{label_of, as_written}
 use Rattle.fx_lasting.specs.Layout.{group_size, groups_in}
+use Rattle.fx_lasting.specs.Parts.{most_carried}
 use Rattle.fx_lasting.specs.Passes.{Sat, nodes_of, node_of_number}
 use Rattle.fx_lasting.specs.Stocks.{IsInStock}
 use Rattle.fx_lasting.specs.Effects.{as_swapped, pass_in}
@@ -22,9 +23,11 @@ use Rattle.fx_lasting.specs.declared.tried.TriedPut.{TriedPut}
 use Rattle.fx_lasting.specs.declared.tried.TriedPut.TheVariants.{At, Full as AllFull, Again}
 use Rattle.fx_lasting.specs.declared.view.Work.TheVariants.{Idle, Placing}
 
--- the seat's pass has the place of a node of its stock, with the file that it is about to install
-pub record IsPlacing (node : ℕ) (file : Identity) (m : Sat) : Type 0 where
-  pub work : m.0.work ≡ Placing node (label_of file)
+-- the seat's pass has the place of a node of its stock, whose word has lost so many takes, with the
+-- file that it is about to install
+pub record IsPlacing (node lost : ℕ) (file : Identity) (m : Sat) : Type 0 where
+  pub work : m.0.work ≡ Placing node (as_written lost (label_of file))
+  pub few_lost : lost ≤ most_carried
   pub place : m.1 ≡ (node, Some file) ∷ []
   pub stocked : IsInStock (pass_in m).stock node
 
@@ -37,9 +40,9 @@ HasAllocated node file slot named most m m' = (named < nodes_of m.0.start) × (m
     × Does (as_swapped entry named m) ([] ▷ Allocate slot (numbered number file)) Idle most m')
 
 -- the file is still to be installed
-abbrev pub StillPlaces : ℕ → Identity → ℕ → Sat → Sat → Type 0
-StillPlaces node file most m m' =
-    Does m [] (Placing node (label_of file)) most m' × (m'.1 ≡ m.1)
+abbrev pub StillPlaces : (node lost : ℕ) → Identity → ℕ → Sat → Sat → Type 0
+StillPlaces node lost file most m m' =
+    Does m [] (Placing node (as_written lost (label_of file))) most m' × (m'.1 ≡ m.1)
 
 -- the steps of a try at each slot of a group, and of one at each slot of the range
 abbrev pub group_steps : ℕ → ℕ
@@ -49,9 +52,9 @@ abbrev pub scan_steps : ℕ → ℕ
 scan_steps len = groups_in len * group_steps len + 3
 
 -- a try at one slot
-abbrev pub Tries : ℕ → Identity → ℕ → Sat → Option ℕ → Sat → Type 0
-Tries node file slot m (Some named) m' = HasAllocated node file slot named 3 m m'
-Tries node file slot m None m' = StillPlaces node file 3 m m'
+abbrev pub Tries : (node lost : ℕ) → Identity → ℕ → Sat → Option ℕ → Sat → Type 0
+Tries node lost file slot m (Some named) m' = HasAllocated node file slot named 3 m m'
+Tries node lost file slot m None m' = StillPlaces node lost file 3 m m'
 
 -- the result of a search that doesn't ask whether all is full
 abbrev pub without_asking : Result ℕ Identity → TriedPut

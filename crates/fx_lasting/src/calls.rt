@@ -179,8 +179,9 @@ impl LastingTable {
         let stock = pass.stock.as_slice();
         let start = pass.next_entry;
         let file_entry = file.entry();
-        let (entry, node) = self.place(&mut pass.seat, pass.number, stock, start, pass.keeps, file);
-        let word = file_word(node, file_entry);
+        let seat = &mut pass.seat;
+        let (entry, node, lost) = self.place(seat, pass.number, stock, start, pass.keeps, file);
+        let word = file_word(node, file_entry) + lost;
         let shared = &self.table.shared;
         let found = shared.swap::<Installing>(&mut pass.seat, slot_place(slot), word);
         let replaced = removed_in(found);

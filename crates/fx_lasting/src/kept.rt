@@ -1,15 +1,18 @@
-//! The node that a pass keeps for its next file. If a file had no takes and no marks, its node's
-//! word is that of a birth when the file is closed. The pass that retires the file keeps the node,
-//! if the node is at the entry of its stock where the next search begins. The next installation
-//! then needs neither a search nor a birth. A call that needs a pass without a node settles first:
-//! it frees the node.
+//! The node that a pass keeps for its next file. If all takes and marks of a file were dropped when
+//! the pass that retires it loads its node's word, the file is closed at that load, and the word is
+//! that of a birth, less the takes and marks. Where they are few, that pass keeps the node, if the
+//! node is at the entry of its stock where the next search begins. The next installation then needs
+//! neither a search nor a birth: the slot's word begins with as many takes as the node's word has
+//! lost, as if the next file had had them too. A call that needs a pass without a node settles
+//! first: it frees the node.
 ghost use Rattle.std.specs.Prelude.{◌≡◌, ◌+◌, ◌<◌, ◌≤◌, ℕ, ◌∷◌, [], true, false, Some, None, Bool};
 ghost use mathlib.Core.Option.{some};
 ghost use lib.ListN.{get_elem?};
 ghost use Rattle.fx_base.specs.declared.open_file.Closed.{Closed};
 ghost use Rattle.fx_lasting.specs.AtWork.{IsAtWork, HasPlace, MayPlace};
 ghost use Rattle.fx_lasting.specs.Ends.{Does, Parked, TakenOut};
-ghost use Rattle.fx_lasting.specs.Labels.{label_of};
+ghost use Rattle.fx_lasting.specs.Labels.{label_of, as_written};
+ghost use Rattle.fx_lasting.specs.Parts.{most_carried};
 ghost use Rattle.fx_lasting.specs.Passes.{nodes_of};
 ghost use Rattle.fx_lasting.specs.Tables.{view_of, steps_taken, IsPassOfTable};
 ghost use Rattle.fx_lasting.specs.Effects.{pass_in};
@@ -17,7 +20,7 @@ ghost use Rattle.fx_lasting.specs.declared.view.Work.TheVariants.{Emptying, Plac
 
 use crate::kinds::{Birth, Parking, Resting, Resuming, Settling};
 use crate::layout::node_place;
-use crate::parts::BORN;
+use crate::parts::{BORN, may_carry};
 use crate::pass::LastingPass;
 use crate::table::LastingTable;
 use crate::view::View;
@@ -27,7 +30,7 @@ use fx_base::OpenFile;
 impl LastingTable {
     // Puts the file into the place of the node that the pass keeps, or else of a free node of its
     // stock, and stores the file's label, in at most three steps more than the stock has nodes.
-    // Returns the node's entry, and the node.
+    // Returns the node's entry, the node, and the number of takes that its word has lost.
     #[inline(always)]
     pub(crate) fn place(
         &self,
@@ -37,7 +40,7 @@ impl LastingTable {
         start: u32,
         keeps: bool,
         file: OpenFile,
-    ) -> (u32, u32)
+    ) -> (u32, u32, u64)
         requires table { seat.old.table_id ≡ self.now.table.shared.table_id }
         requires at { IsAtWork self.now.table.shared.key number seat.old.me }
         requires may { MayPlace keeps stock.now start seat.old.me.0.work }
@@ -46,8 +49,9 @@ impl LastingTable {
         requires stock { stock.now ≡ (pass_in seat.old.me).stock }
         requires start { start < self.now.passes }
         ensures table { seat.new.table_id ≡ seat.old.table_id }
-        ensures placed { Does seat.old.me [] (Placing result.1 (label_of file))
-            (self.now.passes + 3) seat.new.me }
+        ensures placed { Does seat.old.me [] (Placing result.1
+            (as_written result.2 (label_of file))) (self.now.passes + 3) seat.new.me }
+        ensures few_lost { result.2 ≤ most_carried }
         ensures place { seat.new.me.1 ≡ (result.1, Some file) ∷ [] }
         ensures stocked { get_elem? stock.now result.0 ≡ some result.1 }
         ensures entry { result.0 < self.now.passes }
@@ -56,14 +60,15 @@ impl LastingTable {
         let shared = &self.table.shared;
         if keeps {
             let node = stock[start as usize];
-            shared.load::<Resuming>(seat, node_place(self.size, self.passes, node));
+            let place = node_place(self.size, self.passes, node);
+            let word = shared.load::<Resuming>(seat, place);
             self.put_in(seat, node, file);
-            return (start, node);
+            return (start, node, BORN - word);
         }
         let (entry, node) = self.seek(seat, number, stock, start);
         shared.store::<Birth>(seat, node_place(self.size, self.passes, node), BORN);
         self.put_in(seat, node, file);
-        (entry, node)
+        (entry, node, 0)
     }
 
     // Takes the closed file out of the place of its node, in at most two steps. Returns the file,
@@ -97,7 +102,7 @@ impl LastingTable {
     }
 
     // Keeps the node, whose place is with the pass, if it is at the entry of the stock and its word
-    // is that of a birth, in at most one step. Returns whether it does.
+    // has lost few takes, in at most one step. Returns whether it does.
     #[inline(always)]
     fn park(
         &self,
@@ -122,7 +127,7 @@ impl LastingTable {
             return false;
         }
         let place = node_place(self.size, self.passes, node);
-        self.table.shared.load::<Parking>(seat, place) == BORN
+        may_carry(self.table.shared.load::<Parking>(seat, place))
     }
 
     // Frees the node that the pass keeps, if it keeps one, in at most one step.

@@ -91,10 +91,11 @@ impl LastingTable {
         let stock = pass.stock.as_slice();
         let start = pass.next_entry;
         let identity = file.identity();
-        let (entry, own) = self.place(&mut pass.seat, pass.number, stock, start, pass.keeps, file);
+        let seat = &mut pass.seat;
+        let (entry, own, lost) = self.place(seat, pass.number, stock, start, pass.keeps, file);
         pass.next_entry = entry;
         pass.keeps = false;
-        match self.try_replace(&mut pass.seat, slot, node, word, own, identity) {
+        match self.try_replace(&mut pass.seat, slot, node, word, own, lost, identity) {
             Ok(found) => {
                 pass.stock[entry as usize] = node;
                 pass.next_visit = self.first_visit(found);
@@ -173,11 +174,12 @@ impl LastingTable {
         node: u32,
         word: u64,
         own: u32,
+        lost: u64,
         file: Closed,
     ) -> Result<u64, Miss>
         requires table { seat.old.table_id ≡ self.now.table.shared.table_id }
         requires at { (number : ℕ) × IsAtWork self.now.table.shared.key number seat.old.me }
-        requires placing { IsPlacing own file seat.old.me }
+        requires placing { IsPlacing own lost file seat.old.me }
         requires slot { slot < self.now.size }
         requires change { seat.old.me.0.change ≡ Outside }
         requires named { full_name_in word ≡ node + 1 }
@@ -187,7 +189,7 @@ impl LastingTable {
     {
         let shared = &self.table.shared;
         let place = slot_place(slot);
-        let new = file_word(own, file.entry);
+        let new = file_word(own, file.entry) + lost;
         let mut expected = word;
         for _ in 0..4u32 {
             let seen = shared.compare_exchange::<Replacing>(seat, place, expected, new);

@@ -6,7 +6,7 @@ ghost use Rattle.fx_table.specs.Pass.{IsHoldOf};
 ghost use Rattle.fx_table.specs.declared.values.Doing.TheVariants.{Holding};
 ghost use Rattle.fx_lasting.specs.AtWork.{IsAtWork};
 ghost use Rattle.fx_lasting.specs.Ends.{Does};
-ghost use Rattle.fx_lasting.specs.Labels.{number_of_mark};
+ghost use Rattle.fx_lasting.specs.Labels.{number_of_mark, as_written};
 ghost use Rattle.fx_lasting.specs.Passes.{node_of_number};
 ghost use Rattle.fx_lasting.specs.Tables.{view_of, steps_taken, IsPassOfTable};
 ghost use Rattle.fx_lasting.specs.declared.view.Work.TheVariants.{Placing};
@@ -70,10 +70,13 @@ impl LastingTable {
     )
         requires table { seat.old.table_id ≡ self.now.table.shared.table_id }
         requires at { (number : ℕ) × IsAtWork self.now.table.shared.key number seat.old.me }
-        requires placing { seat.old.me.0.work ≡ Placing node Nothing }
+        requires placing { (lost : ℕ) × (seat.old.me.0.work ≡ Placing node
+            (as_written lost Nothing)) }
         ensures table { seat.new.table_id ≡ seat.old.table_id }
         ensures places { seat.new.me.1 ≡ seat.old.me.1 }
-        ensures stored { Does seat.old.me [] (Placing node (Label tag number)) 2 seat.new.me }
+        ensures stored { (lost : ℕ) → seat.old.me.0.work ≡ Placing node (as_written lost Nothing)
+            → Does seat.old.me [] (Placing node (as_written lost (Label tag number))) 2
+            seat.new.me }
     {
         let shared = &self.table.shared;
         let place = tag_place(self.size, self.passes, node);

@@ -4,7 +4,7 @@ ghost use Rattle.std.specs.Prelude.{◌≡◌, ℕ, ◌∷◌, [], Some, None};
 ghost use Rattle.fx_base.specs.declared.open_file.Closed.{Closed};
 ghost use Rattle.fx_lasting.specs.AtWork.{IsAtWork, HasPlace};
 ghost use Rattle.fx_lasting.specs.Ends.{Does};
-ghost use Rattle.fx_lasting.specs.Labels.{label_of};
+ghost use Rattle.fx_lasting.specs.Labels.{label_of, as_written};
 ghost use Rattle.fx_lasting.specs.Effects.{rested};
 ghost use Rattle.fx_lasting.specs.declared.view.Work.TheVariants.{Placing};
 ghost use Rattle.fx_lasting.specs.declared.view.Written.TheVariants.{Nothing};
@@ -23,10 +23,12 @@ impl LastingTable {
     pub(crate) fn put_in(&self, seat: &mut Seat<Option<OpenFile>, View>, node: u32, file: OpenFile)
         requires table { seat.old.table_id ≡ self.now.table.shared.table_id }
         requires at { (number : ℕ) × IsAtWork self.now.table.shared.key number seat.old.me }
-        requires placing { seat.old.me.0.work ≡ Placing node Nothing }
+        requires placing { (lost : ℕ) × (seat.old.me.0.work ≡ Placing node
+            (as_written lost Nothing)) }
         requires place { seat.old.me.1 ≡ (node, None) ∷ [] }
         ensures table { seat.new.table_id ≡ seat.old.table_id }
-        ensures stored { Does seat.old.me [] (Placing node (label_of file)) 2 seat.new.me }
+        ensures stored { (lost : ℕ) → seat.old.me.0.work ≡ Placing node (as_written lost Nothing)
+            → Does seat.old.me [] (Placing node (as_written lost (label_of file))) 2 seat.new.me }
         ensures place { seat.new.me.1 ≡ (node, Some file) ∷ [] }
     {
         let shared = &self.table.shared;

@@ -3,7 +3,7 @@
 ghost use Rattle.std.specs.Prelude.{◌≡◌, ◌≢◌, ◌+◌, ◌-◌, ◌<◌, ◌≤◌, ◌^◌, ◌↔◌, IsTrue};
 ghost use Rattle.fx_words.specs.Words.{last_node, name_in};
 ghost use Rattle.fx_lasting.specs.Groups.{HasQuestionOf};
-ghost use Rattle.fx_lasting.specs.Parts.{full_name_in, file_node_in, file_word_of, empty_word_of, without_file, name_mask, count_in, IsHot, bit_of, announced, mark, retirement_amount, cold_takes};
+ghost use Rattle.fx_lasting.specs.Parts.{full_name_in, file_node_in, file_word_of, empty_word_of, without_file, name_mask, count_in, IsHot, bit_of, announced, mark, retirement_amount, cold_takes, MayCarry};
 
 use fx_words::{node_of, slot_word};
 
@@ -19,6 +19,17 @@ pub(crate) const NAME: u64 = 0xffff_ff00_0000_0000;
 
 // The word of a node before anybody has let its file go.
 pub(crate) const BORN: u64 = (1 << 32) + 1;
+
+// The most takes that the word of a node may have lost whose pass keeps it.
+pub(crate) const MOST_CARRIED: u64 = 8;
+
+// Checks whether the word of a node has lost few takes: its pass may keep it then.
+#[inline(always)]
+pub(crate) fn may_carry(word: u64) -> bool
+    ensures { IsTrue result ↔ MayCarry word }
+{
+    word <= BORN && BORN - word <= MOST_CARRIED
+}
 
 // Returns the number of takes from which on a slot becomes hot, in a table with this number of
 // passes.

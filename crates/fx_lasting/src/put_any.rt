@@ -109,11 +109,12 @@ impl LastingTable {
         let stock = pass.stock.as_slice();
         let start = pass.next_entry;
         let identity = file.identity();
-        let (entry, node) = self.place(&mut pass.seat, pass.number, stock, start, pass.keeps, file);
+        let seat = &mut pass.seat;
+        let (entry, node, lost) = self.place(seat, pass.number, stock, start, pass.keeps, file);
         pass.next_entry = entry;
         pass.keeps = false;
         let from = pass.emptied.take_last();
-        match self.scan(&mut pass.seat, pass.number, node, identity, from) {
+        match self.scan(&mut pass.seat, pass.number, node, lost, identity, from) {
             Some((slot, named)) => {
                 pass.stock[entry as usize] = named;
                 pass.emptied.fill(slot);
@@ -158,12 +159,13 @@ impl LastingTable {
         seat: &mut Seat<Option<OpenFile>, View>,
         number: u32,
         node: u32,
+        lost: u64,
         file: Closed,
         from: u32,
     ) -> Option<(u32, u32)>
         requires table { seat.old.table_id ≡ self.now.table.shared.table_id }
         requires at { IsAtWork self.now.table.shared.key number seat.old.me }
-        requires placing { IsPlacing node file seat.old.me }
+        requires placing { IsPlacing node lost file seat.old.me }
         requires change { seat.old.me.0.change ≡ Outside }
         ensures table { seat.new.table_id ≡ seat.old.table_id }
         ensures slot { IfSome result (λ (slot, _). slot < self.now.size) }
@@ -171,20 +173,20 @@ impl LastingTable {
             HasAllocated node file slot named (scan_steps self.now.range_len) seat.old.me
             seat.new.me) }
         ensures none { result ≡ None
-            → StillPlaces node file (scan_steps self.now.range_len) seat.old.me seat.new.me }
+            → StillPlaces node lost file (scan_steps self.now.range_len) seat.old.me seat.new.me }
     {
         if self.range_len == 0 {
             return None;
         }
         let first = self.first_slot(from, number);
-        if let Some(named) = self.try_slot(seat, node, file, first) {
+        if let Some(named) = self.try_slot(seat, node, lost, file, first) {
             return Some((first, named));
         }
         let groups = groups_in(self.range_len);
         let step = step_of(number, groups);
         let mut group = self.group_of(first);
         for _ in 0..groups {
-            match self.try_group(seat, node, file, group) {
+            match self.try_group(seat, node, lost, file, group) {
                 Some(found) => return Some(found),
                 None => group = (group + step) % groups,
             }
@@ -198,12 +200,13 @@ impl LastingTable {
         &self,
         seat: &mut Seat<Option<OpenFile>, View>,
         node: u32,
+        lost: u64,
         file: Closed,
         group: u32,
     ) -> Option<(u32, u32)>
         requires table { seat.old.table_id ≡ self.now.table.shared.table_id }
         requires at { (number : ℕ) × IsAtWork self.now.table.shared.key number seat.old.me }
-        requires placing { IsPlacing node file seat.old.me }
+        requires placing { IsPlacing node lost file seat.old.me }
         requires change { seat.old.me.0.change ≡ Outside }
         requires group { group < groups_in self.now.range_len }
         ensures table { seat.new.table_id ≡ seat.old.table_id }
@@ -212,7 +215,7 @@ impl LastingTable {
             HasAllocated node file slot named (group_steps self.now.range_len) seat.old.me
             seat.new.me) }
         ensures none { result ≡ None
-            → StillPlaces node file (group_steps self.now.range_len) seat.old.me seat.new.me }
+            → StillPlaces node lost file (group_steps self.now.range_len) seat.old.me seat.new.me }
     {
         let word = self.table.shared.load::<Peeking>(seat, group_place(group));
         let len = group_len(self.range_len, group);
@@ -221,7 +224,7 @@ impl LastingTable {
         }
         let first = self.range_start + group * group_size(self.range_len);
         for slot in first..first + len {
-            if let Some(named) = self.try_slot(seat, node, file, slot) {
+            if let Some(named) = self.try_slot(seat, node, lost, file, slot) {
                 return Some((slot, named));
             }
         }
@@ -250,16 +253,17 @@ impl LastingTable {
         &self,
         seat: &mut Seat<Option<OpenFile>, View>,
         node: u32,
+        lost: u64,
         file: Closed,
         slot: u32,
     ) -> Option<u32>
         requires table { seat.old.table_id ≡ self.now.table.shared.table_id }
         requires at { (number : ℕ) × IsAtWork self.now.table.shared.key number seat.old.me }
-        requires placing { IsPlacing node file seat.old.me }
+        requires placing { IsPlacing node lost file seat.old.me }
         requires change { seat.old.me.0.change ≡ Outside }
         requires range { IsInRange self.now.table.shared.key slot }
         ensures table { seat.new.table_id ≡ seat.old.table_id }
-        ensures tries { Tries node file slot seat.old.me result seat.new.me }
+        ensures tries { Tries node lost file slot seat.old.me result seat.new.me }
     {
         let shared = &self.table.shared;
         let place = slot_place(slot);
@@ -267,7 +271,7 @@ impl LastingTable {
         if file_node_of(old).is_some() {
             return None;
         }
-        let new = file_word(node, file.entry);
+        let new = file_word(node, file.entry) + lost;
         let found = shared.compare_exchange::<Exchanging>(seat, place, old, new);
         if found != old {
             return None;

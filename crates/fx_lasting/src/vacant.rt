@@ -48,10 +48,11 @@ impl LastingTable {
         let stock = pass.stock.as_slice();
         let start = pass.next_entry;
         let identity = file.identity();
-        let (entry, node) = self.place(&mut pass.seat, pass.number, stock, start, pass.keeps, file);
+        let seat = &mut pass.seat;
+        let (entry, node, lost) = self.place(seat, pass.number, stock, start, pass.keeps, file);
         pass.next_entry = entry;
         pass.keeps = false;
-        if let Some(named) = self.try_slot(&mut pass.seat, node, identity, slot) {
+        if let Some(named) = self.try_slot(&mut pass.seat, node, lost, identity, slot) {
             pass.stock[entry as usize] = named;
             return PutEmpty::Installed;
         }

@@ -68,6 +68,16 @@ pub enum Written {
     Label(u64, u64),
 }
 
+/// The state of the file that a pass is about to install, as contracts see it. No value of it is
+/// made.
+pub struct Placement {
+    /// The number of takes that the word of the file's node has lost, and with which the word of
+    /// the slot begins.
+    pub lost: u64,
+    /// The words of the file's label that the pass has stored.
+    pub written: Written,
+}
+
 /// The work of a seat's pass between two steps, as contracts see it. A node is named by its number.
 /// No value of it is made.
 pub enum Work {
@@ -87,16 +97,16 @@ pub enum Work {
     Yielding(File, u32),
     /// It looks for a free node of its stock, and this one is free.
     Searching(u32),
-    /// It has the place of the node, whose file it is about to install, and has stored these words
-    /// of the file's label.
-    Placing(u32, Written),
+    /// It has the place of the node, whose file it is about to install, and has come so far.
+    Placing(u32, Placement),
     /// It removed the file of the node with this many takes, has come so far on its round through
     /// the other passes, and made this many marks.
     Retiring(File, u32, u32, Round, u32),
     /// It has the place of the node, whose file is closed.
     Emptying(u32),
-    /// It keeps the node of its stock for its next file. The node's word is that of a birth.
-    Keeping(u32),
+    /// It keeps the node of its stock for its next file. The node's word is that of a birth, less
+    /// this many takes, which it has lost.
+    Keeping(u32, u64),
 }
 
 /// The progress of a pass's look-up, as contracts see it. No value of it is made.

@@ -1,4 +1,4 @@
-use Rattle.fx_lasting.proofs.Words.{◌≡◌, ◌<◌, ◌∙◌, ℕ, List, ap, sym, arith, length, get_elem?, get_or, some, eq-eqb, ne_eqb}
+use Rattle.fx_lasting.proofs.Words.{◌≡◌, ◌<◌, ◌∙◌, ℕ, List, ap, sym, arith, length, get_elem?, get_or, some}
 use Rattle.fx_lasting.proofs.Calling.{node_inside, node_word}
 use Rattle.fx_lasting.proofs.FreeNodes.{entry_is}
 use Rattle.fx_lasting.proofs.KeptNodes.{parks_keep}
@@ -29,5 +29,4 @@ load-requires c =
 pub returns-clause-parked : goal.returns-clause-parked
 returns-clause-parked c =
     let a = (goal.at.returns-clause-parked c).After-node_place-place in
-    parked_so c.args.stock.now c.args.entry c.requires.emptying c.requires.place (there a) c.load.ensures.2 _
-    (λ is. eq-eqb c.load.result 4294967297 is) (λ more. ne_eqb c.load.result 4294967297 more)
+    parked_so c.args.stock.now c.args.entry c.requires.emptying c.requires.place (there a) c.load.ensures.2 _ c.may_carry.ensures

@@ -1,11 +1,12 @@
 use Rattle.fx_lasting.proofs.Words.{◌≡◌, ◌∙◌, ◌∷◌, ℕ, List, ap, sym, subst, arith, Bool, true, None, Option, Closed, some, get_or}
-use Rattle.fx_lasting.proofs.Words.{Keeping, MayPlace}
+use Rattle.fx_lasting.proofs.Words.{Keeping, MayPlace, Placing, as_written, label_of, ◌-◌, ◌+◌, []}
+use Rattle.fx_lasting.specs.Ends.{Does}
 use Rattle.fx_table.proofs.SumLemmas.{read_at}
 use Rattle.fx_lasting.proofs.Births.{births_keep}
 use Rattle.fx_lasting.proofs.Calling.{node_inside, node_word, few_nodes}
 use Rattle.fx_lasting.proofs.KeptNodes.{resumes_keep}
 use Rattle.fx_lasting.proofs.Running.{its_inside, still_at_work, does_then, runs_one, runs_within}
-use Rattle.fx_lasting.proofs.table.LastingTable.place.Goals.{Then-keeps, After-load, After-seek-entry}
+use Rattle.fx_lasting.proofs.table.LastingTable.place.Goals.{Then-keeps}
 use Rattle.fx_lasting.proofs.table.LastingTable.place.Goals as goal
 
 -- the node that the pass keeps
@@ -17,44 +18,67 @@ module _ (c : Then-keeps) where
   kept = subst (λ (b : Bool). MayPlace b c.args.stock.now c.args.start c.args.seat.now.me.0.work) c.if-keeps.true c.requires.may
 
   same : node ≡ kept.0
-  same = read_at c.args.stock.now c.args.start 0 kept.2
+  same = read_at c.args.stock.now c.args.start 0 kept.3
 
-  works : c.args.seat.now.me.0.work ≡ Keeping node
-  works = kept.1 ∙ ap Keeping (sym same)
+  works : c.args.seat.now.me.0.work ≡ Keeping node kept.1
+  works = kept.2 ∙ ap (λ (n : ℕ). Keeping n kept.1) (sym same)
 
-pub node_place-requires-clause-node : goal.node_place-requires-clause-node
-node_place-requires-clause-node c =
-    let a = (goal.at.node_place-requires-clause-node c).Then-keeps in
+pub node_place-place-requires-clause-node : goal.node_place-place-requires-clause-node
+node_place-place-requires-clause-node c =
+    let a = (goal.at.node_place-place-requires-clause-node c).Then-keeps in
     omega (arith, its_inside c.requires.at (works a), few_nodes c.args.self.now)
 
-pub load-requires : goal.load-requires
-load-requires c =
-    let a = (goal.at.load-requires c).Then-keeps in
+pub load-word-requires : goal.load-word-requires
+load-word-requires c =
+    let a = (goal.at.load-word-requires c).Then-keeps in
     let t = c.args.self.now in (
       c.requires.table,
-      node_inside t (its_inside c.requires.at (works a)) c.node_place.ensures,
-      resumes_keep _ _ _ _ (node a) c.args.seat.now.me _ c.requires.at.pass (works a) (node_word t (node a) c.node_place.ensures),
+      node_inside t (its_inside c.requires.at (works a)) c.node_place-place.ensures,
+      resumes_keep _ _ _ _ (node a) (kept a).1 c.args.seat.now.me _ c.requires.at.pass (works a) (node_word t (node a) c.node_place-place.ensures),
     )
 
 pub put_in-requires-clause-placing : goal.put_in-requires-clause-placing
 put_in-requires-clause-placing c =
     let a = (goal.at.put_in-requires-clause-placing c).Then-keeps in
-    (c.load.ensures.2.goes (node a) (works a)).0.work
+    ((kept a).1, (c.load-word.ensures.2.goes (node a) (kept a).1 (works a)).0.work)
 
 pub put_in-requires-clause-place : goal.put_in-requires-clause-place
 put_in-requires-clause-place c =
     let a = (goal.at.put_in-requires-clause-place c).Then-keeps in
-    (c.load.ensures.2.goes (node a) (works a)).1 ∙ ap (λ (l : List (ℕ × Option Closed)). (node a, None) ∷ l) c.requires.places
+    (c.load-word.ensures.2.goes (node a) (kept a).1 (works a)).1 ∙ ap (λ (l : List (ℕ × Option Closed)). (node a, None) ∷ l) c.requires.places
+
+pub overflow_sub-result : goal.overflow_sub-result
+overflow_sub-result c =
+    let a = (goal.at.overflow_sub-result c).Then-keeps in
+    let counts = (c.load-word.ensures.2.goes (node a) (kept a).1 (works a)).2 in
+    omega (arith, counts)
 
 pub returns-then-keeps-clause-placed : goal.returns-then-keeps-clause-placed
 returns-then-keeps-clause-placed c =
     let a = (goal.at.returns-then-keeps-clause-placed c).Then-keeps in
-    runs_within (omega arith) (does_then (runs_one (c.load.ensures.2.goes (node a) (works a)).0) c.put_in.ensures.stored)
+    let m = c.args.seat.now.me in
+    let resumed = c.load-word.ensures.2.goes (node a) (kept a).1 (works a) in
+    let counts = resumed.2 in
+    let lost : (kept a).1 ≡ 4294967297 - c.load-word.result = omega (arith, counts) in
+    let stored = c.put_in.ensures.stored (kept a).1 resumed.0.work in
+    subst (λ (z : ℕ). Does m [] (Placing (node a) (as_written z (label_of c.args.file))) (c.args.self.now.passes + 3) c.put_in.new.seat.me) lost
+    (runs_within (omega arith) (does_then (runs_one resumed.0) stored))
+
+pub returns-then-keeps-clause-few_lost : goal.returns-then-keeps-clause-few_lost
+returns-then-keeps-clause-few_lost c =
+    let a = (goal.at.returns-then-keeps-clause-few_lost c).Then-keeps in
+    let resumed = c.load-word.ensures.2.goes (node a) (kept a).1 (works a) in
+    let counts = resumed.2 in
+    let few = resumed.3 in
+    omega (arith, counts, few)
 
 pub returns-then-keeps-clause-stocked : goal.returns-then-keeps-clause-stocked
 returns-then-keeps-clause-stocked c =
     let a = (goal.at.returns-then-keeps-clause-stocked c).Then-keeps in
-    (kept a).2 ∙ ap some (sym (same a))
+    (kept a).3 ∙ ap some (sym (same a))
+
+pub put_in-requires-2-clause-placing : goal.put_in-requires-2-clause-placing
+put_in-requires-2-clause-placing c = (0, (c.store.ensures.2.goes c.seek-entry.result.1 c.seek-entry.ensures.found.work).0.work)
 
 pub store-requires : goal.store-requires
 store-requires c =
@@ -63,15 +87,15 @@ store-requires c =
     let found = c.seek-entry.ensures.found in
     let at = still_at_work c.requires.at found in (
       c.seek-entry.ensures.table ∙ c.requires.table,
-      node_inside t (its_inside at found.work) c.node_place-2.ensures,
-      births_keep _ _ _ _ n c.seek-entry.new.seat.me _ at.pass found.work (node_word t n c.node_place-2.ensures),
+      node_inside t (its_inside at found.work) c.node_place.ensures,
+      births_keep _ _ _ _ n c.seek-entry.new.seat.me _ at.pass found.work (node_word t n c.node_place.ensures),
     )
 
 pub returns-clause-placed : goal.returns-clause-placed
 returns-clause-placed c =
     let found = c.seek-entry.ensures.found in
     let born = c.store.ensures.2.goes c.seek-entry.result.1 found.work in
-    does_then found (does_then (runs_one born.0) c.put_in-2.ensures.stored)
+    does_then found (does_then (runs_one born.0) (c.put_in-2.ensures.stored 0 born.0.work))
 
 pub returns-then-keeps-clause-inside : goal.returns-then-keeps-clause-inside
 returns-then-keeps-clause-inside c =

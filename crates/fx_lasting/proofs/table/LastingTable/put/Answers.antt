@@ -1,5 +1,5 @@
 use Rattle.fx_lasting.proofs.Words.{◌-◌, get_elem?, some, set, pass_in, name_in, nodes_of, as_swapped}
-use Rattle.fx_lasting.proofs.Words.{◌≡◌, ℕ, ◌<◌, refl, ap, ◌∙◌, subst, arith, Put, numbered, ◌▷◌, [], slot_of, opening_of, view_of, pass_of, Runs}
+use Rattle.fx_lasting.proofs.Words.{◌≡◌, ℕ, ◌+◌, ◌<◌, refl, ap, ◌∙◌, subst, arith, Put, numbered, ◌▷◌, [], slot_of, opening_of, view_of, pass_of, Runs}
 use Rattle.fx_lasting.proofs.Words.{rest, retiring_work, doing_in, Start, Glance, Outside, file_word_of, IsAtWork}
 use Rattle.fx_table.specs.Calls.{Adds, one_number}
 use Rattle.fx_lasting.proofs.Calling.{slot_inside, slot_low, begins_at, few_nodes}
@@ -25,8 +25,8 @@ pub place-entry-requires-clause-start : goal.place-entry-requires-clause-start
 place-entry-requires-clause-start c = let t = c.args.self.now in
     begins_at t c.requires.fits (omega (arith, may_install c.requires.fits.seated c.requires.numbers, t.key.1))
 
-pub file_word-word-requires : goal.file_word-word-requires
-file_word-word-requires c = omega (arith, c.place-entry.ensures.inside, few_nodes c.args.self.now)
+pub file_word-requires : goal.file_word-requires
+file_word-requires c = omega (arith, c.place-entry.ensures.inside, few_nodes c.args.self.now)
 
 -- the entry of the node
 at_entry : (c : After-place-entry) → get_elem? (pass_in c.place-entry.new.seat.me).stock c.place-entry.result.0 ≡ some c.place-entry.result.1
@@ -49,9 +49,9 @@ swap-found-requires c =
     let inside : c.args.slot < t.size = omega (arith, c.requires.slot, t.same_size) in (
       born.table ∙ c.requires.fits.seated.table,
       slot_inside t inside c.slot_place.ensures,
-      installs_keep _ _ _ _ c.args.slot n _ c.args.file c.place-entry.new.seat.me _ (its_seat a).pass born.placed.work
+      installs_keep _ _ _ _ c.args.slot n c.place-entry.result.2 _ c.args.file c.place-entry.new.seat.me _ (its_seat a).pass born.placed.work
           born.place (omega (arith, c.entry-file_entry.type_inv, c.entry-file_entry.ensures)) (slot_low t inside) (its_change a) c.slot_place.ensures
-          (c.file_word-word.ensures ∙ ap (file_word_of n) c.entry-file_entry.ensures),
+          (ap (λ (z : ℕ). z + c.place-entry.result.2) (c.file_word.ensures ∙ ap (file_word_of n) c.entry-file_entry.ensures)),
     )
 
 pub node_named-requires : goal.node_named-requires
@@ -63,7 +63,7 @@ raise-requires-clause-at c =
     let born = c.place-entry.ensures in
     let went = c.swap-found.ensures.2 in
     let at = its_seat a in
-    let stepped = went.stepped c.place-entry.result.1 c.place-entry.result.0 c.args.file born.placed.work born.place (at_entry a) in (
+    let stepped = went.stepped c.place-entry.result.1 c.place-entry.result.2 c.place-entry.result.0 c.args.file born.placed.work born.place (at_entry a) in (
       c.args.pass.now.number,
       still_at_work (at_swapped at c.place-entry.result.0 (name_in c.swap-found.result - 1)
           (subst (λ (z : Start). name_in c.swap-found.result - 1 < nodes_of z) at.pass.0 went.named.1)) (runs_one stepped.2),
@@ -75,7 +75,7 @@ raise-requires-clause-change c =
     let k : Start = c.args.self.now.table.shared.key in
     let went = c.swap-found.ensures.2 in
     let born = c.place-entry.ensures in
-    let stepped = (went.stepped c.place-entry.result.1 c.place-entry.result.0 c.args.file born.placed.work born.place (at_entry a)).2 in
+    let stepped = (went.stepped c.place-entry.result.1 c.place-entry.result.2 c.place-entry.result.0 c.args.file born.placed.work born.place (at_entry a)).2 in
     let here : slot_of c.slot_place.result ≡ c.args.slot = ap slot_of c.slot_place.ensures ∙ slot_back c.args.slot in
     stepped.change ∙ ((λ i. account (range_at_start ((its_seat a).pass.0 i)) (here i) went.replaced) ∙ account_so (range_at_start k) c.args.slot c.swap-found.result
     went.replaced c.removed_in-replaced.result c.is_in_range-inside.result c.is_none.result
@@ -97,7 +97,7 @@ returns c =
     let inside : named < nodes_of k = subst (λ (z : Start). named < nodes_of z) (its_seat a).pass.0 went.named.1 in
     let replaced = went.replaced in
     let is = c.removed_in-replaced.ensures replaced went.names in
-    let stepped = went.stepped c.place-entry.result.1 e file born.placed.work born.place (at_entry a) in
+    let stepped = went.stepped c.place-entry.result.1 c.place-entry.result.2 e file born.placed.work born.place (at_entry a) in
     let first = born.placed in
     let start : c.place-entry.new.seat.me.0.start ≡ k = first.start ∙ s.at.pass.0 in
     let around = turns_then (runs_one stepped.2) c.raise.ensures.runs in

@@ -4,7 +4,7 @@ use Rattle.fx_lasting.proofs.Words.{◌∷◌, inr, refl, sym, ap, ◌∙◌, su
 use Rattle.fx_lasting.proofs.Words.{Start, Work, Runs, rested, pass_in, true, false}
 use Rattle.fx_table.specs.Calls.{no_use, one_number}
 use Rattle.fx_lasting.specs.Vacant.{SeesFile}
-use Rattle.fx_lasting.proofs.Words.{Placing, label_of}
+use Rattle.fx_lasting.proofs.Words.{Placing, label_of, as_written}
 use Rattle.fx_lasting.proofs.ByNode.{adds_none, was_further}
 use Rattle.fx_lasting.proofs.Passing.{adds_swapped, swapped_pass, swapped_rest, adds_so, at_rest, still_pass, its_place, its_flag, may_install}
 use Rattle.fx_lasting.proofs.Running.{still_at_work, does_then}
@@ -52,7 +52,8 @@ try_slot-requires c =
       table = c.place-entry.ensures.table ∙ (c.sees_file.ensures.table ∙ f.seated.table);
       at = (c.args.pass.now.number, still_at_work f.seated.at placed);
       placing = record {
-        work = placed.work ∙ ap (λ (z : Closed). Placing c.place-entry.result.1 (label_of z)) (sym c.identity-identity.ensures);
+        work = placed.work ∙ ap (λ (z : Closed). Placing c.place-entry.result.1 (as_written c.place-entry.result.2 (label_of z))) (sym c.identity-identity.ensures);
+        few_lost = c.place-entry.ensures.few_lost;
         place = c.place-entry.ensures.place ∙ ap (λ (z : Closed). (c.place-entry.result.1, Some z) ∷ []) (sym c.identity-identity.ensures);
         stocked = (
           c.place-entry.result.0,
@@ -103,7 +104,7 @@ take_out-requires c =
     record {
       table = c.try_slot.ensures.table ∙ (c.place-entry.ensures.table ∙ (c.sees_file.ensures.table ∙ f.seated.table));
       at = (c.args.pass.now.number, still_at_work f.seated.at run);
-      place = (c.args.file, record { work = inr (label_of c.identity-identity.result, still.0.work); place = still.1 ∙ c.place-entry.ensures.place });
+      place = (c.args.file, record { work = inr (as_written c.place-entry.result.2 (label_of c.identity-identity.result), still.0.work); place = still.1 ∙ c.place-entry.ensures.place });
     }
 
 pub returns : goal.returns
@@ -121,7 +122,7 @@ returns c =
     let since = does_then sought.placed still.0 in
     let rests = subst (λ (z : Work). Runs m₃ [] (rested z) m₃.0.glance m₃.0.change 1 m₄) still.0.work end.rests in
     let run = at_rest fits (does_then (does_then saw.1 since) rests) in
-    let place : HasPlace c.place-entry.result.1 (Some c.args.file) m₃ = record { work = inr (label_of c.identity-identity.result, still.0.work); place = still.1 ∙ c.place-entry.ensures.place } in
+    let place : HasPlace c.place-entry.result.1 (Some c.args.file) m₃ = record { work = inr (as_written c.place-entry.result.2 (label_of c.identity-identity.result), still.0.work); place = still.1 ∙ c.place-entry.ensures.place } in
     record {
       fits = still_pass s _ run (refl, refl)
           (end.table ∙ (c.try_slot.ensures.table ∙ (sought.table ∙ c.sees_file.ensures.table))) end.empty

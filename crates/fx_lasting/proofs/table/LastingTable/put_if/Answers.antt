@@ -3,7 +3,7 @@ use Rattle.fx_lasting.proofs.Words.{Start, Work, Runs, rested, full_name_in, cou
 use Rattle.fx_table.specs.Calls.{Adds, no_use, one_number}
 use Rattle.fx_table.specs.declared.values.Doing.TheVariants.{Retiring as Retires}
 use Rattle.fx_table.specs.declared.values.Retired.{Retired}
-use Rattle.fx_lasting.proofs.Words.{Placing, label_of, set}
+use Rattle.fx_lasting.proofs.Words.{Placing, label_of, as_written, set}
 use Rattle.fx_lasting.proofs.ByNode.{swapped_acts, stands_then, missed_so, tried_none, tried_so, value_so, removal_so, is_on, adds_none}
 use Rattle.fx_lasting.proofs.Passing.{adds_swapped, swapped_pass, swapped_looking, adds_so, at_rest, still_pass, its_place, its_flag, may_install, knows_removed, first_by}
 use Rattle.fx_lasting.proofs.Running.{still_at_work, does_then}
@@ -51,7 +51,8 @@ try_replace-requires c =
       table = c.place-entry.ensures.table ∙ (c.see.ensures.table ∙ f.seated.table);
       at = (c.args.pass.now.number, still_at_work f.seated.at placed);
       placing = record {
-        work = placed.work ∙ ap (λ (z : Closed). Placing c.place-entry.result.1 (label_of z)) (sym c.identity-identity.ensures);
+        work = placed.work ∙ ap (λ (z : Closed). Placing c.place-entry.result.1 (as_written c.place-entry.result.2 (label_of z))) (sym c.identity-identity.ensures);
+        few_lost = c.place-entry.ensures.few_lost;
         place = c.place-entry.ensures.place ∙ ap (λ (z : Closed). (c.place-entry.result.1, Some z) ∷ []) (sym c.identity-identity.ensures);
         stocked = (
           c.place-entry.result.0,
@@ -118,7 +119,7 @@ take_out-requires c =
     record {
       table = c.try_replace.ensures.table ∙ (c.place-entry.ensures.table ∙ (c.see.ensures.table ∙ f.seated.table));
       at = (c.args.pass.now.number, still_at_work f.seated.at run);
-      place = (c.args.file, record { work = inr (label_of c.args.file, run.work); place = failed.2 ∙ c.place-entry.ensures.place });
+      place = (c.args.file, record { work = inr (as_written c.place-entry.result.2 (label_of c.args.file), run.work); place = failed.2 ∙ c.place-entry.ensures.place });
     }
 
 pub returns-in-Err-try_replace : goal.returns-in-Err-try_replace
@@ -140,7 +141,7 @@ returns-in-Err-try_replace c =
     let rests = subst (λ (z : Work). Runs m₃ [] (rested z) m₃.0.glance m₃.0.change 1 m₄) tried.work end.rests in
     let run = at_rest fits (does_then tried rests) in
     let since = does_then (stands_then sought.placed failed.1) rests in
-    let place : HasPlace c.place-entry.result.1 (Some c.args.file) m₃ = record { work = inr (label_of c.args.file, tried.work); place = failed.2 ∙ c.place-entry.ensures.place } in
+    let place : HasPlace c.place-entry.result.1 (Some c.args.file) m₃ = record { work = inr (as_written c.place-entry.result.2 (label_of c.args.file), tried.work); place = failed.2 ∙ c.place-entry.ensures.place } in
     record {
       fits = still_pass s _ run (refl, refl)
           (end.table ∙ (c.try_replace.ensures.table ∙ (sought.table ∙ c.see.ensures.table))) end.empty (refl, λ _. omega (arith, sought.entry, c.args.self.now.key.0))

@@ -1,4 +1,4 @@
-use Rattle.fx_lasting.proofs.Words.{◌≡◌, ◌<◌, ◌∙◌, sym, ap, refl, arith, nodes_of, Keeping, stands_at}
+use Rattle.fx_lasting.proofs.Words.{◌≡◌, ◌<◌, ◌∙◌, ℕ, sym, ap, refl, arith, nodes_of, Keeping, stands_at}
 use Rattle.fx_table.proofs.SumLemmas.{read_at}
 use Rattle.fx_lasting.proofs.Calling.{node_inside, node_word, few_nodes}
 use Rattle.fx_lasting.proofs.KeptNodes.{settles_keep}
@@ -9,18 +9,18 @@ use Rattle.fx_lasting.proofs.table.LastingTable.settle.Goals.{After-index-node}
 use Rattle.fx_lasting.proofs.table.LastingTable.settle.Goals as goal
 
 -- the node that the pass keeps
-works : (c : After-index-node) → c.args.pass.now.seat.me.0.work ≡ Keeping c.index-node.result.now
+works : (c : After-index-node) → let p = c.args.pass.now in p.seat.me.0.work ≡ Keeping c.index-node.result.now (its_kept c.requires.fits c.if-pass.true).1
 works c =
     let p = c.args.pass.now in
     let kept = its_kept c.requires.fits c.if-pass.true in
-    kept.1 ∙ ap Keeping (sym (c.index-node.ensures ∙ read_at p.stock.items p.next_entry c.index-node.result.now kept.3))
+    kept.2 ∙ ap (λ (n : ℕ). Keeping n kept.1) (sym (c.index-node.ensures ∙ read_at p.stock.items p.next_entry c.index-node.result.now kept.4))
 
 inside : (c : After-index-node) → c.index-node.result.now < nodes_of c.args.self.now.table.shared.key
 inside c = its_inside c.requires.fits.seated.at (works c)
 
 pub index-node-requires : goal.index-node-requires
 index-node-requires c = let p = c.args.pass.now in let kept = its_kept c.requires.fits c.if-pass.true in
-    omega (arith, (stands_at p.stock.items p.next_entry kept.0 kept.3).0)
+    omega (arith, (stands_at p.stock.items p.next_entry kept.0 kept.4).0)
 
 pub node_place-place-requires-clause-node : goal.node_place-place-requires-clause-node
 node_place-place-requires-clause-node c =
@@ -34,7 +34,7 @@ store-requires c =
     let s = c.requires.fits.seated in (
       s.table,
       node_inside t (inside a) c.node_place-place.ensures,
-      settles_keep _ _ _ _ c.index-node.result.now c.args.pass.now.seat.me _ s.at.pass (works a)
+      settles_keep _ _ _ _ c.index-node.result.now (its_kept c.requires.fits c.if-pass.true).1 c.args.pass.now.seat.me _ s.at.pass (works a)
           (node_word t c.index-node.result.now c.node_place-place.ensures),
     )
 
@@ -47,7 +47,7 @@ returns-then-pass c =
     let did = c.store.ensures.2 in
     let run = at_rest fits (runs_goes did.goes) in
     record {
-      fits = still_pass s _ run (refl, refl) c.store.ensures.0 (did.goes.carried ∙ s.places) (refl, s.next) (kept.2, refl);
+      fits = still_pass s _ run (refl, refl) c.store.ensures.0 (did.goes.carried ∙ s.places) (refl, s.next) (kept.3, refl);
       same = settled_view (works a) did;
       unkept = refl;
       steps = let few = run.steps in omega arith;

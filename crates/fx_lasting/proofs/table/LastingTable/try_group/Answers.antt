@@ -20,13 +20,13 @@ loop-slot-init c = let run = peeked c.requires.placing c.load-word.ensures.2.goe
 
 pub returns-clause-none : goal.returns-clause-none
 returns-clause-none c none = let s = c.loop-slot.invariant.still in let goes = c.load-word.ensures.2.goes in
-    let before : StillPlaces c.args.node c.args.file 1 c.args.seat.now.me c.load-word.new.seat.me = (peeked c.requires.placing goes, goes.carried) in
+    let before : StillPlaces c.args.node c.args.lost c.args.file 1 c.args.seat.now.me c.load-word.new.seat.me = (peeked c.requires.placing goes, goes.carried) in
     still_within c.args.file (omega (arith, s.1, c.loop-slot.auto.slot, c.loop-slot.auto.slot-end, c.group_len-len.ensures, group_short c.args.self.now.range_len c.args.group))
     (still_then c.args.file before s.2)
 
 pub returns-in-Some-clause-found : goal.returns-in-Some-clause-found
 returns-in-Some-clause-found c = let s = c.loop-slot.invariant.still in let goes = c.load-word.ensures.2.goes in
-    let before : StillPlaces c.args.node c.args.file 1 c.args.seat.now.me c.load-word.new.seat.me = (peeked c.requires.placing goes, goes.carried) in
+    let before : StillPlaces c.args.node c.args.lost c.args.file 1 c.args.seat.now.me c.load-word.new.seat.me = (peeked c.requires.placing goes, goes.carried) in
     allocated_within c.args.seat.now.me c.try_slot.new.seat.me c.args.node c.loop-slot.slot c.in-Some.named c.args.file
     (omega (arith, s.1, c.loop-slot-test.true, c.group_len-len.ensures, group_short c.args.self.now.range_len c.args.group))
     (allocated_then c.in-Some.named before (allocated_then c.in-Some.named s.2 c.in-Some.ensures.tries))

@@ -17,9 +17,9 @@ compare_exchange-seen-requires c =
     let small : c.args.file.entry < 2 ^ 8 = omega arith in (
       i.table ∙ c.requires.table,
       slot_inside t c.requires.slot c.slot_place-place.ensures,
-      replaces_keep _ _ _ _ c.args.slot c.args.own _ _ c.args.file c.loop.seat.me _ at.pass (i.still.work ∙ c.requires.placing.work)
+      replaces_keep _ _ _ _ c.args.slot c.args.own c.args.lost _ _ c.args.file c.loop.seat.me _ at.pass (i.still.work ∙ c.requires.placing.work)
           (i.places ∙ c.requires.placing.place) small (slot_low t c.requires.slot) (i.still.change ∙ c.requires.change) c.slot_place-place.ensures
-          c.file_word-new.ensures,
+          (ap (λ (z : ℕ). z + c.args.lost) c.file_word.ensures),
     )
 
 pub returns-then-seen-expected : goal.returns-then-seen-expected
@@ -31,7 +31,7 @@ returns-then-seen-expected c =
       tried = won_replace c.args.node c.compare_exchange-seen.result start (ap slot_of c.slot_place-place.ensures ∙ slot_back c.args.slot) i.still
           (omega (arith, c.loop-test.true)) (ap (λ (z : ℕ). full_name_in z) c.if-seen-expected.true ∙ i.named) c.args.own c.args.file
           c.requires.placing.stocked
-          (λ e at. c.compare_exchange-seen.ensures.2.wins c.args.own e c.args.file (i.still.work ∙ c.requires.placing.work)
+          (λ e at. c.compare_exchange-seen.ensures.2.wins c.args.own c.args.lost e c.args.file (i.still.work ∙ c.requires.placing.work)
           (i.places ∙ c.requires.placing.place) at c.if-seen-expected.true) (ap rest (i.places ∙ c.requires.placing.place));
     }
 

@@ -1,4 +1,4 @@
-use Rattle.fx_lasting.proofs.Words.{◌≡◌, ◌≢◌, ◌<◌, ◌^◌, ap, ◌∙◌, sym, arith, rules, None, file_node_in, name_in, ℕ, ◌-◌, subst, slot_of, refl, Inside, group_of, range_at_start}
+use Rattle.fx_lasting.proofs.Words.{◌≡◌, ◌≢◌, ◌+◌, ◌<◌, ◌^◌, ap, ◌∙◌, sym, arith, rules, None, file_node_in, name_in, ℕ, ◌-◌, subst, slot_of, refl, Inside, group_of, range_at_start}
 use Rattle.fx_lasting.proofs.Groups.{in_range_so}
 use Rattle.fx_lasting.proofs.Calling.{slot_inside}
 use Rattle.fx_lasting.proofs.Peeking.{peeks_keep}
@@ -27,9 +27,9 @@ compare_exchange-found-requires c =
     let empty : file_node_in c.load-old.result ≡ None = search rules in (
       c.load-old.ensures.0 ∙ c.requires.table,
       slot_inside t (in_size t c.args.slot c.requires.range) place,
-      exchanges_keep _ _ _ _ c.args.slot c.args.node _ _ c.args.file c.load-old.new.seat.me _ at.pass run.work
+      exchanges_keep _ _ _ _ c.args.slot c.args.node c.args.lost _ _ c.args.file c.load-old.new.seat.me _ at.pass run.work
           (goes.carried ∙ c.requires.placing.place) small (run.change ∙ c.requires.change) c.requires.range place
-          (no_name c.load-old.result (sym empty)) c.file_word-new.ensures,
+          (no_name c.load-old.result (sym empty)) (ap (λ (z : ℕ). z + c.args.lost) c.file_word.ensures),
     )
 
 pub returns-then-found-old-clause-tries : goal.returns-then-found-old-clause-tries
