@@ -86,11 +86,23 @@ static int keepers_of(const struct state *s, int node) {
     int keepers = 0;
     for (int who = 0; who < family->passes; who++) {
         if (s->pass[who].kept == node) {
-            bool is_empty = s->file[node] == NO_FILE && s->place[node] == NOTHING && s->word[node] == BORN;
-            keepers = is_empty && is_in_stock(who, node) && keepers == 0 ? 1 : -1;
+            bool is_empty = s->file[node] == NO_FILE && s->place[node] == NOTHING;
+            bool was_born = CLOSED < s->word[node] && s->word[node] <= BORN;
+            keepers = is_empty && was_born && is_in_stock(who, node) && keepers == 0 ? 1 : -1;
         }
     }
     return keepers;
+}
+
+/* The takes that the word of a node has lost, as the pass says that is about to install its file. */
+static int lost_of(const struct state *s, int node) {
+    for (int who = 0; who < family->passes; who++) {
+        const struct pass *it = &s->pass[who];
+        if (it->node == node && (it->call & (PUT | PUT_ANY | PUT_IF))) {
+            return it->lost;
+        }
+    }
+    return 0;
 }
 
 /* Returns whether a pass is about to rest the node of a closed file, or to keep it. */
@@ -115,7 +127,7 @@ static void check_node(const struct state *s, int node) {
     const struct pass *retiring = worker_of(s, node, true);
     bool is_vacant = kept == 0 && owed == 0;
     want((slot >= 0) == (s->file[node] == AT_SLOT), "a slot names a node whose file isn't there");
-    want(keepers >= 0, "a pass keeps a node that isn't empty, isn't as it was born or isn't in its stock");
+    want(keepers >= 0, "a pass keeps a node that isn't empty, wasn't born or isn't in its stock");
     switch (s->file[node]) {
     case NO_FILE:
         want(is_vacant, "a take or a mark of a closed file is left");
@@ -123,7 +135,7 @@ static void check_node(const struct state *s, int node) {
              "a node without a file has a wrong word or place");
         break;
     case PLACED:
-        want(is_vacant && word == BORN && s->place[node] == WITH_PASS, "a node that was born has a wrong word or place");
+        want(is_vacant && word + lost_of(s, node) == BORN && s->place[node] == WITH_PASS, "a node that was born has a wrong word or place");
         break;
     case AT_SLOT:
         want(word + s->takes[slot] == BORN + kept && owed == 0, "the word of a node at a slot is wrong");

@@ -123,10 +123,13 @@ static int exchange_names(struct state *s, const struct pass *it) {
     return own;
 }
 
-/* Puts the file of the pass at the slot. Returns the node that was named. */
+/* Puts the file of the pass at the slot, whose word begins with the takes that the word of the
+ * file's node has lost. Returns the node that was named. */
 static int install(struct state *s, struct pass *it) {
     empty_slot(s, it->slot);
     s->is_full[it->slot] = 1;
+    s->takes[it->slot] = wrong == carry_is_forgotten ? 0 : it->lost;
+    it->lost = 0;
     if (!stock) {
         return it->node;
     }
@@ -192,13 +195,14 @@ static void return_place(struct state *s, const struct pass *it) {
 static void rest(struct state *s, struct pass *it) {
     return_place(s, it);
     s->word[it->node] = FREE;
+    it->lost = 0;
     end_node(it);
 }
 
-/* Keeps the node of a closed file, and returns its empty place, if a load finds the word of its
- * birth. */
+/* Keeps the node of a closed file, and returns its empty place, if a load finds that the node's
+ * word has lost few takes. */
 static void park(struct state *s, struct pass *it) {
-    if (s->word[it->node] != BORN && wrong != kept_after_dropped_takes) {
+    if (s->word[it->node] < BORN - MOST_CARRIED && wrong != carry_without_its_limit) {
         it->step = REST;
         return;
     }
@@ -209,7 +213,7 @@ static void park(struct state *s, struct pass *it) {
 
 /* Frees the node that the pass keeps. */
 static void settle(struct state *s, struct pass *it) {
-    s->word[it->kept] = wrong == kept_node_is_not_settled ? BORN : FREE;
+    s->word[it->kept] = wrong == kept_node_is_not_settled ? s->word[it->kept] : FREE;
     it->kept = 0;
     sort_stocks(s);
 }
@@ -478,10 +482,12 @@ static void birth(struct state *s, struct pass *it) {
     get_place(s, it);
 }
 
-/* Gets the place of the node that the pass keeps, by a load. */
+/* Gets the place of the node that the pass keeps, by a load, which says how many takes the node's
+ * word has lost. */
 static void resume(struct state *s, struct pass *it) {
     it->node = it->kept ? it->kept : s->pass[0].kept;
     it->kept = 0;
+    it->lost = BORN - s->word[it->node];
     get_place(s, it);
 }
 

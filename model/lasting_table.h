@@ -19,6 +19,10 @@ enum { LOOK = 1, REMOVE = 2, PUT = 4, PUT_ANY = 8, RELEASE = 16, RETIREMENT = 32
 /* The tries of a call that names a node; the table's calls make four. */
 enum { TRIES = 2 };
 
+/* The most takes that the word of a node may have lost whose pass keeps it; the table's passes keep
+ * one that has lost eight. */
+enum { MOST_CARRIED = 1 };
+
 /* The next step of a pass. */
 enum step {
     IDLE, LIST, ANNOUNCE, CONFIRM, WITHDRAW, DROP, TAKE, HEAT, GUARDED, COUNTED, REST, SEEK, BIRTH, LOWER, CHECK, BREAK,
@@ -36,8 +40,9 @@ enum step {
     X(closed_one_too_early) X(closed_one_too_late) X(slot_never_heated) X(listed_after_the_second_look) \
     X(skimmed_before_the_swap) X(listed_by_a_store) X(listed_at_each_look) X(heat_counts_two) \
     X(finish_ignores_marks) X(finish_before_the_visits) X(removal_loses_the_old_name) X(removal_takes_a_node_of_another_pass) \
-    X(kept_after_dropped_takes) X(kept_without_a_stock) X(kept_by_a_load_before_the_swap) X(kept_beside_a_search) \
-    X(kept_beside_a_removal) X(kept_node_is_not_settled) X(kept_node_of_another_pass_is_resumed) \
+    X(carry_is_forgotten) X(carry_without_its_limit) X(kept_without_a_stock) X(kept_by_a_load_before_the_swap) \
+    X(kept_beside_a_search) X(kept_beside_a_removal) X(kept_node_is_not_settled) \
+    X(kept_node_of_another_pass_is_resumed) \
     X(question_is_loaded_once) X(question_is_loaded_before_the_lower) X(question_is_not_cleared) \
     X(question_is_cleared_after_the_swap) X(cleared_only_at_a_full_group) X(cleared_by_one_exchange) \
     X(one_bit_is_cleared_alone) X(raise_before_the_fill) X(lower_after_the_swap) X(no_lower) X(raise_in_another_group) \
@@ -82,8 +87,9 @@ struct pass {
     /* In the model: the node of the file that the pass holds, or 0. */
     uint8_t holds;
     /* The node that the pass keeps for its next installation, or 0. Its word is that of its birth,
-     * and its place is empty. */
-    uint8_t kept;
+     * less some takes, and its place is empty. The takes that the node's word has lost whose place
+     * the pass has. */
+    uint8_t kept, lost;
     /* The node that a call names, or 0. In the model: the file that the call means was
      * closed, and the number of times that others changed the slot's word since the call began. */
     uint8_t key, is_stale, changes;

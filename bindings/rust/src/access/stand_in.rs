@@ -4,8 +4,9 @@
 //! (`--cfg yachtbanyan_stand_in`).
 //!
 //! A slot's word names a node in its upper 32 bits, whether or not the slot has a file. A bit says
-//! whether the node's file is there. The other bits are the number of takes. A node's word is 0 if
-//! the node is free. While its file is in a slot, the word is `BORN` less the number of releases.
+//! whether the node's file is there. The other bits are the number of takes, which begins with what
+//! the node's word had lost when its worker kept it. A node's word is 0 if the node is free. While
+//! its file is in a slot, the word is `BORN` less the number of releases, and less what it had lost.
 //! After that it is 1 and the number of holds.
 use super::core::{
     Core, Label, Placed, AGAIN, BAD, BUSY, CLOSED, DONE, EMPTY, FULL, IDLE, IN_USE, NO_BLOCK,
@@ -21,6 +22,8 @@ const BORN: u64 = (1 << 32) + 1;
 const NAME: u64 = !0 << 32;
 const FILE: u64 = 1 << 31;
 const TAKES: u64 = FILE - 1;
+// the most releases that the word of a node may have lost whose worker keeps it
+const MOST_CARRIED: u64 = 8;
 // how many slots a worker keeps of those that it emptied last
 const EMPTIED: usize = 8;
 
@@ -150,15 +153,18 @@ impl Worker {
         let node = self.stock[self.free];
         // SAFETY: the node is kept or free, and this worker's.
         unsafe { *self.table.labels[node].get() = (tag, number) };
-        if !self.keeps {
+        let mut lost = 0;
+        if self.keeps {
+            lost = BORN - self.table.nodes[node].load(SeqCst);
+        } else {
             self.table.nodes[node].store(BORN, SeqCst);
         }
         self.keeps = false;
-        Some((node as u64) << 32 | FILE)
+        Some((node as u64) << 32 | FILE | lost)
     }
 
-    // Retires the file that a word named. If each of its users has ended, a load closes it. If it
-    // had none, and its node is in the stock, the worker keeps the node.
+    // Retires the file that a word named. If each of its users has ended, a load closes it. If they
+    // were few, and its node is in the stock, the worker keeps the node.
     fn retire(&mut self, word: u64) -> Option<u64> {
         let (node, takes) = (node_of(word), word & TAKES);
         self.table.changes.fetch_add(1, SeqCst);
@@ -166,7 +172,7 @@ impl Worker {
         if left + takes != BORN {
             return self.table.subtract(node, (1 << 32) - takes);
         }
-        self.keeps = left == BORN && self.stock.get(self.free) == Some(&node);
+        self.keeps = takes <= MOST_CARRIED && self.stock.get(self.free) == Some(&node);
         Some(match self.keeps {
             true => self.table.tag(node),
             false => self.table.close(node),

@@ -12,6 +12,9 @@ pub const CLOSED: u64 = 1;
 /// The word of a node at its birth.
 pub const BORN: u64 = (1 << 32) + 1;
 
+/// The most takes that the word of a node may have lost whose pass keeps it.
+pub const MOST_CARRIED: u64 = 8;
+
 /// The bits of a slot's word that name a node: the node + 1. The bits from 32 on are the entry.
 pub const NAME: u64 = !0 << 40;
 
