@@ -94,7 +94,7 @@ static int keepers_of(const struct state *s, int node) {
     return keepers;
 }
 
-/* The takes that the word of a node has lost, as the pass says that is about to install its file. */
+/* The takes that the word of a node has lost, as the pass knows that is about to install a file. */
 static int lost_of(const struct state *s, int node) {
     for (int who = 0; who < family->passes; who++) {
         const struct pass *it = &s->pass[who];

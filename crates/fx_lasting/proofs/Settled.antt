@@ -1,5 +1,5 @@
 -- The node that a pass keeps: the pass after the steps that keep it or free it.
-use Rattle.fx_lasting.proofs.Words.{◌≡◌, ◌≢◌, ◌∙◌, ℕ, List, [], ◌∷◌, sym, ap, subst, Bool, true, false, None, some, get_elem?}
+use Rattle.fx_lasting.proofs.Words.{◌≡◌, ◌∙◌, ℕ, List, [], ◌∷◌, sym, ap, subst, Bool, true, false, None, some, get_elem?}
 use Rattle.fx_lasting.proofs.Words.{part_of_pass, Sat, At, Work, Runs, Emptying, Keeping, SettlesNode, Parks, doing_in, numbers_of_pass, pass_of}
 use Rattle.fx_lasting.proofs.Words.{birth_word, rest, Parked, MayCarry, IsTrue, ◌↔◌, ◌-◌}
 use Rattle.fx_lasting.proofs.Words.{Idle, TakenOut, IsBetweenCalls, refl}

@@ -3,12 +3,12 @@ use Rattle.fx_lasting.proofs.Words.{◌≡◌, ◌≢◌, ℕ, ◌+◌, ◌^◌,
 use Rattle.fx_lasting.proofs.Words.{keeps, gives, rest, get_elem?, false, inl, inr, ◌⊎◌, eqb, Closed, File, numbered, Event, Action}
 use Rattle.fx_lasting.proofs.Words.{Put, Clear, Take, Allocate, ◌▷◌, State, with_removed, changed_at, changed_here, changed_else, pass_event, held_by}
 use Rattle.fx_lasting.proofs.Words.{Agrees, NodeAgrees, OwnerAgrees, WorkAgrees, IsHistory, state_after_all, slots_of, nodes_of, slot_place, word_of}
-use Rattle.fx_lasting.proofs.Words.{count_in, full_name_in, file_word_of, full_name_made, file_entry_made, taken_of, taking, held_in, owed, sum_by, sum_set, Phase}
+use Rattle.fx_lasting.proofs.Words.{count_in, full_name_in, file_word_of, taken_of, taking, held_in, owed, sum_by, sum_set, Phase}
 use Rattle.fx_lasting.proofs.Words.{placed, seated, removed_in, Change, Idle, Placing, Removes, Installs, Exchanges, Stepped, IsOffCount}
 use Rattle.fx_lasting.proofs.Words.{IsInRange, ClearsKeep, TakesOutKeep, InstallsKeep, ExchangesKeep, account, uncounted, group_of, range_at_start, Outside, Bool, true, step, set_here, set_else}
-use Rattle.fx_lasting.proofs.Words.{length-set, exchanged, IsInside, retiring_work, file_takes_made}
+use Rattle.fx_lasting.proofs.Words.{length-set, exchanged, IsInside, retiring_work}
 use Rattle.fx_lasting.proofs.Words.{◌*◌, ◌-◌, ◌≤◌, HasNoFile, Whereabouts, IsInStock, as_stocked, as_swapped, first_log, Log, without_file, name_in, name_mask, bit_and}
-use Rattle.fx_lasting.proofs.Words.{name_made, name_left, no_file_left, no_takes_left, mask_leaves_name, file_heat_made}
+use Rattle.fx_lasting.proofs.Words.{name_left, no_file_left, no_takes_left, mask_leaves_name}
 use Rattle.fx_lasting.proofs.StockMoves.{names_a_node, where_moved, stock_moved, moved_names, moved_slot, moved_stock, moved_stocks, one_entry}
 use Rattle.std.proofs.lemmas.Nat.{mod-mul-add}
 use Rattle.std.proofs.Math.Nat.{le-mul_of_pos_right}

@@ -1,6 +1,6 @@
--- The steps by which a pass keeps the node of a closed file for its next one. If the node's word has
--- lost few takes, no rest has to store 0, and no birth has to store its first word: the next file's
--- slot word begins with those takes.
+-- The steps by which a pass keeps the node of a closed file for its next one. If the node's word
+-- has lost few takes, no rest has to store 0, and no birth has to store its first word: the next
+-- file's slot word begins with those takes.
 use Rattle.std.specs.Prelude.{◌≡◌, ℕ, ◌+◌, ◌-◌, ◌≤◌, [], ◌∷◌, None}
 use Rattle.atomic_table.specs.Table.{rest}
 use Rattle.fx_lasting.specs.Labels.{as_written}

@@ -16,8 +16,8 @@ number_of_mark (Submitted submission chain member entry) = 0
 abbrev pub label_of : Identity → Written
 label_of file = Label file.tag (number_of_mark file.mark)
 
--- a file that is about to be installed on a node whose word has lost so many takes, and so much of
--- the file's label is written
+-- a file that is about to be installed on a node whose word has lost `lost` takes, and these words
+-- of whose label are written
 abbrev pub as_written : ℕ → Written → Placement
 as_written lost written = record { lost = lost; written = written }
 

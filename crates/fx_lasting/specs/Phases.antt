@@ -22,8 +22,8 @@ pub data Phase : Type 0 where
   retired : File → Phase
   -- its file is closed, and the pass at the seat is about to take it out
   emptied : ℕ → Phase
-  -- it has no file, and the pass at the seat keeps it for its next one: its word is that of a birth,
-  -- less `lost` takes
+  -- it has no file, and the pass at the seat keeps it for its next one: its word is that of a
+  -- birth, less `lost` takes
   kept : (seat lost : ℕ) → Phase
 
 -- the seat that alone may go on with it, plus 1, or 0

@@ -23,7 +23,7 @@ use Rattle.fx_lasting.specs.declared.tried.TriedPut.{TriedPut}
 use Rattle.fx_lasting.specs.declared.tried.TriedPut.TheVariants.{At, Full as AllFull, Again}
 use Rattle.fx_lasting.specs.declared.view.Work.TheVariants.{Idle, Placing}
 
--- the seat's pass has the place of a node of its stock, whose word has lost so many takes, with the
+-- the seat's pass has the place of a node of its stock, whose word has lost `lost` takes, with the
 -- file that it is about to install
 pub record IsPlacing (node lost : ℕ) (file : Identity) (m : Sat) : Type 0 where
   pub work : m.0.work ≡ Placing node (as_written lost (label_of file))

@@ -185,7 +185,7 @@ impl Play<Option<OpenFile>, View> for Resting {
     ghost then = { Rests };
 }
 
-/// Park: a pass that took a closed file out reads whether the node's word is that of a birth. If
+/// Park: a pass that took a closed file out reads whether the node's word has lost few takes. If
 /// so, the place goes home, and the pass keeps the node for its next file.
 pub struct Parking;
 
@@ -195,7 +195,8 @@ impl Play<Option<OpenFile>, View> for Parking {
     ghost then = { Parks };
 }
 
-/// Resume: the place of the node that the pass keeps goes to the pass.
+/// Resume: the place of the node that the pass keeps goes to the pass, which reads how many takes
+/// the node's word has lost.
 pub struct Resuming;
 
 impl Play<Option<OpenFile>, View> for Resuming {

@@ -127,12 +127,13 @@ pub fn rest_keeps_rule()
 {}
 
 /// A pass that took the closed file of a node of its stock out, and loads the node's word, keeps
-/// the rule. If the word is that of a birth, the pass keeps the node.
+/// the rule. If the word has lost few takes, the pass keeps the node.
 pub fn park_keeps_rule()
     ensures { ParksKeep ⟦<Parking as Play<Option<OpenFile>, View>>⟧.then }
 {}
 
 /// A pass that loads the word of the node that it keeps keeps the rule, and has the node's place.
+/// It knows how many takes the word has lost.
 pub fn resume_keeps_rule()
     ensures { ResumesKeep ⟦<Resuming as Play<Option<OpenFile>, View>>⟧.then }
 {}
@@ -259,7 +260,8 @@ pub fn swap_take_keeps_rule()
 {}
 
 /// A pass that swaps the word of the file that it places into a slot keeps the rule, and has the
-/// file that was there to retire.
+/// file that was there to retire. The word begins with the takes that the node's word has lost, as
+/// it does in an exchange.
 pub fn install_keeps_rule()
     ensures { InstallsKeep ⟦<Installing as Play<Option<OpenFile>, View>>⟧.then }
 {}

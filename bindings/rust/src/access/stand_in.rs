@@ -4,10 +4,10 @@
 //! (`--cfg yachtbanyan_stand_in`).
 //!
 //! A slot's word names a node in its upper 32 bits, whether or not the slot has a file. A bit says
-//! whether the node's file is there. The other bits are the number of takes, which begins with what
-//! the node's word had lost when its worker kept it. A node's word is 0 if the node is free. While
-//! its file is in a slot, the word is `BORN` less the number of releases, and less what it had lost.
-//! After that it is 1 and the number of holds.
+//! whether the node's file is there. The other bits are the number of takes. A node's word is 0 if
+//! the node is free. While its file is in a slot, the word is `BORN` less the number of releases.
+//! After that it is 1 and the number of holds. If a worker keeps the node of a closed file, the
+//! takes of the next file begin with the releases that the node's word has lost.
 use super::core::{
     Core, Label, Placed, AGAIN, BAD, BUSY, CLOSED, DONE, EMPTY, FULL, IDLE, IN_USE, NO_BLOCK,
     NO_SLOT, OTHER,

@@ -38,7 +38,7 @@ scan-requires-clause-at c =
 pub scan-requires-clause-placing : goal.scan-requires-clause-placing
 scan-requires-clause-placing c = record {
   work = c.place-entry.ensures.placed.work ∙ ap (λ (z : Closed). Placing c.place-entry.result.1 (as_written c.place-entry.result.2 (label_of z))) (sym c.identity-identity.ensures);
-        few_lost = c.place-entry.ensures.few_lost;
+  few_lost = c.place-entry.ensures.few_lost;
   place = c.place-entry.ensures.place ∙ ap (λ (f : Closed). (c.place-entry.result.1, Some f) ∷ []) (sym c.identity-identity.ensures);
   stocked = (
     c.place-entry.result.0,
