@@ -377,8 +377,9 @@ static void swap(struct state *s, struct pass *it, int who) {
     if (it->call == PUT || it->call == PUT_IF) {
         found = install(s, it);
     } else {
+        bool leaves_name = wrong == kept_while_a_slot_names_it && it->call == TAKE_IF;
         empty_slot(s, it->slot);
-        found = it->call == REMOVE && has_stock(who) ? exchange_names(s, it) : found;
+        found = has_stock(who) && !leaves_name ? exchange_names(s, it) : found;
     }
     it->node = !removes ? 0 : wrong == removal_loses_the_old_name ? node_at(it->slot) : found;
     it->takes = removes ? takes : UINT8_MAX;
@@ -631,7 +632,7 @@ static bool begin_nth(struct state *s, struct pass *it, int who, int nth) {
         return true;
     }
     for (int call = LOOK; call <= PUT_IF; call *= 2) {
-        bool uses_stock = has_stock(who) && call != LOOK && call != TAKE_IF, is_keyed = call == TAKE_IF || call == PUT_IF;
+        bool uses_stock = has_stock(who) && call != LOOK, is_keyed = call == TAKE_IF || call == PUT_IF;
         bool may = (family->calls[who] & call) && (!is_keyed || key_of(s, who)) && (!it->kept || may_keep(call));
         int ways = may ? family->slots * (uses_stock ? stock : 1) : 0;
         if (nth < ways) {
@@ -639,6 +640,8 @@ static bool begin_nth(struct state *s, struct pass *it, int who, int nth) {
             begin_at(s, it, who, call, nth % family->slots);
             if (call == REMOVE && uses_stock && !it->node) {
                 it->node = node_in_stock(wrong == removal_takes_a_node_of_another_pass ? 0 : who, entry);
+            } else if (call == TAKE_IF && uses_stock && it->step != IDLE) {
+                it->node = node_in_stock(who, entry);
             } else if (call != REMOVE && it->step != IDLE) {
                 it->nth = entry;
             }

@@ -1,6 +1,7 @@
 -- The calls that name a node: what their steps leave, one after another.
 use Rattle.fx_lasting.proofs.Words.{◌-◌, ◌<◌, List, get_elem?, some, rest, as_swapped, IsInStock, NamesANode, name_in, name_of_file, nodes_of}
-use Rattle.fx_lasting.proofs.Running.{swapped_then}
+use Rattle.fx_lasting.proofs.Words.{IsAtWork, IsStockOf, as_stocked, set}
+use Rattle.fx_lasting.proofs.Running.{swapped_then, at_swapped, number_is, stock_is}
 use Rattle.fx_lasting.proofs.Words.{◌≡◌, ◌≢◌, ℕ, ◌+◌, ◌-◌, ◌≤◌, List, [], sym, refl, ap, ◌∙◌, subst, arith, Option, Some, None, Bool, true, false}
 use Rattle.fx_lasting.proofs.Words.{File, Event, IsSeenBy, Closed, Action, ◌▷◌, ◌▷▷◌, Take, Put, numbered, full_name_in, entry_in, count_in, Names}
 use Rattle.fx_lasting.proofs.Words.{Start, Sat, At, Work, Glance, Change, Outside, Runs, Stepped, Sees, retiring_work, retired_at, slot_of}
@@ -15,7 +16,7 @@ use Rattle.fx_table.specs.declared.values.Doing.TheVariants.{Idle as DoesNothing
 use Rattle.fx_table.specs.declared.values.Retired.{Retired}
 use Rattle.fx_lasting.specs.Ends.{Does}
 use Rattle.fx_lasting.specs.HeldFiles.{IsOneOnItsNode}
-use Rattle.fx_lasting.specs.Keyed.{IsOn, FitsMiss, WasSo, WasIn, SaysIf, SawIf, FailedIf, HasTriedIf, TriedTake, TriedReplace}
+use Rattle.fx_lasting.specs.Keyed.{IsOn, FitsMiss, WasSo, WasIn, SaysIf, SawIf, FailedIf, HasTriedIf, TriedTake, TriedReplace, TriedSwap, TriedOut}
 use Rattle.fx_lasting.specs.declared.answers.Miss.{Miss}
 use Rattle.fx_lasting.specs.declared.answers.Miss.TheVariants.{Empty, Other, Again}
 use Rattle.fx_lasting.proofs.Passing.{adds_so}
@@ -135,6 +136,12 @@ Replaced m₁ m₂ at found own file e = (old : Option File) × (number : ℕ) �
     × Stepped (as_swapped e (name_in found - 1) m₁) ([] ▷ Put at (numbered number file) old) (retiring_work m₁.0.start found old) m₁.0.glance
     (account (range_at_start m₁.0.start) at old) m₂ × (m₂.1 ≡ rest m₁.1) × IsOneOnItsNode m₁.0.start old (pass_in m₂).front
 
+-- what a pass did that emptied the slot by an exchange of names, from this entry of its stock
+abbrev Swapped : (m₁ m₂ : Sat) (at found : ℕ) → ℕ → Type 0
+Swapped m₁ m₂ at found e = (file : Option File) × Names (node_of_number m₁.0.start) found file × NamesANode m₁.0.start found
+    × Stepped (as_swapped e (name_in found - 1) m₁) ([] ▷ Take at file) (retiring_work m₁.0.start found file) m₁.0.glance
+    (account (range_at_start m₁.0.start) at file) m₂ × (m₂.1 ≡ m₁.1) × IsOneOnItsNode m₁.0.start file (pass_in m₂).front
+
 its_own : (found node : ℕ) → full_name_in found ≡ node + 1 → name_in found - 1 ≡ node
 its_own found node is = let a = name_of_file found node is in omega arith
 
@@ -182,6 +189,29 @@ module _ {k : Start} {slot at : ℕ} (node found : ℕ) {m m₁ m₂ : Sat} {n :
         there : (e : ℕ) → get_elem? (pass_in m).stock e ≡ some own → get_elem? (pass_in m₁).stock e ≡ some own
         there e its = ap (λ (l : List ℕ). get_elem? l e) still.stock ∙ its
 
+    swapped_so : (e : ℕ) → Swapped m₁ m₂ at found e → (f : File) × Names (node_of_number k) found (Some f)
+        × Runs (as_swapped e node m) ([] ▷ Take slot (Some f)) (retiring_work k found (Some f)) m.0.glance Outside 4 m₂
+        × IsOneOnItsNode k (Some f) (pass_in m₂).front
+    swapped_so e (None, names, a_node, s, home, one) = absurd (not_named _ _ is names)
+    swapped_so e (Some f, names, a_node, s, home, one) = (
+      f,
+      subst (λ (z : Start). Names (node_of_number z) found (Some f)) start names,
+      runs_within few (swapped_then e node still (subst (λ (z : Start × ℕ × Glance × ℕ). Runs (as_swapped e z.3 m₁) ([] ▷ Take z.1 (Some f))
+          (retiring_work z.0 found (Some f)) z.2 Outside 1 m₂) (λ i. (start i, here i, still.glance i, its_own found node is i)) (at_once (range_at_start m₁.0.start) at f s))),
+      subst (λ (z : Start). IsOneOnItsNode z (Some f) (pass_in m₂).front) start one,
+    )
+
+    pub won_swap : (own : ℕ) → IsInStock (pass_in m).stock own → ((e : ℕ) → get_elem? (pass_in m₁).stock e ≡ some own → Swapped m₁ m₂ at found e)
+        → TriedSwap k slot node own m (Ok found) m₂
+    won_swap own stocked wins = let z = wins stocked.0 (there stocked.0 stocked.1) in (
+      is,
+      subst (λ (y : ℕ). y < nodes_of k) (its_own found node is) (subst (λ (y : Start). name_in found - 1 < nodes_of y) start z.2.1),
+      λ e its. swapped_so e (wins e (there e its)),
+    )
+      where
+        there : (e : ℕ) → get_elem? (pass_in m).stock e ≡ some own → get_elem? (pass_in m₁).stock e ≡ some own
+        there e its = ap (λ (l : List ℕ). get_elem? l e) still.stock ∙ its
+
 module _ {st : At} {m m₁ m₂ : Sat} {found n : ℕ} (still : Does m [] m.0.work n m₁) (few : n + 1 ≤ 4) (saw : Sees st m₁ found m₂) where
   pub lost_run : Does m [] m.0.work 4 m₂
   lost_run = runs_within few (stands_then still (runs_goes saw.goes))
@@ -219,3 +249,20 @@ pub adds_none : {id : TableId} {k : Start} {p : LastingPass} → IsPassOf id k p
     → Runs p.seat.me [] p.seat.me.0.work g c n m' → Adds (opening_of k) (view_of p) [] DoesNothing no_use (pass_of m'.0)
 adds_none {k = k} {p = p} fits idle {m'} r =
     subst (λ (d : Doing). Adds (opening_of k) (view_of p) [] d no_use (pass_of m'.0)) idle (adds_so fits.seated r no_use)
+
+-- A pass with this stock that tried to empty a slot
+module _ {k : Start} {p : ℕ} {m : Sat} (m' : Sat) (at : IsAtWork k p m) (stock : List ℕ) (its : stock ≡ (pass_in m).stock) (slot node : ℕ) where
+  -- it exchanged names
+  pub moved_name : (word own entry : ℕ) → get_elem? stock entry ≡ some own → TriedSwap k slot node own m (Ok word) m'
+      → TriedOut k slot node (set stock entry node) m (Ok word) m'
+  moved_name word own entry there (is, inside, did) = let z = did entry (ap (λ (l : List ℕ). get_elem? l entry) (sym its) ∙ there) in
+      let after = at_swapped at entry node inside in
+      let same : set (pass_in m).stock entry node ≡ set stock entry node = λ i. set (sym its i) entry node in (
+        z.0,
+        is,
+        z.1,
+        subst (λ (n : ℕ). IsStockOf k n (set stock entry node)) (sym (number_is at))
+            (subst (IsStockOf k p) (sym (stock_is after) ∙ same) after.stock),
+        subst (λ (l : List ℕ). Runs (as_stocked l m) ([] ▷ Take slot (Some z.0)) (retiring_work k word (Some z.0)) m.0.glance Outside 4 m') same z.2,
+        z.3,
+      )

@@ -28,6 +28,7 @@ pub mod Swaps
 pub mod SlotLaws
 pub mod SwapsOut
 pub mod Seeing
+pub mod SwapsIf
 pub mod Seats
 pub mod Openings
 pub mod FirstStocks

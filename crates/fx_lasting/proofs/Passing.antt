@@ -413,12 +413,6 @@ account_so range slot found (Some f) removed inside was_empty is says at =
     let e = not-true was_empty (sym says ∙ ap is_some is) in λ i. uncounted (sym at i) (sym e i) (group_of range slot)
 
 -- a pass that was idle, once a slot's old file is with it
-pub at_ease_looking : {id : TableId} {k : Start} {p : LastingPass} → IsPassOf id k p → {m' : Sat} {xs : List Action} {j : Start} (found : ℕ)
-    (file : Option File) {n : ℕ} → Runs p.seat.me xs (retiring_work j found file) p.seat.me.0.glance Outside n m' → j ≡ k
-    → Runs p.seat.me xs (retiring_work k found file) Nothing Outside n m'
-at_ease_looking {p = p} fits {m'} {xs} found file {n = n} r same =
-    subst (λ (z : Start × Glance). Runs p.seat.me xs (retiring_work z.0 found file) z.1 Outside n m') (λ i. (same i, fits.calm i)) r
-
 pub swapped_looking : {id : TableId} {k : Start} {p : LastingPass} → IsPassOf id k p → (entry node : ℕ) → {m' : Sat} {xs : List Action} {j : Start} (found : ℕ)
     (file : Option File) {n : ℕ} → Runs (as_swapped entry node p.seat.me) xs (retiring_work j found file) p.seat.me.0.glance Outside n m' → j ≡ k
     → Runs (as_swapped entry node p.seat.me) xs (retiring_work k found file) Nothing Outside n m'

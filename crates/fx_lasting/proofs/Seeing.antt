@@ -17,7 +17,7 @@ use Rattle.fx_lasting.proofs.SlotLaws.{installation_tells, new_number, file_carr
 module _ (turn : Turn) (s : ℕ) (inside : s < slots_of turn.v.start) (carried : List (ℕ × Option Closed)) where
   open turn use {st, v, r, id, x, here, one}
 
-  abbrev there : Option File
+  abbrev pub there : Option File
   there = (state_after_all v.start r.history).at s
 
   -- a name of a node is one of a file whose number says the node
@@ -25,10 +25,10 @@ module _ (turn : Turn) (s : ℕ) (inside : s < slots_of turn.v.start) (carried :
   by_number None names = names
   by_number (Some f) names = (names.0 ∙ ap (λ (n : ℕ). n + 1) (r.numbering f.number), names.1)
 
-  named : Names (node_of_number v.start) (slot_word st.words s) there
+  pub named : Names (node_of_number v.start) (slot_word st.words s) there
   named = by_number there (r.each_slot s inside).names
 
-  sees_slot : (slots first second : ℕ) → Sees (step slots (slot_place s) first second none) (v, carried) (slot_word st.words s)
+  pub sees_slot : (slots first second : ℕ) → Sees (step slots (slot_place s) first second none) (v, carried) (slot_word st.words s)
       (w turn (read_after turn v.work v.glance r.history), carried)
   sees_slot slots first second = record { goes = goes_still turn carried; names = rw (slot_back s) named }
 

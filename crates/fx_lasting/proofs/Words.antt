@@ -20,7 +20,7 @@ pub use Rattle.fx_lasting.specs.Labels.{number_of_mark, label_of, as_written, Ha
 pub use Rattle.fx_lasting.specs.KeepSteps.{Parks, Resumes, SettlesNode}
 pub use Rattle.fx_lasting.specs.Laws.{ParksKeep, ResumesKeep, SettlesKeep}
 pub use Rattle.fx_lasting.specs.Laws.{HasItsPlace, TagsKeep, NumbersKeep, ReadsTagKeep, ReadsNumberKeep}
-pub use Rattle.fx_lasting.specs.Laws.{RetiresKeep, IsInRange, ListsKeep, SkimsKeep, IsPassed, SeesKeep, TakesIfKeep, ReplacesKeep}
+pub use Rattle.fx_lasting.specs.Laws.{RetiresKeep, IsInRange, ListsKeep, SkimsKeep, IsPassed, SeesKeep, TakesIfKeep, SwapsIfKeep, ReplacesKeep}
 pub use Rattle.fx_lasting.specs.Layout.{question_place, group_place, list_place, slot_place, hold_place, node_place, stock_start, stock_for, stock_of, stocks_back}
 pub use Rattle.fx_lasting.specs.Layout.{tag_place, number_place}
 pub use Rattle.fx_lasting.specs.Layout.{group_size, groups_in, group_of, group_start, group_len}

@@ -20,7 +20,8 @@ use Rattle.fx_lasting.specs.Parts.{full_name_in}
 use Rattle.fx_lasting.specs.Passes.{Sat, nodes_of, node_of_number, state_after_all}
 use Rattle.fx_lasting.specs.Runs.{Runs}
 use Rattle.fx_lasting.specs.Tables.{opening_of}
-use Rattle.fx_lasting.specs.Effects.{as_swapped, pass_in, retiring_work}
+use Rattle.fx_lasting.specs.Stocks.{IsStockOf}
+use Rattle.fx_lasting.specs.Effects.{as_stocked, as_swapped, pass_in, retiring_work}
 use Rattle.fx_lasting.specs.declared.answers.Miss.{Miss}
 use Rattle.fx_lasting.specs.declared.answers.Miss.TheVariants.{Empty, Other, Again}
 use Rattle.fx_lasting.specs.declared.answers.PutIf.{PutIf}
@@ -118,6 +119,27 @@ TriedTake k slot node m (Ok word) m' = (f : File) × (full_name_in word ≡ node
     × IsOneOnItsNode k (Some f) (pass_in m').front
 TriedTake k slot node m (Err miss) m' =
     FailedIf k slot node miss m m' × Does m [] m.0.work 4 m'
+
+-- a pass that tried to empty such a slot by an exchange of names, with a node of its stock
+abbrev pub TriedSwap : Start → (slot node own : ℕ) → Sat → Result ℕ Miss → Sat → Type 0
+TriedSwap k slot node own m (Ok word) m' = (full_name_in word ≡ node + 1) × (node < nodes_of k)
+    × ((entry : ℕ) → get_elem? (pass_in m).stock entry ≡ some own → (f : File)
+    × Names (node_of_number k) word (Some f)
+    × Runs (as_swapped entry node m) ([] ▷ Take slot (Some f)) (retiring_work k word (Some f))
+    m.0.glance Outside 4 m'
+    × IsOneOnItsNode k (Some f) (pass_in m').front)
+TriedSwap k slot node own m (Err miss) m' =
+    FailedIf k slot node miss m m' × Does m [] m.0.work 4 m'
+
+-- a pass that tried to empty such a slot, and has this stock now
+abbrev pub TriedOut : Start → (slot node : ℕ) → List ℕ → Sat → Result ℕ Miss → Sat → Type 0
+TriedOut k slot node stock m (Ok word) m' = (f : File) × (full_name_in word ≡ node + 1)
+    × Names (node_of_number k) word (Some f) × IsStockOf k (pass_in m).number stock
+    × Runs (as_stocked stock m) ([] ▷ Take slot (Some f)) (retiring_work k word (Some f))
+    m.0.glance Outside 4 m'
+    × IsOneOnItsNode k (Some f) (pass_in m').front
+TriedOut k slot node stock m (Err miss) m' = FailedIf k slot node miss m m'
+    × Does m [] m.0.work 4 m' × (stock ≡ (pass_in m).stock)
 
 -- a pass that tried to put the file that it places at such a slot, on the node of the place
 abbrev pub TriedReplace : Start → ℕ → ℕ → ℕ → Identity → Sat → Result ℕ Miss → Sat → Type 0

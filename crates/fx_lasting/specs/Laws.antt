@@ -361,6 +361,15 @@ TakesIfKeep tells = (k : Start) (slots id i slot old new : ℕ) (m : Sat) (x : L
     → Allows (Agrees k) slots id m i (λ word. either (word == old) new word)
     (tells (step slots i old new none) m)
 
+-- an idle pass exchanges the word of a slot that it saw for the word of an empty slot that names a
+-- node of its stock
+abbrev pub SwapsIfKeep : Kind → Type 0
+SwapsIfKeep tells = (k : Start) (slots id i slot n old new : ℕ) (m : Sat) (x : Log) → HasPass k m x
+    → HasNoFile m.0.work → slot < slots_of k → IsOffCount k slot m.0.change → IsInStock x.stock n
+    → i ≡ slot_place slot → new ≡ empty_word_of n
+    → Allows (Agrees k) slots id m i (λ word. either (word == old) new word)
+    (tells (step slots i old new none) m)
+
 -- a pass exchanges the word of a slot that it saw for the word of the file that it places
 abbrev pub ReplacesKeep : Kind → Type 0
 ReplacesKeep tells = (k : Start) (slots id i slot n lost old new : ℕ) (file : Identity) (m : Sat)

@@ -1,18 +1,21 @@
 -- The kinds of step that empty a slot by an exchange of names: the slot's word names a node of the
 -- pass's stock then, and the node that it named takes that node's place in the stock.
-use Rattle.std.specs.Prelude.{◌≡◌, ℕ, ◌-◌, List, [], Option}
+use Rattle.std.specs.Prelude.{◌≡◌, ◌≢◌, ℕ, ◌-◌, List, [], Option}
 use mathlib.Core.Option.{some}
 use lib.ListN.{get_elem?}
 use Rattle.fx_plain.specs.History.{◌▷◌}
 use Rattle.fx_plain.specs.declared.event.File.{File}
 use Rattle.fx_plain.specs.declared.event.Action.{Action}
+use Rattle.fx_plain.specs.declared.event.Action.TheVariants.{Take}
 use Rattle.fx_words.specs.Words.{name_in}
+use Rattle.fx_lasting.specs.Agrees.{Names}
 use Rattle.fx_lasting.specs.Groups.{account}
+use Rattle.fx_lasting.specs.HeldFiles.{IsOneOnItsNode}
 use Rattle.fx_lasting.specs.Parts.{empty_word_of}
-use Rattle.fx_lasting.specs.Passes.{Sat, range_at_start}
+use Rattle.fx_lasting.specs.Passes.{Sat, range_at_start, node_of_number}
 use Rattle.fx_lasting.specs.Runs.{Runs}
 use Rattle.fx_lasting.specs.Stocks.{IsStockOf}
-use Rattle.fx_lasting.specs.Effects.{At, Found, NamesANode, Stepped, as_stocked, as_swapped}
+use Rattle.fx_lasting.specs.Effects.{At, Found, NamesANode, Sees, Stepped, as_stocked, as_swapped}
 use Rattle.fx_lasting.specs.Effects.{pass_in}
 use Rattle.fx_lasting.specs.Effects.{retiring_work, slot_of}
 use Rattle.fx_lasting.specs.declared.view.Start.{Start}
@@ -29,6 +32,19 @@ pub record SwapsOut (action : ℕ → Option File → Action)
       (retiring_work m.0.start found file) m.0.glance
       (account (range_at_start m.0.start) (slot_of st.word) file) m'
   pub carried : m'.1 ≡ m.1
+
+-- Swap, if the slot's word is the one that the pass saw, to the word of an empty slot that names a
+-- node of the stock, by a take; or nothing changed
+pub record SwapsIf (st : At) (m : Sat) (found : ℕ) (m' : Sat) : Type 0 where
+  pub wins : (n entry : ℕ) → get_elem? (pass_in m).stock entry ≡ some n
+      → st.second ≡ empty_word_of n → found ≡ st.first
+      → (file : Option File) × Names (node_of_number m.0.start) found file
+      × NamesANode m.0.start found
+      × Stepped (as_swapped entry (name_in found - 1) m) ([] ▷ Take (slot_of st.word) file)
+      (retiring_work m.0.start found file) m.0.glance
+      (account (range_at_start m.0.start) (slot_of st.word) file) m' × (m'.1 ≡ m.1)
+      × IsOneOnItsNode m.0.start file (pass_in m').front
+  pub loses : found ≢ st.first → Sees st m found m'
 
 -- a pass emptied a slot, whose word was this, and has this stock now
 pub record HasEmptied (k : Start) (action : ℕ → Option File → Action) (slot found : ℕ)

@@ -11,18 +11,20 @@ ghost use Rattle.fx_table.specs.Opening.{size_of};
 ghost use Rattle.fx_table.specs.Pass.{IsIdle};
 ghost use Rattle.fx_words.specs.Words.{entry_in};
 ghost use Rattle.fx_lasting.specs.AtWork.{IsAtWork};
-ghost use Rattle.fx_lasting.specs.Keyed.{HasPutIf, HasTakenIf, SawIf, SaysIf, TriedReplace, TriedTake, TriesPut, TriesTake};
+ghost use Rattle.fx_lasting.specs.Keyed.{HasPutIf, HasTakenIf, SawIf, SaysIf, TriedOut, TriedReplace, TriedSwap, TriedTake, TriesPut, TriesTake};
 ghost use Rattle.fx_lasting.specs.Laws.{IsOffCount};
 ghost use Rattle.fx_lasting.specs.Parts.{count_in, full_name_in};
 ghost use Rattle.fx_lasting.specs.Passes.{HasNoFile};
+ghost use Rattle.fx_lasting.specs.Effects.{pass_in};
+ghost use Rattle.fx_lasting.specs.Stocks.{IsInStock};
 ghost use Rattle.fx_lasting.specs.Tables.{view_of, steps_taken, opening_of_table, IsPassOfTable};
 ghost use Rattle.fx_lasting.specs.Tries.{IsPlacing};
 ghost use Rattle.fx_lasting.specs.declared.view.Change.TheVariants.{Outside};
 
 use crate::answers::{Miss, PutIf, TakenIf};
-use crate::kinds::{Replacing, Seeing, TakingIf};
+use crate::kinds::{Replacing, Seeing, SwappingIf, TakingIf};
 use crate::layout::slot_place;
-use crate::parts::{count_of, file_node_of, file_word, without_file};
+use crate::parts::{count_of, empty_word, file_node_of, file_word, without_file};
 use crate::pass::LastingPass;
 use crate::table::LastingTable;
 use crate::view::View;
@@ -53,7 +55,8 @@ impl LastingTable {
         };
         let inside = self.is_in_range(slot);
         self.lower(&mut pass.seat, slot, inside);
-        match self.try_take(&mut pass.seat, slot, node, word) {
+        let entry = pass.next_entry;
+        match self.try_out(&mut pass.seat, &mut pass.stock, entry, slot, node, word) {
             Ok(found) => {
                 pass.next_visit = self.first_visit(found);
                 pass.idle = false;
@@ -127,7 +130,79 @@ impl LastingTable {
     }
 
     // Empties the slot while its word names the node, in at most four steps. Returns the word that
-    // it found.
+    // it found. The slot names the node at the entry of the stock then, and the stock has the node
+    // that the slot named. A pass without a stock leaves the name at the slot.
+    #[inline(always)]
+    fn try_out(
+        &self,
+        seat: &mut Seat<Option<OpenFile>, View>,
+        stock: &mut Vec<u32>,
+        entry: u32,
+        slot: u32,
+        node: u32,
+        word: u64,
+    ) -> Result<u64, Miss>
+        requires table { seat.old.table_id ≡ self.now.table.shared.table_id }
+        requires at { (number : ℕ) × IsAtWork self.now.table.shared.key number seat.old.me }
+        requires idle { HasNoFile seat.old.me.0.work }
+        requires stock { stock.old.items ≡ (pass_in seat.old.me).stock }
+        requires slot { slot < self.now.size }
+        requires off { IsOffCount self.now.table.shared.key slot seat.old.me.0.change }
+        requires named { full_name_in word ≡ node + 1 }
+        ensures table { seat.new.table_id ≡ seat.old.table_id }
+        ensures places { seat.new.me.1 ≡ seat.old.me.1 }
+        ensures tried { TriedOut self.now.table.shared.key slot node stock.new.items seat.old.me
+            result seat.new.me }
+    {
+        let at = entry as usize;
+        if stock.len() <= at {
+            return self.try_take(seat, slot, node, word);
+        }
+        let found = self.try_swap(seat, slot, node, stock[at], word)?;
+        stock[at] = node;
+        Ok(found)
+    }
+
+    // Exchanges names as `try_out` does, with a node of the stock.
+    #[inline(always)]
+    fn try_swap(
+        &self,
+        seat: &mut Seat<Option<OpenFile>, View>,
+        slot: u32,
+        node: u32,
+        own: u32,
+        word: u64,
+    ) -> Result<u64, Miss>
+        requires table { seat.old.table_id ≡ self.now.table.shared.table_id }
+        requires at { (number : ℕ) × IsAtWork self.now.table.shared.key number seat.old.me }
+        requires idle { HasNoFile seat.old.me.0.work }
+        requires stocked { IsInStock (pass_in seat.old.me).stock own }
+        requires slot { slot < self.now.size }
+        requires off { IsOffCount self.now.table.shared.key slot seat.old.me.0.change }
+        requires named { full_name_in word ≡ node + 1 }
+        ensures table { seat.new.table_id ≡ seat.old.table_id }
+        ensures places { seat.new.me.1 ≡ seat.old.me.1 }
+        ensures tried { TriedSwap self.now.table.shared.key slot node own seat.old.me result
+            seat.new.me }
+    {
+        let shared = &self.table.shared;
+        let place = slot_place(slot);
+        let new = empty_word(own);
+        let mut expected = word;
+        for _ in 0..4u32 {
+            let was = shared.compare_exchange::<SwappingIf>(seat, place, expected, new);
+            if was == expected {
+                return Ok(was);
+            }
+            match named_by(was, node) {
+                Ok(again) => expected = again,
+                Err(miss) => return Err(miss),
+            }
+        }
+        Err(Miss::Again)
+    }
+
+    // Empties the slot as `try_out` does, for a pass without a stock.
     #[inline(always)]
     fn try_take(
         &self,

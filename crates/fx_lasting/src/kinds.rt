@@ -300,13 +300,24 @@ impl Play<Option<OpenFile>, View> for Seeing {
     ghost then = { Sees };
 }
 
-/// Take, if the slot still has the word that the pass saw: the slot is emptied for a close.
+/// Take, if the slot still has the word that the pass saw: a pass without a stock empties the slot
+/// for a close. Its word names the node still.
 pub struct TakingIf;
 
 impl Play<Option<OpenFile>, View> for TakingIf {
     ghost use Rattle.fx_lasting.specs.Effects.{TakesIf};
 
     ghost then = { TakesIf };
+}
+
+/// Swap, if the slot still has the word that the pass saw: the slot is emptied for a close. Its word
+/// names a node of the pass's stock, and the node that it named takes that node's place.
+pub struct SwappingIf;
+
+impl Play<Option<OpenFile>, View> for SwappingIf {
+    ghost use Rattle.fx_lasting.specs.SwapSteps.{SwapsIf};
+
+    ghost then = { SwapsIf };
 }
 
 /// Replace, if the slot still has the word that the pass saw: the file that the pass places goes to

@@ -9,14 +9,15 @@ ghost use Rattle.fx_lasting.specs.Layout.{PlacesAreInside, PlacesAreApart, Label
 ghost use Rattle.fx_lasting.specs.Opens.{OpeningKeeps};
 ghost use Rattle.fx_lasting.specs.WholeHistory.{HasOneHistory, RemovedFilesHaveUsers};
 ghost use Rattle.fx_lasting.specs.declared.layout.TheConstants.{MOST_SLOTS, MOST_NODES, MOST_PASSES, MOST_INSTALLING};
-ghost use Rattle.fx_lasting.specs.Laws.{GlancesKeep, ListsKeep, AnnouncesKeep, ConfirmsKeep, WithdrawsKeep, TakesOnceKeep, HeatsKeep, StepsDownKeep, LettingGoKeeps, SeeksKeep, BirthsKeep, TagsKeep, NumbersKeep, ReadsTagKeep, ReadsNumberKeep, RestsKeep, ParksKeep, ResumesKeep, SettlesKeep, SkimsKeep, VisitsKeep, MarksKeep, FinishesKeep, RetiresKeep, LowersKeep, ChecksKeep, BreaksKeep, RaisesKeep, BeginsKeep, AsksKeep, CountsKeep, DecidesKeep, PeeksKeep, SplitsKeep, JoinsKeep, ClearsKeep, TakesOutKeep, SwapsOutKeep, InstallsKeep, ExchangesKeep, SeesKeep, TakesIfKeep, ReplacesKeep};
+ghost use Rattle.fx_lasting.specs.Laws.{GlancesKeep, ListsKeep, AnnouncesKeep, ConfirmsKeep, WithdrawsKeep, TakesOnceKeep, HeatsKeep, StepsDownKeep, LettingGoKeeps, SeeksKeep, BirthsKeep, TagsKeep, NumbersKeep, ReadsTagKeep, ReadsNumberKeep, RestsKeep, ParksKeep, ResumesKeep, SettlesKeep, SkimsKeep, VisitsKeep, MarksKeep, FinishesKeep, RetiresKeep, LowersKeep, ChecksKeep, BreaksKeep, RaisesKeep, BeginsKeep, AsksKeep, CountsKeep, DecidesKeep, PeeksKeep, SplitsKeep, JoinsKeep, ClearsKeep, TakesOutKeep, SwapsOutKeep, InstallsKeep, ExchangesKeep, SeesKeep, TakesIfKeep, SwapsIfKeep, ReplacesKeep};
 
 use crate::kinds::{
     Announcing, Asking, Beginning, Birth, Breaking, Checking, Clearing, Confirming, Counting, Deal,
     Deciding, Exchanging, Finishing, Gather, Glancing, HeatingUp, Installing, Letting, Listing,
     Lowering, Marking, Numbering, OneHistory, Parking, Peeking, Raising, ReadingNumber, ReadingTag,
     Replacing, Resting, Resuming, Retire, Seeing, Seeking, Settling, Skimming, SteppingDown,
-    SwappingClear, SwappingTake, Tagging, Taking, TakingIf, TakingOut, Visiting, Withdrawing,
+    SwappingClear, SwappingIf, SwappingTake, Tagging, Taking, TakingIf, TakingOut, Visiting,
+    Withdrawing,
 };
 use crate::view::{Start, View};
 use atomic_table::{Join, Play, Split, TableRule};
@@ -281,6 +282,13 @@ pub fn see_keeps_rule()
 /// and has the file that was there to retire.
 pub fn take_if_keeps_rule()
     ensures { TakesIfKeep ⟦<TakingIf as Play<Option<OpenFile>, View>>⟧.then }
+{}
+
+/// An idle pass that exchanges the word of a slot that it saw for that of an empty slot that names a
+/// node of its stock keeps the rule, and has the file that was there to retire. The node that the
+/// slot named goes into its stock.
+pub fn swap_if_keeps_rule()
+    ensures { SwapsIfKeep ⟦<SwappingIf as Play<Option<OpenFile>, View>>⟧.then }
 {}
 
 /// A pass that exchanges the word of a slot that it saw for that of the file that it places keeps

@@ -187,8 +187,8 @@ impl Worker {
         }
     }
 
-    // Ends an installation that found this word at its slot. The word's node goes into the stock,
-    // in place of the node that the slot names now.
+    // Ends an exchange of names that found this word at its slot. The word's node goes into the
+    // stock, in place of the node that the slot names now.
     fn end(&mut self, old: u64) {
         self.stock[self.free] = node_of(old);
     }
@@ -448,9 +448,14 @@ pub(crate) unsafe fn yacht_core_take_if(
         return NO_SLOT;
     }
     it.settle();
-    match it.table.exchange(slot, unless_named(node), |it| it & NAME) {
+    let own = it.stock.get(it.free).map(|own| (*own as u64) << 32);
+    let word = |old| own.unwrap_or(old & NAME);
+    match it.table.exchange(slot, unless_named(node), word) {
         Err(number) => number,
         Ok(old) => {
+            if own.is_some() {
+                it.end(old);
+            }
             it.note_emptied(slot);
             answer(it.retire(old), IN_USE, unsafe { &mut *closed })
         }

@@ -1,12 +1,14 @@
+use Rattle.fx_lasting.proofs.Words.{ℕ, List, sym, IsStockOf, IsBetweenCalls, as_stocked, retiring_work}
 use Rattle.fx_lasting.proofs.Words.{◌-◌, refl, ap, ◌∙◌, subst, arith, [], ◌▷◌, Take, Some, Bool, true, false, uncounted, group_of, range_at_start}
 use Rattle.fx_lasting.proofs.Words.{Start, Glance, Outside, Runs, full_name_in, count_in, retired_at, opening_of, view_of, pass_of}
 use Rattle.fx_table.specs.Calls.{Adds, no_use}
 use Rattle.fx_table.specs.Pass.{PassView}
 use Rattle.fx_table.specs.declared.values.Doing.TheVariants.{Retiring as Retires}
 use Rattle.fx_table.specs.declared.values.Retired.{Retired}
-use Rattle.fx_lasting.proofs.ByNode.{acts_then, stands_then, missed_so, tried_none, tried_so, value_so, removal_so, is_on, adds_none}
-use Rattle.fx_lasting.proofs.Passing.{adds_so, at_rest, still_pass, its_idle, knows_removed, at_ease_looking, first_by}
-use Rattle.fx_lasting.proofs.Running.{still_at_work, turns_then}
+use Rattle.fx_lasting.proofs.ByNode.{stands_then, missed_so, tried_none, tried_so, value_so, removal_so, is_on, adds_none}
+use Rattle.fx_lasting.proofs.Passing.{at_rest, still_pass, its_idle, knows_removed, first_by}
+use Rattle.fx_lasting.proofs.Removals.{adds_stocked, stocked_pass, stocked_then}
+use Rattle.fx_lasting.proofs.Running.{still_at_work, turns_then, number_is}
 use Rattle.fx_lasting.proofs.Settled.{still_idle}
 use Rattle.fx_lasting.specs.Keyed.{HasTakenIf}
 use Rattle.fx_lasting.specs.declared.answers.TakenIf.TheVariants.{Removed, Missed}
@@ -35,8 +37,8 @@ lower-requires-clause-at c = (c.settle.new.pass.number, still_at_work c.settle.e
 pub lower-requires-clause-change : goal.lower-requires-clause-change
 lower-requires-clause-change c = c.in-Ok.ensures.saw.2.change ∙ c.settle.ensures.fits.seated.change
 
-pub try_take-requires : goal.try_take-requires
-try_take-requires c =
+pub try_out-requires : goal.try_out-requires
+try_out-requires c =
     let t = c.args.self.now in
     let f = c.settle.ensures.fits in
     let saw = c.in-Ok.ensures.saw in
@@ -46,39 +48,48 @@ try_take-requires c =
       at = (c.settle.new.pass.number, still_at_work (still_at_work f.seated.at saw.2) began.runs);
       idle = rw (began.runs.work ∙ saw.2.work) (its_idle f (still_idle c.settle.ensures.same c.requires.idle) c.settle.ensures.unkept);
       slot = omega (arith, c.requires.slot, t.same_size);
+      stock = f.seated.stock ∙ sym (turns_then saw.2 began.runs).stock;
       off = began.runs.change ∙ ap (λ (b : Bool). uncounted b true (group_of (range_at_start t.table.shared.key) c.args.slot)) c.is_in_range-inside.ensures;
       named = saw.0;
     }
 
-pub returns-in-Ok-try_take : goal.returns-in-Ok-try_take
-returns-in-Ok-try_take c =
+pub returns-in-Ok-try_out : goal.returns-in-Ok-try_out
+returns-in-Ok-try_out c =
     let t = c.args.self.now in
     let k : Start = t.table.shared.key in
     let fits = c.settle.ensures.fits in
     let s = fits.seated in
     let saw = c.in-Ok.ensures.saw in
     let began = c.lower.ensures in
-    let took = c.in-Ok-try_take.ensures.tried in
-    let found = c.in-Ok-try_take.found in
+    let took = c.in-Ok-try_out.ensures.tried in
+    let found = c.in-Ok-try_out.found in
     let f = took.0 in
     let x = c.removed_by.result in
     let its = c.removed_by.ensures in
-    let run = at_ease_looking fits found (Some f) (acts_then (turns_then saw.2 began.runs) took.3) refl in
+    let stock = c.try_out.new.stock.items in
+    let m = c.settle.new.pass.seat.me in
+    let m₂ = c.lower.new.seat.me in
+    let m₃ = c.try_out.new.seat.me in
+    let first = turns_then saw.2 began.runs in
+    let its_stock = subst (λ (n : ℕ). IsStockOf k n stock) (number_is (still_at_work s.at first)) took.3 in
+    let run = subst (λ (g : Glance). Runs (as_stocked stock m) ([] ▷ Take c.args.slot (Some f)) (retiring_work k found (Some f)) g Outside 8 m₃) fits.calm
+    (stocked_then stock first (subst (λ (g : Glance). Runs (as_stocked stock m₂) ([] ▷ Take c.args.slot (Some f)) (retiring_work k found (Some f)) g Outside 4 m₃)
+    first.glance took.4)) in
     let v = view_of c.settle.new.pass in
-    let w = pass_of c.try_take.new.seat.me.0 in
+    let w = pass_of c.try_out.new.seat.me.0 in
     record {
-      fits = still_pass s _ run (refl, refl) (c.try_take.ensures.table ∙ (began.table ∙ c.see.ensures.table))
-          (c.try_take.ensures.places ∙ (began.places ∙ (c.see.ensures.places ∙ s.places))) (refl, s.next)
-          (knows_removed k found (Some f) (Some (retired_at f (full_name_in found - 1) (count_in found))) _ false _ _ c.settle.new.pass.next_entry c.settle.new.pass.stock.items c.settle.ensures.unkept refl refl
+      fits = stocked_pass s stock its_stock _ run (refl, refl) (c.try_out.ensures.table ∙ (began.table ∙ c.see.ensures.table))
+          (c.try_out.ensures.places ∙ (began.places ∙ (c.see.ensures.places ∙ s.places))) (refl, s.next)
+          (knows_removed k found (Some f) (Some (retired_at f (full_name_in found - 1) (count_in found))) _ false _ _ c.settle.new.pass.next_entry stock c.settle.ensures.unkept refl refl
           (c.first_visit-pass.ensures ∙ first_by t found));
-      taken = subst (λ (z : PassView). HasTakenIf c.args.self.now.table.shared.key z c.args.slot c.args.node (Removed c.removed_by.result) (pass_of c.try_take.new.seat.me.0)) c.settle.ensures.same (
+      taken = subst (λ (z : PassView). HasTakenIf c.args.self.now.table.shared.key z c.args.slot c.args.node (Removed c.removed_by.result) (pass_of c.try_out.new.seat.me.0)) c.settle.ensures.same (
         f,
         its.node,
         is_on found x its.node its.entry its.takes took.1 f k took.2.0,
         removal_so found x its.node its.entry its.takes took.1 f k took.2.1,
         subst (λ (z : Retired). Adds (opening_of k) v ([] ▷ Take c.args.slot (Some f)) (Retires f z) no_use w)
-            (value_so found x its.node its.entry its.takes took.1 f took.2.1) (adds_so s run no_use),
-        took.4,
+            (value_so found x its.node its.entry its.takes took.1 f took.2.1) (adds_stocked s stock run no_use),
+        took.5,
       );
       tries = tt;
       steps = let few = run.steps in let one = c.settle.ensures.steps in omega arith;
@@ -89,40 +100,43 @@ raise-requires c =
     let f = c.settle.ensures.fits in
     let saw = c.in-Ok.ensures.saw in
     let began = c.lower.ensures in
-    let tried = stands_then (turns_then saw.2 began.runs) c.in-Err-try_take.ensures.tried.1 in
+    let tried = stands_then (turns_then saw.2 began.runs) c.in-Err-try_out.ensures.tried.1 in
     record {
-      table = c.try_take.ensures.table ∙ (began.table ∙ (c.see.ensures.table ∙ f.seated.table));
+      table = c.try_out.ensures.table ∙ (began.table ∙ (c.see.ensures.table ∙ f.seated.table));
       at = (c.settle.new.pass.number, still_at_work f.seated.at tried);
       inside = c.is_in_range-inside.ensures;
       change = tried.change;
     }
 
-pub returns-in-Err-try_take : goal.returns-in-Err-try_take
-returns-in-Err-try_take c =
+pub returns-in-Err-try_out : goal.returns-in-Err-try_out
+returns-in-Err-try_out c =
     let k : Start = c.args.self.now.table.shared.key in
     let fits = c.settle.ensures.fits in
     let s = fits.seated in
     let saw = c.in-Ok.ensures.saw in
     let began = c.lower.ensures in
-    let failed = c.in-Err-try_take.ensures.tried in
+    let failed = c.in-Err-try_out.ensures.tried in
     let end = c.raise.ensures in
     let m = c.settle.new.pass.seat.me in
     let m₁ = c.see.new.seat.me in
     let m₂ = c.lower.new.seat.me in
-    let m₃ = c.try_take.new.seat.me in
+    let m₃ = c.try_out.new.seat.me in
     let m₄ = c.raise.new.seat.me in
     let first = turns_then saw.2 began.runs in
     let run = turns_then (stands_then first failed.1) end.runs in
+    let p = c.settle.new.pass in
+    let same_stock = failed.2 ∙ (first.stock ∙ sym s.stock) in
     record {
       fits = still_pass s _ (subst (λ (g : Glance). Runs m [] m.0.work g Outside 9 m₄) fits.calm run) (refl, refl)
-          (end.table ∙ (c.try_take.ensures.table ∙ (began.table ∙ c.see.ensures.table)))
-          (end.places ∙ (c.try_take.ensures.places ∙ (began.places ∙ (c.see.ensures.places ∙ s.places)))) (refl, s.next) fits.knows;
-      taken = subst (λ (z : PassView). HasTakenIf c.args.self.now.table.shared.key z c.args.slot c.args.node (Missed c.in-Err-try_take.miss) (pass_of c.raise.new.seat.me.0)) c.settle.ensures.same
+          (end.table ∙ (c.try_out.ensures.table ∙ (began.table ∙ c.see.ensures.table)))
+          (end.places ∙ (c.try_out.ensures.places ∙ (began.places ∙ (c.see.ensures.places ∙ s.places)))) (same_stock, s.next)
+          (subst (λ (l : List ℕ). IsBetweenCalls k.passes p.idle p.guarded p.keeps p.next_visit l p.next_entry m.0.work) (sym same_stock) fits.knows);
+      taken = subst (λ (z : PassView). HasTakenIf c.args.self.now.table.shared.key z c.args.slot c.args.node (Missed c.in-Err-try_out.miss) (pass_of c.raise.new.seat.me.0)) c.settle.ensures.same
           (record {
-            was = missed_so k c.args.slot c.args.node m m₁ m₂ m₃ m₄ c.in-Err-try_take.miss saw.1 failed.0 first.seen
+            was = missed_so k c.args.slot c.args.node m m₁ m₂ m₃ m₄ c.in-Err-try_out.miss saw.1 failed.0 first.seen
                 (turns_then (stands_then began.runs failed.1) end.runs).seen end.runs.seen;
             adds = adds_none fits (still_idle c.settle.ensures.same c.requires.idle) run;
           });
-      tries = tried_so k c.args.slot c.args.node _ _ m₂ m₃ c.in-Err-try_take.miss failed.0 (omega (arith, first.begun, c.settle.ensures.begun)) end.runs.begun;
+      tries = tried_so k c.args.slot c.args.node _ _ m₂ m₃ c.in-Err-try_out.miss failed.0 (omega (arith, first.begun, c.settle.ensures.begun)) end.runs.begun;
       steps = let few = run.steps in let one = c.settle.ensures.steps in omega arith;
     }
