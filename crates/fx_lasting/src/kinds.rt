@@ -310,8 +310,8 @@ impl Play<Option<OpenFile>, View> for TakingIf {
     ghost then = { TakesIf };
 }
 
-/// Swap, if the slot still has the word that the pass saw: the slot is emptied for a close. Its word
-/// names a node of the pass's stock, and the node that it named takes that node's place.
+/// Swap, if the slot still has the word that the pass saw: the slot is emptied for a close. Its
+/// word names a node of the pass's stock, and the node that it named takes that node's place.
 pub struct SwappingIf;
 
 impl Play<Option<OpenFile>, View> for SwappingIf {

@@ -284,8 +284,8 @@ pub fn take_if_keeps_rule()
     ensures { TakesIfKeep ⟦<TakingIf as Play<Option<OpenFile>, View>>⟧.then }
 {}
 
-/// An idle pass that exchanges the word of a slot that it saw for that of an empty slot that names a
-/// node of its stock keeps the rule, and has the file that was there to retire. The node that the
+/// An idle pass that exchanges the word of a slot that it saw for that of an empty slot that names
+/// a node of its stock keeps the rule, and has the file that was there to retire. The node that the
 /// slot named goes into its stock.
 pub fn swap_if_keeps_rule()
     ensures { SwapsIfKeep ⟦<SwappingIf as Play<Option<OpenFile>, View>>⟧.then }
