@@ -19,8 +19,7 @@ enum { LOOK = 1, REMOVE = 2, PUT = 4, PUT_ANY = 8, RELEASE = 16, RETIREMENT = 32
 /* The tries of a call that names a node; the table's calls make four. */
 enum { TRIES = 2 };
 
-/* The most takes that the word of a node may have lost whose pass keeps it; the table's passes keep
- * one that has lost eight. */
+/* The most takes that the word of a kept node has lost; in the table they are eight. */
 enum { MOST_CARRIED = 1 };
 
 /* The next step of a pass. */

@@ -64,8 +64,8 @@ IsListedIn word pass = bit_at word (bit_of pass) ≡ 1
 abbrev pub birth_word : ℕ
 birth_word = 2 ^ 32 + 1
 
--- the most takes that the word of a node may have lost whose pass keeps it: so few that the next
--- file's slot, whose word begins with them, is cold
+-- the most takes that the word of a kept node has lost: so few that the next file's slot, whose
+-- word begins with them, is cold
 abbrev pub most_carried : ℕ
 most_carried = 8
 

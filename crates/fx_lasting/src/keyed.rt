@@ -15,8 +15,8 @@ ghost use Rattle.fx_lasting.specs.Keyed.{HasPutIf, HasTakenIf, SawIf, SaysIf, Tr
 ghost use Rattle.fx_lasting.specs.Laws.{IsOffCount};
 ghost use Rattle.fx_lasting.specs.Parts.{count_in, full_name_in};
 ghost use Rattle.fx_lasting.specs.Passes.{HasNoFile};
-ghost use Rattle.fx_lasting.specs.Effects.{pass_in};
 ghost use Rattle.fx_lasting.specs.Stocks.{IsInStock};
+ghost use Rattle.fx_lasting.specs.Effects.{pass_in};
 ghost use Rattle.fx_lasting.specs.Tables.{view_of, steps_taken, opening_of_table, IsPassOfTable};
 ghost use Rattle.fx_lasting.specs.Tries.{IsPlacing};
 ghost use Rattle.fx_lasting.specs.declared.view.Change.TheVariants.{Outside};

@@ -261,8 +261,8 @@ pub fn swap_take_keeps_rule()
 {}
 
 /// A pass that swaps the word of the file that it places into a slot keeps the rule, and has the
-/// file that was there to retire. The word begins with the takes that the node's word has lost, as
-/// it does in an exchange.
+/// file that was there to retire. The word begins with as many takes as the word of the file's node
+/// has lost.
 pub fn install_keeps_rule()
     ensures { InstallsKeep ⟦<Installing as Play<Option<OpenFile>, View>>⟧.then }
 {}

@@ -20,7 +20,7 @@ pub(crate) const NAME: u64 = 0xffff_ff00_0000_0000;
 // The word of a node before anybody has let its file go.
 pub(crate) const BORN: u64 = (1 << 32) + 1;
 
-// The most takes that the word of a node may have lost whose pass keeps it.
+// The most takes that the word of a kept node has lost.
 pub(crate) const MOST_CARRIED: u64 = 8;
 
 // Checks whether the word of a node has lost few takes: its pass may keep it then.

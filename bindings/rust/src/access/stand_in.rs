@@ -22,7 +22,7 @@ const BORN: u64 = (1 << 32) + 1;
 const NAME: u64 = !0 << 32;
 const FILE: u64 = 1 << 31;
 const TAKES: u64 = FILE - 1;
-// the most releases that the word of a node may have lost whose worker keeps it
+// the most releases that the word of a kept node has lost
 const MOST_CARRIED: u64 = 8;
 // how many slots a worker keeps of those that it emptied last
 const EMPTIED: usize = 8;
