@@ -1,7 +1,5 @@
 //! From nothing to a full table: makes a catalogue, fills a table, shares it, replaces a file and
 //! closes all files.
-#![tactic(auto)]
-
 ghost use Rattle.std.specs.Prelude.{◌≡◌, ◌<◌, IfOk, length};
 ghost use Rattle.fx_plain.specs.Contents.{state_of};
 ghost use Rattle.fx_plain.specs.State.{IsSettled};
@@ -17,27 +15,8 @@ use std::sync::Wait;
 
 const SLOTS: u32 = 4;
 
-// The reason why the program ends early.
-#[derive(Clone, Copy, Debug)]
-enum Fault {
-    Add(AddFault),
-    Memory(NoMemory),
-}
-
-impl From<AddFault> for Fault {
-    fn from(fault: AddFault) -> Fault {
-        Fault::Add(fault)
-    }
-}
-
-impl From<NoMemory> for Fault {
-    fn from(refused: NoMemory) -> Fault {
-        Fault::Memory(refused)
-    }
-}
-
-// Makes a catalogue of two files, whose entries are 0 and 1.
-fn two_files(alloc: Global) -> Result<Catalogue, AddFault>
+/// Makes a catalogue of two files, whose entries are 0 and 1.
+pub fn two_files(alloc: Global) -> Result<Catalogue, AddFault>
     ensures { IfOk result (λ catalogue. length catalogue ≡ 2) }
 {
     let mut catalogue = Catalogue::new(alloc);
@@ -136,12 +115,13 @@ fn close_all(alloc: Global, plain: PlainTable) -> Result<u32, NoMemory>
     }
 }
 
-fn main(rt: HostRuntime) -> Result<(), Fault> {
-    let alloc = rt.alloc();
-    let catalogue = two_files(alloc)?;
+/// Fills a table, replaces a file and closes all files. Prints the numbers of closed files.
+pub fn run<R: Wait + Print>(rt: &R, alloc: Global, catalogue: &Catalogue) -> Result<(), NoMemory>
+    requires { 1 < length catalogue.now }
+{
     let mut closes = CloseList::with_room(alloc, 1)?;
-    let plain = full_table(alloc, &catalogue)?;
-    let (left, replaced) = share::<CountedTable, _>(&rt, alloc, &catalogue, plain)?;
+    let plain = full_table(alloc, catalogue)?;
+    let (left, replaced) = share::<CountedTable, R>(rt, alloc, catalogue, plain)?;
     if let Some(file) = replaced {
         closes.close(file);
     }
