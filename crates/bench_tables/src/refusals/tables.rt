@@ -4,7 +4,7 @@ ghost use Rattle.std.specs.Prelude.{IfSome};
 ghost use Rattle.fx_plain.specs.State.{IsSettled};
 ghost use Rattle.fx_plain.specs.Contents.{state_of};
 
-use crate::{ATTEMPTS, print_done, print_refused};
+use crate::refusals::{ATTEMPTS, print_done, print_refused};
 use fx_base::{Catalogue, NoMemory};
 use fx_plain::PlainTable;
 use fx_table::{FileTable, MAX_PASSES};

@@ -1,6 +1,6 @@
 use Rattle.std.proofs.Common.{sym, ap, ◌∙◌}
 use Rattle.fx_table.specs.Opening.{Opening}
-use Rattle.test_refusals.proofs.tables.open.Goals as goal
+use Rattle.bench_tables.proofs.refusals.tables.open.Goals as goal
 
 pub close-requires-clause-all : goal.close-requires-clause-all
 close-requires-clause-all g c =

@@ -1,6 +1,6 @@
 //! The calls of a ring that allocate, and that no script makes so: `fixfiles` plays the calls
 //! between submissions.
-use crate::{ATTEMPTS, print_closes, print_refused, print_report};
+use crate::refusals::{ATTEMPTS, print_closes, print_refused, print_report};
 use bitflags::Flags;
 use fx_base::{Catalogue, NoMemory};
 use fx_chain::{Gate, Op, OpenGate, Place, Request, SqeFlags, Target};

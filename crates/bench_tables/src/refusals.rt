@@ -1,9 +1,7 @@
-//! The program `test_refusals`: makes one call, whose allocations are refused from outside, and
-//! prints its result. After an allocation failure it makes the call again.
-//! tests/check-allocation-failures runs it and judges what it prints. Contracts say what a failed
-//! call leaves. Begin reading at `rings.rt`.
-#![tactic(auto)]
-
+//! Makes calls whose allocations are refused from outside, and prints their results. After an
+//! allocation failure a call is made again. tests/check-allocation-failures passes one call to the
+//! program, and judges what it prints. Contracts say what a failed call leaves. Begin reading at
+//! `rings.rt`.
 mod rings;
 mod tables;
 
@@ -14,13 +12,8 @@ use fx_ring::Report;
 use fx_table::FileTable;
 use std::alloc::Global;
 use std::fmt::Debug;
-use std::io::Read;
-use std::process::ExitCode;
 use std::sync::Wait;
 use std::thread::Threads;
-
-const USAGE: &str = "\
-test_refusals reads a line CALL TABLE COUNT, and makes the call";
 
 // The number of attempts of a call: a second one after an allocation failure.
 const ATTEMPTS: u32 = 2;
@@ -29,10 +22,9 @@ const ATTEMPTS: u32 = 2;
 // numbers or catalogue entries, as the call needs.
 type Asked<'a> = (&'a str, &'a str, u32);
 
-// Returns the call that a line of standard input asks for, or `None`.
-fn asked<'a, I: Read>(reader: &mut I, line: &'a mut [u8; 64]) -> Option<Asked<'a>> {
-    let n = reader.read(line).ok()?;
-    let mut words = std::str::from_utf8(&line[..n]).ok()?.split_whitespace();
+// Returns the call that a line asks for, or `None`.
+fn asked(line: &str) -> Option<Asked<'_>> {
+    let mut words = line.split_whitespace();
     Some((words.next()?, words.next()?, words.next()?.parse().ok()?))
 }
 
@@ -84,6 +76,7 @@ fn make<R: Threads + Wait + Print + Sync>(rt: &R, alloc: Global, asked: Asked<'_
         "add" => tables::add(rt, alloc, count),
         "prepare" => tables::prepare(rt, alloc, count),
         "tags" => rings::tags(rt, alloc),
+        "measured" => crate::try_tables(rt, alloc),
         _ => match table {
             "words" => make_on::<CountedTable, R>(rt, alloc, call, count),
             "baton" => make_on::<BatonTable, R>(rt, alloc, call, count),
@@ -92,20 +85,20 @@ fn make<R: Threads + Wait + Print + Sync>(rt: &R, alloc: Global, asked: Asked<'_
     }
 }
 
-// Makes the call that is asked for. Of the output, only the end allocates: a failure there is
-// printed.
-fn main(rt: HostRuntime) -> ExitCode {
-    let mut line = [0u8; 64];
-    let Some(asked) = asked(&mut rt.reader(), &mut line) else {
-        let _ = println!(rt; "{USAGE}");
-        return ExitCode::SUCCESS;
-    };
-    if make(&rt, rt.alloc(), asked).is_none() {
-        let _ = println!(rt; "no setting");
+/// Makes the call that each line asks for. Of the output, only the end allocates: a failure there
+/// is printed.
+pub(crate) fn play<R: Threads + Wait + Print + Sync>(rt: &R, alloc: Global, text: &str) {
+    for line in text.lines() {
+        let made = match asked(line) {
+            Some(asked) => make(rt, alloc, asked),
+            None => None,
+        };
+        if made.is_none() {
+            let _ = println!(rt; "no setting");
+        }
     }
-    let _ = match String::from_str(rt.alloc(), "end") {
+    let _ = match String::from_str(alloc, "end") {
         Ok(text) => println!(rt; "{text}"),
         Err(_refused) => println!(rt; "end: refused"),
     };
-    ExitCode::SUCCESS
 }
