@@ -125,8 +125,8 @@ meetings:
 allocation-failures:
 	@scripts/build-program
 	@scripts/build-program check_cli fixcheck
-	@scripts/build-program test_refusals test_refusals
-	@tests/check-allocation-failures bin/fixfiles bin/fixcheck bin/test_refusals
+	@scripts/build-program bench_tables bench_tables
+	@tests/check-allocation-failures bin/fixfiles bin/fixcheck bin/bench_tables
 
 steps:
 	@tests/check-steps

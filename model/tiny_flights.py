@@ -169,8 +169,12 @@ class Play:
         return number, [it + link for it, link in zip(chain, links)]
 
     def log(self):
+        """Makes at most 400 moves, and none after a log that is settled twice: no call is left then."""
+        moves = [self.begin, self.access, self.access, self.answer, self.answer, self.answer, self.close]
         for _ in range(400):
-            self.rng.choice([self.begin, self.access, self.access, self.answer, self.answer, self.answer, self.close])()
+            self.rng.choice(moves)()
+            if not self.todo and self.lines[-2:] == ["settled"] * 2:
+                break
         return self.lines
 
     def begin(self):

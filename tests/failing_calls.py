@@ -1,4 +1,4 @@
-"""Lists the calls of tests/check-allocation-failures, and what the program test_refusals may print of each if one of its allocations
+"""Lists the calls of tests/check-allocation-failures, and what the program bench_tables may print of each if one of its allocations
 fails. The expected result is that of the call's documentation: its answer, and what the same call answers after a refusal. The calls
 between submissions, the reading of scripts and the making of texts are those of the scripts that fixfiles plays
 (allocation_failures.py)."""

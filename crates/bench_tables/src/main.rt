@@ -1,12 +1,14 @@
 //! The program `bench_tables`: prints the nanoseconds that a table takes for the work which the
-//! variable TABLE_BENCH_ROW of the environment names (`work.rt`). Without that variable it tests
-//! the measured calls, and prints what they return.
+//! variable TABLE_BENCH_ROW of the environment names (`work.rt`). Without that variable it makes
+//! the calls that the lines of standard input name, and prints what they return: `measured - 0`
+//! tests the measured calls, and other lines are calls whose allocations may fail (`refusals.rt`).
 #![tactic(auto)]
 
-ghost use Rattle.std.specs.Prelude.{◌<◌, ◌≤◌, length, vec_capacity};
+ghost use Rattle.std.specs.Prelude.{◌<◌, ◌≤◌, IfSome, length, vec_capacity};
 
 mod locked;
 mod measure;
+mod refusals;
 mod shared;
 mod work;
 
@@ -20,6 +22,7 @@ use measure::{shaped, time};
 use shared::{Chains, Lasts, Shared, Subject};
 use std::alloc::Global;
 use std::env;
+use std::io::Read;
 use std::process::ExitCode;
 use std::rt::Clock;
 use std::sync::Wait;
@@ -28,7 +31,9 @@ use std::time::CpuClock;
 use work::{MARK, READ_LEN, Shape, look, read, row_of};
 
 // Creates a catalogue of one entry of 64 bytes.
-fn one_entry(alloc: Global) -> Option<Catalogue> {
+fn one_entry(alloc: Global) -> Option<Catalogue>
+    ensures { IfSome result (λ catalogue. 0 < length catalogue) }
+{
     let name = String::from_str(alloc, "a.txt").ok()?;
     let bytes = vec![in alloc; 7; 64].ok()?;
     let mut catalogue = Catalogue::new(alloc);
@@ -44,11 +49,9 @@ fn one_entry(alloc: Global) -> Option<Catalogue> {
 fn report<R: Threads + Wait + Clock + CpuClock + Print + Sync>(
     rt: &R,
     alloc: Global,
-    catalogue: &Catalogue,
     words: &str,
-) -> Option<()>
-    requires { 0 < length catalogue.now }
-{
+) -> Option<()> {
+    let catalogue = &one_entry(alloc)?;
     let mut words = words.split_whitespace();
     let table = words.next()?;
     let row = row_of(words.next()?, words.next()?.parse().ok()?)?;
@@ -128,28 +131,31 @@ fn try_table<S: Subject, R: Wait + Print>(
 // Tests what no clause says of the measured calls of each table, that they do what their names say,
 // and prints their results, one line for each table. Returns `None` if an allocation or a write
 // fails.
-fn try_tables<R: Wait + Print>(rt: &R, alloc: Global, catalogue: &Catalogue) -> Option<()>
-    requires { 0 < length catalogue.now }
-{
+fn try_tables<R: Wait + Print>(rt: &R, alloc: Global) -> Option<()> {
+    let catalogue = &one_entry(alloc)?;
     try_table::<Shared<CountedTable, Chains>, R>(rt, alloc, catalogue, "counted")?;
     try_table::<Shared<LastingTable, Lasts>, R>(rt, alloc, catalogue, "lasting")?;
     try_table::<Shared<BatonTable, Chains>, R>(rt, alloc, catalogue, "baton")?;
     try_table::<Locked, R>(rt, alloc, catalogue, "mutex")
 }
 
+// Returns the first 64 bytes of standard input as a text.
+fn text_of<'a, I: Read>(reader: &mut I, bytes: &'a mut [u8; 64]) -> Option<&'a str> {
+    let n = reader.read(bytes).ok()?;
+    std::str::from_utf8(&bytes[..n]).ok()
+}
+
 fn main(rt: HostRuntime) -> ExitCode {
-    let Some(catalogue) = one_entry(rt.alloc()) else {
+    if let Ok(words) = env::var(&rt, "TABLE_BENCH_ROW") {
+        return match report(&rt, rt.alloc(), words.as_str()) {
+            Some(()) => ExitCode::SUCCESS,
+            None => ExitCode::FAILURE,
+        };
+    }
+    let mut bytes = [0u8; 64];
+    let Some(text) = text_of(&mut rt.reader(), &mut bytes) else {
         return ExitCode::FAILURE;
     };
-    if catalogue.is_empty() {
-        return ExitCode::FAILURE;
-    }
-    let done = match env::var(&rt, "TABLE_BENCH_ROW") {
-        Ok(words) => report(&rt, rt.alloc(), &catalogue, words.as_str()),
-        Err(_) => try_tables(&rt, rt.alloc(), &catalogue),
-    };
-    match done {
-        Some(()) => ExitCode::SUCCESS,
-        None => ExitCode::FAILURE,
-    }
+    refusals::play(&rt, rt.alloc(), text);
+    ExitCode::SUCCESS
 }

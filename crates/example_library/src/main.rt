@@ -1,12 +1,13 @@
-//! Shares a table between two threads, and does three things that a server does: it learns that a
-//! file is closed, opens files until the table is full, and replaces a file under load. A smaller
-//! program is `example_first`. Begin with `tasks.rt`.
+//! Runs a first example, `first.rt`. Then shares a table between two threads, and does three things
+//! that a server does: it learns that a file is closed, opens files until the table is full, and
+//! replaces a file under load (`tasks.rt`).
 #![tactic(auto)]
 
-ghost use Rattle.std.specs.Prelude.{◌≡◌, ◌<◌, ◌+◌, All, IfOk, OnOk, length};
+ghost use Rattle.std.specs.Prelude.{◌≡◌, ◌<◌, All, IfOk, length};
 ghost use Rattle.fx_table.specs.Opening.{size_of};
 ghost use Rattle.fx_table.specs.Pass.{IsIdle};
 
+mod first;
 mod tasks;
 
 use fx_base::{AddFault, Catalogue, CloseList, Mark, NoMemory};
@@ -24,23 +25,6 @@ const TAG: u64 = 7;
 
 // The number of chains. Each gives its pass numbers for 64 new files.
 const CHAINS: u32 = 20;
-
-// Adds a file to a catalogue.
-fn add(alloc: Global, catalogue: &mut Catalogue, name: &str, bytes: &[u8]) -> Result<(), AddFault>
-    ensures { OnOk result (length catalogue.new ≡ length catalogue.old + 1) }
-{
-    catalogue.add(String::from_str(alloc, name)?, bytes.to_vec(alloc)?)
-}
-
-// Makes a catalogue of two files. The first has five bytes, the second none.
-fn two_files(alloc: Global) -> Result<Catalogue, AddFault>
-    ensures { IfOk result (λ catalogue. length catalogue ≡ 2) }
-{
-    let mut catalogue = Catalogue::new(alloc);
-    add(alloc, &mut catalogue, "first.txt", b"hello")?;
-    add(alloc, &mut catalogue, "second.txt", b"")?;
-    Ok(catalogue)
-}
 
 // Makes a table of four slots, with entry 0 of the catalogue at slot 0, that two threads share,
 // each by a pass.
@@ -165,22 +149,23 @@ fn serve<R: Threads + Wait + Sync + Print>(
     Ok(())
 }
 
-// Makes the lists of closed files, and serves.
-fn serve_with_lists<R: Threads + Wait + Sync + Print>(
+// Runs the first example. Then makes the lists of closed files, and serves.
+fn run_both<R: Threads + Wait + Sync + Print>(
     rt: &R,
     alloc: Global,
     catalogue: &Catalogue,
 ) -> Result<(), NoMemory>
     requires { 1 < length catalogue.now }
 {
+    first::run(rt, alloc, catalogue)?;
     let mut by_reader = CloseList::with_room(alloc, 1)?;
     let mut by_writer = CloseList::with_room(alloc, 1)?;
     serve(rt, alloc, catalogue, &mut by_reader, &mut by_writer)
 }
 
 fn main(rt: HostRuntime) -> Result<(), AddFault> {
-    let catalogue = two_files(rt.alloc())?;
-    match serve_with_lists(&rt, rt.alloc(), &catalogue) {
+    let catalogue = first::two_files(rt.alloc())?;
+    match run_both(&rt, rt.alloc(), &catalogue) {
         Ok(()) => Ok(()),
         Err(NoMemory) => Err(AddFault::NoMemory),
     }

@@ -1,0 +1,45 @@
+-- The texts that were found, as they are written.
+use Rattle.std.proofs.Common.{◌≡◌, ℕ, Bool, false, IsTrue, List, [], ◌∷◌, All, Contains, length, map, take, ap, ◌∙◌, string_bytes, string_eq, String, Global}
+use Rattle.std.specs.List.{AllByRecursion, IsDistinct}
+use Rattle.std.proofs.lemmas.List.{length-map}
+use Rattle.std.proofs.lemmas.List.Elements.{All-map}
+use Rattle.fx_language.specs.Script.{IsScript, Meaning}
+use Rattle.check_texts.specs.Texts.{IsTextFound}
+use Rattle.fx_judge.specs.Listed.{joined, lengths_in}
+use Rattle.fx_judge.specs.Outcomes.{AreOutcomes, AreWritten, same_bytes}
+use Rattle.fx_judge.specs.declared.outcomes.YachtTexts.{YachtTexts}
+
+each_of_map : (P : List ℕ → Type 0) (xs : List (String Global)) → AllByRecursion (λ x. P (string_bytes x)) xs
+    → AllByRecursion P (map string_bytes xs)
+each_of_map P [] all = all
+each_of_map P (x ∷ xs) (here, later) = (here, each_of_map P xs later)
+
+distinct_bytes : (xs : List (String Global)) → IsDistinct string_eq xs → IsDistinct same_bytes (map string_bytes xs)
+unfolding IsDistinct
+distinct_bytes [] once = once
+distinct_bytes (x ∷ xs) (others, once) = (each_of_map (λ b. same_bytes (string_bytes x) b ≡ false) xs others, distinct_bytes xs once)
+
+module _ (xs : List (String Global)) (told : YachtTexts) (texts lens : List ℕ) where
+  pub written : {bytes counts : List ℕ} → bytes ≡ joined (map string_bytes xs) → counts ≡ lengths_in (map string_bytes xs)
+      → told.bytes ≡ length bytes → told.count ≡ length counts → take (length bytes) texts ≡ bytes → take (length counts) lens ≡ counts
+      → AreWritten (map string_bytes xs) told texts lens
+  written is are bytes_told count_told front others = record {
+    count = count_told ∙ (ap length are ∙ length-map (map string_bytes xs) length);
+    bytes = bytes_told ∙ ap length is;
+    joined_texts = ap (λ n. take n texts) bytes_told ∙ (front ∙ is);
+    each_length = ap (λ n. take n lens) count_told ∙ (others ∙ are);
+  }
+
+  pub outcomes : {script : List ℕ} {meaning : Meaning} (are_all : Bool) → IsScript script meaning
+      → All (λ x. IsTextFound meaning (string_bytes x)) xs → IsDistinct string_eq xs
+      → (IsTrue are_all → (text : List ℕ) → IsTextFound meaning text → Contains (map string_bytes xs) text)
+      → AreWritten (map string_bytes xs) told texts lens → AreOutcomes script are_all told texts lens
+  outcomes {meaning = meaning} are_all read each once all done = record {
+    meaning = meaning;
+    read = read;
+    found = map string_bytes xs;
+    written = done;
+    each = All-map (IsTextFound meaning) string_bytes xs each;
+    once = distinct_bytes xs once;
+    all = all;
+  }

@@ -1,0 +1,10 @@
+use Rattle.std.proofs.Common.{◌≡◌, map, string_bytes, take}
+use Rattle.fx_judge.specs.Listed.{joined, lengths_in}
+use Rattle.fx_judge.proofs.listed.list.Given as goal
+
+-- the texts so far are listed
+abbrev pub invariant-loop-text : goal.invariant-loop-text
+invariant-loop-text l = record {
+  bytes : l.listed.bytes.items ≡ joined (map string_bytes (take l.text-index l.texts));
+  lengths : l.listed.lengths.items ≡ lengths_in (map string_bytes (take l.text-index l.texts));
+}

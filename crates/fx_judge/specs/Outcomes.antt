@@ -1,0 +1,33 @@
+-- The written list of the texts of a script.
+use Rattle.std.specs.Prelude.{◌≡◌, ℕ, Bool, IsTrue, List, length, take, All}
+use Rattle.std.specs.Prelude.{Contains, nat_eq}
+use lib.Pointwise.{pointwise}
+use Rattle.std.specs.List.{IsDistinct}
+use Rattle.fx_language.specs.Script.{IsScript, Meaning}
+use Rattle.check_texts.specs.Texts.{IsTextFound}
+use Rattle.fx_judge.specs.Listed.{joined, lengths_in}
+use Rattle.fx_judge.specs.declared.outcomes.YachtTexts.{YachtTexts}
+
+-- the same bytes
+abbrev pub same_bytes : List ℕ → List ℕ → Bool
+same_bytes = pointwise nat_eq
+
+-- these texts are written, and so are their counts
+pub record AreWritten (found : List (List ℕ)) (totals : YachtTexts) (texts lengths_of : List ℕ)
+    : Type 0 where
+  pub count : totals.count ≡ length found
+  pub bytes : totals.bytes ≡ length (joined found)
+  pub joined_texts : take totals.bytes texts ≡ joined found
+  pub each_length : take totals.count lengths_of ≡ lengths_in found
+
+-- the bytes are a script, and texts are written that it may print if no allocation fails; all of
+-- them, if so said
+pub record AreOutcomes (script : List ℕ) (are_all : Bool) (totals : YachtTexts)
+    (texts lengths_of : List ℕ) : Type 0 where
+  pub meaning : Meaning
+  pub read : IsScript script meaning
+  pub found : List (List ℕ)
+  pub written : AreWritten found totals texts lengths_of
+  pub each : All (IsTextFound meaning) found
+  pub once : IsDistinct same_bytes found
+  pub all : IsTrue are_all → (text : List ℕ) → IsTextFound meaning text → Contains found text

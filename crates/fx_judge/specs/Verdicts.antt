@@ -1,0 +1,37 @@
+-- The meaning of a verdict's number, for the bytes of a script and a text.
+use Rattle.std.specs.Prelude.{◌≡◌, ℕ, List}
+use Rattle.fx_language.specs.Script.{HasFault, IsScript, Meaning}
+use Rattle.fx_language.specs.declared.fault.ScriptFault.{ScriptFault}
+use Rattle.fx_script.specs.Play.{IsText}
+use Rattle.check_judge.specs.Judged.{IsBroken}
+use Rattle.check_judge.specs.declared.judgement.Break.{Break}
+use Rattle.check_judge.specs.declared.judgement.Judgement.{Judgement}
+use Rattle.check_judge.specs.declared.judgement.Judgement.TheVariants.{Legal, NotLegal, Undecided}
+use Rattle.fx_judge.specs.declared.judge.YachtVerdict.{YachtVerdict}
+use Rattle.fx_judge.specs.declared.codes.TheConstants.{LEGAL, NOT_LEGAL, UNDECIDED}
+
+-- the bytes are a script that may print this
+pub record MayBePrinted (script text : List ℕ) : Type 0 where
+  pub meaning : Meaning
+  pub read : IsScript script meaning
+  pub printed : IsText meaning text
+
+-- the bytes are a script that doesn't print this: it breaks after these commands and bytes
+pub record IsNotPrinted (script text : List ℕ) (commands at : ℕ) : Type 0 where
+  pub meaning : Meaning
+  pub read : IsScript script meaning
+  pub broken : Break
+  pub breaks : IsBroken meaning text broken
+  pub its_commands : commands ≡ broken.commands
+  pub its_place : at ≡ broken.at
+
+-- the bytes aren't a script: this line has the first fault
+abbrev pub HasFaultOnLine : List ℕ → ℕ → Type 0
+HasFaultOnLine script line = (kind : ScriptFault) × HasFault script line kind
+
+-- the number and the details of a judgement
+abbrev pub IsConclusion : Judgement → ℕ → YachtVerdict → Type 0
+IsConclusion (Legal orders) code verdict = code ≡ LEGAL
+IsConclusion (NotLegal broken) code verdict =
+    (code ≡ NOT_LEGAL) × (verdict.commands ≡ broken.commands) × (verdict.at ≡ broken.at)
+IsConclusion (Undecided submission doubt) code verdict = code ≡ UNDECIDED

@@ -1,0 +1,88 @@
+//! The list of the texts of a script.
+ghost use Rattle.std.specs.Prelude.{◌≡◌, ◌≤◌, IsTrue, true, false, length, take};
+ghost use Rattle.fx_judge.specs.Outcomes.{AreOutcomes};
+ghost use Rattle.fx_judge.specs.Verdicts.{HasFaultOnLine};
+
+use crate::codes::{ALL, BAD_SCRIPT, NO_MEMORY, NO_ROOM, SOME};
+use crate::limits::limits_of;
+use crate::listed::{Listed, list, put_bytes, put_lengths};
+use check_texts::texts_of;
+use fx_script::{Script, ScriptError};
+use std::alloc::Global;
+
+/// The details of a list of texts. A field that the number doesn't speak of is 0.
+#[repr(C)]
+#[derive(Drop)]
+pub struct YachtTexts {
+    /// The number of texts that were found.
+    pub count: u64,
+    /// The number of bytes of all these texts.
+    pub bytes: u64,
+    /// Of bytes that aren't a script: the line of the first fault, from 1, or 0 if there are too
+    /// many bytes.
+    pub line: u32,
+}
+
+// Writes the texts and their lengths, if there is room for all of them, and in any case their
+// counts. Returns whether there is room.
+fn hand_out(listed: &Listed, texts: &mut [u8], lengths: &mut [u64], found: &mut YachtTexts) -> bool
+    ensures bytes { found.new.bytes ≡ length listed.now.bytes.items }
+    ensures count { found.new.count ≡ length listed.now.lengths.items }
+    ensures texts { IsTrue result
+        → take (length listed.now.bytes.items) texts.new ≡ listed.now.bytes.items }
+    ensures lengths { IsTrue result
+        → take (length listed.now.lengths.items) lengths.new ≡ listed.now.lengths.items }
+{
+    found.bytes = listed.bytes.len() as u64;
+    found.count = listed.lengths.len() as u64;
+    if texts.len() < listed.bytes.len() || lengths.len() < listed.lengths.len() {
+        return false;
+    }
+    put_bytes(&listed.bytes, texts);
+    put_lengths(&listed.lengths, lengths);
+    true
+}
+
+/// Lists the texts that a script may print if no allocation fails, each once, by searches of at
+/// most `states` states and `memory` MiB in all. It returns `ALL`, `SOME`, `BAD_SCRIPT`, `NO_ROOM`
+/// or `NO_MEMORY`. The texts are written one after another, and the length of each. If they have no
+/// room, `found` says how much they need.
+pub fn list_texts(
+    alloc: Global,
+    script: &[u8],
+    states: u32,
+    memory: u32,
+    texts: &mut [u8],
+    lengths: &mut [u64],
+    found: &mut YachtTexts,
+) -> u32
+    ensures known { result ≤ NO_MEMORY }
+    ensures all { result ≡ ALL → AreOutcomes script.now true found.new texts.new lengths.new }
+    ensures some { result ≡ SOME
+        → AreOutcomes script.now false found.new texts.new lengths.new }
+    ensures bad_script { result ≡ BAD_SCRIPT → HasFaultOnLine script.now found.new.line }
+{
+    *found = YachtTexts {
+        count: 0,
+        bytes: 0,
+        line: 0,
+    };
+    let read = match Script::read(alloc, script) {
+        Ok(read) => read,
+        Err(ScriptError::NoMemory) => return NO_MEMORY,
+        Err(ScriptError::Fault { line, kind: _ }) => {
+            found.line = line;
+            return BAD_SCRIPT;
+        }
+    };
+    let Ok(all) = texts_of(alloc, &read, limits_of(states, memory), usize::MAX) else {
+        return NO_MEMORY;
+    };
+    let Ok(listed) = list(alloc, all.texts.as_slice()) else {
+        return NO_MEMORY;
+    };
+    if !hand_out(&listed, texts, lengths, found) {
+        return NO_ROOM;
+    }
+    if all.are_all { ALL } else { SOME }
+}

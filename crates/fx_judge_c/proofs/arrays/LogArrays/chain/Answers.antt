@@ -1,9 +1,0 @@
-use Rattle.fx_chain.specs.Operation.{asked_of}
-use Rattle.fx_judge_c.specs.Arrays.{arrays_in, asked_passed}
-use Rattle.fx_judge_c.proofs.Listings.{map_one_more}
-use Rattle.fx_judge_c.proofs.arrays.LogArrays.chain.Goals as goal
-
-pub loop-request-preserved : goal.loop-request-preserved
-loop-request-preserved c =
-    map_one_more asked_of (asked_passed (arrays_in c.args.self.now)) _ _ _ _ _ _ c.loop-request-test.true
-    c.in_ok-push.ensures.items c.loop-request.invariant c.in_ok-request.ensures

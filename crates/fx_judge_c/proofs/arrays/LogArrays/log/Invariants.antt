@@ -1,9 +1,0 @@
-use Rattle.std.proofs.Common.{◌≡◌, map, take}
-use Rattle.fx_flight.specs.Events.{all_happenings}
-use Rattle.fx_judge_c.specs.Arrays.{arrays_in, happening_passed}
-use Rattle.fx_judge_c.proofs.arrays.LogArrays.log.Given as goal
-
--- the events so far are those of the arrays
-abbrev pub invariant-loop-event : goal.invariant-loop-event
-invariant-loop-event l =
-    all_happenings l.log.items ≡ map (happening_passed (arrays_in l.self)) (take l.event-index l.events)

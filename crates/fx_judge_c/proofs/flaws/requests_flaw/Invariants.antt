@@ -1,9 +1,0 @@
-use Rattle.std.proofs.Common.{◌≡◌, drop}
-use Rattle.fx_judge_c.specs.Arrays.{arrays_in}
-use Rattle.fx_judge_c.specs.Flaws.{requests_flaw}
-use Rattle.fx_judge_c.proofs.flaws.requests_flaw.Given as goal
-
--- the first flaw is that of the requests that are left
-abbrev pub invariant-loop-request : goal.invariant-loop-request
-invariant-loop-request l =
-    requests_flaw (arrays_in l.arrays) (drop l.request-index l.requests) ≡ requests_flaw (arrays_in l.arrays) l.requests

@@ -1,5 +1,0 @@
-use Rattle.fx_judge_c.proofs.Concluded.{not_legal}
-use Rattle.fx_judge_c.proofs.judge.yacht_judge.Goals as goal
-
-pub returns-clause-not_legal : goal.returns-clause-not_legal
-returns-clause-not_legal c = not_legal _ c.in-Ok.ensures.script c.in-Ok-judge.judgement c.in-Ok-judge.ensures c.conclude.ensures

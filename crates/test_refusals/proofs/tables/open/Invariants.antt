@@ -1,6 +1,0 @@
-use Rattle.fx_plain.specs.State.{IsSettled}
-use Rattle.fx_plain.specs.Contents.{state_of}
-use Rattle.test_refusals.proofs.tables.open.Given as goal
-
-abbrev pub invariant-loop : goal.invariant-loop
-invariant-loop g l = IsSettled (state_of l.plain)
