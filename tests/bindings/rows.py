@@ -1,8 +1,9 @@
-"""Counts the rows of a program and those that are wrong, which are printed under its name."""
+"""Counts the rows of a program and those that are wrong, which are printed under its name. With --first it ends at the first wrong one."""
 import sys
 from pathlib import Path
 
 NAME = Path(sys.argv[0]).name
+FIRST = "--first" in sys.argv
 rows = {"looked": 0, "wrong": 0}
 
 
@@ -11,6 +12,8 @@ def want(holds, what):
     if not holds:
         rows["wrong"] += 1
         print(f"{NAME}: {what}")
+        if FIRST:
+            end()
 
 
 def raised(call):
