@@ -3,7 +3,6 @@ import sys
 from pathlib import Path
 
 NAME = Path(sys.argv[0]).name
-FIRST = "--first" in sys.argv
 rows = {"looked": 0, "wrong": 0}
 
 
@@ -12,7 +11,7 @@ def want(holds, what):
     if not holds:
         rows["wrong"] += 1
         print(f"{NAME}: {what}")
-        if FIRST:
+        if "--first" in sys.argv:
             end()
 
 
