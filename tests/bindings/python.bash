@@ -47,13 +47,13 @@ without_library() {
     tail -n 1 "$room/found" | grep -qF "ImportError: The library $2" && tail -n 1 "$room/found" | grep -qF 'Set YACHTBANYAN_LIB_DIR to the folder that has it.'
 }
 
-# wrong_module MODULE ROWS SED: a wrong change of a module, which the rows must refuse
+# wrong_module MODULE ROWS SED: a wrong change of a module, which a row must refuse
 wrong_module() {
     rm -rf "$room/python" && cp -r bindings/python "$room/python"
     sed -i "$3" "$room/python/$1.py"
     ! cmp -s "bindings/python/$1.py" "$room/python/$1.py" || return 1
     python3 -B -m py_compile "$room/python/$1.py" || return 1
-    module=$room/python python "tests/bindings/$2.py" > "$room/found" 2>&1 && return 1
+    module=$room/python python "tests/bindings/$2.py" --first > "$room/found" 2>&1 && return 1
     tail -n 1 "$room/found" | grep -qE '[1-9][0-9]* wrong$'
 }
 

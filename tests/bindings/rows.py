@@ -1,4 +1,4 @@
-"""Counts the rows of a program and those that are wrong, which are printed under its name."""
+"""Counts the rows of a program and those that are wrong, which are printed under its name. With --first it ends at the first wrong one."""
 import sys
 from pathlib import Path
 
@@ -11,6 +11,8 @@ def want(holds, what):
     if not holds:
         rows["wrong"] += 1
         print(f"{NAME}: {what}")
+        if "--first" in sys.argv:
+            end()
 
 
 def raised(call):

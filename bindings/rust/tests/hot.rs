@@ -13,6 +13,8 @@ const THREADS: u32 = 4;
 const LOOKS: u32 = 63;
 /// The longest time of the test.
 const MOST: Duration = Duration::from_secs(10);
+/// More values than are alive at a time: the one at the slot, and three of each thread.
+const LOST: usize = 20;
 
 static MADE: AtomicUsize = AtomicUsize::new(0);
 static DROPPED: AtomicUsize = AtomicUsize::new(0);
@@ -69,6 +71,12 @@ fn serve(handle: &Handle<Value>) {
     }
 }
 
+/// Checks whether more values are left than are alive.
+fn is_lost() -> bool {
+    let made = MADE.load(SeqCst);
+    made.saturating_sub(DROPPED.load(SeqCst)) > LOST
+}
+
 fn counts() -> [usize; 2] {
     [WITHIN[0].load(SeqCst), WITHIN[1].load(SeqCst)]
 }
@@ -87,7 +95,7 @@ fn main() {
         jobs.push(Box::new(move || serve(&handle)));
     }
     jobs.push(Box::new(|| {
-        while counts().iter().any(|it| *it < enough) && began.elapsed() < MOST {
+        while counts().iter().any(|it| *it < enough) && !is_lost() && began.elapsed() < MOST {
             std::thread::sleep(Duration::from_millis(10));
         }
         ENDS.store(true, SeqCst);
