@@ -1,6 +1,6 @@
 //! The script and the text that the program reads, and the reasons for which it ends without a
 //! verdict.
-use check_explain::{line_after, line_at};
+use check_explain::Lines;
 use fx_arguments::Refusal;
 use fx_arguments::fixcheck::{Asked, Settings};
 use fx_base::NoMemory;
@@ -160,7 +160,7 @@ pub fn script_of(
         return Err(NoVerdict::Fault(fault));
     };
     let mut words = format!(in rt.alloc(); "{}: {fault}", name_of(settings.script))?;
-    let at = line_after(source, 0, line.saturating_sub(1) as usize);
+    let faulty = Lines::new(source).after(line.saturating_sub(1) as usize);
     match settings.asked {
         Asked::Verdict(text) if leads_to_script(rt, text) => {
             write!(
@@ -169,7 +169,7 @@ pub fn script_of(
                 name_of(text)
             )?;
         }
-        _ if line_at(source, at).contains(&b'\r') => {
+        _ if faulty.first().contains(&b'\r') => {
             words.push_str("; the line has a carriage return")?;
         }
         _ => {}

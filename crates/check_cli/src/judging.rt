@@ -3,9 +3,7 @@
 ghost use Rattle.std.specs.Prelude.{IfOk};
 ghost use Rattle.check_judge.specs.Judged.{IsJudged};
 
-use check_explain::{
-    AskedLine, Case, Facts, Words, after_closes, cut_word, line_number, next_line, rest_at,
-};
+use check_explain::{AskedLine, Case, Facts, Lines, Words, cut_word};
 use check_judge::{Break, Fault, Judgement, judge, judge_from};
 use check_lines::{accepted_in, copy_of};
 use check_search::Limits;
@@ -71,8 +69,7 @@ impl Question<'_> {
             submissions,
             asked: self.asked_after(broken.commands),
             requests,
-            text: rest_at(self.text, broken.at),
-            line: line_number(self.text, broken.at),
+            text: Lines::at(self.text, broken.at),
         })?;
         Ok(Some(facts))
     }
@@ -135,21 +132,11 @@ pub fn judged(
     judge(alloc, script, text, limits)
 }
 
-/// The ring that a text shows after the command at which it breaks, the number of commands that
-/// were played by then, and the rest of the text.
-#[derive(Drop)]
-struct Shown<'a> {
-    ring: RingSlots,
-    commands: usize,
-    rest: &'a [u8],
-}
-
 // Returns the ring after the expected lines of a call, and the number of commands after which the
 // ring is so.
 fn after_expected(
     question: &Question<'_>,
     broken: &Break,
-    ring: RingSlots,
     expected: &str,
 ) -> Result<Option<(RingSlots, usize)>, NoMemory> {
     // nothing prints an empty line, so this text breaks after the call's lines, and the break
@@ -163,6 +150,7 @@ fn after_expected(
     };
     let (alloc, commands) = (question.alloc, broken.commands);
     let text = text.text()?.as_bytes();
+    let ring = copy_of(alloc, &broken.ring)?;
     match judge_from(alloc, question.script, commands, ring, text, limits)? {
         Some(Judgement::NotLegal(next)) if next.commands > 0 => {
             Ok(Some((next.ring, next.commands)))
@@ -186,28 +174,31 @@ fn after_line(
     broken: &Break,
     line: &[u8],
 ) -> Result<Option<(RingSlots, usize)>, NoMemory> {
-    let ring = copy_of(question.alloc, &broken.ring)?;
-    match &broken.fault {
-        Fault::Text(expected) if next_line(expected.as_bytes()).0 == line => {
-            after_expected(question, broken, ring, expected.as_str())
+    let is_refused = match &broken.fault {
+        Fault::Text(expected) if Lines::new(expected.as_bytes()).first() == line => {
+            return after_expected(question, broken, expected.as_str());
         }
-        Fault::Text(expected) if is_refusal(line, expected.as_bytes()) => Ok(Some((ring, 1))),
-        Fault::Line(..) | Fault::Order(..) if is_refusal(line, b"submit") => Ok(Some((ring, 1))),
-        _ => Ok(None),
+        Fault::Text(expected) => is_refusal(line, expected.as_bytes()),
+        Fault::Line(..) | Fault::Order(..) => is_refusal(line, b"submit"),
+    };
+    if !is_refused {
+        return Ok(None);
     }
+    Ok(Some((copy_of(question.alloc, &broken.ring)?, 1)))
 }
 
-// Returns what a text shows after the command at which it breaks, or `None` if it shows no ring. It
-// is advice, and no contract speaks of it: `judge_from` checks that it is a ring.
+// Returns the ring that a text shows after the command at which it breaks, the number of commands
+// that were played by then, and the rest of the text, or `None` if it shows no ring. It is advice,
+// and no contract speaks of it: `judge_from` checks that it is a ring.
 //
 // Of a submission, each request has its completion. A file that was at a slot, or that a completion
 // installs there, is there unless it has a `closed` line, and no two files are at one slot. Of a
 // call, or a refused submission, the first line is the expected one, or says that it was refused.
 fn shown_after<'a>(
     question: &'a Question<'_>,
-    broken: &'a Break,
+    broken: &Break,
     facts: &Option<Facts<'a>>,
-) -> Result<Option<Shown<'a>>, NoMemory> {
+) -> Result<Option<(RingSlots, usize, &'a [u8])>, NoMemory> {
     if let Some(facts) = facts
         && let Some((slots, rest)) = facts.slots_after()?
     {
@@ -216,22 +207,13 @@ fn shown_after<'a>(
             submissions: broken.ring.submissions.saturating_add(1),
             registrations: broken.ring.registrations,
         };
-        return Ok(Some(Shown {
-            ring,
-            commands: 1,
-            rest,
-        }));
+        return Ok(Some((ring, 1, rest)));
     }
-    let (line, rest) = next_line(rest_at(question.text, broken.at));
-    let Some((ring, commands)) = after_line(question, broken, line)? else {
-        return Ok(None);
-    };
-    let rest = after_closes(rest);
-    Ok(Some(Shown {
-        ring,
-        commands,
-        rest,
-    }))
+    let mut lines = Lines::at(question.text, broken.at);
+    match after_line(question, broken, lines.take())? {
+        Some((ring, commands)) => Ok(Some((ring, commands, lines.after_closes().rest))),
+        None => Ok(None),
+    }
 }
 
 /// Judges a text after a break, from the ring that the text shows there: the verdict is that of
@@ -247,13 +229,13 @@ pub(crate) fn judged_after<'a>(
     broken: &'a Break,
     facts: &Option<Facts<'a>>,
 ) -> Result<Option<Judgement>, NoMemory> {
-    let Some(shown) = shown_after(question, broken, facts)? else {
+    let Some((ring, played, rest)) = shown_after(question, broken, facts)? else {
         return Ok(None);
     };
     let (alloc, script) = (question.alloc, question.script);
-    let commands = broken.commands.saturating_add(shown.commands);
-    let at = question.text.len().saturating_sub(shown.rest.len());
-    let mut judgement = judge_from(alloc, script, commands, shown.ring, shown.rest, limits)?;
+    let commands = broken.commands.saturating_add(played);
+    let at = question.text.len().saturating_sub(rest.len());
+    let mut judgement = judge_from(alloc, script, commands, ring, rest, limits)?;
     if let Some(Judgement::NotLegal(next)) = &mut judgement {
         next.commands = next.commands.saturating_add(commands);
         next.at = next.at.saturating_add(at);

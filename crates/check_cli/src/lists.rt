@@ -9,7 +9,6 @@ use check_texts::{AllTexts, Past, RequestAnswers, Said};
 use fx_arguments::fixcheck::Settings;
 use fx_base::NoMemory;
 use fx_chain::{Place, Request};
-use fx_language::number_up_to;
 use fx_order::AccessPlace;
 use fx_script::Script;
 use std::alloc::Global;
@@ -29,37 +28,24 @@ pub(crate) fn status_of_texts(all: &AllTexts) -> u8
     if all.are_counted { 0 } else { 6 }
 }
 
-// Parses a word as a number of 32 bits without a leading zero.
-fn number(word: &str) -> Option<u32> {
-    let number = number_up_to(u64::from(u32::MAX), word.as_bytes())?;
-    u32::try_from(number).ok()
-}
-
-/// Parses a place as a text has it, such as `1.1.2`: a submission, a chain and a member. Returns
-/// `None` for any other word.
-pub(crate) fn place_of(word: &str) -> Option<Place> {
-    let (submission, rest) = word.split_once('.')?;
-    let (chain, member) = rest.split_once('.')?;
-    Some(Place {
-        submission: number(submission)?,
-        chain: number(chain)?,
-        member: number(member)?,
-    })
+// Appends the request of an access of a submission, and its position in the list of an update.
+fn push_access(report: &mut Words, submission: u32, it: &AccessPlace) {
+    report.say(" ");
+    report.place(Place {
+        submission,
+        chain: it.chain,
+        member: it.member,
+    });
+    if let Some(entry) = it.entry {
+        report.count(".", entry as u64, "");
+    }
 }
 
 /// Appends the line of an order: its submission, and the requests of its accesses.
 pub(crate) fn push_order(report: &mut Words, submission: u32, places: &[AccessPlace]) {
     report.count("order ", u64::from(submission), ":");
     for it in places {
-        report.say(" ");
-        report.place(Place {
-            submission,
-            chain: it.chain,
-            member: it.member,
-        });
-        if let Some(entry) = it.entry {
-            report.count(".", entry as u64, "");
-        }
+        push_access(report, submission, it);
     }
     report.say("\n");
 }
@@ -108,21 +94,21 @@ impl<'a> ListedOrders<'a> {
     fn push(&self, report: &mut Words, past: &Past) -> Result<(), NoMemory> {
         let all = self.places_of(past)?;
         let mut next = Vec::new(self.alloc);
-        let mut places = Vec::new(self.alloc);
         for i in 0..all.len() {
             for _ in next.len()..all[i].chain as usize {
                 next.push(i)?;
             }
         }
+        report.count("order ", u64::from(past.submission), ":");
         for made in &past.order {
             if let Some(turn) = next.get_mut((made.chain as usize).saturating_sub(1))
                 && let Some(place) = all.get(*turn)
             {
-                places.push(*place)?;
+                push_access(report, past.submission, place);
                 *turn = turn.saturating_add(1);
             }
         }
-        push_order(report, past.submission, &places);
+        report.say("\n");
         Ok(())
     }
 

@@ -8,6 +8,7 @@ mod verdict;
 
 use check_explain::{History, Words, asked_lines};
 use check_judge::Judgement;
+use check_lines::place_of;
 use check_search::Limits;
 use check_texts::{may, texts_of};
 use fx_arguments::fixcheck::{Asked, Settings, settings_in};
@@ -16,7 +17,7 @@ use fx_order::Order;
 use fx_script::{PlayFault, Script};
 use input::{ARGUMENTS, NoVerdict, note_script, read_path, script_of};
 use judging::{Question, judged};
-use lists::{listing_of_answers, listing_of_texts, place_of, status_of_answers, status_of_texts};
+use lists::{listing_of_answers, listing_of_texts, status_of_answers, status_of_texts};
 use std::io::{self, Write};
 use std::process::ExitCode;
 use verdict::{breaks_text, status_of, verdict_text};
@@ -70,7 +71,7 @@ fn list_answers(
     script: &Script,
 ) -> Result<u8, NoVerdict> {
     let alloc = rt.alloc();
-    let Some(place) = place_of(word) else {
+    let Some(place) = place_of(word.as_bytes()) else {
         let words = format!(in alloc; "{word} is not the place of a request, as 1.1.2")?;
         return Err(NoVerdict::Because(ARGUMENTS, words));
     };

@@ -4,10 +4,7 @@ ghost use Rattle.check_cli.specs.Status.{status};
 
 use crate::judging::{Question, judged_after};
 use crate::lists::push_order;
-use check_explain::{
-    Complaint, Facts, Words, first_difference, line_after, line_at, line_number, rest_at,
-    sign_before,
-};
+use check_explain::{Complaint, Facts, Lines, Words, sign_before};
 use check_judge::{Break, Fault, Judgement, Reason};
 use check_lines::accepted_in;
 use check_search::{Doubt, Limits};
@@ -27,14 +24,13 @@ pub fn status_of(judgement: &Judgement) -> u8
     }
 }
 
-// Appends the number of a line, the lines that are expected there, and the line. The reason why it
-// is wrong comes next.
-fn push_found(report: &mut Words, question: &Question<'_>, at: usize, expected: &str) {
-    let number = line_number(question.text, at) as u64;
-    report.count("line ", number, " of the text: expected ");
+// Appends the number of the first one of some lines, the lines that are expected there, and the
+// line. The reason why it is wrong comes next.
+fn push_found(report: &mut Words, found: Lines<'_>, expected: &str) {
+    report.count("line ", found.number(), " of the text: expected ");
     report.say(expected);
     report.say(", found ");
-    report.line(question.text, at, "nothing");
+    report.line(found.first(), "nothing");
 }
 
 // Ends the line of a wrong line with the reason why it is wrong, if that is known.
@@ -48,31 +44,21 @@ fn push_why(report: &mut Words, why: &Words) -> Result<(), NoMemory> {
     Ok(())
 }
 
-// Appends the numbers of some lines, from the one at a place of the text on, the reason why they
-// conflict, and the lines.
-fn push_conflict(
-    report: &mut Words,
-    question: &Question<'_>,
-    from: usize,
-    lines: &[usize],
-    why: &str,
-) {
-    let first = line_number(question.text, from);
+// Appends the numbers of some lines, which count from 0 at the first one of `text`, the reason why
+// they conflict, and the lines.
+fn push_conflict(report: &mut Words, text: Lines<'_>, lines: &[usize], why: &str) {
     report.say(if lines.len() == 1 { "line " } else { "lines " });
     for (i, line) in lines.iter().enumerate() {
-        let number = first.saturating_add(*line) as u64;
-        report.count(sign_before(i, lines.len(), " and "), number, "");
+        let sign = sign_before(i, lines.len(), " and ");
+        report.count(sign, text.after(*line).number(), "");
     }
     report.say(" of the text: ");
     report.say(why);
     report.say("\n");
     for line in lines {
-        report.count("  ", first.saturating_add(*line) as u64, ": ");
-        report.line(
-            question.text,
-            line_after(question.text, from, *line),
-            "nothing",
-        );
+        let found = text.after(*line);
+        report.count("  ", found.number(), ": ");
+        report.line(found.first(), "nothing");
         report.say("\n");
     }
 }
@@ -102,48 +88,37 @@ fn last_accepted<'a>(question: &Question<'a>, broken: &Break) -> Option<&'a [Req
 
 // Appends the reason if a line is one completion too many of the last submission before a break.
 // Returns whether it is one.
-fn is_one_more(
-    question: &Question<'_>,
-    broken: &Break,
-    line: &[u8],
-    why: &mut Words,
-) -> Result<bool, NoMemory> {
+fn is_one_more(question: &Question<'_>, broken: &Break, line: &[u8], why: &mut Words) -> bool {
     let (command, submission) = (broken.commands as u64, u64::from(broken.ring.submissions));
-    let mut front = Words::new(question.alloc);
-    front.count("", submission, ".");
     let Some(requests) = last_accepted(question, broken) else {
-        return Ok(false);
+        return false;
     };
-    if !line.starts_with(front.text()?.as_bytes()) {
-        return Ok(false);
+    why.count("", submission, ".");
+    let is_one = why.begin(line);
+    why.clear();
+    if is_one {
+        why.count("submission ", submission, ", ");
+        why.count("command ", command, ", has ");
+        why.count("", requests.len() as u64, " requests, and this is one more");
     }
-    why.count("submission ", submission, ", ");
-    why.count("command ", command, ", has ");
-    why.count("", requests.len() as u64, " requests, and this is one more");
-    Ok(true)
+    is_one
 }
 
 // Appends the slot of the file that a line closes, if it closes one.
-fn why_closed(
-    question: &Question<'_>,
-    broken: &Break,
-    line: &[u8],
-    why: &mut Words,
-) -> Result<(), NoMemory> {
+fn why_closed(broken: &Break, line: &[u8], why: &mut Words) {
     for (slot, file) in broken.ring.slots.at.iter().enumerate() {
         if let Some(file) = file {
-            let mut front = Words::new(question.alloc);
-            front.say("closed ");
-            front.mark(file.mark);
-            front.say(" ");
-            if line.starts_with(front.text()?.as_bytes()) {
+            why.say("closed ");
+            why.mark(file.mark);
+            why.say(" ");
+            let is_closed = why.begin(line);
+            why.clear();
+            if is_closed {
                 why.mark(file.mark);
-                why.count(" is at slot ", slot as u64, "");
-                break;
+                return why.count(" is at slot ", slot as u64, "");
             }
         }
     }
-    Ok(())
 }
 
 // Appends the command at which a text breaks, and its line of the script.
@@ -159,7 +134,7 @@ fn push_command(report: &mut Words, question: &Question<'_>, commands: usize) {
         None => 0,
     };
     report.count("not legal: command ", command as u64, "");
-    report.count(", line ", line as u64, " of the script; ");
+    report.count(", line ", line, " of the script; ");
 }
 
 // Appends the first line in which a text differs from the likeliest one, and the reason, which may
@@ -170,15 +145,25 @@ fn push_difference(
     broken: &Break,
     expected: &[u8],
 ) -> Result<(), NoMemory> {
-    let (at, there) = first_difference(question.text, broken.at, expected);
+    let (mut found, mut likely) = (Lines::at(question.text, broken.at), Lines::new(expected));
+    for _ in 0..expected.len() {
+        if likely.rest.is_empty() || found.first() != likely.first() {
+            break;
+        }
+        found.take();
+        likely.take();
+    }
     let (mut line, mut why) = (Words::new(question.alloc), Words::new(question.alloc));
-    line.line(expected, there, "the end");
-    push_found(report, question, at, line.text()?);
-    if !is_one_more(question, broken, line_at(question.text, at), &mut why)? {
+    line.line(likely.first(), "the end");
+    push_found(report, found, line.text()?);
+    if !is_one_more(question, broken, found.first(), &mut why) {
         // the line of the end has no result, so that a `closed` line after it is the wrong one
-        let rest = rest_at(expected, there);
-        let rest = rest.strip_prefix(b"teardown\n").unwrap_or(rest);
-        why_closed(question, broken, rest, &mut why)?;
+        let rest = likely.rest;
+        why_closed(
+            broken,
+            rest.strip_prefix(b"teardown\n").unwrap_or(rest),
+            &mut why,
+        );
     }
     push_why(report, &why)
 }
@@ -188,8 +173,8 @@ fn push_fault(report: &mut Words, question: &Question<'_>, broken: &Break) -> Re
     match &broken.fault {
         Fault::Text(expected) => push_difference(report, question, broken, expected.as_bytes())?,
         Fault::Line(lines, expected) => {
-            let at = line_after(question.text, broken.at, *lines);
-            push_found(report, question, at, expected.as_str());
+            let found = Lines::at(question.text, broken.at).after(*lines);
+            push_found(report, found, expected.as_str());
             report.say("\n");
         }
         Fault::Order(submission, reason) => push_reason(report, *submission, *reason),
@@ -197,27 +182,19 @@ fn push_fault(report: &mut Words, question: &Question<'_>, broken: &Break) -> Re
     Ok(())
 }
 
-// Appends a complaint about the lines of the submission at which a text breaks.
+// Appends a complaint about the lines of the submission at which a text breaks, those of `text`.
 fn push_complaint(
     report: &mut Words,
-    question: &Question<'_>,
-    from: usize,
+    text: Lines<'_>,
     complaint: &Complaint,
 ) -> Result<(), NoMemory> {
     let expected = complaint.expected.text()?;
     if expected.is_empty() {
-        push_conflict(
-            report,
-            question,
-            from,
-            &complaint.lines,
-            complaint.why.text()?,
-        );
+        push_conflict(report, text, &complaint.lines, complaint.why.text()?);
         return Ok(());
     }
     for line in &complaint.lines {
-        let at = line_after(question.text, from, *line);
-        push_found(report, question, at, expected);
+        push_found(report, text.after(*line), expected);
         push_why(report, &complaint.why)?;
     }
     Ok(())
@@ -242,7 +219,7 @@ fn push_break(
         && !is_text
         && let Some(complaint) = facts.explain(slot)?
     {
-        return push_complaint(report, question, broken.at, &complaint);
+        return push_complaint(report, Lines::at(question.text, broken.at), &complaint);
     }
     push_fault(report, question, broken)
 }

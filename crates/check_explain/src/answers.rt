@@ -22,11 +22,12 @@ struct ValidAnswer {
     entry: Option<u8>,
 }
 
-/// The answers that a request may give.
+/// The answers that a request of a submission may give.
 #[derive(Drop)]
 pub(crate) struct Answers<'a> {
-    facts: &'a Facts<'a>,
-    row: &'a Row<'a>,
+    pub facts: &'a Facts<'a>,
+    // For each slot, the contents that requests leave there.
+    left: &'a [Vec<Left>],
     list: Vec<ValidAnswer>,
     // The bytes that were read last.
     bytes: Vec<u8>,
@@ -61,6 +62,24 @@ fn add_content(
     Ok(there.push((content, by))?)
 }
 
+// Adds the content that an access leaves at each slot that it may reach.
+fn add_left(facts: &Facts<'_>, act: &Act, left: &mut [Vec<Left>]) -> Result<(), AllocError> {
+    let Some(content) = content_after(act) else {
+        return Ok(());
+    };
+    let mut by = None;
+    if act.asked.is_some() {
+        by = Some(facts.chain_of(act.line));
+    }
+    let (first, end) = slots_of(act.asked, facts.case.slots.range);
+    for slot in first..end {
+        if let Some(there) = left.get_mut(slot as usize) {
+            add_content(there, content, by)?;
+        }
+    }
+    Ok(())
+}
+
 /// Returns for each slot the contents that requests leave there, each once.
 pub(crate) fn left_at_slots(facts: &Facts<'_>) -> Result<Vec<Vec<Left>>, AllocError> {
     let mut left: Vec<Vec<Left>> = Vec::new(facts.case.alloc);
@@ -68,19 +87,7 @@ pub(crate) fn left_at_slots(facts: &Facts<'_>) -> Result<Vec<Vec<Left>>, AllocEr
         left.push(Vec::new(facts.case.alloc))?;
     }
     for act in &facts.acts {
-        let Some(content) = content_after(act) else {
-            continue;
-        };
-        let mut by = None;
-        if act.asked.is_some() {
-            by = Some(facts.chain_of(act.line));
-        }
-        let (first, end) = slots_of(act.asked, facts.case.slots.range);
-        for slot in first..end {
-            if let Some(there) = left.get_mut(slot as usize) {
-                add_content(there, content, by)?;
-            }
-        }
+        add_left(facts, act, &mut left)?;
     }
     Ok(left)
 }
@@ -103,12 +110,60 @@ fn content_before(facts: &Facts<'_>, row: &Row<'_>, slot: u32) -> Option<u8> {
     content
 }
 
+/// Replaces some bytes by those that a request reads of a file of an entry, or by none without one.
+/// Returns false if an allocation fails.
+pub(crate) fn read(
+    facts: &Facts<'_>,
+    row: &Row<'_>,
+    entry: Option<u8>,
+    bytes: &mut Vec<u8>,
+) -> bool {
+    bytes.clear();
+    match entry {
+        Some(entry) => {
+            let catalogue = facts.case.catalogue;
+            row.request.read_into(catalogue, entry, bytes).is_ok()
+        }
+        None => true,
+    }
+}
+
+// Appends an answer: its result, or its range of results, its first 16 bytes, and the name of the
+// file that has them.
+fn say_answer(facts: &Facts<'_>, row: &Row<'_>, answer: &ValidAnswer, words: &mut Words) {
+    words.result(answer.first);
+    if answer.first < answer.last {
+        words.say(" to ");
+        words.result(answer.last);
+    }
+    if let Some(entry) = answer.entry {
+        let mut bytes = Vec::new(facts.case.alloc);
+        words.is_whole &= read(facts, row, answer.entry, &mut bytes);
+        words.got(bytes.get(..SHOWN).unwrap_or(&bytes));
+        words.say(if bytes.len() > SHOWN {
+            ".. of "
+        } else {
+            " of "
+        });
+        words.say(name_of(facts.case.catalogue, entry));
+    }
+}
+
 impl<'a> Answers<'a> {
+    /// Returns no answers. `left`: the contents that requests leave at the slots.
+    pub(crate) fn new(facts: &'a Facts<'a>, left: &'a [Vec<Left>]) -> Answers<'a> {
+        Answers {
+            facts,
+            left,
+            list: Vec::new(facts.case.alloc),
+            bytes: Vec::new(facts.case.alloc),
+            is_whole: true,
+        }
+    }
+
     // Appends an answer: one of some results, with the bytes of a file of an entry or with none.
     fn push(&mut self, first: i32, last: i32, entry: Option<u8>) {
-        if self.list.push(ValidAnswer { first, last, entry }).is_err() {
-            self.is_whole = false;
-        }
+        self.is_whole &= self.list.push(ValidAnswer { first, last, entry }).is_ok();
     }
 
     // Appends the answer of an error.
@@ -116,31 +171,16 @@ impl<'a> Answers<'a> {
         self.push(result_of(errno), result_of(errno), None);
     }
 
-    // Reads the bytes that the request reads of a file of an entry, or no bytes without one.
-    fn read(&mut self, entry: Option<u8>) {
-        self.bytes.clear();
-        if let Some(entry) = entry {
-            let (facts, row) = (self.facts, self.row);
-            let (request, catalogue) = (row.request, facts.case.catalogue);
-            if request
-                .read_into(catalogue, entry, &mut self.bytes)
-                .is_err()
-            {
-                self.is_whole = false;
-            }
-        }
-    }
-
     // Appends the answer of a read of a file of an entry, unless it is there, or that of a close of
     // any file.
-    fn push_file(&mut self, is_read: bool, entry: u8) {
-        let entry = if is_read { Some(entry) } else { None };
+    fn push_file(&mut self, row: &Row<'_>, entry: u8) {
+        let entry = row.request.is_read().then_some(entry);
         for answer in &self.list {
             if answer.entry == entry {
                 return;
             }
         }
-        self.read(entry);
+        self.is_whole &= read(self.facts, row, entry, &mut self.bytes);
         let number = i32::try_from(self.bytes.len()).unwrap_or(i32::MAX);
         self.push(number, number, entry);
     }
@@ -160,17 +200,18 @@ impl<'a> Answers<'a> {
     // Appends the answers of a read or a close of a slot, by the contents that the slot may have
     // before it: its content if no other chain changes it, and those that other chains leave. A
     // later member of the request's chain comes too late.
-    fn push_slot(&mut self, left: &[Vec<Left>], is_read: bool, slot: u32) {
+    fn push_slot(&mut self, row: &Row<'_>, slot: u32) {
         let mut is_empty = false;
-        match content_before(self.facts, self.row, slot) {
-            Some(entry) => self.push_file(is_read, entry),
+        match content_before(self.facts, row, slot) {
+            Some(entry) => self.push_file(row, entry),
             None => is_empty = true,
         }
+        let left = self.left;
         if let Some(left) = left.get(slot as usize) {
             for (content, by) in left {
                 match content {
-                    _ if *by == Some(self.row.place.chain) => {}
-                    Some(entry) => self.push_file(is_read, *entry),
+                    _ if *by == Some(row.place.chain) => {}
+                    Some(entry) => self.push_file(row, *entry),
                     None => is_empty = true,
                 }
             }
@@ -180,54 +221,39 @@ impl<'a> Answers<'a> {
         }
     }
 
-    // Appends the answers that the request may give by what its access finds.
-    fn push_found(&mut self, left: &[Vec<Left>]) {
-        let (_, from, to) = self.row.acts;
-        for act in self.facts.acts_between(from, to) {
+    // Appends the answers that a request may give by what its access finds.
+    fn push_found(&mut self, row: &Row<'_>) {
+        let facts = self.facts;
+        let (_, from, to) = row.acts;
+        for act in facts.acts_between(from, to) {
             match act.asked {
                 None => self.push_open(),
-                Some(slot) => self.push_slot(left, matches!(act.intent, Intent::Look(_)), slot),
+                Some(slot) => self.push_slot(row, slot),
             }
         }
-        if self.row.request.bytes_asked() > 0 {
+        if row.request.bytes_asked() > 0 {
             self.push_error(Errno::ENOMEM);
         }
     }
 
-    /// Returns the answers that a request may give. `severed`: whether an earlier member severed
-    /// its chain. `left`: the contents that requests leave at the slots.
-    pub(crate) fn new(
-        facts: &'a Facts<'a>,
-        left: &[Vec<Left>],
-        severed: bool,
-        row: &'a Row<'a>,
-    ) -> Answers<'a> {
-        let alloc = facts.case.alloc;
-        let mut answers = Answers {
-            facts,
-            row,
-            list: Vec::new(alloc),
-            bytes: Vec::new(alloc),
-            is_whole: true,
-        };
+    /// Replaces the answers by those that a request may give. `severed`: whether an earlier member
+    /// severed its chain.
+    pub(crate) fn set(&mut self, row: &Row<'_>, severed: bool) {
+        self.list.clear();
         if severed {
-            answers.push_error(Errno::ECANCELED);
+            self.push_error(Errno::ECANCELED);
         } else if let Some(res) = row.fixed_result() {
-            answers.push(res, res, None);
+            self.push(res, res, None);
         } else {
-            answers.push_found(left);
+            self.push_found(row);
         }
-        answers
     }
 
-    /// Checks whether one of them is that of a completion.
-    pub(crate) fn have(&mut self, it: &Completion) -> bool {
-        for i in 0..self.list.len() {
-            let Some(answer) = self.list.get(i).copied() else {
-                break;
-            };
+    /// Checks whether one of them, the answers of a request, is that of its completion.
+    pub(crate) fn have(&mut self, row: &Row<'_>, it: &Completion) -> bool {
+        for answer in &self.list {
             if answer.first <= it.res && it.res <= answer.last {
-                self.read(answer.entry);
+                self.is_whole &= read(self.facts, row, answer.entry, &mut self.bytes);
                 if self.bytes.as_slice() == it.got.as_slice() {
                     return true;
                 }
@@ -236,39 +262,15 @@ impl<'a> Answers<'a> {
         false
     }
 
-    // Appends an answer: its result, or its range of results, its first 16 bytes, and the name of
-    // the file that has them.
-    fn say_one(&mut self, answer: ValidAnswer, words: &mut Words) {
-        words.result(answer.first);
-        if answer.first < answer.last {
-            words.say(" to ");
-            words.result(answer.last);
-        }
-        if let Some(entry) = answer.entry {
-            self.read(answer.entry);
-            let bytes = self.bytes.as_slice();
-            words.got(bytes.get(..SHOWN).unwrap_or(bytes));
-            let of = if bytes.len() > SHOWN {
-                ".. of "
-            } else {
-                " of "
-            };
-            let facts = self.facts;
-            words.all(&[of, name_of(facts.case.catalogue, entry)]);
-        }
-    }
-
-    /// Appends the first 16 of them.
-    pub(crate) fn say(&mut self, words: &mut Words) {
-        for i in 0..self.list.len() {
+    /// Appends the first 16 of them, the answers of a request.
+    pub(crate) fn say(&self, row: &Row<'_>, words: &mut Words) {
+        for (i, answer) in self.list.iter().enumerate() {
             if i >= SHOWN {
                 words.say(" or others");
                 break;
             }
             words.say(sign_before(i, self.list.len(), " or "));
-            if let Some(answer) = self.list.get(i).copied() {
-                self.say_one(answer, words);
-            }
+            say_answer(self.facts, row, answer, words);
         }
     }
 }

@@ -1,8 +1,8 @@
 //! The submission at which a text breaks, and its requests with their accesses and files.
-use crate::lines::AskedLine;
+use crate::lines::{AskedLine, Lines};
 use bitflags::Flags;
 use fx_base::{Catalogue, Closed, Errno, NoMemory};
-use fx_chain::{Intent, Place, Request, SqeFlags, refusal_of};
+use fx_chain::{Completion, Intent, Place, Request, SqeFlags, refusal_of};
 use fx_order::{AccessPlace, Slots};
 use std::alloc::Global;
 
@@ -21,22 +21,24 @@ pub struct Case<'a> {
     pub asked: &'a [AskedLine<'a>],
     /// Its requests.
     pub requests: &'a [Request],
-    /// The text, from the first line on that should be a line of its report.
-    pub text: &'a [u8],
-    /// The number of that line in the whole text, from 1.
-    pub line: usize,
+    /// The lines of the text from the first one on that should be a line of its report.
+    pub text: Lines<'a>,
 }
 
 /// A request, and what is known of it whatever the other requests do.
-#[derive(Clone, Copy)]
+#[derive(Drop)]
 pub(crate) struct Row<'a> {
     pub request: &'a Request,
     pub place: Place,
+    /// The line of its completion, from 0.
+    pub at: usize,
     /// The error with which it is refused whatever is at the slots, if it is.
     pub refusal: Option<Errno>,
     /// The numbers of the first access of its chain, of its own first access, and of the access
     /// after its last one. A refused request makes none.
     pub acts: (usize, usize, usize),
+    /// Its completion, if its line and those of all earlier requests can be read.
+    pub answer: Option<Completion>,
 }
 
 /// An access that a request makes unless it is refused or canceled, and the facts that the

@@ -8,12 +8,12 @@ use fx_chain::Intent;
 use std::alloc::{AllocError, Global};
 
 /// The files that stay at their slots. Each other one is closed.
-#[derive(Drop)]
+#[derive(Clone, Copy)]
 pub(crate) enum Stays {
     /// Those without a `closed` line.
     AsClosed,
-    /// Those of these numbers among the report's.
-    Only(Vec<usize>),
+    /// At most one of each slot, the chosen one.
+    Chosen,
     /// None, and each slot is emptied once more, at any time, by nobody in particular. Each other
     /// choice has no more orders.
     Swept,
@@ -28,6 +28,8 @@ pub(crate) struct ClaimsView<'a> {
     /// For each line, from 0, true if it is left out.
     pub out: Vec<bool>,
     pub stays: Stays,
+    /// For each file, true if it is the chosen one of its slot.
+    pub chosen: Vec<bool>,
 }
 
 // Appends a claim of a chain to those of its strand.
@@ -106,9 +108,9 @@ impl ClaimsView<'_> {
     // Returns a file of the report, by its number, as a search has it.
     fn resident(&self, number: usize) -> Option<Resident> {
         let it = self.facts.files.get(number)?;
-        let leaves = match &self.stays {
+        let leaves = match self.stays {
             Stays::AsClosed => it.closed.is_some(),
-            Stays::Only(those) => !those.contains(&number),
+            Stays::Chosen => !matches!(self.chosen.get(number), Some(true)),
             Stays::Swept => true,
         };
         let file = it.file;
@@ -118,10 +120,19 @@ impl ClaimsView<'_> {
     // Returns for each entry whether the read of a line may have found a file of it: the read got
     // the file's bytes.
     fn fits_of(&self, line: usize) -> Result<[bool; 256], NoMemory> {
-        match (self.facts.rows.get(line), self.facts.completions.get(line)) {
-            (Some(row), Some(it)) => self.facts.entries_read(row, it),
-            _ => Ok([false; 256]),
+        let facts = self.facts;
+        let (catalogue, mut fits) = (facts.case.catalogue, [false; 256]);
+        let mut bytes = Vec::new(facts.case.alloc);
+        if let Some(row) = facts.rows.get(line)
+            && let Some(it) = &row.answer
+        {
+            for number in 0..catalogue.len() {
+                let entry = u8::try_from(number).unwrap_or(u8::MAX);
+                row.request.read_into(catalogue, entry, &mut bytes)?;
+                fits[entry as usize] = bytes.as_slice() == it.got.as_slice();
+            }
         }
+        Ok(fits)
     }
 
     // Returns the claim of an access, if it makes one. That of a close that is left out empties the

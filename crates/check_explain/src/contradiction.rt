@@ -1,5 +1,7 @@
 //! Lines of a submission that have no order together. Lines are left out, and the search is
 //! repeated.
+ghost use Rattle.std.specs.Prelude.{◌<◌};
+
 use crate::claims::{ClaimsView, Stays};
 use crate::complaint::Complaint;
 use crate::facts::Facts;
@@ -49,6 +51,7 @@ impl<'a> Contradiction<'a> {
                 slots: vec![in alloc; true; facts.case.size()]?,
                 out: vec![in alloc; false; facts.rows.len()]?,
                 stays: Stays::AsClosed,
+                chosen: vec![in alloc; false; facts.files.len()]?,
             },
             has_many: true,
             rests_on_closes: false,
@@ -88,36 +91,40 @@ impl<'a> Contradiction<'a> {
         None
     }
 
-    // Returns for each slot the numbers of its files, or none if it isn't looked at.
-    fn files_at_slots(&self) -> Result<Vec<Vec<usize>>, NoMemory> {
-        let facts = self.view.facts;
-        let mut slots: Vec<Vec<usize>> = Vec::new(facts.case.alloc);
-        for _ in 0..facts.case.size() {
-            slots.push(Vec::new(facts.case.alloc))?;
-        }
-        for (number, it) in facts.files.iter().enumerate() {
-            if self.view.has_slot(it.slot)
-                && let Some(files) = slots.get_mut(it.slot as usize)
-            {
-                files.push(number)?;
+    // Returns the number of choices of the file that stays at a slot, if any: one if the slot isn't
+    // looked at.
+    fn choices_at(&self, slot: usize) -> usize
+        ensures { 0 < result }
+    {
+        let mut files = 0u32;
+        if let Some(true) = self.view.slots.get(slot) {
+            for it in &self.view.facts.files {
+                if it.slot as usize == slot {
+                    files = files.saturating_add(1);
+                }
             }
         }
-        Ok(slots)
+        files as usize + 1
     }
 
     // Searches with the files of a choice, by its number from 0: one of each slot stays, or none.
-    fn search_choice(&mut self, slots: &[Vec<usize>], choice: usize) -> Option<bool> {
-        let (mut rest, mut those) = (choice, Vec::new(self.view.facts.case.alloc));
-        for files in slots {
-            let count = files.len() + 1;
-            if let Some(number) = files.get(rest % count)
-                && those.push(*number).is_err()
-            {
-                self.is_whole = false;
-            }
+    fn search_choice(&mut self, choice: usize) -> Option<bool> {
+        let facts = self.view.facts;
+        let mut rest = choice;
+        for slot in 0..facts.case.size() {
+            let count = self.choices_at(slot);
+            let mut before = rest % count;
             rest /= count;
+            for (number, chosen) in self.view.chosen.iter_mut().enumerate() {
+                if let Some(it) = facts.files.get(number)
+                    && it.slot as usize == slot
+                {
+                    *chosen = before == 0;
+                    before = before.wrapping_sub(1);
+                }
+            }
         }
-        self.search(Stays::Only(those))
+        self.search(Stays::Chosen)
     }
 
     // Checks whether the lines that aren't left out have no order, whichever file of each slot
@@ -127,19 +134,15 @@ impl<'a> Contradiction<'a> {
         if self.search(Stays::Swept) == Some(true) {
             return Some(true);
         }
-        let Ok(slots) = self.files_at_slots() else {
-            self.is_whole = false;
-            return None;
-        };
         let mut choices = 1usize;
-        for files in &slots {
-            choices = choices.saturating_mul(files.len() + 1);
+        for slot in 0..self.view.slots.len() {
+            choices = choices.saturating_mul(self.choices_at(slot));
         }
         if choices > MOST_CHOICES && self.has_many {
             return None;
         }
         for choice in 0..choices {
-            let seen = self.search_choice(&slots, choice);
+            let seen = self.search_choice(choice);
             if seen != Some(true) {
                 return seen;
             }
@@ -253,26 +256,26 @@ impl<'a> Contradiction<'a> {
             "no order of the requests gives all of these"
         });
         if let Some(slot) = slot {
-            let verb = if is_one { "concerns" } else { "concern" };
-            why.all(&[", which ", verb]);
-            why.count(" slot ", u64::from(slot), "");
+            let which = if is_one {
+                ", which concerns slot "
+            } else {
+                ", which concern slot "
+            };
+            why.count(which, u64::from(slot), "");
         }
-        let closes = if self.rests_on_closes {
-            ", and closes no other file"
-        } else {
-            ""
-        };
-        let cancels = if self.rests_on_others(lines) {
-            ", and cancels the same requests"
-        } else {
-            ""
-        };
-        let doubt = match (self.is_sure, is_one) {
-            (true, _) => "",
-            (false, true) => "; there may be none without it",
-            (false, false) => "; fewer of them may contradict each other",
-        };
-        why.all(&[closes, cancels, doubt]);
+        if self.rests_on_closes {
+            why.say(", and closes no other file");
+        }
+        if self.rests_on_others(lines) {
+            why.say(", and cancels the same requests");
+        }
+        if !self.is_sure {
+            why.say(if is_one {
+                "; there may be none without it"
+            } else {
+                "; fewer of them may contradict each other"
+            });
+        }
     }
 }
 

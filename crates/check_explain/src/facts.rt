@@ -1,6 +1,6 @@
 //! The facts that the lines of a submission's report show about its requests.
 use crate::case::{Act, Case, Installed, Row, place_after, place_of, result_of};
-use crate::lines::{Lines, after_closes, cut_word};
+use crate::lines::{Lines, cut_word};
 use check_lines::{ReportLines, read_report};
 use fx_base::{Closed, Errno, Mark, NoMemory};
 use fx_chain::{Completion, Intent, Place, Request, intent_of, refusal_of};
@@ -24,9 +24,6 @@ pub struct Facts<'a> {
     pub(crate) rows: Vec<Row<'a>>,
     /// The accesses of the requests that aren't refused, in order.
     pub(crate) acts: Vec<Act>,
-    /// The completions of the first lines, up to the first line that isn't the completion of its
-    /// request.
-    pub(crate) completions: Vec<Completion>,
     /// The files: first those that were at the slots, then the others in order of mark.
     pub(crate) files: Vec<Installed>,
     /// The `closed` lines after the completions, if each request has one.
@@ -36,6 +33,9 @@ pub struct Facts<'a> {
     // False if an allocation failed.
     is_whole: bool,
 }
+
+// The result of a request whose completion isn't read. No request has it.
+const UNREAD: i32 = i32::MIN;
 
 // Returns whether an access found a file, by the result of its request, or `None` if that doesn't
 // show it.
@@ -64,9 +64,7 @@ impl<'a> Facts<'a> {
             line,
             closed,
         };
-        if self.files.push(installed).is_err() {
-            self.is_whole = false;
-        }
+        self.is_whole &= self.files.push(installed).is_ok();
     }
 
     // Adds the files at the slots before the submission.
@@ -92,104 +90,103 @@ impl<'a> Facts<'a> {
         }
     }
 
-    // Takes the next line if it is the completion of the request at a place. Returns its result.
-    fn take_completion(&mut self, place: Place) -> Option<i32> {
+    // Checks whether each request has a completion.
+    fn is_answered(&self) -> bool {
+        match self.rows.last() {
+            Some(row) => row.answer.is_some(),
+            None => true,
+        }
+    }
+
+    // Takes the next line if it is the completion of the request at a place, and each earlier
+    // request has one.
+    fn take_completion(&mut self, place: Place) -> Option<Completion> {
+        if !self.is_answered() {
+            return None;
+        }
         let mut after = self.rest;
         let it = self.read(after.take(), 1)?.completions.pop()?;
         if it.place != place {
             return None;
         }
-        let res = it.res;
-        if self.completions.push(it).is_err() {
-            self.is_whole = false;
-        }
         self.rest = after;
-        Some(res)
+        Some(it)
     }
 
-    // Adds the facts that a result shows about an access, and the file that the access installed.
-    fn show(&mut self, act: &mut Act, res: i32) {
-        act.is_done = res >= 0;
-        act.found = found_by(act.intent, res);
-        if act.slot.is_none() {
-            act.slot = u32::try_from(res).ok();
-        }
-        if let (Some(file), true, Some(slot)) = (act.put, act.is_done, act.slot)
+    // Returns an access of the request of a line, with the facts that the request's result shows
+    // about it. Adds the file that the access installed.
+    fn act_of(&mut self, intent: Intent, line: usize, res: i32) -> Act {
+        let (asked, put) = match intent {
+            Intent::Look(slot) | Intent::Take(slot) | Intent::Clear(slot) => (Some(slot), None),
+            Intent::Put(slot, file) => (Some(slot), Some(file)),
+            Intent::Allocate(file) => (None, Some(file)),
+        };
+        let slot = asked.or(u32::try_from(res).ok());
+        let (is_done, mut file) = (res >= 0, None);
+        if let (Some(added), true, Some(slot)) = (put, is_done, slot)
             && (slot as usize) < self.case.size()
         {
-            act.file = Some(self.files.len());
-            self.add_file(file, slot, Some(act.line));
+            file = Some(self.files.len());
+            self.add_file(added, slot, Some(line));
+        }
+        Act {
+            intent,
+            asked,
+            put,
+            line,
+            slot,
+            found: found_by(intent, res),
+            is_done,
+            file,
         }
     }
 
-    // Adds the accesses of a request that isn't refused. `res`: its result, if its line was read.
-    fn add_acts(&mut self, row: &Row<'_>, res: Option<i32>) {
-        let (catalogue, line) = (self.case.catalogue, self.rows.len());
+    // Adds the accesses of a request that isn't refused.
+    fn add_acts(&mut self, row: &Row<'_>) {
+        let catalogue = self.case.catalogue;
+        let res = match &row.answer {
+            Some(it) => it.res,
+            None => UNREAD,
+        };
         for made in 0..row.request.accesses() {
             let Some(intent) = intent_of(catalogue, u32::MAX, row.place, row.request, made) else {
                 break;
             };
-            let (asked, put) = match intent {
-                Intent::Look(slot) | Intent::Take(slot) | Intent::Clear(slot) => (Some(slot), None),
-                Intent::Put(slot, file) => (Some(slot), Some(file)),
-                Intent::Allocate(file) => (None, Some(file)),
-            };
-            let mut act = Act {
-                intent,
-                asked,
-                put,
-                line,
-                slot: asked,
-                found: None,
-                is_done: false,
-                file: None,
-            };
-            if let Some(res) = res {
-                self.show(&mut act, res);
-            }
-            if self.acts.push(act).is_err() {
-                self.is_whole = false;
-            }
+            let act = self.act_of(intent, row.at, res);
+            self.is_whole &= self.acts.push(act).is_ok();
         }
     }
 
-    // Adds a request. `chain`: the number of the first access of its chain. `res`: its result, if
-    // its line was read.
-    fn add(&mut self, request: &'a Request, place: Place, chain: usize, res: Option<i32>) {
+    // Adds a request. `chain`: the number of the first access of its chain.
+    fn add(&mut self, request: &'a Request, place: Place, chain: usize) {
         let size = u32::try_from(self.case.size()).unwrap_or(u32::MAX);
         let first = self.acts.len();
         let mut row = Row {
             request,
             place,
+            at: self.rows.len(),
             refusal: refusal_of(self.case.catalogue, size, request),
             acts: (chain, first, first),
+            answer: self.take_completion(place),
         };
         if row.refusal.is_none() {
-            self.add_acts(&row, res);
+            self.add_acts(&row);
             row.acts.2 = self.acts.len();
         }
-        if self.rows.push(row).is_err() {
-            self.is_whole = false;
-        }
+        self.is_whole &= self.rows.push(row).is_ok();
     }
 
-    // Adds the requests, and reads the lines of their completions. Returns whether each has one.
-    fn add_requests(&mut self) -> bool {
+    // Adds the requests, and reads the lines of their completions.
+    fn add_requests(&mut self) {
         let mut place = place_of(self.case.submissions.saturating_add(1), 1, 1);
-        let (mut chain, mut is_read) = (0usize, true);
+        let mut chain = 0usize;
         for request in self.case.requests {
-            let mut res = None;
-            if is_read {
-                res = self.take_completion(place);
-                is_read = res.is_some();
-            }
             if place.member == 1 {
                 chain = self.acts.len();
             }
-            self.add(request, place, chain, res);
+            self.add(request, place, chain);
             place = place_after(place, request);
         }
-        is_read
     }
 
     // Returns the number, from 0, of the file with a mark. Those from `near` on are tried first.
@@ -203,6 +200,11 @@ impl<'a> Facts<'a> {
         None
     }
 
+    // Returns the mark of a `closed` line, if the line can be read.
+    fn mark_in(&mut self, line: &[u8]) -> Option<Mark> {
+        Some(self.read(line, 0)?.closed.first()?.mark)
+    }
+
     // Records the `closed` lines, and the first one of each file. The files from that of the line
     // before on are tried first.
     fn take_closes(&mut self) {
@@ -211,14 +213,9 @@ impl<'a> Facts<'a> {
             if !self.rest.rest.starts_with(b"closed ") {
                 break;
             }
-            let at = self.rest.taken;
+            let at = self.rest.before;
             let line = self.rest.take();
-            let (mut mark, mut file) = (None, None);
-            if let Some(report) = self.read(line, 0)
-                && let Some(closed) = report.closed.first()
-            {
-                mark = Some(closed.mark);
-            }
+            let (mark, mut file) = (self.mark_in(line), None);
             if let Some(mark) = mark
                 && let Some(number) = self.file_marked(near, mark)
                 && let Some(it) = self.files.get_mut(number)
@@ -227,9 +224,7 @@ impl<'a> Facts<'a> {
                 it.closed = it.closed.or(Some(at));
             }
             let name = cut_word(cut_word(line).1).1;
-            if self.closes.push(Close { name, mark, file }).is_err() {
-                self.is_whole = false;
-            }
+            self.is_whole &= self.closes.push(Close { name, mark, file }).is_ok();
         }
     }
 
@@ -243,14 +238,14 @@ impl<'a> Facts<'a> {
             case: *case,
             rows: Vec::new(alloc),
             acts: Vec::new(alloc),
-            completions: Vec::new(alloc),
             files: Vec::new(alloc),
             closes: Vec::new(alloc),
-            rest: Lines::new(case.text),
+            rest: Lines::new(case.text.rest),
             is_whole: true,
         };
         facts.add_files();
-        if facts.add_requests() {
+        facts.add_requests();
+        if facts.is_answered() {
             facts.take_closes();
         }
         if facts.is_whole {
@@ -273,22 +268,6 @@ impl<'a> Facts<'a> {
         }
     }
 
-    /// Returns for each catalogue entry whether a file of it has the bytes that a read returned.
-    pub(crate) fn entries_read(
-        &self,
-        row: &Row<'_>,
-        it: &Completion,
-    ) -> Result<[bool; 256], NoMemory> {
-        let (catalogue, mut fits) = (self.case.catalogue, [false; 256]);
-        let mut bytes = Vec::new(self.case.alloc);
-        for number in 0..catalogue.len() {
-            let entry = u8::try_from(number).unwrap_or(u8::MAX);
-            row.request.read_into(catalogue, entry, &mut bytes)?;
-            fits[entry as usize] = bytes.as_slice() == it.got.as_slice();
-        }
-        Ok(fits)
-    }
-
     /// Returns the slots that the text shows after the submission, and the rest of the text. A file
     /// that was at a slot, or that a completion installs there, is there unless it has a `closed`
     /// line. A completion that claims what its request can't do installs nothing. Returns `None` if
@@ -297,7 +276,7 @@ impl<'a> Facts<'a> {
     /// # Errors
     /// `NoMemory` if an allocation fails.
     pub fn slots_after(&self) -> Result<Option<(Slots, &'a [u8])>, NoMemory> {
-        if self.completions.len() < self.rows.len() {
+        if !self.is_answered() {
             return Ok(None);
         }
         let mut at = vec![in self.case.alloc; None; self.case.size()]?;
@@ -311,6 +290,6 @@ impl<'a> Facts<'a> {
             }
         }
         let range = self.case.slots.range;
-        Ok(Some((Slots { range, at }, after_closes(self.rest.rest))))
+        Ok(Some((Slots { range, at }, self.rest.after_closes().rest)))
     }
 }

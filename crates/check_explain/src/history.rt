@@ -1,7 +1,7 @@
 //! Prints one whole history of a script and a legal text: an event or an answer on each line, with
 //! the state of the table after it.
 use crate::case::{place_after, place_of};
-use crate::lines::{AskedLine, after_closes, cut_word, next_line};
+use crate::lines::{AskedLine, Lines, cut_word};
 use crate::words::Words;
 use fx_base::{Catalogue, Closed, Mark, NoMemory};
 use fx_chain::{Place, Request};
@@ -34,7 +34,7 @@ pub struct History<'a> {
     alloc: Global,
     catalogue: &'a Catalogue,
     asked: &'a [AskedLine<'a>],
-    text: &'a [u8],
+    text: Lines<'a>,
     orders: &'a [Order],
     // The number of accepted lists.
     lists: u32,
@@ -43,7 +43,7 @@ pub struct History<'a> {
     // The maker of the next access.
     who: Maker<'a>,
     // The file that a request holds, and the one that was removed and isn't closed yet.
-    held: Option<Mark>,
+    held: Option<Closed>,
     removed: Option<Closed>,
     // The lines that aren't printed yet, and the place at which the last one begins, which may be
     // unfinished.
@@ -78,7 +78,7 @@ impl<'a> History<'a> {
             alloc,
             catalogue,
             asked,
-            text,
+            text: Lines::new(text),
             orders,
             lists: 0,
             at: Vec::new(alloc),
@@ -114,9 +114,7 @@ impl<'a> History<'a> {
 
     // Takes the next line of the text. Returns it without its first word.
     fn next_answer(&mut self) -> &'a [u8] {
-        let (line, rest) = next_line(self.text);
-        self.text = rest;
-        cut_word(line).1
+        cut_word(self.text.take()).1
     }
 
     // Returns the file at a slot.
@@ -127,24 +125,21 @@ impl<'a> History<'a> {
     // Appends the state: each slot that has a file, with the file's mark, and the file that was
     // removed.
     fn push_state(&mut self) {
-        let (mut slot, mut sign) = (0u64, "");
-        for file in &self.at {
+        let mut sign = "";
+        for (slot, file) in self.at.iter().enumerate() {
             if let Some(Closed { mark, .. }) = *file {
-                self.lines.count(sign, slot, " ");
+                self.lines.count(sign, slot as u64, " ");
                 self.lines.mark(mark);
-                if self.held == Some(mark) {
+                if self.held == *file {
                     self.lines.say(" held");
                 }
                 sign = ", ";
             }
-            slot = slot.saturating_add(1);
         }
-        if sign.is_empty() {
-            self.lines.say(if self.at.is_empty() {
-                "no table"
-            } else {
-                "empty"
-            });
+        if self.at.is_empty() {
+            self.lines.say("no table");
+        } else if sign.is_empty() {
+            self.lines.say("empty");
         }
         if let Some(file) = self.removed {
             self.lines.say(", removed ");
@@ -167,7 +162,8 @@ impl<'a> History<'a> {
             Maker::Request(place) => self.lines.place(place),
             Maker::Command(word) => self.lines.bytes(word),
         }
-        self.lines.all(&[" ", name]);
+        self.lines.say(" ");
+        self.lines.say(name);
     }
 
     // Appends the line of an event of a file: its tag is in the line, unless it is 0.
@@ -181,17 +177,20 @@ impl<'a> History<'a> {
         self.end_line();
     }
 
-    // Appends the first event of an access (docs/MODEL.md, "Steps"): the slot, the file that was
-    // installed, and the mark of the file that was found, or `none` unless the access looks for an
-    // empty slot.
-    fn push_first(&mut self, access: Access) {
+    // Appends the events of an access (docs/MODEL.md, "Steps"), and applies it. The first event has
+    // the slot, the file that was installed, and the mark of the file that was found, or `none`
+    // unless the access looks for an empty slot.
+    fn push_access(&mut self, access: Access) {
         let (name, slot, put, found, none) = match access {
             Access::Looks(slot, found) => ("Look(", slot, None, found, ", none"),
             Access::Clears(slot, found) => ("Clear(", slot, None, found, ", none"),
             Access::Takes(slot, found) => ("Take(", slot, None, found, ", none"),
             Access::Puts(slot, file, found) => ("Put(", slot, Some(file), found, ", none"),
             Access::Allocates(slot, file) => ("Allocate(", slot, Some(file), None, ""),
-            Access::FindsFull => return self.push_name("Full"),
+            Access::FindsFull => {
+                self.push_name("Full");
+                return self.end_line();
+            }
         };
         self.push_name(name);
         self.lines.number(u64::from(slot));
@@ -204,32 +203,23 @@ impl<'a> History<'a> {
             self.lines.mark(file.mark);
         }
         self.lines.say(")");
-    }
-
-    // Applies an access: it installs a file, removes one, or holds one.
-    fn apply(&mut self, access: Access) {
-        self.removed = access.removed();
-        let (slot, file) = match access {
-            Access::Puts(slot, file, _) | Access::Allocates(slot, file) => (slot, Some(file)),
-            Access::Clears(slot, _) | Access::Takes(slot, _) => (slot, None),
-            Access::Looks(_, Some(file)) => {
-                self.held = Some(file.mark);
-                return;
+        if matches!(access, Access::Looks(..)) {
+            self.held = found;
+        } else {
+            self.removed = found;
+            if let Some(at) = self.at.get_mut(slot as usize) {
+                *at = put;
             }
-            Access::Looks(_, None) | Access::FindsFull => return,
-        };
-        if let Some(at) = self.at.get_mut(slot as usize) {
-            *at = file;
         }
+        self.end_access();
     }
 
-    // Appends the events of an access.
-    fn push_access(&mut self, access: Access) {
-        self.push_first(access);
-        self.apply(access);
+    // Ends the line of the first event of an access, and appends the events of the files that were
+    // held and removed.
+    fn end_access(&mut self) {
         self.end_line();
-        if let Some(mark) = self.held.take() {
-            self.push_event("Release(", mark, 0);
+        if let Some(file) = self.held.take() {
+            self.push_event("Release(", file.mark, 0);
         }
         if let Some(file) = self.removed.take() {
             self.push_event("Close(", file.mark, file.tag);
@@ -287,7 +277,7 @@ impl<'a> History<'a> {
     // Appends a command that the next line of the text answers alone.
     fn push_call(&mut self, command: &Command) -> Result<(), NoMemory> {
         let (line, answer) = (self.next_asked(), self.next_answer());
-        self.text = after_closes(self.text);
+        self.text = self.text.after_closes();
         if !answer.starts_with(b"-") && !answer.starts_with(b"refused") {
             self.who = Maker::Command(cut_word(line).0);
             self.push_events(command)?;
@@ -381,7 +371,7 @@ impl<'a> History<'a> {
         let mut next = Vec::new(self.alloc);
         let answers = self.answers(requests, order.submission, &mut next)?;
         self.next_asked();
-        self.text = after_closes(self.text);
+        self.text = self.text.after_closes();
         self.push_turns(&answers, order, &mut next);
         let mut chain = 1u32;
         for from in &next {
@@ -399,7 +389,7 @@ impl<'a> History<'a> {
     /// `NoMemory` if an allocation fails.
     pub fn push(&mut self, command: &Command) -> Result<(), NoMemory> {
         if let Command::Submit(requests) = command {
-            let is_refused = !requests.is_empty() && self.text.starts_with(b"submit ");
+            let is_refused = !requests.is_empty() && self.text.rest.starts_with(b"submit ");
             if let [order, others @ ..] = self.orders
                 && !is_refused
             {

@@ -19,8 +19,5 @@ pub use case::{Case, access_places};
 pub use complaint::Complaint;
 pub use facts::Facts;
 pub use history::History;
-pub use lines::{
-    AskedLine, after_closes, asked_lines, cut_word, first_difference, line_after, line_at,
-    line_number, next_line, rest_at,
-};
+pub use lines::{AskedLine, Lines, asked_lines, cut_word};
 pub use words::{Words, sign_before};

@@ -1,6 +1,6 @@
 //! Words for a person: of places, marks, files, bytes and lines.
 use crate::case::place_of;
-use crate::lines::{line_at, without_end};
+use crate::lines::without_end;
 use fx_base::{Catalogue, Closed, Mark, NoMemory};
 use fx_chain::Place;
 use std::alloc::Global;
@@ -22,9 +22,10 @@ pub struct Words {
 impl Words {
     /// Returns no words.
     pub fn new(alloc: Global) -> Words {
-        let words = String::new(alloc);
-        let is_whole = true;
-        Words { words, is_whole }
+        Words {
+            words: String::new(alloc),
+            is_whole: true,
+        }
     }
 
     /// Returns the words.
@@ -49,35 +50,19 @@ impl Words {
         self.words.clear();
     }
 
-    /// Checks whether a line begins with the words.
-    pub(crate) fn begin(&self, line: &[u8]) -> bool {
-        line.starts_with(self.words.as_bytes())
-    }
-
-    /// Checks whether a line is the words.
-    pub(crate) fn is_line(&self, line: &[u8]) -> bool {
-        line == self.words.as_bytes()
+    /// Checks whether a text begins with the words.
+    pub fn begin(&self, text: &[u8]) -> bool {
+        text.starts_with(self.words.as_bytes())
     }
 
     /// Appends a text.
     pub fn say(&mut self, text: &str) {
-        if self.words.push_str(text).is_err() {
-            self.is_whole = false;
-        }
-    }
-
-    /// Appends some texts.
-    pub(crate) fn all(&mut self, texts: &[&str]) {
-        for text in texts {
-            self.say(text);
-        }
+        self.is_whole &= self.words.push_str(text).is_ok();
     }
 
     /// Appends a number.
     pub fn number(&mut self, number: u64) {
-        if write!(self.words, "{number}").is_err() {
-            self.is_whole = false;
-        }
+        self.is_whole &= write!(self.words, "{number}").is_ok();
     }
 
     /// Appends a number between two texts.
@@ -98,9 +83,7 @@ impl Words {
     // Appends bytes in lower case hexadecimal.
     fn hex(&mut self, bytes: &[u8]) {
         for byte in bytes {
-            if write!(self.words, "{byte:02x}").is_err() {
-                self.is_whole = false;
-            }
+            self.is_whole &= write!(self.words, "{byte:02x}").is_ok();
         }
     }
 
@@ -133,15 +116,14 @@ impl Words {
     /// Appends a file: its mark and its name.
     pub(crate) fn file(&mut self, catalogue: &Catalogue, file: Closed) {
         self.mark(file.mark);
-        self.all(&[" ", name_of(catalogue, file.entry)]);
+        self.say(" ");
+        self.say(name_of(catalogue, file.entry));
     }
 
     /// Appends bytes of a line of a script or a text, which are printable.
     pub(crate) fn bytes(&mut self, bytes: &[u8]) {
         for byte in bytes {
-            if self.words.push(char::from(*byte)).is_err() {
-                self.is_whole = false;
-            }
+            self.is_whole &= self.words.push(char::from(*byte)).is_ok();
         }
     }
 
@@ -155,26 +137,21 @@ impl Words {
 
     // Appends at most 100 bytes: as `\xNN` each that isn't printable, and a space at the end.
     fn shown(&mut self, bytes: &[u8]) {
-        let is_open = bytes.ends_with(b" ");
-        for (i, byte) in bytes.iter().enumerate() {
-            if i >= SHOWN {
-                break;
-            }
-            let is_last = i.saturating_add(1) == bytes.len();
-            if *byte < 32 || *byte > 126 || is_open && is_last {
+        for i in 0..bytes.len().min(SHOWN) {
+            let byte = bytes[i];
+            if byte < 32 || byte > 126 || byte == b' ' && i + 1 == bytes.len() {
                 self.say("\\x");
-                self.hex(&[*byte]);
+                self.hex(&[byte]);
             } else {
-                self.bytes(&[*byte]);
+                self.bytes(&[byte]);
             }
         }
     }
 
-    /// Appends the line that begins at a place, as a person is shown it: at most 100 bytes, and as
-    /// `\xNN` each that isn't printable, and a space at the end of the line. For an empty or
-    /// missing line it appends `none`.
-    pub fn line(&mut self, text: &[u8], from: usize, none: &str) {
-        let line = line_at(text, from);
+    /// Appends a line as a person is shown it: at most 100 bytes, and as `\xNN` each that isn't
+    /// printable, and a space at the end of the line. For an empty or missing line it appends
+    /// `none`.
+    pub fn line(&mut self, line: &[u8], none: &str) {
         let bytes = without_end(line);
         self.shown(bytes);
         if bytes.is_empty() {

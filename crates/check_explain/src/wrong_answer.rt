@@ -1,10 +1,9 @@
 //! Lines that aren't the completions of their requests, and completions that no request there may
 //! have, or that contradict their chain.
-use crate::answers::{Answers, Left, left_at_slots};
+use crate::answers::{Answers, left_at_slots, read};
 use crate::case::{Act, Row, result_of};
 use crate::complaint::Complaint;
 use crate::facts::Facts;
-use crate::lines::{Lines, next_line};
 use crate::words::{Words, name_of};
 use fx_base::{Errno, NoMemory};
 use fx_chain::{Completion, Intent, refusal_of};
@@ -32,16 +31,13 @@ fn why_not_read(facts: &Facts<'_>, row: &Row<'_>, slot: u32, it: &Completion, wh
         why.result(it.res);
         return why.count(", and ", count as u64, " bytes follow");
     }
-    let Ok(fits) = facts.entries_read(row, it) else {
-        why.is_whole = false;
-        return;
-    };
+    let mut bytes = Vec::new(facts.case.alloc);
     for entry in 0..=u8::MAX {
-        if fits[entry as usize] {
-            why.all(&[
-                "these are the bytes of ",
-                name_of(facts.case.catalogue, entry),
-            ]);
+        let name = name_of(facts.case.catalogue, entry);
+        why.is_whole &= read(facts, row, Some(entry), &mut bytes);
+        if !name.is_empty() && bytes.as_slice() == it.got.as_slice() {
+            why.say("these are the bytes of ");
+            why.say(name);
             return why.count(", which can't be at slot ", u64::from(slot), " then");
         }
     }
@@ -86,30 +82,27 @@ fn why_not(facts: &Facts<'_>, row: &Row<'_>, it: &Completion, why: &mut Words) {
 
 // Says that a member is canceled, though no earlier one severs its chain: the lines of those that
 // could.
-fn not_severed(facts: &Facts<'_>, at: usize, row: &Row<'_>, out: &mut Complaint) {
-    let first = at
+fn not_severed(facts: &Facts<'_>, row: &Row<'_>, out: &mut Complaint) {
+    let first = row
+        .at
         .saturating_add(1)
         .saturating_sub(row.place.member as usize);
-    for line in first..at {
-        if let Some(row) = facts.rows.get(line)
-            && row.may_sever()
-        {
-            out.line(line);
+    for earlier in facts.rows.get(first..row.at).unwrap_or(&[]) {
+        if earlier.may_sever() {
+            out.line(earlier.at);
         }
     }
-    out.line(at);
+    out.line(row.at);
     out.why.say(
         "-125 follows a request that severs its chain, and no earlier request severs this chain",
     );
 }
 
-// Says that a member isn't canceled, though the one at `by` severed its chain.
-fn not_canceled(facts: &Facts<'_>, by: usize, at: usize, row: &Row<'_>, out: &mut Complaint) {
-    out.line(by);
-    out.line(at);
-    if let Some(first) = facts.rows.get(by) {
-        out.why.place(first.place);
-    }
+// Says that a member isn't canceled, though an earlier one severed its chain.
+fn not_canceled(by: &Row<'_>, row: &Row<'_>, out: &mut Complaint) {
+    out.line(by.at);
+    out.line(row.at);
+    out.why.place(by.place);
     out.why.say(" fails and severs its chain, so ");
     out.why.place(row.place);
     out.why.say(" should be -125");
@@ -117,22 +110,21 @@ fn not_canceled(facts: &Facts<'_>, by: usize, at: usize, row: &Row<'_>, out: &mu
 
 // Says that the line of a request doesn't begin with its place and a space, which are expected:
 // another line does, or no line does.
-fn misplaced(facts: &Facts<'_>, at: usize, out: &mut Complaint) {
-    out.line(at);
-    let (mut lines, mut found) = (Lines::new(facts.case.text), None);
+fn misplaced(facts: &Facts<'_>, row: &Row<'_>, out: &mut Complaint) {
+    out.line(row.at);
+    let mut lines = facts.case.text;
     for _ in 0..lines.rest.len() {
         if out.expected.begin(lines.rest) {
-            found = Some(facts.case.line.saturating_add(lines.taken));
             break;
         }
         lines.take();
     }
     out.expected.say("and its result");
-    if let Some(number) = found {
-        return out.why.count("line ", number as u64, " has that place");
+    if !lines.rest.is_empty() {
+        return out.why.count("line ", lines.number(), " has that place");
     }
     out.why.say("no line answers ");
-    if let Some(line) = facts.case.asked.get(at) {
+    if let Some(line) = facts.case.asked.get(row.at) {
         out.why.bytes(line.bytes);
     }
 }
@@ -151,85 +143,86 @@ fn why_unread(line: &[u8]) -> &'static str {
 }
 
 // Says which answers a request may give.
-fn expect(row: &Row<'_>, answers: &mut Answers<'_>, at: usize, out: &mut Complaint) {
-    out.line(at);
+fn expect(row: &Row<'_>, answers: &Answers<'_>, out: &mut Complaint) {
+    out.line(row.at);
     out.expected.place(row.place);
     out.expected.say(" with ");
-    answers.say(&mut out.expected);
+    answers.say(row, &mut out.expected);
 }
 
 // Says why the first line after those of the completions isn't the completion of its request.
-fn unread(
-    facts: &Facts<'_>,
-    row: &Row<'_>,
-    answers: &mut Answers<'_>,
-    at: usize,
-    out: &mut Complaint,
-) {
-    let line = next_line(facts.rest.rest).0;
+fn unread(row: &Row<'_>, answers: &Answers<'_>, out: &mut Complaint) {
+    let line = answers.facts.rest.first();
     out.expected.place(row.place);
     out.expected.say(" ");
     if out.expected.begin(line) {
         out.expected.clear();
-        expect(row, answers, at, out);
+        expect(row, answers, out);
         out.why.say(why_unread(line));
     } else {
-        misplaced(facts, at, out);
+        misplaced(answers.facts, row, out);
     }
 }
 
-// Checks whether the line of a request with these answers is wrong. `severed`: the line of the
-// member that severed its chain.
+// Checks whether the line of a request with these answers is wrong. `severed`: the member that
+// severed its chain.
 fn is_wrong(
-    facts: &Facts<'_>,
     answers: &mut Answers<'_>,
-    severed: Option<usize>,
-    (at, row): (usize, &Row<'_>),
+    severed: Option<&Row<'_>>,
+    row: &Row<'_>,
     out: &mut Complaint,
 ) -> bool {
-    let Some(it) = facts.completions.get(at) else {
-        unread(facts, row, answers, at, out);
+    let facts = answers.facts;
+    let Some(it) = &row.answer else {
+        unread(row, answers, out);
         return true;
     };
     let is_canceled = it.is_refusal(row.place, Errno::ECANCELED);
     if let Some(by) = severed {
         if !is_canceled {
-            not_canceled(facts, by, at, row, out);
+            not_canceled(by, row, out);
         }
         return !is_canceled;
     }
     if row.place.member > 1 && is_canceled {
-        not_severed(facts, at, row, out);
+        not_severed(facts, row, out);
         return true;
     }
-    if answers.have(it) {
-        return false;
+    let is_other = !answers.have(row, it);
+    if is_other {
+        expect(row, answers, out);
+        why_not(facts, row, it, &mut out.why);
     }
-    expect(row, answers, at, out);
-    why_not(facts, row, it, &mut out.why);
-    true
+    is_other
+}
+
+// Looks for the first wrong line with answers that are set for each request.
+fn is_one_wrong(answers: &mut Answers<'_>, out: &mut Complaint) -> bool {
+    let facts = answers.facts;
+    let mut severed = None;
+    for row in &facts.rows {
+        answers.set(row, severed.is_some());
+        if is_wrong(answers, severed, row, out) {
+            return true;
+        }
+        if !row.request.links() {
+            severed = None;
+        } else if severed.is_none()
+            && let Some(it) = &row.answer
+            && row.request.severs(it)
+        {
+            severed = Some(row);
+        }
+    }
+    false
 }
 
 /// Looks for the first line that isn't the completion of its request, or has one that the request
 /// can't have or that contradicts an earlier one of its chain. Returns whether there is one.
 pub(crate) fn wrong_answer(facts: &Facts<'_>, out: &mut Complaint) -> Result<bool, NoMemory> {
     let left = left_at_slots(facts)?;
-    let mut severed = None;
-    for (at, row) in facts.rows.iter().enumerate() {
-        let mut answers = Answers::new(&*facts, &left, severed.is_some(), &*row);
-        let is_found = is_wrong(facts, &mut answers, severed, (at, row), out);
-        out.why.is_whole = out.why.is_whole && answers.is_whole;
-        if is_found {
-            return Ok(true);
-        }
-        if !row.request.links() {
-            severed = None;
-        } else if severed.is_none()
-            && let Some(it) = facts.completions.get(at)
-            && row.request.severs(it)
-        {
-            severed = Some(at);
-        }
-    }
-    Ok(false)
+    let mut answers = Answers::new(&*facts, &left);
+    let is_found = is_one_wrong(&mut answers, out);
+    out.why.is_whole &= answers.is_whole;
+    Ok(is_found)
 }

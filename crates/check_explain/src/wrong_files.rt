@@ -33,7 +33,8 @@ fn is_wrong(
         out.wrong(at, "closed ", "");
         out.expected.file(facts.case.catalogue, known.file);
         out.why.mark(mark);
-        out.why.all(&[" is ", name]);
+        out.why.say(" is ");
+        out.why.say(name);
     } else if let Some(earlier) = known.closed {
         out.line(earlier);
         out.wrong(at, "", "a file is closed once");
@@ -59,25 +60,25 @@ fn wrong_closed(facts: &Facts<'_>, out: &mut Complaint) -> bool {
 // Takes the lines of the closed files' tags, up to the first wrong one. Returns whether one is
 // wrong.
 fn wrong_tags(facts: &Facts<'_>, rest: &mut Lines<'_>, out: &mut Complaint) -> bool {
-    let mut number = facts.case.line.saturating_add(facts.rows.len()) as u64;
+    let mut lines = facts.case.text.after(facts.rows.len());
     for close in &facts.closes {
         if let Some(it) = close.file
             && it.file.tag != 0
         {
-            let at = rest.taken;
             out.expected.count("tag ", it.file.tag, "\n");
-            if !out.expected.is_line(rest.take()) {
-                out.expected.clear();
-                out.line(at);
+            let is_next = out.expected.begin(rest.rest);
+            out.expected.clear();
+            if !is_next {
+                out.line(rest.before);
                 out.expected.count("tag ", it.file.tag, "");
                 out.why
                     .count("tag ", it.file.tag, " is that of the file of line ");
-                out.why.number(number);
+                out.why.number(lines.number());
                 return true;
             }
-            out.expected.clear();
+            rest.take();
         }
-        number = number.saturating_add(1);
+        lines.take();
     }
     false
 }
@@ -95,7 +96,7 @@ pub(crate) fn wrong_close(facts: &Facts<'_>, out: &mut Complaint) -> bool {
     out.expected.clear();
     if is_one_more {
         let expected = "a closed file, or the next command's line";
-        out.wrong(rest.taken, expected, "");
+        out.wrong(rest.before, expected, "");
         let count = facts.rows.len() as u64;
         let after = " requests, and this is one more";
         out.why.count("the submission has ", count, after);
@@ -107,7 +108,7 @@ pub(crate) fn wrong_close(facts: &Facts<'_>, out: &mut Complaint) -> bool {
     let is_more = rest.rest.starts_with(b"tag ") || rest.rest.starts_with(b"closed ");
     if is_more {
         let why = "the closed files come first, and have no further tag";
-        out.wrong(rest.taken, "the next command's line", why);
+        out.wrong(rest.before, "the next command's line", why);
     }
     is_more
 }
@@ -128,18 +129,18 @@ fn two_left(facts: &Facts<'_>, one: &Installed, other: &Installed, out: &mut Com
         .count(" are both left at slot ", u64::from(one.slot), after);
 }
 
-// Looks for the first slot at which two files are left. Sets the file that is left at each slot.
-fn are_two(facts: &Facts<'_>, left: &mut [Option<Installed>], out: &mut Complaint) -> bool {
-    for it in &facts.files {
-        if it.closed.is_some() {
-            continue;
-        }
-        if let Some(at) = left.get_mut(it.slot as usize) {
-            if let Some(one) = at {
+// Looks for the first slot at which two files are left. Sets the number of the file that is left at
+// each slot.
+fn are_two(facts: &Facts<'_>, left: &mut [usize], out: &mut Complaint) -> bool {
+    for (number, it) in facts.files.iter().enumerate() {
+        if it.closed.is_none()
+            && let Some(at) = left.get_mut(it.slot as usize)
+        {
+            if let Some(one) = facts.files.get(*at) {
                 two_left(facts, one, it, out);
                 return true;
             }
-            *at = Some(*it);
+            *at = number;
         }
     }
     false
@@ -149,9 +150,9 @@ fn are_two(facts: &Facts<'_>, left: &mut [Option<Installed>], out: &mut Complain
 // it or found the slot empty.
 fn is_removed(facts: &Facts<'_>, act: &Act, it: &Installed, out: &mut Complaint) -> bool {
     let does = match (act.found, act.intent) {
-        (Some(false), _) => "finds the slot empty",
+        (Some(false), _) => ", which finds the slot empty",
         (_, Intent::Look(_)) => return false,
-        _ if act.is_done => "removes what is there",
+        _ if act.is_done => ", which removes what is there",
         _ => return false,
     };
     let Some(later) = facts.rows.get(act.line) else {
@@ -168,21 +169,23 @@ fn is_removed(facts: &Facts<'_>, act: &Act, it: &Installed, out: &mut Complaint)
     out.why
         .count(" is at slot ", u64::from(it.slot), " before ");
     out.why.place(later.place);
-    out.why
-        .all(&[", which ", does, ", and has no `closed` line"]);
+    out.why.say(does);
+    out.why.say(", and has no `closed` line");
     true
 }
 
 /// Looks for the first slot at which two files are left, or for the first access that shows that a
 /// file without a `closed` line was removed. Returns whether there is one.
 pub(crate) fn wrong_count(facts: &Facts<'_>, out: &mut Complaint) -> Result<bool, NoMemory> {
-    let mut left: Vec<Option<Installed>> = vec![in facts.case.alloc; None; facts.case.size()]?;
+    // no file has the largest number
+    let mut left = vec![in facts.case.alloc; usize::MAX; facts.case.size()]?;
     if are_two(facts, &mut left, out) {
         return Ok(true);
     }
     for act in &facts.acts {
         if let Some(slot) = act.slot
-            && let Some(Some(it)) = left.get(slot as usize)
+            && let Some(number) = left.get(slot as usize)
+            && let Some(it) = facts.files.get(*number)
             && is_removed(facts, act, it, out)
         {
             return Ok(true);
