@@ -1,33 +1,36 @@
 -- The states of the judge, call by call, and where an access, a call or a close leads.
 use Rattle.check_flight.proofs.Words.{◌≡◌, ℕ, ◌+◌, ◌-◌, ◌<◌, ◌≤◌, List, [], ◌∷◌, ◌++◌, length, refl, sym, ap, ◌∙◌, arith, ⊎_elim, Access, Asked}
-use Rattle.check_flight.proofs.Words.{Completed, Contains, Option, None, Rest, Rules, false, over, subst, file_removed_by, run_at}
+use Rattle.check_flight.proofs.Words.{Bool, Completed, Contains, Option, None, Rest, Rules, false, over, subst, suc, zero, file_removed_by, run_at}
 use Rattle.check_flight.proofs.Words.{settled_at, slice_index_or, step, Contains-append_cases, Contains-append_left, Contains-append_right}
-use Rattle.check_flight.proofs.Words.{option_to_list, table_with, if◌then◌else◌, Identity, inl, inr, take, eq-eqb, true, ◌⊎◌}
-use Rattle.check_flight.proofs.Words.{either_way}
+use Rattle.check_flight.proofs.Words.{option_to_list, table_with, if◌then◌else◌, Identity, inl, inr, take, eq-eqb, true, ◌⊎◌, false≢true}
+use Rattle.check_flight.proofs.Words.{append_assoc, either_way, get_or_append_left, get_or_at}
+use Rattle.check_outcomes.proofs.Lists.{one_more_of}
 use Rattle.check_outcomes.proofs.Viewing.{requests_for}
 use Rattle.check_flight.proofs.Steps.{only_one, taken, taken_by}
-use Rattle.fx_base.specs.declared.mark.Mark.TheVariants.{Registered}
-use Rattle.std.specs.Prelude.{nat_le, slice_set, IsPermutation, All, map, nat_eq}
+use Rattle.std.specs.Prelude.{nat_le, slice_set, IsPermutation, All, map, nat_eq, filter, not}
+use Rattle.std.proofs.Math.Seq.{take-append_seam}
 use Rattle.std.proofs.lemmas.Bool.{cases_Bool, cases_lt, le-leb, lt-leb, leb-false, leb-true}
-use Rattle.std.proofs.lemmas.List.{drop_all, get_or-set_other, get_or-set_same, length-drop, get_or-drop, take_more}
+use Rattle.std.proofs.lemmas.List.{drop_all, get_or-set_other, get_or-set_same, length-drop, get_or-drop}
 use Rattle.check_outcomes.proofs.Words.{IsPermutation-sym, StepsChain, not_begun, rest_in, table_of_slots, drop, moved, get_or-map}
-use Rattle.check_outcomes.proofs.Words.{length-map}
+use Rattle.check_outcomes.proofs.Words.{file_Decides, length-map, map-append, take-append-drop}
 use Rattle.check_outcomes.specs.declared.submission.Progress.{Progress}
 use Rattle.std.proofs.lemmas.List.Sorted.{Contains-permutation}
 use Rattle.fx_flight.specs.Events.{all_happenings, first_of_call, happening_of, Happening}
 use Rattle.fx_flight.specs.declared.event.LogEvent.{LogEvent}
-use Rattle.fx_table.proofs.SumLemmas.{contains_map}
-use Rattle.check_flight.specs.Judged.{IsAccessFollowed, IsCallFollowed, catalogue_in, flight_view, flight_views, log_in, rest_of}
+use Rattle.fx_order.proofs.Apart.{same_file}
+use Rattle.fx_table.proofs.SumLemmas.{contains_map, contains_tail}
+use Rattle.check_flight.specs.Judged.{IsAccessFollowed, IsCallFollowed, IsFrontOf, IsWhollyFollowed, catalogue_in, flight_view, flight_views, log_in}
+use Rattle.check_flight.specs.Judged.{rest_of, runs_of_calls}
 use Rattle.check_flight.specs.States.{IsOneDenied, IsStateFollowed, AreFewer, AreWith, AreWithout, FlightView, LeadsByCall, StepsByAccess}
-use Rattle.check_flight.specs.States.{AreWaitsDenied, IsLookDenied}
+use Rattle.check_flight.specs.States.{AreFollowed, AreWaitsDenied, IsLookDenied}
+use Rattle.check_flight.specs.declared.judged.ChainCall.{ChainCall}
 use Rattle.check_flight.specs.declared.judged.JudgedLog.{JudgedLog}
 use Rattle.check_outcomes.specs.Stands.{HasEachNext}
 use Rattle.fx_chain.specs.Accepted.{IsWithinLimits}
 use Rattle.fx_chain.specs.Operation.{all_asked, asked_of}
 use Rattle.fx_chain.specs.declared.request.Request.{Request}
-use Rattle.std.proofs.lemmas.List.Elements.{All-contains}
+use Rattle.std.proofs.lemmas.List.Elements.{All-contains, All-contains_itself, All-filter, filter_passes}
 use Rattle.check_flight.specs.declared.state.WaitingLook.{WaitingLook}
-use Rattle.check_flight.specs.declared.hold.HeldFile.{HeldFile}
 use Rattle.check_flight.specs.Player.{IsMarked, file_number}
 use Rattle.indexmap.specs.IndexSet.{IndexSet, Updates}
 use Rattle.fx_order.specs.Access.{Permits}
@@ -36,9 +39,6 @@ use Rattle.fx_flight.specs.Flight.{IsLookDone}
 use Rattle.check_flight.specs.declared.state.FlightState.{FlightState}
 
 -- The removed files.
-
-abbrev pub no_file : Identity
-no_file = record { mark = Registered 0 0; entry = 0; tag = 0 }
 
 -- one more file, in whatever order
 pub are_with : (before after : List Identity) (file : Option Identity) → IsPermutation (before ++ option_to_list file) after → AreWith before file after
@@ -51,24 +51,34 @@ are_with before after file same other = (
       (λ new. Contains-append_right before (option_to_list file) other (taken_by file other new)) either),
 )
 
--- the files without one of them, and one file more, which is another
-pub without_more : (files after : List Identity) (file more : Identity) → AreWithout files file after → (more ≡ file → ⊥)
-    → AreWithout (files ++ more ∷ []) file (after ++ more ∷ [])
-without_more files after file more without apart other = (
-  λ inside. ⊎_elim (λ old. Contains-append_left files (more ∷ []) other ((without other).0 old))
-      (λ new. Contains-append_right files (more ∷ []) other new) (Contains-append_cases after (more ∷ []) other inside),
-  λ differs inside. ⊎_elim (λ old. Contains-append_left after (more ∷ []) other ((without other).1 differs old))
-      (λ new. Contains-append_right after (more ∷ []) other new) (Contains-append_cases files (more ∷ []) other inside),
-)
+-- a filter keeps what passes
+pub in_filter : {X : Type 0} (test : X → Bool) (xs : List X) {x : X} → Contains xs x → test x ≡ true → Contains (filter test xs) x
+in_filter test [] (k, low, is) passes = absurd (omega arith)
+in_filter test (y ∷ xs) (zero, low, is) passes =
+    let yes : test y ≡ true = rw is passes in
+    rw yes (zero, omega arith, is)
+in_filter test (y ∷ xs) {x} (suc k, low, is) passes =
+    let rest : Contains (filter test xs) x = in_filter test xs (k, omega arith, is) passes in
+    ⊎_elim (λ (yes : test y ≡ true). rw yes (contains_tail y (filter test xs) x rest)) (λ (no : test y ≡ false). rw no rest) (cases_Bool (test y))
 
--- the same, where it is that file
-pub without_it : (files after : List Identity) (file more : Identity) → AreWithout files file after → more ≡ file
-    → AreWithout (files ++ more ∷ []) file after
-without_it files after file more without same other = (
-  λ inside. Contains-append_left files (more ∷ []) other ((without other).0 inside),
-  λ differs inside. ⊎_elim (λ old. (without other).1 differs old)
-      (λ new. absurd (differs (sym (only_one more other new) ∙ same))) (Contains-append_cases files (more ∷ []) other inside),
-)
+-- the files without one of them
+pub without_file : (files after : List Identity) (file : Identity) → after ≡ filter (λ other. not (same_file other file)) files
+    → AreWithout files file after × (Contains after file → ⊥)
+without_file files after file is =
+    let others = λ (other : Identity). not (same_file other file) in (
+      λ other. (
+        λ inside. All-contains (Contains files) (filter others files) other
+            (All-filter others (Contains files) files (All-contains_itself files)) (rw is at inside),
+        λ apart inside. rw is (in_filter others files inside (⊎_elim
+            (λ (yes : same_file other file ≡ true). absurd (apart ((file_Decides other file).0 yes)))
+            (λ (no : same_file other file ≡ false). rw no refl) (cases_Bool (same_file other file)))),
+      ),
+      λ inside.
+          let passes : not (same_file file file) ≡ true =
+          All-contains (λ (other : Identity). others other ≡ true) (filter others files) file (filter_passes others files) (rw is at inside) in
+          let own : same_file file file ≡ true = (file_Decides file file).1 refl in
+          false≢true (rw own at passes),
+    )
 
 -- The calls.
 
@@ -119,19 +129,31 @@ stepped runs {rules} state next {j} {id} {a} {own} {progress} {after} is base fe
       waiting = waiting;
     }
 
--- The answer of a member that isn't done yet.
+-- The next call.
 
-pub early : (runs : List (List Asked)) (state : FlightState) (j member : ℕ) {id n : ℕ} {progress : Progress}
-    → id ≡ state.base + j + 1 → slice_index_or state.chains.items j not_begun ≡ progress → length (run_at runs id) ≡ n
-    → n < n - progress.done + member
-    → length (run_at runs id) < length (rest_of runs state id).requests + member
-early runs state j member {id} {n} {progress} is here many few =
-    let run : List Asked = run_at runs id in
-    let there : rest_of runs state id ≡ rest_in (first_of_call id) run progress = rw (← here) (open_rest runs state id j is) in
-    let left : (rest_of runs state id).requests ≡ drop progress.done run =
-    ap (λ (r : Rest). r.requests) there ∙ requests_for (moved (first_of_call id) progress.done) (drop progress.done run) progress.made in
-    let long : length (rest_of runs state id).requests ≡ length run - progress.done = ap length left ∙ length-drop progress.done run in
-    omega arith
+pub called : {rules : Rules} (runs : List (List Asked)) (state next : FlightState) (n done : ℕ) (own : List Asked) → length runs ≡ n
+    → state.base ≤ n → length state.chains.items ≡ n - state.base
+    → table_of_slots next.slots ≡ table_of_slots state.slots → next.base ≡ state.base
+    → next.chains.items ≡ state.chains.items ++ record { done = done; made = 0 } ∷ [] → next.removed.items ≡ state.removed.items
+    → (settled_at rules (first_of_call (n + 1)) own).1 ≡ rest_in (first_of_call (n + 1)) own (record { done = done; made = 0 })
+    → LeadsByCall rules (flight_view runs state) (n + 1) own (flight_view (runs ++ own ∷ []) next)
+called runs state next n done own many within count table base chains removed settled =
+    let last : Progress = record { done = done; made = 0 } in
+    let j : ℕ = n - state.base in
+    let run : run_at (runs ++ own ∷ []) (n + 1) ≡ own = get_or_at runs own [] [] (n + 1 - 1) (omega arith) in
+    let here : slice_index_or next.chains.items j not_begun ≡ last = rw chains (get_or_at state.chains.items last [] not_begun j count) in
+    record {
+      table = table;
+      own = open_rest (runs ++ own ∷ []) next (n + 1) j (omega arith) ∙ (rw (run, here) (sym settled));
+      others = λ other low high.
+          let before : run_at (runs ++ own ∷ []) other ≡ run_at runs other = get_or_append_left runs (own ∷ []) [] (other - 1) (omega arith) in
+          rw (base, before, chains) (⊎_elim (λ early. rw early refl)
+          (λ late.
+          let above : state.base < other = leb-false other state.base late in
+          rw (late, get_or_append_left state.chains.items (last ∷ []) not_begun (other - 1 - state.base) (omega arith)) refl)
+          (cases_Bool (nat_le other state.base)));
+      removed = removed;
+    }
 
 -- The same state without its first calls, which are over.
 
@@ -171,6 +193,13 @@ module _ (runs : List (List Asked)) (state : FlightState) (n : ℕ)
         waiting = waiting i;
       }
 
+-- a copy
+pub copied : (runs : List (List Asked)) (state next : FlightState) → table_of_slots next.slots ≡ table_of_slots state.slots → next.base ≡ state.base
+    → next.chains.items ≡ state.chains.items → next.removed.items ≡ state.removed.items → next.waiting.items ≡ state.waiting.items
+    → flight_view runs next ≡ flight_view runs state
+copied runs state next table base chains removed waiting =
+    without_first runs state 0 (λ j few. absurd (omega arith)) next table (omega (arith, base)) chains removed waiting
+
 -- The looks that wait.
 
 -- one look more was looked at, which waits
@@ -179,11 +208,12 @@ pub waits_more : (waiting after : List WaitingLook) (look : WaitingLook) → Are
 waits_more waiting after look fewer inside other there = ⊎_elim (λ before. fewer other before) (λ last. rw (← only_one look other last) inside)
     (Contains-append_cases after (look ∷ []) other there)
 
--- a look that waits within the size, or whose answer is a file, can't be answered so
-pub unmade : (size slot : ℕ) (found : Option Identity) → (slot < size) ⊎ (found ≡ None → ⊥) → IsLookDone size slot [] found → ⊥
-unmade size slot found why = either_way (nat_le size slot)
-    (λ past is. ⊎_elim (λ low. let high = leb-true size slot past in omega arith) (λ some. some is.1) why)
-    (λ _ is. cc)
+-- a look more waits, and some wait no more
+pub fewer_more : (waiting before after : List WaitingLook) (look : WaitingLook) → AreFewer waiting before → AreFewer (before ++ look ∷ []) after
+    → AreFewer (waiting ++ look ∷ []) after
+fewer_more waiting before after look fewer still other inside = ⊎_elim
+    (λ old. Contains-append_left waiting (look ∷ []) other (fewer other old)) (λ new. Contains-append_right waiting (look ∷ []) other new)
+    (Contains-append_cases before (look ∷ []) other (still other inside))
 
 -- The events.
 
@@ -194,20 +224,59 @@ not_logged events event none inside =
     let (x, (k, low, is), same) = contains_map happening_of events event inside in
     none k x low (ap happening_of is ∙ sym same)
 
+-- Lists that go on.
+
+by_front : {X : Type 0} (before after : List X) → IsFrontOf before after → before ++ drop (length before) after ≡ after
+by_front before after is = ap (λ (front : List _). front ++ drop (length before) after) (sym is) ∙ take-append-drop (length before) after
+
+pub front_on : {X : Type 0} (a b c : List X) → IsFrontOf a b → IsFrontOf b c → IsFrontOf a c
+front_on {X} a b c one two =
+    let whole : a ++ (drop (length a) b ++ drop (length b) c) ≡ c =
+    sym (append_assoc a (drop (length a) b) (drop (length b) c))
+    ∙ (ap (λ (front : List X). front ++ drop (length b) c) (by_front a b one) ∙ by_front b c two) in
+    ap (take (length a)) (sym whole) ∙ take-append_seam a (drop (length a) b ++ drop (length b) c)
+
+pub front_at : {X : Type 0} (before after : List X) (k : ℕ) (d : X) → IsFrontOf before after → k < length before
+    → slice_index_or after k d ≡ slice_index_or before k d
+front_at {X} before after k d is few =
+    ap (λ (l : List X). slice_index_or l k d) (sym (by_front before after is)) ∙ get_or_append_left before (drop (length before) after) d k few
+
+pub views_more : (runs : List (List Asked)) (before after : List FlightState) → IsFrontOf before after → (view : FlightView)
+    → Contains (flight_views runs before) view → Contains (flight_views runs after) view
+views_more runs before after is view inside =
+    subst (λ (l : List FlightState). Contains (flight_views runs l) view) (by_front before after is)
+    (rw map-append (Contains-append_left (flight_views runs before) (flight_views runs (drop (length before) after)) view inside))
+
+pub call_more : (log : JudgedLog) (runs : List (List Asked)) (before after : List FlightState) (state : FlightState) (id : ℕ)
+    → IsFrontOf before after → IsCallFollowed log runs before state id → IsCallFollowed log runs after state id
+call_more log runs before after state id is followed a next permits =
+    ⊎_elim (λ denied. inl denied) (λ led. inr (led.0, views_more runs before after is led.0 led.1, led.2)) (followed a next permits)
+
+state_more : (log : JudgedLog) (calls : List ChainCall) (before after : List FlightState) (state : FlightState)
+    → IsFrontOf before after → IsWhollyFollowed log calls before state → IsWhollyFollowed log calls after state
+state_more log calls before after state is (followed, denied) = (
+  λ id low high a next permits.
+      ⊎_elim (λ denied. inl denied) (λ led. inr (led.0, views_more (runs_of_calls calls) before after is led.0 led.1, led.2))
+      (followed id low high a next permits),
+  denied,
+)
+
 -- Calls and states that were looked through.
 
 -- each access that a call may make next
 pub call_followed : (log : JudgedLog) (runs : List (List Asked)) (states : List FlightState) (state : FlightState) (id : ℕ) (choices : List Access)
     → HasEachNext (catalogue_in log) (table_of_slots state.slots) (rest_of runs state id) choices → length state.slots.at.items ≡ log.setting.size
-    → All (IsAccessFollowed log runs states state id) choices → IsCallFollowed log runs states state id
+    → ((k : ℕ) (d : Access) → k < length choices → IsAccessFollowed log runs states state id (slice_index_or choices k d))
+    → IsCallFollowed log runs states state id
 call_followed log runs states state id choices each size all a next permits =
-    All-contains (IsAccessFollowed log runs states state id) choices a all (each a (rw size next) permits) permits
+    let (k, low, is) = each a (rw size next) permits in
+    (subst (IsAccessFollowed log runs states state id) is (all k a low)) permits
 
 -- each call
-pub state_followed : (log : JudgedLog) (runs : List (List Asked)) (states : List FlightState) (state : FlightState) (calls : ℕ) → state.base ≤ calls
+pub state_followed : (log : JudgedLog) (runs : List (List Asked)) (states : List FlightState) (state : FlightState) (calls : ℕ)
     → ((k : ℕ) → k < calls - state.base → IsCallFollowed log runs states state (state.base + k + 1))
     → IsStateFollowed (catalogue_in log) log.setting.size (log_in log) calls (flight_views runs states) (flight_view runs state)
-state_followed log runs states state calls within each id low high a next permits = ⊎_elim
+state_followed log runs states state calls each id low high a next permits = ⊎_elim
     (λ (late : state.base < id).
     let k : ℕ = id - 1 - state.base in
     let is : state.base + k + 1 ≡ id = omega arith in
@@ -222,26 +291,35 @@ each_view P f states each view inside =
     let (x, (k, low, is), same) = contains_map f states view inside in
     subst P (ap f is ∙ sym same) (each k x low)
 
+-- a state with the same view
+pub same_followed : (log : JudgedLog) (calls : List ChainCall) (states : List FlightState) (state own : FlightState)
+    → flight_view (runs_of_calls calls) own ≡ flight_view (runs_of_calls calls) state → IsWhollyFollowed log calls states own
+    → IsWhollyFollowed log calls states state
+same_followed log calls states state own same = subst (λ (view : FlightView).
+    IsStateFollowed (catalogue_in log) log.setting.size (log_in log) (length calls) (flight_views (runs_of_calls calls) states) view
+    × AreWaitsDenied (log_in log) view) same
+
+-- one state more
+pub more_followed : (log : JudgedLog) (calls : List ChainCall) (before after : List FlightState) {n : ℕ} {state : FlightState} → n < length before
+    → state ≡ slice_index_or before n state → IsFrontOf before after
+    → ((k : ℕ) (d : FlightState) → k < n → IsWhollyFollowed log calls before (slice_index_or before k d)) → IsWhollyFollowed log calls after state
+    → (k : ℕ) (d : FlightState) → k < n + 1 → IsWhollyFollowed log calls after (slice_index_or after k d)
+more_followed log calls before after low here is all last k d few =
+    rw (front_at before after k d is (omega arith)) (one_more_of (λ (own : FlightState). IsWhollyFollowed log calls after own) before
+    (λ j e less. state_more log calls before after (slice_index_or before j e) is (all j e less)) low here last k d few)
+
+-- all of them
+pub all_followed : (log : JudgedLog) (calls : List ChainCall) (states : List FlightState)
+    → ((k : ℕ) (d : FlightState) → k < length states → IsWhollyFollowed log calls states (slice_index_or states k d))
+    → AreFollowed (catalogue_in log) log.setting.size (log_in log) (length calls) (flight_views (runs_of_calls calls) states)
+all_followed log calls states all = each_view (λ (view : FlightView).
+    IsStateFollowed (catalogue_in log) log.setting.size (log_in log) (length calls) (flight_views (runs_of_calls calls) states) view
+    × AreWaitsDenied (log_in log) view) (flight_view (runs_of_calls calls)) states all
+
 pub limits_of : (requests : List Request) → All IsWithinLimits (all_asked requests) → All (λ (r : Request). IsWithinLimits (asked_of r)) requests
 limits_of requests all = λ k d few.
     let as_many = length-map requests asked_of in
     subst IsWithinLimits (get_or-map asked_of requests k d (asked_of d) few) (all k (asked_of d) (omega arith))
-
--- one file more was looked at, which is another
-pub kept : (files after : List Identity) (file : Identity) (i : ℕ) (d : Identity) → i < length files → (slice_index_or files i d ≡ file → ⊥)
-    → AreWithout (take i files) file after → (Contains after file → ⊥)
-    → AreWithout (take (i + 1) files) file (after ++ slice_index_or files i d ∷ [])
-    × (Contains (after ++ slice_index_or files i d ∷ []) file → ⊥)
-kept files after file i d few apart without gone = (
-  rw (take_more files i d few) (without_more (take i files) after file (slice_index_or files i d) without apart),
-  λ inside. ⊎_elim gone (λ new. apart (only_one (slice_index_or files i d) file new))
-      (Contains-append_cases after (slice_index_or files i d ∷ []) file inside),
-)
-
-pub left_out : (files after : List Identity) (file : Identity) (i : ℕ) (d : Identity) → i < length files → slice_index_or files i d ≡ file
-    → AreWithout (take i files) file after → AreWithout (take (i + 1) files) file after
-left_out files after file i d few same without =
-    rw (take_more files i d few) (without_it (take i files) after file (slice_index_or files i d) without same)
 
 -- where a call leads
 pub called_led : (rules : Rules) (runs : List (List Asked)) (state next : FlightState) (n : ℕ) {id : ℕ} {own requests : List Asked} → id ≡ n + 1
@@ -250,14 +328,6 @@ pub called_led : (rules : Rules) (runs : List (List Asked)) (state next : Flight
     → LeadsByCall rules (flight_view runs state) id requests (flight_view (runs ++ requests ∷ []) next)
     × AreFewer state.waiting.items next.waiting.items
 called_led rules runs state next n is same led waiting = (rw (is, ← same) led, λ look inside. rw waiting at inside)
-
--- where a look leads
-pub look_led : (rules : Rules) (runs : List (List Asked)) (state next : FlightState) (look : WaitingLook) (n : ℕ) → look.id ≡ n + 1
-    → LeadsByCall rules (flight_view runs state) (n + 1) [] (flight_view (runs ++ [] ∷ []) next)
-    → AreFewer (state.waiting.items ++ look ∷ []) next.waiting.items
-    → LeadsByCall rules (flight_view runs state) look.id [] (flight_view (runs ++ [] ∷ []) next)
-    × AreFewer (state.waiting.items ++ record { id = look.id; slot = look.slot } ∷ []) next.waiting.items
-look_led rules runs state next look n is led fewer = (rw is led, fewer)
 
 -- what a call answers at once is denied
 pub denied_call : (log : List Happening) (rules : Rules) (n : ℕ) {id : ℕ} {requests own : List Asked} {answered : List Completed} → id ≡ n + 1 → own ≡ requests
@@ -273,26 +343,6 @@ pub each_waits : (log : List Happening) (runs : List (List Asked)) (state : Flig
     → AreWaitsDenied log (flight_view runs state)
 each_waits log runs state each look found (k, low, is) =
     subst (λ (it : WaitingLook). Permits (table_of_slots state.slots) (Looks it.slot found) → IsLookDenied log it.id found) is (each k look low found)
-
--- The holds.
-
--- a hold of another look is still there
-abbrev pub AreHeldStill : List HeldFile → ℕ → List HeldFile → Type 0
-AreHeldStill holds id after = (hold : HeldFile) → Contains holds hold → (hold.id ≡ id → ⊥) → Contains after hold
-
-pub hold_kept : (holds after : List HeldFile) (id i : ℕ) (d : HeldFile) → i < length holds → AreHeldStill (take i holds) id after
-    → AreHeldStill (take (i + 1) holds) id (after ++ slice_index_or holds i d ∷ [])
-hold_kept holds after id i d few still hold inside apart = ⊎_elim
-    (λ before. Contains-append_left after (slice_index_or holds i d ∷ []) hold (still hold before apart))
-    (λ last. Contains-append_right after (slice_index_or holds i d ∷ []) hold last)
-    (Contains-append_cases (take i holds) (slice_index_or holds i d ∷ []) hold (rw (take_more holds i d few) at inside))
-
-pub hold_left : (holds after : List HeldFile) (id i : ℕ) (d : HeldFile) → i < length holds → (slice_index_or holds i d).id ≡ id
-    → AreHeldStill (take i holds) id after → AreHeldStill (take (i + 1) holds) id after
-hold_left holds after id i d few same still hold inside apart = ⊎_elim
-    (λ before. still hold before apart)
-    (λ last. absurd (apart (ap (λ (it : HeldFile). it.id) (sym (only_one (slice_index_or holds i d) hold last)) ∙ same)))
-    (Contains-append_cases (take i holds) (slice_index_or holds i d ∷ []) hold (rw (take_more holds i d few) at inside))
 
 -- a closed file more
 pub marked_more : {S : Type 0} (before after : IndexSet ℕ S) (file : Identity) → Updates nat_eq before after (file_number file) true → (other : Identity)

@@ -16,15 +16,17 @@ use Rattle.fx_chain.specs.declared.chain.Chain.{Chain}
 use Rattle.fx_chain.specs.Completed.{all_completed, completed_of}
 use Rattle.fx_chain.specs.Operation.{asked_of}
 use Rattle.fx_chain.specs.declared.completion.Completion.{Completion}
-use Rattle.fx_flight.specs.Events.{Happening, Called, Answered, LookCalled, LookAnswered, Freed, FileClosed, AllSettled, all_happenings}
+use Rattle.fx_flight.specs.Events.{Happening, Called, Answered, LookAnswered, Freed, FileClosed, AllSettled, all_happenings}
 use Rattle.fx_flight.specs.Events.{first_of_call, happening_of}
 use Rattle.fx_flight.specs.declared.event.LogEvent.{LogEvent}
 use Rattle.fx_flight.specs.Flight.{Accesses, IsLookDone, Logged, MayAccess, MayFollow, Moment, WasLogged, made_by, taken_in}
 use Rattle.check_flight.specs.Player.{IsCallDone, IsMemberMade, HasMadeFlight, IsCallMade, IsRingOf, accesses_in, accesses_of_plan, answers_in}
-use Rattle.check_flight.specs.Player.{IsLookAnswered, IsCallLogged, IsLookPlan, IsMarked, answers_of_plan}
+use Rattle.check_flight.specs.Player.{AreCallsMade, AreFilesTaken, AreFoundHeld, IsLookAnswered, IsCallLogged, IsMarked, IsPlanned, answers_of_plan}
+use Rattle.check_flight.specs.Player.{begun_by}
 use Rattle.check_flight.specs.declared.hold.HeldFile.{HeldFile}
-use Rattle.check_flight.specs.declared.player.CallKind.{CallKind}
-use Rattle.check_flight.specs.declared.player.CallKind.TheVariants.{Chain as ChainCall, Look}
+use Rattle.check_flight.specs.declared.plan.CallKind.{CallKind}
+use Rattle.check_flight.specs.declared.plan.CallKind.TheVariants.{Chain as ChainCall, Look}
+use Rattle.indexmap.specs.IndexSet.{IndexSet}
 use Rattle.fx_chain.specs.declared.request.Request.{Request}
 use Rattle.check_flight.specs.States.{AreWithout, setting_of}
 use Rattle.check_flight.specs.declared.judged.JudgedLog.{JudgedLog}
@@ -57,15 +59,48 @@ answers_at plans i d few =
     let n : i + 1 - 1 ≡ i = omega arith in
     rw n (get_or-map answers_of_plan plans i d [] few)
 
--- a call is done by what its plan says
-pub done_at : (log : JudgedLog) (plans : List CallPlan) (i id : ℕ) (plan : CallPlan) (requests : List Asked) (accesses : List Access)
-    (answers : List Completed) → id ≡ i + 1 → i < length plans → accesses ≡ (slice_index_or plans i plan).accesses.items
-    → answers ≡ answers_of_plan (slice_index_or plans i plan) → IsCallDone log id requests accesses answers
-    → IsCallDone log id requests (accesses_in plans id) (answers_in plans id)
-done_at log plans i id plan requests accesses answers number few those these done =
-    let mine : accesses_in plans id ≡ accesses = rw number (accesses_at plans i plan few ∙ sym those) in
-    let own : answers_in plans id ≡ answers = rw number (answers_at plans i plan few ∙ sym these) in
-    rw (mine, own) done
+-- a hold stays, or has begun to end
+still_held : (holds : List HeldFile) (flight : List Moment) (m : Moment) (id : ℕ) (file : Identity)
+    → Contains holds (record { id = id; file = file }) ⊎ WasLogged flight (Freed id)
+    → Contains holds (record { id = id; file = file }) ⊎ WasLogged (m ∷ flight) (Freed id)
+still_held holds flight m id file (inl held) = inl held
+still_held holds flight m id file (inr freed) = inr (shifted flight freed)
+
+-- the files stay if none is closed
+files_on : {S : Type 0} {flight : List Moment} {removed : List Identity} {closed : IndexSet ℕ S} (e : Happening)
+    → ((file : Identity) → e ≡ FileClosed file → ⊥) → AreFilesTaken flight removed closed → AreFilesTaken (Logged e ∷ flight) removed closed
+files_on {flight = flight} e other files = record {
+  taken = λ file inside. ⊎_elim (λ still. inl still) (λ was. inr (shifted flight was)) (files.taken file inside);
+  left = λ file inside. (
+    (files.left file inside).0,
+    λ was. ⊎_elim (λ same. other file same) (λ before. (files.left file inside).1 before) (last_or_before flight was),
+  );
+  closed = λ file was. ⊎_elim (λ same. absurd (other file same)) (λ before. files.closed file before) (last_or_before flight was);
+}
+
+-- and the holds, if no look is answered
+held_on : (flight : List Moment) (holds : List HeldFile) (e : Happening) → ((id : ℕ) (found : Option Identity) → e ≡ LookAnswered id found → ⊥)
+    → AreFoundHeld flight holds → AreFoundHeld (Logged e ∷ flight) holds
+held_on flight holds e other held id file was =
+    ⊎_elim (λ same. absurd (other id (Some file) same)) (λ before. still_held holds flight (Logged e) id file (held id file before))
+    (last_or_before flight was)
+
+no_close : (id : ℕ) (kind : CallKind) (file : Identity) → begun_by id kind ≡ FileClosed file → ⊥
+no_close id (ChainCall requests) file is = cc
+no_close id (Look slot) file is = cc
+
+no_answer : (id : ℕ) (kind : CallKind) (other : ℕ) (found : Option Identity) → begun_by id kind ≡ LookAnswered other found → ⊥
+no_answer id (ChainCall requests) other found is = cc
+no_answer id (Look slot) other found is = cc
+
+-- a plan fits a call, by its position
+pub planned_at : (log : JudgedLog) (plans : List CallPlan) (i id : ℕ) (kind : CallKind) (plan : CallPlan) → id ≡ i + 1 → i < length plans
+    → plan ≡ slice_index_or plans i plan → IsPlanned log id kind plan.accesses.items (answers_of_plan plan)
+    → IsPlanned log id kind (accesses_in plans id) (answers_in plans id)
+planned_at log plans i id kind plan number few is planned =
+    let mine : accesses_in plans id ≡ plan.accesses.items = rw number (accesses_at plans i plan few ∙ ap accesses_of_plan (sym is)) in
+    let own : answers_in plans id ≡ answers_of_plan plan = rw number (answers_at plans i plan few ∙ ap answers_of_plan (sym is)) in
+    rw (mine, own) planned
 
 module _ (old : RingState) (log : JudgedLog) (plans : List CallPlan) (ring : IsRingOf old log) where
   -- what holds by the ring
@@ -73,54 +108,30 @@ module _ (old : RingState) (log : JudgedLog) (plans : List CallPlan) (ring : IsR
       → IsChainDone old.catalogue old.size (first_of_call id) requests accesses answers
   by_ring id requests accesses answers done = rw (ring.catalogue, ring.size) done
 
-  -- An access.
+  -- another call stays
+  stays_call : {flight : List Moment} {m : Moment} {id : ℕ} {call : FlightCall} → made_by id (m ∷ flight) ≡ made_by id flight
+      → IsCallMade log plans flight id call → IsCallMade log plans (m ∷ flight) id call
+  stays_call {flight} same so_far = record {
+    logged = (shifted flight so_far.logged.0, so_far.logged.1);
+    made = same ∙ so_far.made;
+  }
 
-  -- a call that was logged stays so
-  logged_on : (flight : List Moment) (m : Moment) (id : ℕ) (kind : CallKind) → IsCallLogged log plans flight id kind
-      → IsCallLogged log plans (m ∷ flight) id kind
-  logged_on flight m id (ChainCall requests) logged = (shifted flight logged.0, logged.1)
-  logged_on flight m id (Look slot) logged = (shifted flight logged.0, logged.1)
+  -- An access.
 
   -- the call may make its next access
   may_access : (flight : List Moment) (id : ℕ) (kind : CallKind) (made : ℕ) (a : Access) → IsCallLogged log plans flight id kind
       → made_by id flight ≡ take made (accesses_in plans id) → made < length (accesses_in plans id)
+      → made_by id flight ++ a ∷ [] ≡ take (made + 1) (accesses_in plans id)
       → a ≡ slice_index_or (accesses_in plans id) made a → MayAccess (setting_of old (answers_in plans)) flight id a
-  may_access flight id (ChainCall requests) made a logged own few is =
+  may_access flight id (ChainCall requests) made a logged own few next is =
       let rest : List Access = drop (made + 1) (accesses_in plans id) in
-      let next : made_by id flight ++ a ∷ [] ≡ take (made + 1) (accesses_in plans id) =
-      ap (λ (before : List Access). before ++ a ∷ []) own
-      ∙ (ap (λ (x : Access). take made (accesses_in plans id) ++ x ∷ []) is ∙ sym (take_more (accesses_in plans id) made a few)) in
       let whole : (made_by id flight ++ a ∷ []) ++ rest ≡ accesses_in plans id =
       ap (λ (front : List Access). front ++ rest) next ∙ take-append-drop (made + 1) (accesses_in plans id) in
       inl (all_asked requests.now, logged.0, (rest, rw whole (by_ring _ _ _ _ logged.1)))
-  may_access flight id (Look slot) made a (was, inl none) own few is = absurd (let long = ap length none in omega arith)
-  may_access flight id (Look slot) made a (was, inr (found, one)) own few is =
+  may_access flight id (Look slot) made a (was, inl none) own few next is = absurd (let long = ap length none in omega arith)
+  may_access flight id (Look slot) made a (was, inr (found, one)) own few next is =
       let first : made ≡ 0 = let long = ap length one in omega arith in
       inr (slot, found, was, own ∙ (rw first refl), is ∙ (rw (one, first) refl))
-
-  -- the call that makes it goes on
-  goes_on : (flight : List Moment) (id : ℕ) (call : FlightCall) (a : Access) → IsCallMade log plans flight id call
-      → call.made < length (accesses_in plans id) → a ≡ slice_index_or (accesses_in plans id) call.made a
-      → (made_by id flight ++ a ∷ [] ≡ take (call.made + 1) (accesses_in plans id))
-  goes_on flight id call a so_far few is =
-      ap (λ (made : List Access). made ++ a ∷ []) so_far.made
-      ∙ (ap (λ (x : Access). take call.made (accesses_in plans id) ++ x ∷ []) is
-      ∙ sym (take_more (accesses_in plans id) call.made a few))
-
-  -- another call stays
-  stays_call : {flight : List Moment} {m : Moment} {id : ℕ} {call : FlightCall} → made_by id (m ∷ flight) ≡ made_by id flight
-      → IsCallMade log plans flight id call → IsCallMade log plans (m ∷ flight) id call
-  stays_call {flight} {m} {id} {call} same so_far = record {
-    logged = logged_on flight m id call.kind so_far.logged;
-    made = same ∙ so_far.made;
-  }
-
-  -- a hold stays
-  still_held : (flight : List Moment) (m : Moment) (holds : List HeldFile) (id : ℕ) (file : Identity)
-      → Contains holds (record { id = id; file = file }) ⊎ WasLogged flight (Freed id)
-      → Contains holds (record { id = id; file = file }) ⊎ WasLogged (m ∷ flight) (Freed id)
-  still_held flight m holds id file (inl held) = inl held
-  still_held flight m holds id file (inr freed) = inr (shifted flight freed)
 
   own_made : (flight : List Moment) (id : ℕ) (a : Access)
       → made_by id (Accesses (record { chain = id; access = a }) ∷ flight) ≡ made_by id flight ++ a ∷ []
@@ -138,135 +149,119 @@ module _ (old : RingState) (log : JudgedLog) (plans : List CallPlan) (ring : IsR
       → next.calls.items ≡ slice_set player.calls.items i after
       → table_of_slots next.slots ≡ table_with (table_of_slots player.slots) a
       → next.removed.items ≡ player.removed.items ++ option_to_list (file_removed_by a)
-      → next.closed ≡ player.closed → next.holds ≡ player.holds
       → ((file : Identity) → file_removed_by a ≡ Some file → IsMarked player.closed file → ⊥)
-      → HasMadeFlight old log plans read player → HasMadeFlight old log plans read next
-  moves_access {read} player next i call after a few here left is permits own more calls slots removed closed holds unclosed so_far =
+      → HasMadeFlight old log plans read player
+      → HasMadeFlight old log plans read (record player { slots = next.slots; calls = next.calls; removed = next.removed })
+  moves_access {read} player next i call after a few here left is permits own more calls slots removed unclosed so_far =
       let flight : List Moment = so_far.flight in
       let id : ℕ = i + 1 in
+      let files = so_far.files in
+      let gone : List Identity = option_to_list (file_removed_by a) in
       let moment : Moment = Accesses (record { chain = id; access = a }) in
-      let it : IsCallMade log plans flight id call = rw here at (so_far.calls i call few) in
-      let made = goes_on flight id call a it left is in
-      let may = may_access flight id call.kind call.made a it.logged it.made left is in
+      let it : IsCallMade log plans flight id call = rw here at (so_far.calls.each i call few) in
+      let made : made_by id flight ++ a ∷ [] ≡ take (call.made + 1) (accesses_in plans id) =
+      ap (λ (made : List Access). made ++ a ∷ []) it.made
+      ∙ (ap (λ (x : Access). take call.made (accesses_in plans id) ++ x ∷ []) is ∙ sym (take_more (accesses_in plans id) call.made a left)) in
       let mine : IsCallMade log plans (moment ∷ flight) id after = record {
-        logged = rw own (logged_on flight moment id call.kind it.logged);
+        logged = rw own (shifted flight it.logged.0, it.logged.1);
         made = rw more (own_made flight id a ∙ made);
       } in
       let long : length next.calls.items ≡ length player.calls.items =
       ap (λ (l : List FlightCall). length l) calls ∙ length-set player.calls.items i after in
       record {
         flight = moment ∷ flight;
-        is = (so_far.is, (rw (← so_far.table) permits, may));
+        is = (so_far.is, (rw (← so_far.table) permits, may_access flight id call.kind call.made a it.logged it.made left made is));
         logged = so_far.logged;
         table = slots ∙ ap (λ (t : Table). table_with t a) so_far.table;
-        calls = λ k d low. rw calls (⊎_elim
-            (λ (same : k ≡ i). rw (same, get_or-set_same player.calls.items i after d few) mine)
-            (λ (other : k ≡ i → ⊥). rw (get_or-set_other player.calls.items i k after d other)
-            (stays_call (other_made flight id (k + 1) a (λ (e : id ≡ k + 1). other (omega arith))) (so_far.calls k d (omega (arith, long)))))
-            (cases_eq k i));
-        unmade = λ other high. other_made flight id other a (λ (e : id ≡ other). omega (arith, long)) ∙ so_far.unmade other (omega (arith, long));
-        taken = λ file inside. ⊎_elim
-            (λ here. inl (rw removed (Contains-append_right player.removed.items (option_to_list (file_removed_by a)) file here)))
-            (λ before. ⊎_elim
-            (λ still. inl (rw removed (Contains-append_left player.removed.items (option_to_list (file_removed_by a)) file still)))
-            (λ was. inr (shifted flight was)) (so_far.taken file before))
-            (Contains-append_cases (option_to_list (file_removed_by a)) (taken_in flight) file inside);
-        removed = λ file inside. ⊎_elim
-            (λ before. (
-              Contains-append_right (option_to_list (file_removed_by a)) (taken_in flight) file (so_far.removed file before).0,
-              λ was. (so_far.removed file before).1 (unshifted flight was),
-            ))
-            (λ here. (
-              Contains-append_left (option_to_list (file_removed_by a)) (taken_in flight) file here,
-              λ was. unclosed file (taken (file_removed_by a) file here) (so_far.closed file (unshifted flight was)),
-            ))
-            (Contains-append_cases player.removed.items (option_to_list (file_removed_by a)) file (rw removed at inside));
-        closed = λ file was. rw closed (so_far.closed file (unshifted flight was));
-        holds = λ other file was. rw holds (still_held flight moment player.holds.items other file (so_far.holds other file (unshifted flight was)));
+        calls = record {
+          each = λ k d low. rw calls (⊎_elim
+              (λ (same : k ≡ i). rw (same, get_or-set_same player.calls.items i after d few) mine)
+              (λ (other : k ≡ i → ⊥). rw (get_or-set_other player.calls.items i k after d other)
+              (stays_call (other_made flight id (k + 1) a (λ (e : id ≡ k + 1). other (omega arith))) (so_far.calls.each k d (omega (arith, long)))))
+              (cases_eq k i));
+          unmade = λ other high. other_made flight id other a (λ (e : id ≡ other). omega (arith, long)) ∙ so_far.calls.unmade other (omega (arith, long));
+        };
+        files = record {
+          taken = λ file inside. ⊎_elim (λ here. inl (rw removed (Contains-append_right player.removed.items gone file here)))
+              (λ before. ⊎_elim (λ still. inl (rw removed (Contains-append_left player.removed.items gone file still)))
+              (λ was. inr (shifted flight was)) (files.taken file before))
+              (Contains-append_cases gone (taken_in flight) file inside);
+          left = λ file inside. ⊎_elim
+              (λ before. (
+                Contains-append_right gone (taken_in flight) file (files.left file before).0,
+                λ was. (files.left file before).1 (unshifted flight was),
+              ))
+              (λ here. (
+                Contains-append_left gone (taken_in flight) file here,
+                λ was. unclosed file (taken (file_removed_by a) file here) (files.closed file (unshifted flight was)),
+              ))
+              (Contains-append_cases player.removed.items gone file (rw removed at inside));
+          closed = λ file was. files.closed file (unshifted flight was);
+        };
+        holds = λ other file was. still_held player.holds.items flight moment other file (so_far.holds other file (unshifted flight was));
       }
 
   -- An event.
+
+  -- the calls that were begun go on
+  calls_on : {flight : List Moment} {calls : List FlightCall} (e : Happening) → AreCallsMade log plans flight calls
+      → AreCallsMade log plans (Logged e ∷ flight) calls
+  calls_on e all = record { each = λ k d low. stays_call refl (all.each k d low); unmade = all.unmade }
 
   -- one that changes nothing
   pub moves_event : {read : List Happening} {player : FlightPlayer} (e : Happening) → ((file : Identity) → e ≡ FileClosed file → ⊥)
       → ((id : ℕ) (found : Option Identity) → e ≡ LookAnswered id found → ⊥) → (so_far : HasMadeFlight old log plans read player)
       → MayFollow (setting_of old (answers_in plans)) so_far.flight e → HasMadeFlight old log plans (read ++ e ∷ []) player
-  moves_event {read} {player} e close look so_far may =
-      let flight : List Moment = so_far.flight in
-      record {
-        flight = Logged e ∷ flight;
-        is = (so_far.is, may);
-        logged = ap (λ (l : List Happening). l ++ e ∷ []) so_far.logged;
-        table = so_far.table;
-        calls = λ k d low. stays_call refl (so_far.calls k d low);
-        unmade = so_far.unmade;
-        taken = λ file inside. ⊎_elim (λ still. inl still) (λ was. inr (shifted flight was)) (so_far.taken file inside);
-        removed = λ file inside. (
-          (so_far.removed file inside).0,
-          λ was. ⊎_elim (λ same. close file same) (λ before. (so_far.removed file inside).1 before) (last_or_before flight was),
-        );
-        closed = λ file was. ⊎_elim (λ same. absurd (close file same)) (λ before. so_far.closed file before) (last_or_before flight was);
-        holds = λ id file was. ⊎_elim (λ same. absurd (look id (Some file) same)) (λ before. still_held flight (Logged e) player.holds.items id file (so_far.holds id file before))
-            (last_or_before flight was);
-      }
+  moves_event {read} {player} e close look so_far may = record {
+    flight = Logged e ∷ so_far.flight;
+    is = (so_far.is, may);
+    logged = ap (λ (l : List Happening). l ++ e ∷ []) so_far.logged;
+    table = so_far.table;
+    calls = calls_on e so_far.calls;
+    files = files_on e close so_far.files;
+    holds = held_on so_far.flight player.holds.items e look so_far.holds;
+  }
+
+  -- a call may begin if its plan fits it
+  may_begin : (flight : List Moment) (id : ℕ) (kind : CallKind) → IsPlanned log id kind (accesses_in plans id) (answers_in plans id)
+      → MayFollow (setting_of old (answers_in plans)) flight (begun_by id kind)
+  may_begin flight id (ChainCall requests) done = (accesses_in plans id, by_ring _ _ _ _ done)
+  may_begin flight id (Look slot) fits = tt
 
   -- a call
-  begins : {read : List Happening} (player next : FlightPlayer) (call : FlightCall) {id : ℕ} (e : Happening) → id ≡ length player.calls.items + 1
-      → ((flight : List Moment) → IsCallLogged log plans (Logged e ∷ flight) id call.kind) → call.made ≡ 0
-      → ((file : Identity) → e ≡ FileClosed file → ⊥) → ((id : ℕ) (found : Option Identity) → e ≡ LookAnswered id found → ⊥)
-      → ((flight : List Moment) → MayFollow (setting_of old (answers_in plans)) flight e)
-      → next.calls.items ≡ player.calls.items ++ call ∷ []
-      → next.slots ≡ player.slots → next.removed ≡ player.removed → next.closed ≡ player.closed → next.holds ≡ player.holds
-      → HasMadeFlight old log plans read player → HasMadeFlight old log plans (read ++ e ∷ []) next
-  unfolding moves_event
-  begins {read} player next call {id} e is logged none close look may calls slots removed closed holds so_far =
+  pub moves_begin : {read : List Happening} (player next : FlightPlayer) (kind : CallKind) {id : ℕ} → id ≡ length player.calls.items + 1
+      → IsPlanned log id kind (accesses_in plans id) (answers_in plans id)
+      → next.calls.items ≡ player.calls.items ++ record { kind = kind; made = 0 } ∷ []
+      → HasMadeFlight old log plans read player
+      → HasMadeFlight old log plans (read ++ begun_by id kind ∷ []) (record player { calls = next.calls })
+  moves_begin {read} player next kind {id} is planned calls so_far =
       let flight : List Moment = so_far.flight in
-      let on = moves_event e close look so_far (may flight) in
-      let n : ℕ = length player.calls.items in
+      let before : List FlightCall = player.calls.items in
+      let call : FlightCall = record { kind = kind; made = 0 } in
+      let e : Happening = begun_by id kind in
       let mine : IsCallMade log plans (Logged e ∷ flight) id call = record {
-        logged = logged flight;
-        made = rw none (so_far.unmade id (omega arith));
+        logged = (contains_head (Logged e) flight, planned);
+        made = so_far.calls.unmade id (omega arith);
       } in
-      let long : length next.calls.items ≡ n + 1 = ap (λ (l : List FlightCall). length l) calls ∙ length-append player.calls.items (call ∷ []) in
+      let long : length next.calls.items ≡ length before + 1 = ap (λ (l : List FlightCall). length l) calls ∙ length-append before (call ∷ []) in
       record {
         flight = Logged e ∷ flight;
-        is = on.is;
-        logged = on.logged;
-        table = rw slots so_far.table;
-        calls = λ k d low. rw calls (⊎_elim
-            (λ (same : k ≡ n).
-            let number : k + 1 ≡ id = omega arith in
-            rw (number, get_or_at player.calls.items call [] d k (sym same)) mine)
-            (λ (other : k ≡ n → ⊥). rw (get_or_append_left player.calls.items (call ∷ []) d k (omega (arith, long)))
-            (stays_call refl (so_far.calls k d (omega (arith, long)))))
-            (cases_eq k n));
-        unmade = λ other high. so_far.unmade other (omega (arith, long));
-        taken = λ file inside. rw removed (on.taken file inside);
-        removed = λ file inside. on.removed file (rw removed at inside);
-        closed = λ file was. rw closed (on.closed file was);
-        holds = λ other file was. rw holds (on.holds other file was);
+        is = (so_far.is, may_begin flight id kind planned);
+        logged = ap (λ (l : List Happening). l ++ e ∷ []) so_far.logged;
+        table = so_far.table;
+        calls = record {
+          each = λ k d low. rw calls (⊎_elim
+              (λ (same : k ≡ length before).
+              let number : k + 1 ≡ id = omega arith in
+              rw (number, get_or_at before call [] d k (sym same)) mine)
+              (λ (other : k ≡ length before → ⊥). rw (get_or_append_left before (call ∷ []) d k (omega (arith, long)))
+              (stays_call refl (so_far.calls.each k d (omega (arith, long)))))
+              (cases_eq k (length before)));
+          unmade = λ other high. so_far.calls.unmade other (omega (arith, long));
+        };
+        files = files_on e (no_close id kind) so_far.files;
+        holds = held_on flight player.holds.items e (no_answer id kind) so_far.holds;
       }
-
-  -- a chain
-  pub moves_call : {read : List Happening} (player next : FlightPlayer) (call : FlightCall) (requests : List Asked) {id : ℕ}
-      → id ≡ length player.calls.items + 1 → IsCallDone log id requests (accesses_in plans id) (answers_in plans id)
-      → ((flight : List Moment) → IsCallLogged log plans (Logged (Called id requests) ∷ flight) id call.kind) → call.made ≡ 0
-      → next.calls.items ≡ player.calls.items ++ call ∷ []
-      → next.slots ≡ player.slots → next.removed ≡ player.removed → next.closed ≡ player.closed → next.holds ≡ player.holds
-      → HasMadeFlight old log plans read player → HasMadeFlight old log plans (read ++ Called id requests ∷ []) next
-  moves_call player next call requests {id} is done logged none =
-      begins player next call (Called id requests) is logged none (λ file same. cc) (λ other found same. cc)
-      (λ flight. (accesses_in plans id, by_ring _ _ _ _ done))
-
-  -- a look
-  pub moves_look : {read : List Happening} (player next : FlightPlayer) (call : FlightCall) (slot : ℕ) {id : ℕ}
-      → id ≡ length player.calls.items + 1
-      → ((flight : List Moment) → IsCallLogged log plans (Logged (LookCalled id slot) ∷ flight) id call.kind) → call.made ≡ 0
-      → next.calls.items ≡ player.calls.items ++ call ∷ []
-      → next.slots ≡ player.slots → next.removed ≡ player.removed → next.closed ≡ player.closed → next.holds ≡ player.holds
-      → HasMadeFlight old log plans read player → HasMadeFlight old log plans (read ++ LookCalled id slot ∷ []) next
-  moves_look player next call slot {id} is logged none =
-      begins player next call (LookCalled id slot) is logged none (λ file same. cc) (λ other found same. cc) (λ flight. tt)
 
   -- an answer
   pub moves_answer : {read : List Happening} {player : FlightPlayer} (i : ℕ) {id : ℕ} {call : FlightCall} {plan : CallPlan} {c : Completed} {requests : List Asked}
@@ -276,7 +271,7 @@ module _ (old : RingState) (log : JudgedLog) (plans : List CallPlan) (ring : IsR
       → HasMadeFlight old log plans read player → HasMadeFlight old log plans (read ++ Answered id c ∷ []) player
   moves_answer {read} {player} i {id} {call} {plan} {c} {requests} number few here chain within there member so_far =
       let flight : List Moment = so_far.flight in
-      let it : IsCallMade log plans flight id call = rw (here, ← number) at (so_far.calls i call few) in
+      let it : IsCallMade log plans flight id call = rw (here, ← number) at (so_far.calls.each i call few) in
       let A : List Completed = answers_of_plan plan in
       let mine : List Access = plan.accesses.items in
       let answers : answers_in plans id ≡ A = rw number (answers_at plans i plan within ∙ ap answers_of_plan there) in
@@ -314,98 +309,93 @@ module _ (old : RingState) (log : JudgedLog) (plans : List CallPlan) (ring : IsR
       → ((hold : HeldFile) → Contains player.holds.items hold → hold.file ≡ file → ⊥)
       → AreWithout player.removed.items file next.removed.items → (Contains next.removed.items file → ⊥)
       → ((other : Identity) → (file ≡ other) ⊎ IsMarked player.closed other → IsMarked next.closed other)
-      → next.slots ≡ player.slots → next.calls ≡ player.calls → next.holds ≡ player.holds
-      → HasMadeFlight old log plans read player → HasMadeFlight old log plans (read ++ FileClosed file ∷ []) next
-  moves_close {read} player next file inside unheld without gone closed slots calls holds so_far =
+      → HasMadeFlight old log plans read player
+      → HasMadeFlight old log plans (read ++ FileClosed file ∷ []) (record player { removed = next.removed; closed = next.closed })
+  moves_close {read} player next file inside unheld without gone closed so_far =
       let flight : List Moment = so_far.flight in
+      let files = so_far.files in
       let e : Happening = FileClosed file in
       record {
         flight = Logged e ∷ flight;
         is = (
           so_far.is,
           record {
-            removed = (so_far.removed file inside).0;
-            once = (so_far.removed file inside).1;
+            removed = (files.left file inside).0;
+            once = (files.left file inside).1;
             unheld = λ id was. ⊎_elim (λ held. absurd (unheld (record { id = id; file = file }) held refl)) (λ freed. freed)
                 (so_far.holds id file was);
           },
         );
         logged = ap (λ (l : List Happening). l ++ e ∷ []) so_far.logged;
-        table = rw slots so_far.table;
-        calls = λ k d low. rw calls (stays_call refl (so_far.calls k d (rw calls at low)));
-        unmade = λ id high. so_far.unmade id (rw calls at high);
-        taken = λ other there. ⊎_elim
-            (λ (same : other ≡ file). inr (rw same (contains_head (Logged e) flight)))
-            (λ (apart : other ≡ file → ⊥). ⊎_elim (λ still. inl ((without other).1 apart still)) (λ was. inr (shifted flight was))
-            (so_far.taken other there))
-            (same_or_not other file);
-        removed = λ other there.
-            let before = (without other).0 there in (
-              (so_far.removed other before).0,
-              λ was. ⊎_elim (λ same. let it : file ≡ other = cc in gone (rw it there))
-                  (λ earlier. (so_far.removed other before).1 earlier) (last_or_before flight was),
-            );
-        closed = λ other was. closed other (⊎_elim (λ same. inl (let it : file ≡ other = cc in it)) (λ earlier. inr (so_far.closed other earlier))
-            (last_or_before flight was));
-        holds = λ id other was. rw holds (⊎_elim (λ same. cc) (λ earlier. still_held flight (Logged e) player.holds.items id other (so_far.holds id other earlier)) (last_or_before flight was));
+        table = so_far.table;
+        calls = calls_on e so_far.calls;
+        files = record {
+          taken = λ other there. ⊎_elim
+              (λ (same : other ≡ file). inr (rw same (contains_head (Logged e) flight)))
+              (λ (apart : other ≡ file → ⊥). ⊎_elim (λ still. inl ((without other).1 apart still)) (λ was. inr (shifted flight was))
+              (files.taken other there))
+              (same_or_not other file);
+          left = λ other there.
+              let before = (without other).0 there in (
+                (files.left other before).0,
+                λ was. ⊎_elim (λ same. let it : file ≡ other = cc in gone (rw it there))
+                    (λ earlier. (files.left other before).1 earlier) (last_or_before flight was),
+              );
+          closed = λ other was. closed other (⊎_elim (λ same. inl (let it : file ≡ other = cc in it)) (λ earlier. inr (files.closed other earlier))
+              (last_or_before flight was));
+        };
+        holds = held_on flight player.holds.items e (λ id found same. cc) so_far.holds;
       }
 
   -- the answer of a look
   pub moves_found : {read : List Happening} (player next : FlightPlayer) (id : ℕ) (found : Option Identity) → IsLookAnswered log plans player id found
-      → next.slots ≡ player.slots → next.calls ≡ player.calls → next.removed ≡ player.removed → next.closed ≡ player.closed
       → ((hold : HeldFile) → Contains player.holds.items hold → Contains next.holds.items hold)
       → ((file : Identity) → found ≡ Some file → Contains next.holds.items (record { id = id; file = file }))
-      → HasMadeFlight old log plans read player → HasMadeFlight old log plans (read ++ LookAnswered id found ∷ []) next
-  moves_found {read} player next id found has slots calls removed closed holds more so_far =
+      → HasMadeFlight old log plans read player
+      → HasMadeFlight old log plans (read ++ LookAnswered id found ∷ []) (record player { holds = next.holds })
+  moves_found {read} player next id found has holds more so_far =
       let flight : List Moment = so_far.flight in
       let e : Happening = LookAnswered id found in
-      let it : IsCallMade log plans flight id has.call = rw (has.here, ← has.is) at (so_far.calls has.at has.call has.inside) in
+      let it : IsCallMade log plans flight id has.call = rw (has.here, ← has.is) at (so_far.calls.each has.at has.call has.inside) in
       let logged : IsCallLogged log plans flight id (Look has.slot) = rw has.kind at it.logged in
       let done : IsLookDone old.size has.slot (made_by id flight) found = rw (ring.size, it.made) has.done in
       record {
         flight = Logged e ∷ flight;
-        is = (so_far.is, (has.slot, logged.0, done, λ file same was. has.unclosed file same (so_far.closed file was)));
+        is = (so_far.is, (has.slot, logged.0, done, λ file same was. has.unclosed file same (so_far.files.closed file was)));
         logged = ap (λ (l : List Happening). l ++ e ∷ []) so_far.logged;
-        table = rw slots so_far.table;
-        calls = λ k d low. rw calls (stays_call refl (so_far.calls k d (rw calls at low)));
-        unmade = λ other high. so_far.unmade other (rw calls at high);
-        taken = λ file inside. rw removed (⊎_elim (λ still. inl still) (λ was. inr (shifted flight was)) (so_far.taken file inside));
-        removed = λ file inside. let before = so_far.removed file (rw removed at inside) in
-            (before.0, λ was. ⊎_elim (λ same. cc) (λ earlier. before.1 earlier) (last_or_before flight was));
-        closed = λ file was. rw closed (⊎_elim (λ same. cc) (λ earlier. so_far.closed file earlier) (last_or_before flight was));
+        table = so_far.table;
+        calls = calls_on e so_far.calls;
+        files = files_on e (λ file same. cc) so_far.files;
         holds = λ other file was. ⊎_elim
             (λ same.
             let number : id ≡ other = cc in
             let is : found ≡ Some file = cc in
             inl (rw number at (more file is)))
-            (λ earlier. ⊎_elim (λ held. inl (holds (record { id = other; file = file }) held)) (λ freed. inr (shifted flight freed))
-            (so_far.holds other file earlier))
+            (λ earlier. still_held next.holds.items flight (Logged e) other file (⊎_elim (λ held. inl (holds (record { id = other; file = file }) held)) (λ freed. inr freed)
+            (so_far.holds other file earlier)))
             (last_or_before flight was);
       }
 
   -- the end of a hold
   pub moves_free : {read : List Happening} (player next : FlightPlayer) (id : ℕ)
-      → next.slots ≡ player.slots → next.calls ≡ player.calls → next.removed ≡ player.removed → next.closed ≡ player.closed
       → ((hold : HeldFile) → Contains player.holds.items hold → (hold.id ≡ id → ⊥) → Contains next.holds.items hold)
-      → HasMadeFlight old log plans read player → HasMadeFlight old log plans (read ++ Freed id ∷ []) next
-  unfolding moves_event
-  moves_free {read} player next id slots calls removed closed holds so_far =
+      → HasMadeFlight old log plans read player
+      → HasMadeFlight old log plans (read ++ Freed id ∷ []) (record player { holds = next.holds })
+  moves_free {read} player next id holds so_far =
       let flight : List Moment = so_far.flight in
-      let on = moves_event (Freed id) (λ file same. cc) (λ other found same. cc) so_far tt in
+      let e : Happening = Freed id in
+      let on = held_on flight player.holds.items e (λ other found same. cc) so_far.holds in
       record {
-        flight = Logged (Freed id) ∷ flight;
-        is = on.is;
-        logged = on.logged;
-        table = rw slots so_far.table;
-        calls = λ k d low. rw calls (stays_call refl (so_far.calls k d (rw calls at low)));
-        unmade = λ other high. so_far.unmade other (rw calls at high);
-        taken = λ file inside. rw removed (on.taken file inside);
-        removed = λ file inside. on.removed file (rw removed at inside);
-        closed = λ file was. rw closed (on.closed file was);
+        flight = Logged e ∷ flight;
+        is = (so_far.is, tt);
+        logged = ap (λ (l : List Happening). l ++ e ∷ []) so_far.logged;
+        table = so_far.table;
+        calls = calls_on e so_far.calls;
+        files = files_on e (λ file same. cc) so_far.files;
         holds = λ other file was. ⊎_elim
-            (λ held. ⊎_elim (λ (same : other ≡ id). inr (rw same (contains_head (Logged (Freed id)) flight)))
+            (λ held. ⊎_elim (λ (same : other ≡ id). inr (rw same (contains_head (Logged e) flight)))
             (λ (apart : other ≡ id → ⊥). inl (holds (record { id = other; file = file }) held apart)) (cases_eq other id))
-            (λ freed. inr freed) (on.holds other file was);
+            (λ freed. inr freed) (on other file was);
       }
 
   -- the end of a wait for all closes
@@ -413,7 +403,8 @@ module _ (old : RingState) (log : JudgedLog) (plans : List CallPlan) (ring : IsR
       → HasMadeFlight old log plans (read ++ AllSettled ∷ []) player
   moves_end none so_far =
       moves_event AllSettled (λ file same. cc) (λ id found same. cc) so_far
-      (λ file inside. ⊎_elim (λ still. let it = rw none at still in absurd (let few = it.1 in omega arith)) (λ was. was) (so_far.taken file inside))
+      (λ file inside. ⊎_elim (λ still. let it = rw none at still in absurd (let few = it.1 in omega arith)) (λ was. was)
+      (so_far.files.taken file inside))
 
   -- before the first move
   pub moves_first : (player : FlightPlayer) → table_of_slots player.slots ≡ table_of old → player.calls.items ≡ [] → player.removed.items ≡ []
@@ -423,11 +414,12 @@ module _ (old : RingState) (log : JudgedLog) (plans : List CallPlan) (ring : IsR
     is = tt;
     logged = refl;
     table = table;
-    calls = λ k d low. absurd (let few = rw calls at low in omega arith);
-    unmade = λ id high. refl;
-    taken = λ file inside. absurd (let few = inside.1 in omega arith);
-    removed = λ file inside. let it = rw removed at inside in absurd (let few = it.1 in omega arith);
-    closed = λ file was. absurd (let few = was.1 in omega arith);
+    calls = record { each = λ k d low. absurd (let few = rw calls at low in omega arith); unmade = λ id high. refl };
+    files = record {
+      taken = λ file inside. absurd (let few = inside.1 in omega arith);
+      left = λ file inside. let it = rw removed at inside in absurd (let few = it.1 in omega arith);
+      closed = λ file was. absurd (let few = was.1 in omega arith);
+    };
     holds = λ id file was. absurd (let few = was.1 in omega arith);
   }
 
@@ -463,8 +455,3 @@ read_more events at event few is =
     take_more (map happening_of events) at (happening_of event) (omega (arith, few, length-map events happening_of))
     ∙ ap (λ (e : Happening). take at (map happening_of events) ++ e ∷ [])
     (get_or-map happening_of events at event (happening_of event) few ∙ ap happening_of (sym is))
-
--- the plan of a look fits it
-pub look_planned : (plans : List CallPlan) (i id slot : ℕ) (plan : CallPlan) → id ≡ i + 1 → i < length plans
-    → IsLookPlan slot (slice_index_or plans i plan).accesses.items → IsLookPlan slot (accesses_in plans id)
-look_planned plans i id slot plan number few fits = rw (number, accesses_at plans i plan few) fits

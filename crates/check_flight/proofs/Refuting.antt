@@ -1,6 +1,6 @@
 -- A refutation, from front to front.
 use Rattle.check_flight.proofs.Words.{◌≡◌, ℕ, ◌+◌, ◌<◌, List, [], ◌∷◌, ◌++◌, length, take, refl, sym, ap, ◌∙◌, arith, subst, suc, Asked}
-use Rattle.check_flight.proofs.Words.{contains_head, Contains}
+use Rattle.check_flight.proofs.Words.{contains_head, Contains, inl, inr, ⊎_elim}
 use Rattle.check_outcomes.proofs.Words.{drop, length-map, drop_all}
 use Rattle.std.proofs.Math.Seq.{drop-cons}
 use Rattle.std.proofs.lemmas.List.{take_more}
@@ -8,9 +8,10 @@ use Rattle.fx_flight.specs.Events.{Happening, AllSettled}
 use Rattle.fx_order.specs.Slots.{ring_of_slots}
 use Rattle.fx_order.specs.declared.slots.Slots.{Slots}
 use Rattle.check_flight.proofs.Fronts.{refuted}
+use Rattle.check_flight.proofs.Judging.{views_more}
 use Rattle.check_flight.proofs.Steps.{only_one}
 use Rattle.check_flight.specs.declared.state.WaitingLook.{WaitingLook}
-use Rattle.check_flight.specs.Judged.{catalogue_in, flight_view, flight_views, log_in, requests_of, rules_of_log, runs_of_calls}
+use Rattle.check_flight.specs.Judged.{IsFrontOf, catalogue_in, flight_view, flight_views, log_in, requests_of, rules_of_log, runs_of_calls}
 use Rattle.check_flight.specs.Passages.{IsFirstFront, IsNextFront, IsRefutedAfter, event_at}
 use Rattle.check_outcomes.specs.Rests.{rules_of}
 use Rattle.check_flight.specs.States.{AreFollowed, ArePassed, FlightView, HasNoFlight, IsNumbered, runs_with}
@@ -77,18 +78,22 @@ module _ (log : JudgedLog) (slots : Slots) where
       before submissions registrations (rw over (ap (flight_views (runs_of_calls calls)) none))
 
 -- what was looked through follows
-pub next_front_is : (log : JudgedLog) (at known : ℕ) (calls more before all : List ChainCall) (states nexts : List FlightState) (event : Happening)
-    → event ≡ event_at log at → all ≡ more → before ≡ take known all → known ≡ length calls → take (length calls) more ≡ calls
+pub next_front_is : (log : JudgedLog) (at known : ℕ) (calls more before all : List ChainCall) (states nexts final : List FlightState)
+    (event : Happening) → event ≡ event_at log at → all ≡ more → before ≡ take known all → known ≡ length calls → IsFrontOf calls more
     → runs_of_calls more ≡ runs_with (runs_of_calls calls) event → IsNumbered known event
     → ArePassed (rules_of_log log) (log_in log) (runs_of_calls before) (take at (log_in log)) (flight_views (runs_of_calls before) states)
     (flight_views (runs_with (runs_of_calls before) event) nexts) event
-    → AreFollowed (catalogue_in log) log.setting.size (log_in log) (length all) (flight_views (runs_of_calls all) nexts)
-    → IsNextFront log at calls states more nexts
-next_front_is log at known calls more before all states nexts event event_is all_is before_is known_is front runs numbered passed closed =
+    → IsFrontOf nexts final
+    → AreFollowed (catalogue_in log) log.setting.size (log_in log) (length all) (flight_views (runs_of_calls all) final)
+    → IsNextFront log at calls states more final
+next_front_is log at known calls more before all states nexts final event event_is all_is before_is known_is front runs numbered passed kept closed =
     let same : before ≡ calls = before_is ∙ ((λ i. take (known_is i) (all_is i)) ∙ front) in
+    let nexts_too = λ (state : FlightView) (inside : Contains (flight_views (runs_of_calls before) states) state).
+    ⊎_elim (λ stopped. inl stopped)
+    (λ led. inr (led.0, views_more (runs_with (runs_of_calls before) event) nexts final kept led.0 led.1, led.2)) (passed state inside) in
     record {
       runs = rw (← event_is) runs;
       numbered = rw (← event_is, ← known_is) numbered;
-      passed = rw (← event_is, ← same) passed;
+      passed = rw (← event_is, ← same) nexts_too;
       closed = rw (← all_is) closed;
     }

@@ -1,5 +1,5 @@
 -- The states of the judge, as contracts see them.
-use Rattle.std.specs.Prelude.{ℕ, ◌-◌, nat_le, List, map, slice_index_or, if◌then◌else◌}
+use Rattle.std.specs.Prelude.{◌≡◌, ℕ, ◌-◌, nat_le, List, length, map, take, slice_index_or, if◌then◌else◌}
 use Rattle.fx_base.specs.Catalogue.{FileEntry}
 use Rattle.fx_chain.specs.Operation.{Asked, all_asked}
 use Rattle.fx_order.specs.Access.{Permits}
@@ -9,10 +9,14 @@ use Rattle.check_outcomes.specs.Rests.{IsNext, Rest, Rules, over, rules_of}
 use Rattle.check_outcomes.specs.Stands.{rest_in}
 use Rattle.check_outcomes.specs.Views.{not_begun, run_at}
 use Rattle.fx_flight.specs.Events.{Happening, all_happenings, first_of_call}
-use Rattle.check_flight.specs.States.{FlightView, IsFollowed}
+use Rattle.check_flight.specs.States.{AreWaitsDenied, FlightView, IsFollowed, IsStateFollowed}
 use Rattle.check_flight.specs.declared.judged.ChainCall.{ChainCall}
 use Rattle.check_flight.specs.declared.judged.JudgedLog.{JudgedLog}
 use Rattle.check_flight.specs.declared.state.FlightState.{FlightState}
+
+-- a list that the other one begins with
+abbrev pub IsFrontOf : {X : Type 0} → List X → List X → Type 0
+IsFrontOf before after = take (length before) after ≡ before
 
 abbrev pub log_in : JudgedLog → List Happening
 log_in log = all_happenings log.events.now
@@ -62,3 +66,11 @@ abbrev pub IsCallFollowed : JudgedLog → List (List Asked) → List FlightState
 IsCallFollowed log runs states state id =
     (a : Access) → IsNext (catalogue_in log) log.setting.size (rest_of runs state id) a
     → IsAccessFollowed log runs states state id a
+
+-- each access that a call may make next in a state is followed, and each look that waits there is
+-- denied
+abbrev pub IsWhollyFollowed : JudgedLog → List ChainCall → List FlightState → FlightState → Type 0
+IsWhollyFollowed log calls states state =
+    IsStateFollowed (catalogue_in log) log.setting.size (log_in log) (length calls)
+    (flight_views (runs_of_calls calls) states) (flight_view (runs_of_calls calls) state)
+    × AreWaitsDenied (log_in log) (flight_view (runs_of_calls calls) state)

@@ -2,14 +2,17 @@
 use Rattle.std.specs.Prelude.{◌≡◌, ◌⊎◌, ℕ, List, ◌∷◌, [], length, take, drop, slice_index_or}
 use Rattle.std.specs.Prelude.{Contains}
 use Rattle.fx_chain.specs.Operation.{Asked}
+use Rattle.fx_order.specs.Access.{Permits}
 use Rattle.fx_order.specs.Slots.{ring_of_slots, table_of_slots}
+use Rattle.fx_order.specs.declared.access.Access.{Access}
 use Rattle.fx_order.specs.declared.slots.Slots.{Slots}
+use Rattle.check_outcomes.specs.Rests.{step}
 use Rattle.fx_flight.specs.Events.{Happening, AllSettled}
 use Rattle.check_flight.specs.Judged.{catalogue_in, flight_view, flight_views, log_in}
-use Rattle.check_flight.specs.Judged.{rules_of_log, runs_of_calls}
+use Rattle.check_flight.specs.Judged.{rest_of, rules_of_log, runs_of_calls}
 use Rattle.check_flight.specs.Refutations.{IsRefutedFrom}
 use Rattle.check_flight.specs.States.{AreFollowed, ArePassed, FlightView, HasNoFlight, IsLed}
-use Rattle.check_flight.specs.States.{IsNumbered, IsStopped, runs_with}
+use Rattle.check_flight.specs.States.{IsNumbered, IsOneDenied, IsStopped, StepsByAccess, runs_with}
 use Rattle.check_flight.specs.declared.judged.ChainCall.{ChainCall}
 use Rattle.check_flight.specs.declared.judged.JudgedLog.{JudgedLog}
 use Rattle.check_flight.specs.declared.passage.Passage.{Passage}
@@ -25,6 +28,15 @@ IsPassage log runs read state event (Leads next) =
     IsLed (rules_of_log log) (flight_view runs state)
     (flight_view (runs_with runs event) next) event
 IsPassage log runs read state event IsUnfit = Unit {0}
+
+-- the access of a call does this to the state
+abbrev pub IsAccessPassage : JudgedLog → List (List Asked) → FlightState → ℕ → Access → Passage
+    → Type 0
+IsAccessPassage log runs state id a Stops = Permits (table_of_slots state.slots) a
+    → IsOneDenied (log_in log) (step (rules_of_log log) (rest_of runs state id) a).0
+IsAccessPassage log runs state id a (Leads next) =
+    StepsByAccess (rules_of_log log) (flight_view runs state) id a (flight_view runs next)
+IsAccessPassage log runs state id a IsUnfit = Unit {0}
 
 -- the event is impossible in the state, or leads to one of the next states
 abbrev pub IsStatePassed : JudgedLog → List (List Asked) → List Happening → List FlightState

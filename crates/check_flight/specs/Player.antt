@@ -22,8 +22,8 @@ use Rattle.check_flight.specs.States.{setting_of}
 use Rattle.check_flight.specs.declared.hold.HeldFile.{HeldFile}
 use Rattle.check_flight.specs.declared.judged.JudgedLog.{JudgedLog}
 use Rattle.check_flight.specs.declared.plan.CallPlan.{CallPlan}
-use Rattle.check_flight.specs.declared.player.CallKind.{CallKind}
-use Rattle.check_flight.specs.declared.player.CallKind.TheVariants.{Chain, Look}
+use Rattle.check_flight.specs.declared.plan.CallKind.{CallKind}
+use Rattle.check_flight.specs.declared.plan.CallKind.TheVariants.{Chain, Look}
 use Rattle.check_flight.specs.declared.player.FlightPlayer.{FlightPlayer}
 use Rattle.check_flight.specs.declared.player.FlightCall.{FlightCall}
 
@@ -64,19 +64,35 @@ abbrev pub IsLookPlan : ℕ → List Access → Type 0
 IsLookPlan slot accesses =
     (accesses ≡ []) ⊎ ((found : Option Identity) × (accesses ≡ Looks slot found ∷ []))
 
+-- the event that begins a call
+abbrev pub begun_by : ℕ → CallKind → Happening
+begun_by id (Chain requests) = Called id (all_asked requests.now)
+begun_by id (Look slot) = LookCalled id slot
+
+-- a call may make these accesses, and have these answers
+abbrev pub IsPlanned : JudgedLog → ℕ → CallKind → List Access → List Completed → Type 0
+IsPlanned log id (Chain requests) accesses answers =
+    IsCallDone log id (all_asked requests.now) accesses answers
+IsPlanned log id (Look slot) accesses answers = IsLookPlan slot accesses
+
 -- the call was logged, and its plan fits it
 abbrev pub IsCallLogged : JudgedLog → List CallPlan → List Moment → ℕ → CallKind → Type 0
-IsCallLogged log plans flight id (Chain requests) =
-    WasLogged flight (Called id (all_asked requests.now))
-    × IsCallDone log id (all_asked requests.now) (accesses_in plans id) (answers_in plans id)
-IsCallLogged log plans flight id (Look slot) =
-    WasLogged flight (LookCalled id slot) × IsLookPlan slot (accesses_in plans id)
+IsCallLogged log plans flight id kind =
+    WasLogged flight (begun_by id kind)
+    × IsPlanned log id kind (accesses_in plans id) (answers_in plans id)
 
 -- a call of a flight has made as many of its accesses as the player counts
 pub record IsCallMade (log : JudgedLog) (plans : List CallPlan) (flight : List Moment) (id : ℕ)
     (call : FlightCall) : Type 0 where
   pub logged : IsCallLogged log plans flight id call.kind
   pub made : made_by id flight ≡ take call.made (accesses_in plans id)
+
+-- each call that the player has begun has, and the others have made none
+pub record AreCallsMade (log : JudgedLog) (plans : List CallPlan) (flight : List Moment)
+    (calls : List FlightCall) : Type 0 where
+  pub each : (k : ℕ) (d : FlightCall) → k < length calls
+      → IsCallMade log plans flight (k + 1) (slice_index_or calls k d)
+  pub unmade : (id : ℕ) → length calls < id → made_by id flight ≡ []
 
 -- a number of a file, by its mark
 abbrev pub mark_number : Mark → ℕ
@@ -91,6 +107,21 @@ file_number file = mark_number file.mark
 abbrev pub IsMarked : {S : Type 0} → IndexSet ℕ S → Identity → Type 0
 IsMarked closed file = contains nat_eq closed (file_number file) ≡ true
 
+-- the files that were taken, and those of them that were closed
+pub record AreFilesTaken {S : Type 0} (flight : List Moment) (files : List Identity)
+    (marked : IndexSet ℕ S) : Type 0 where
+  pub taken : (file : Identity) → Contains (taken_in flight) file
+      → Contains files file ⊎ WasLogged flight (FileClosed file)
+  pub left : (file : Identity) → Contains files file
+      → Contains (taken_in flight) file × (WasLogged flight (FileClosed file) → ⊥)
+  pub closed : (file : Identity) → WasLogged flight (FileClosed file) → IsMarked marked file
+
+-- each file that a look found is held, or its hold has begun to end
+abbrev pub AreFoundHeld : List Moment → List HeldFile → Type 0
+AreFoundHeld flight holds =
+    (id : ℕ) (file : Identity) → WasLogged flight (LookAnswered id (Some file))
+    → Contains holds (record { id = id; file = file }) ⊎ WasLogged flight (Freed id)
+
 -- the player has made a flight of these events
 pub record HasMadeFlight (old : RingState) (log : JudgedLog) (plans : List CallPlan)
     (read : List Happening) (player : FlightPlayer) : Type 0 where
@@ -98,18 +129,9 @@ pub record HasMadeFlight (old : RingState) (log : JudgedLog) (plans : List CallP
   pub is : IsFlight (setting_of old (answers_in plans)) flight
   pub logged : log_of flight ≡ read
   pub table : table_of_slots player.slots ≡ table_left_by (table_of old) flight
-  pub calls : (k : ℕ) (d : FlightCall) → k < length player.calls.items
-      → IsCallMade log plans flight (k + 1) (slice_index_or player.calls.items k d)
-  pub unmade : (id : ℕ) → length player.calls.items < id → made_by id flight ≡ []
-  pub taken : (file : Identity) → Contains (taken_in flight) file
-      → Contains player.removed.items file ⊎ WasLogged flight (FileClosed file)
-  pub removed : (file : Identity) → Contains player.removed.items file
-      → Contains (taken_in flight) file × (WasLogged flight (FileClosed file) → ⊥)
-  pub closed : (file : Identity) → WasLogged flight (FileClosed file)
-      → IsMarked player.closed file
-  pub holds : (id : ℕ) (file : Identity) → WasLogged flight (LookAnswered id (Some file))
-      → Contains player.holds.items (record { id = id; file = file })
-      ⊎ WasLogged flight (Freed id)
+  pub calls : AreCallsMade log plans flight player.calls.items
+  pub files : AreFilesTaken flight player.removed.items player.closed
+  pub holds : AreFoundHeld flight player.holds.items
 
 -- the answer of a look is what its access found, and the file isn't closed
 pub record IsLookAnswered (log : JudgedLog) (plans : List CallPlan) (player : FlightPlayer) (id : ℕ)

@@ -1,13 +1,16 @@
 //! The chains that a log calls.
-ghost use Rattle.std.specs.Prelude.{◌≡◌, [], ◌+◌, ◌<◌, ◌≤◌, ◌^◌, All, IfSome, length};
+ghost use Rattle.std.specs.Prelude.{◌≡◌, ◌+◌, ◌<◌, ◌≤◌, ◌^◌, All, IfOk, IfSome, IsTrue, length};
 ghost use Rattle.fx_chain.specs.Accepted.{IsWithinLimits};
 ghost use Rattle.fx_chain.specs.Operation.{all_asked, asked_of};
-ghost use Rattle.fx_flight.specs.Events.{first_of_call};
+ghost use Rattle.fx_flight.specs.Events.{first_of_call, happening_of};
 ghost use Rattle.check_outcomes.specs.Views.{run_at};
-ghost use Rattle.check_flight.specs.Judged.{runs_of_calls};
+ghost use Rattle.check_flight.specs.Judged.{IsFrontOf, runs_of_calls};
+ghost use Rattle.check_flight.specs.States.{runs_with};
 
 use crate::judged::ChainCall;
+use fx_base::NoMemory;
 use fx_chain::{MOST_MEMBERS, Place, Request, check};
+use fx_flight::LogEvent;
 
 impl<'a> ChainCall<'a> {
     /// Returns a call of these requests, unless one of them has a fault.
@@ -24,11 +27,26 @@ impl<'a> ChainCall<'a> {
     }
 }
 
-/// Returns the call of a look, which has no request.
-pub(crate) fn look_call<'a>() -> ChainCall<'a>
-    ensures { result.requests.now ≡ [] }
+/// Adds the call of an event to those before it. Returns whether its requests have no fault. A look
+/// is a call without requests.
+pub(crate) fn push_call<'a>(
+    calls: &mut Vec<ChainCall<'a>>,
+    event: &'a LogEvent,
+) -> Result<bool, NoMemory>
+    ensures runs { IfOk result (λ yes. IsTrue yes → runs_of_calls calls.new.items
+        ≡ runs_with (runs_of_calls calls.old.items) (happening_of event.now)) }
+    ensures front { IfOk result (λ yes. IsTrue yes → IsFrontOf calls.old.items calls.new.items) }
 {
-    ChainCall { requests: &[] }
+    let requests = match event {
+        LogEvent::Call { id: _, chain } => chain.as_slice(),
+        LogEvent::Look { id: _, slot: _ } => &[],
+        _ => return Ok(true),
+    };
+    let Some(call) = ChainCall::of(requests) else {
+        return Ok(false);
+    };
+    calls.push(call)?;
+    Ok(true)
 }
 
 /// Returns the requests of a call, by its number from 0.

@@ -1,94 +1,205 @@
-//! A search for all states after an event. Nothing is proved of what it meets: the states are
-//! looked through (`crate::passed`, `crate::followed`).
-ghost use Rattle.std.specs.Prelude.{◌≤◌, length};
+//! All states that flights reach after an event: those to which it leads from the states of a
+//! front, and each state that accesses reach from them.
+ghost use Rattle.std.specs.Prelude.{◌≡◌, ◌+◌, ◌<◌, ◌≤◌, IfOk, IfSome, IsTrue, List, length, take};
+ghost use Rattle.fx_chain.specs.Operation.{Asked};
+ghost use Rattle.fx_flight.specs.Events.{happening_of};
+ghost use Rattle.fx_order.specs.Slots.{table_of_slots};
+ghost use Rattle.check_outcomes.specs.Stands.{HasEachNext};
+ghost use Rattle.check_flight.specs.Judged.{IsAccessFollowed, IsCallFollowed, IsFrontOf, IsWhollyFollowed};
+ghost use Rattle.check_flight.specs.Judged.{catalogue_in, flight_view, flight_views, log_in, rest_of};
+ghost use Rattle.check_flight.specs.Judged.{rules_of_log, runs_of_calls};
+ghost use Rattle.check_flight.specs.Passages.{IsStatePassed};
+ghost use Rattle.check_flight.specs.States.{AreFollowed, ArePassed, AreWaitsDenied, runs_with};
 
-use crate::followed::accesses_of;
+use crate::call::{first_place, members_at};
 use crate::front::Front;
 use crate::judged::{ChainCall, JudgedLog};
 use crate::passage::{Passage, passage_of};
-use crate::state::FlightState;
-use crate::step::allowed_state;
+use crate::state::{FlightState, waits};
+use crate::step::by_access;
+use check_outcomes::chain_accesses;
 use fx_base::NoMemory;
 use fx_flight::LogEvent;
+use fx_order::Access;
 
-// Returns the states to which the accesses of a call lead: of the one that follows those that are
-// over and `j` others.
-fn states_after(
+// Adds the state to which the event at a position leads from a state. Returns whether it leads to
+// one, or is impossible.
+fn pass(
     log: &JudgedLog<'_>,
     calls: &[ChainCall<'_>],
+    at: usize,
+    event: &LogEvent,
     state: &FlightState,
-    j: usize,
-) -> Result<Vec<FlightState>, NoMemory> {
-    let mut states = Vec::new(log.setting.alloc);
-    let Some(accesses) = accesses_of(log, calls, state, j)? else {
-        return Ok(states);
-    };
-    for access in &accesses {
-        let mut answered = Vec::new(log.setting.alloc);
-        if let Some(next) = allowed_state(log, calls, state, j, access, &mut answered)? {
-            states.push(next)?;
-        }
-    }
-    Ok(states)
-}
-
-// Adds the states to which the accesses of a call lead from the state with a number.
-fn follow(
-    log: &JudgedLog<'_>,
-    calls: &[ChainCall<'_>],
     nexts: &mut Front,
-    number: usize,
-    j: usize,
-) -> Result<(), NoMemory> {
-    let Some(state) = nexts.states.get(number) else {
-        return Ok(());
-    };
-    for next in states_after(log, calls, state, j)? {
-        nexts.add(next)?;
+) -> Result<bool, NoMemory>
+    requires { at ≤ length log.now.events.now }
+    ensures kept { IfOk result (λ _. IsFrontOf nexts.old.states.items nexts.new.states.items) }
+    ensures passed { IfOk result (λ yes. IsTrue yes → IsStatePassed log.now
+        (runs_of_calls calls.now) (take at (log_in log.now)) nexts.new.states.items state.now
+        (happening_of event.now)) }
+{
+    match passage_of(log, calls, at, event, state)? {
+        Passage::Stops => Ok(true),
+        Passage::Leads(next) => nexts.add(next),
+        Passage::IsUnfit => Ok(false),
     }
-    Ok(())
 }
 
-// Adds each state that accesses reach. Returns whether there are at most `most` states.
-fn follow_all(
+/// Adds the states to which the event at a position leads from those of a front. Returns whether it
+/// leads to one from each of them, or is impossible there.
+pub(crate) fn pass_all(
     log: &JudgedLog<'_>,
-    calls: &[ChainCall<'_>],
-    nexts: &mut Front,
-    most: usize,
-) -> Result<bool, NoMemory> {
-    for number in 0..most {
-        let Some(state) = nexts.states.get(number) else {
-            return Ok(true);
-        };
-        let chains = state.chains.len();
-        for j in 0..chains {
-            follow(log, calls, nexts, number, j)?;
-        }
-    }
-    Ok(nexts.states.len() <= most)
-}
-
-/// Returns the states that flights reach after the event at a position, which adds a call to those
-/// before it, or `None` if they are more than `most`.
-pub(crate) fn next_front(
-    log: &JudgedLog<'_>,
-    before: &[ChainCall<'_>],
     calls: &[ChainCall<'_>],
     at: usize,
     event: &LogEvent,
     front: &Front,
-    most: usize,
-) -> Result<Option<Front>, NoMemory>
+    nexts: &mut Front,
+) -> Result<bool, NoMemory>
     requires { at ≤ length log.now.events.now }
+    ensures { IfOk result (λ yes. IsTrue yes → ArePassed (rules_of_log log.now) (log_in log.now)
+        (runs_of_calls calls.now) (take at (log_in log.now))
+        (flight_views (runs_of_calls calls.now) front.now.states.items)
+        (flight_views (runs_with (runs_of_calls calls.now) (happening_of event.now))
+        nexts.new.states.items) (happening_of event.now)) }
 {
-    let mut nexts = Front::new(front.alloc);
     for state in &front.states {
-        if let Passage::Leads(next) = passage_of(log, before, at, event, state)? {
-            nexts.add(next)?;
+        if !pass(log, calls, at, event, state, nexts)? {
+            return Ok(false);
         }
     }
-    if !follow_all(log, calls, &mut nexts, most)? {
+    Ok(true)
+}
+
+/// Returns each access that the call may make next that follows those that are over and `j` others,
+/// and the table permits, and perhaps others. `None` if the state isn't one of the log.
+pub(crate) fn accesses_of(
+    log: &JudgedLog<'_>,
+    calls: &[ChainCall<'_>],
+    state: &FlightState,
+    j: usize,
+) -> Result<Option<Vec<Access>>, NoMemory>
+    ensures each { IfOk result (λ accesses. IfSome accesses (λ accesses. HasEachNext
+        (catalogue_in log.now) (table_of_slots state.now.slots)
+        (rest_of (runs_of_calls calls.now) state.now (state.now.base + j + 1)) accesses.items)) }
+    ensures size { IfOk result (λ accesses. IfSome accesses (λ _.
+        length state.now.slots.at.items ≡ log.now.setting.size)) }
+    ensures call { IfOk result (λ accesses. IfSome accesses (λ _.
+        state.now.base + j < length calls.now)) }
+{
+    if state.slots.at.len() != log.setting.size as usize || state.base > calls.len() {
         return Ok(None);
     }
-    Ok(Some(nexts))
+    if j >= calls.len() - state.base || state.base + j >= u32::MAX as usize - 1 {
+        return Ok(None);
+    }
+    let i = state.base + j;
+    let (place, own) = (first_place(i), members_at(calls, i));
+    let accesses = chain_accesses(&log.setting, &state.slots, place, own, state.progress(j))?;
+    Ok(Some(accesses))
+}
+
+// Adds the state to which an access leads of the call that follows those that are over and `j`
+// others. Returns whether it leads to one, or is impossible or denied.
+fn follow_access(
+    log: &JudgedLog<'_>,
+    calls: &[ChainCall<'_>],
+    state: &FlightState,
+    j: usize,
+    access: &Access,
+    front: &mut Front,
+) -> Result<bool, NoMemory>
+    requires { state.now.base + j < length calls.now }
+    ensures kept { IfOk result (λ _. IsFrontOf front.old.states.items front.new.states.items) }
+    ensures followed { IfOk result (λ yes. IsTrue yes → IsAccessFollowed log.now
+        (runs_of_calls calls.now) front.new.states.items state.now (state.now.base + j + 1)
+        access.now) }
+{
+    let mut answered = Vec::new(log.setting.alloc);
+    match by_access(log, calls, state, j, access, &mut answered)? {
+        Passage::Stops => Ok(true),
+        Passage::Leads(next) => front.add(next),
+        Passage::IsUnfit => Ok(false),
+    }
+}
+
+// Adds the states to which accesses lead that the call may make next that follows those that are
+// over and `j` others. Returns whether each access is followed.
+fn follow_call(
+    log: &JudgedLog<'_>,
+    calls: &[ChainCall<'_>],
+    state: &FlightState,
+    j: usize,
+    front: &mut Front,
+) -> Result<bool, NoMemory>
+    ensures kept { IfOk result (λ _. IsFrontOf front.old.states.items front.new.states.items) }
+    ensures followed { IfOk result (λ yes. IsTrue yes → IsCallFollowed log.now
+        (runs_of_calls calls.now) front.new.states.items state.now (state.now.base + j + 1)) }
+{
+    let Some(accesses) = accesses_of(log, calls, state, j)? else {
+        return Ok(false);
+    };
+    for access in &accesses {
+        if !follow_access(log, calls, state, j, access, front)? {
+            return Ok(false);
+        }
+    }
+    Ok(true)
+}
+
+// Checks whether each look that waits in a state finds there what the log denies.
+fn are_waits_denied(log: &JudgedLog<'_>, state: &FlightState) -> bool
+    ensures { IsTrue result → (runs : List (List Asked))
+        → AreWaitsDenied (log_in log.now) (flight_view runs state.now) }
+{
+    for look in &state.waiting {
+        if !waits(log, &state.slots, look) {
+            return false;
+        }
+    }
+    true
+}
+
+// Adds the states to which accesses lead from a state. Returns whether each access is followed, and
+// each look that waits there finds what the log denies.
+fn follow(
+    log: &JudgedLog<'_>,
+    calls: &[ChainCall<'_>],
+    state: &FlightState,
+    front: &mut Front,
+) -> Result<bool, NoMemory>
+    ensures kept { IfOk result (λ _. IsFrontOf front.old.states.items front.new.states.items) }
+    ensures followed { IfOk result (λ yes. IsTrue yes
+        → IsWhollyFollowed log.now calls.now front.new.states.items state.now) }
+{
+    for j in 0..calls.len().saturating_sub(state.base) {
+        if !follow_call(log, calls, state, j, front)? {
+            return Ok(false);
+        }
+    }
+    Ok(are_waits_denied(log, state))
+}
+
+/// Adds each state that accesses reach. Returns whether each access is followed, and there are at
+/// most `most` states.
+pub(crate) fn follow_all(
+    log: &JudgedLog<'_>,
+    calls: &[ChainCall<'_>],
+    front: &mut Front,
+    most: usize,
+) -> Result<bool, NoMemory>
+    ensures kept { IfOk result (λ _. IsFrontOf front.old.states.items front.new.states.items) }
+    ensures followed { IfOk result (λ yes. IsTrue yes → AreFollowed (catalogue_in log.now)
+        log.now.setting.size (log_in log.now) (length calls.now)
+        (flight_views (runs_of_calls calls.now) front.new.states.items)) }
+{
+    for number in 0..most {
+        let Some(state) = front.states.get(number) else {
+            return Ok(true);
+        };
+        let state = state.copy(log.setting.alloc, state.base, 0)?;
+        if !follow(log, calls, &state, front)? {
+            return Ok(false);
+        }
+    }
+    Ok(front.states.len() <= most)
 }

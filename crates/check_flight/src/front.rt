@@ -1,11 +1,10 @@
 //! The states that a search met: the front of the flights at an event.
 ghost use Rattle.std.specs.Prelude.{◌≡◌, [], ◌∷◌, Contains, IfOk, IsTrue, List};
 ghost use Rattle.fx_chain.specs.Operation.{Asked};
-ghost use Rattle.check_flight.specs.Judged.{flight_view, flight_views};
+ghost use Rattle.check_flight.specs.Judged.{IsFrontOf, flight_view, flight_views};
 
 use crate::positions::file_number;
 use crate::state::FlightState;
-use check_outcomes::Progress;
 use fx_base::NoMemory;
 use indexmap::IndexSet;
 use std::alloc::Global;
@@ -13,57 +12,37 @@ use std::alloc::Global;
 /// The states that a search met. Each is a hint, and nothing is proved of it.
 #[derive(Drop)]
 pub(crate) struct Front {
-    /// The allocator.
-    pub(crate) alloc: Global,
     /// The states, in the order in which they were met.
     pub(crate) states: Vec<FlightState>,
-    /// The states in numbers, for looking them up.
-    keys: IndexSet<Vec<u64>>,
+    /// The numbers of the states, for looking them up.
+    keys: IndexSet<u64>,
 }
 
-// Returns the progress of at most four calls as a number. A call has few members, and each of them
-// makes few accesses.
-fn number_of(some: &[Progress]) -> u64 {
-    let mut number: u64 = 1;
-    for progress in some {
-        for part in [progress.done, progress.made] {
-            number = number.wrapping_mul(256).wrapping_add(part as u64);
-        }
-    }
-    number
+/// Returns the number of a list with one more element. Lists seldom have the same number.
+pub(crate) fn mixed(number: u64, more: u64) -> u64 {
+    let mixed = (number ^ more).wrapping_mul(0x9e37_79b9_7f4a_7c15);
+    mixed ^ (mixed >> 29)
 }
 
-// Appends a state in numbers: 0 for a slot without a file.
-fn push_state(key: &mut Vec<u64>, state: &FlightState) -> Result<(), NoMemory> {
-    key.push(state.base as u64)?;
-    for some in state.chains.chunks(4) {
-        key.push(number_of(some))?;
+/// Returns a number of a state, which states seldom share.
+pub(crate) fn key_of(state: &FlightState) -> u64 {
+    let mut key = mixed(state.base as u64, state.waiting.len() as u64);
+    for progress in &state.chains {
+        key = mixed(mixed(key, progress.done as u64), progress.made as u64);
     }
     for file in &state.slots.at {
-        let number = match file {
-            Some(file) => file_number(*file),
-            None => 0,
+        key = match file {
+            Some(file) => mixed(key, file_number(*file)),
+            None => mixed(key, 0),
         };
-        key.push(number)?;
     }
     for look in &state.waiting {
-        key.push(look.id as u64)?;
+        key = mixed(key, look.id as u64);
     }
-    key.push(state.waiting.len() as u64)?;
     for file in &state.removed {
-        key.push(file_number(*file))?;
+        key = mixed(key, file_number(*file));
     }
-    Ok(())
-}
-
-/// Returns a state in numbers.
-pub(crate) fn key_of(alloc: Global, state: &FlightState) -> Result<Vec<u64>, NoMemory> {
-    let files = state.slots.at.len().saturating_add(state.removed.len());
-    let calls = state.chains.len().saturating_add(state.waiting.len());
-    let room = files.saturating_add(calls).saturating_add(3);
-    let mut key = Vec::with_capacity(alloc, room)?;
-    push_state(&mut key, state)?;
-    Ok(key)
+    key
 }
 
 impl Front {
@@ -72,7 +51,6 @@ impl Front {
         ensures { result.states.items ≡ [] }
     {
         Front {
-            alloc,
             states: Vec::new(alloc),
             keys: IndexSet::new(alloc),
         }
@@ -83,33 +61,25 @@ impl Front {
         ensures { IfOk result (λ front. front.states.items ≡ state ∷ []) }
     {
         let mut front = Front::new(alloc);
-        front.keys.insert(key_of(alloc, &state)?)?;
+        front.keys.insert_full(key_of(&state))?;
         front.states.push(state)?;
         Ok(front)
     }
 
-    /// Adds a state, unless it is known.
-    pub(crate) fn add(&mut self, state: FlightState) -> Result<(), NoMemory> {
-        let key = key_of(self.alloc, &state)?;
-        if self.keys.contains(&key) {
-            return Ok(());
-        }
-        self.keys.insert(key)?;
-        self.states.push(state)?;
-        Ok(())
-    }
-
-    /// Checks whether a state is among those that were met.
-    pub(crate) fn has(&self, state: &FlightState) -> Result<bool, NoMemory>
-        ensures { IfOk result (λ yes. IsTrue yes → (runs : List (List Asked))
-            → Contains (flight_views runs self.now.states.items) (flight_view runs state.now)) }
+    /// Adds a state, unless it is known. Returns false if another one has its numbers.
+    pub(crate) fn add(&mut self, state: FlightState) -> Result<bool, NoMemory>
+        ensures kept { IfOk result (λ _.
+            IsFrontOf self.old.states.items self.new.states.items) }
+        ensures has { IfOk result (λ yes. IsTrue yes → (runs : List (List Asked)) → Contains
+            (flight_views runs self.new.states.items) (flight_view runs state)) }
     {
-        let key = key_of(self.alloc, state)?;
-        let Some(number) = self.keys.get_index_of(&key) else {
-            return Ok(false);
-        };
+        let (number, is_new) = self.keys.insert_full(key_of(&state))?;
+        if is_new {
+            self.states.push(state)?;
+            return Ok(true);
+        }
         match self.states.get(number) {
-            Some(there) => Ok(there.is_same(state)),
+            Some(there) => Ok(there.is_same(&state)),
             None => Ok(false),
         }
     }

@@ -4,7 +4,6 @@ ghost use Rattle.fx_base.specs.Identity.{Identity};
 ghost use Rattle.check_flight.specs.declared.hold.HeldFile.{HeldFile as TheHold};
 
 use fx_base::{Closed, NoMemory};
-use std::alloc::Global;
 
 /// A file that a look holds.
 #[derive(Clone, Copy)]
@@ -43,22 +42,4 @@ pub(crate) fn add_hold(
     };
     holds.push(HeldFile { id, file })?;
     Ok(())
-}
-
-/// Returns the holds without those of a look.
-pub(crate) fn without_hold(
-    alloc: Global,
-    holds: &[HeldFile],
-    id: u32,
-) -> Result<Vec<HeldFile>, NoMemory>
-    ensures { IfOk result (λ after. (hold : TheHold) → Contains holds.now hold
-        → (hold.id ≡ id → ⊥) → Contains after.items hold) }
-{
-    let mut after = Vec::new(alloc);
-    for hold in holds {
-        if hold.id != id {
-            after.push(*hold)?;
-        }
-    }
-    Ok(after)
 }

@@ -18,7 +18,7 @@ pub(crate) struct JudgedLog<'a> {
     /// The events.
     pub(crate) events: &'a [LogEvent],
     /// The positions of answers, closes and holds among the events. Each is a hint.
-    pub(crate) positions: LogPositions,
+    pub(crate) positions: &'a LogPositions,
     pub ghost catalogued: { IsCatalogue setting.catalogue.now },
     pub ghost few_slots: { setting.size < 2 ^ 31 },
 }

@@ -7,7 +7,6 @@
 
 mod call;
 mod explore;
-mod followed;
 mod front;
 mod hold;
 mod judged;
@@ -15,7 +14,6 @@ pub mod laws;
 mod log;
 mod made;
 mod passage;
-mod passed;
 mod plan;
 mod player;
 mod positions;

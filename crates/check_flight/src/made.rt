@@ -1,13 +1,13 @@
 //! Checks whether an answer, or the file that a look found, is that of the accesses that a call has
 //! made so far.
 ghost use Rattle.std.specs.Prelude.{◌≡◌, Contains, IfOk, IsTrue, take};
-ghost use Rattle.fx_chain.specs.Completed.{completed_of};
+ghost use Rattle.fx_chain.specs.Completed.{all_completed, completed_of};
 ghost use Rattle.fx_chain.specs.Operation.{all_asked};
 ghost use Rattle.fx_flight.specs.Flight.{IsLookDone};
-ghost use Rattle.check_flight.specs.Player.{IsLookPlan, IsMemberMade};
+ghost use Rattle.check_flight.specs.Player.{IsLookPlan, IsMemberMade, IsPlanned};
 
 use crate::judged::JudgedLog;
-use crate::plan::{CallPlan, are_done};
+use crate::plan::{CallKind, CallPlan, are_done};
 use fx_base::{Closed, Errno, NoMemory};
 use fx_chain::{Completion, Request, count_of};
 use fx_order::Access;
@@ -72,14 +72,30 @@ pub(crate) fn is_member_made(
     )
 }
 
-/// Checks whether a look of a slot may make these accesses: one of the slot, or none.
-pub(crate) fn is_look_plan(slot: u32, accesses: &[Access]) -> bool
+// Checks whether a look of a slot may make these accesses: one of the slot, or none.
+fn is_look_plan(slot: u32, accesses: &[Access]) -> bool
     ensures { IsTrue result → IsLookPlan slot accesses.now }
 {
     match accesses {
         [] => true,
         [Access::Looks(at, _)] => *at == slot,
         _ => false,
+    }
+}
+
+/// Checks whether a plan fits a call.
+pub(crate) fn is_planned(
+    log: &JudgedLog<'_>,
+    id: u32,
+    kind: CallKind<'_>,
+    plan: &CallPlan,
+) -> Result<bool, NoMemory>
+    ensures { IfOk result (λ yes. IsTrue yes → IsPlanned log.now id kind.entry
+        plan.now.accesses.items (all_completed plan.now.answers.items)) }
+{
+    match kind {
+        CallKind::Chain(requests) => are_done(log, id, requests, &plan.accesses, &plan.answers),
+        CallKind::Look(slot) => Ok(is_look_plan(slot, &plan.accesses)),
     }
 }
 

@@ -14,9 +14,7 @@ ghost use Rattle.check_flight.specs.States.{IsNumbered, IsUnmade};
 use crate::call::members_at;
 use crate::judged::{ChainCall, JudgedLog};
 use crate::log::was_closed;
-use crate::state::{
-    FlightState, WaitingLook, answered_state, called_state, closed_state, looking_state, trimmed,
-};
+use crate::state::{FlightState, WaitingLook, called_state, remove_file, still_waiting, trimmed};
 use fx_base::{Closed, NoMemory};
 use fx_chain::{Completion, Request};
 use fx_flight::LogEvent;
@@ -108,7 +106,7 @@ fn by_answer(
     Ok(Passage::Leads(trimmed(log.setting.alloc, calls, state)?))
 }
 
-// Returns what the call of a look does to a state.
+// Returns what the call of a look does to a state: it is a call without requests.
 fn by_look(
     log: &JudgedLog<'_>,
     calls: &[ChainCall<'_>],
@@ -118,12 +116,11 @@ fn by_look(
     ensures { IfOk result (λ passage. (read : List Happening) → IsPassage log.now
         (runs_of_calls calls.now) read state.now (LookCalled look.id look.slot) passage) }
 {
-    if look.id == 0 || look.id as usize - 1 != calls.len() {
-        return Ok(Passage::IsUnfit);
-    }
-    let Some(next) = looking_state(log, calls, state, look)? else {
+    let Passage::Leads(mut next) = by_call(log, calls, state, look.id, &[])? else {
         return Ok(Passage::IsUnfit);
     };
+    next.waiting.push(look)?;
+    next.waiting = still_waiting(log, &next.slots, &next.waiting)?;
     Ok(Passage::Leads(next))
 }
 
@@ -173,7 +170,7 @@ fn by_found(
     if is_unmade(state, id, found) {
         return Ok(Passage::Stops);
     }
-    Ok(Passage::Leads(answered_state(log.setting.alloc, calls, state, id)?))
+    Ok(Passage::Leads(trimmed(log.setting.alloc, calls, state)?))
 }
 
 // Returns what the close of a file does to a state.
@@ -194,7 +191,9 @@ fn by_close(
     if log.is_held(at, file) {
         return Ok(Passage::Stops);
     }
-    Ok(Passage::Leads(closed_state(log.setting.alloc, state, file)?))
+    let mut next = state.copy(log.setting.alloc, state.base, 0)?;
+    remove_file(&mut next.removed, file);
+    Ok(Passage::Leads(next))
 }
 
 // Returns what the end of a wait for all closes does to a state.
@@ -211,7 +210,7 @@ fn at_end(
     if is_one_unclosed(log, at, &state.removed) {
         return Ok(Passage::Stops);
     }
-    Ok(Passage::Leads(state.copy(log.setting.alloc)?))
+    Ok(Passage::Leads(state.copy(log.setting.alloc, state.base, 0)?))
 }
 
 /// Returns what the event at a position does to a state.
@@ -226,22 +225,16 @@ pub(crate) fn passage_of(
     ensures { IfOk result (λ passage. IsPassage log.now (runs_of_calls calls.now)
         (take at (log_in log.now)) state.now (happening_of event.now) passage) }
 {
+    let alloc = log.setting.alloc;
     match event {
         LogEvent::Call { id, chain } => by_call(log, calls, state, *id, chain.as_slice()),
         LogEvent::Done(c) => by_answer(log, calls, state, c),
         LogEvent::Look { id, slot } => {
-            by_look(
-                log,
-                calls,
-                state,
-                WaitingLook {
-                    id: *id,
-                    slot: *slot,
-                },
-            )
+            let (id, slot) = (*id, *slot);
+            by_look(log, calls, state, WaitingLook { id, slot })
         }
         LogEvent::Found { id, file } => by_found(log, calls, at, state, *id, *file),
-        LogEvent::Free { id: _ } => Ok(Passage::Leads(state.copy(log.setting.alloc)?)),
+        LogEvent::Free { id: _ } => Ok(Passage::Leads(state.copy(alloc, state.base, 0)?)),
         LogEvent::Closed(file) => by_close(log, calls, at, state, *file),
         LogEvent::Settled => at_end(log, calls, at, state),
     }

@@ -11,6 +11,15 @@ use fx_chain::{Completion, Request, check, cut};
 use fx_order::{Access, ChainAccess, OrderedRequests, are_chains_done};
 use std::alloc::Global;
 
+/// A kind of call.
+#[derive(Clone, Copy)]
+pub(crate) enum CallKind<'a> {
+    /// A chain of requests.
+    Chain(&'a [Request]),
+    /// A look of a slot.
+    Look(u32),
+}
+
 /// All accesses and answers of a call, also those after the end of the log. Each is a hint.
 #[derive(Drop)]
 pub(crate) struct CallPlan {
@@ -20,13 +29,24 @@ pub(crate) struct CallPlan {
     pub(crate) answers: Vec<Completion>,
 }
 
+/// A move of a flight: the next event, or an access.
+#[derive(Drop)]
+pub(crate) struct Move {
+    /// The number of the call that makes the access, or 0 for the next event.
+    pub(crate) call: u32,
+    /// The access.
+    pub(crate) access: Option<Access>,
+    /// The answers of a chain by the access.
+    pub(crate) answered: Vec<Completion>,
+}
+
 /// A flight that a search proposes.
 #[derive(Drop)]
 pub(crate) struct FlightPlan {
     /// The calls, the first one first.
     pub(crate) calls: Vec<CallPlan>,
-    /// The moves: the number of the call that makes its next access, or 0 for the next event.
-    pub(crate) moves: Vec<u32>,
+    /// The moves.
+    pub(crate) moves: Vec<Move>,
 }
 
 // Returns the accesses as those of chain 1.

@@ -1,40 +1,31 @@
 //! A player of a flight: it makes a proposed flight move by move, and checks each move.
 ghost use Rattle.std.specs.Prelude.{◌≡◌, ◌++◌, [], ◌∷◌, ℕ, Contains, IfOk, IsTrue, List, Some, length};
 ghost use Rattle.std.specs.Option.{option_to_list};
+ghost use Rattle.indexmap.specs.IndexSet.{IsEmpty};
 ghost use Rattle.fx_base.specs.Identity.{Identity};
 ghost use Rattle.fx_chain.specs.Completed.{completed_of};
-ghost use Rattle.fx_chain.specs.Operation.{all_asked};
-ghost use Rattle.fx_flight.specs.Events.{Answered, Called, FileClosed, AllSettled, Happening, Freed, LookAnswered};
-ghost use Rattle.fx_flight.specs.Events.{LookCalled, happening_of};
+ghost use Rattle.fx_flight.specs.Events.{Answered, FileClosed, AllSettled, Happening, Freed, LookAnswered};
+ghost use Rattle.fx_flight.specs.Events.{happening_of};
 ghost use Rattle.fx_flight.specs.Flight.{IsLegalLog};
 ghost use Rattle.fx_order.specs.Access.{file_removed_by};
 ghost use Rattle.fx_order.specs.Slots.{ring_of_slots, table_of_slots};
 ghost use Rattle.check_flight.specs.Judged.{catalogue_in, log_in};
-ghost use Rattle.check_flight.specs.Player.{IsLookAnswered, IsMarked, MovesOn};
+ghost use Rattle.check_flight.specs.Player.{IsLookAnswered, IsMarked, MovesOn, begun_by};
 ghost use Rattle.check_flight.specs.declared.judged.JudgedLog.{JudgedLog as TheLog};
 ghost use Rattle.check_flight.specs.declared.plan.CallPlan.{CallPlan as Plan};
 
-use crate::hold::{HeldFile, add_hold, is_held, without_hold};
+use crate::hold::{HeldFile, add_hold, is_held};
 use crate::judged::JudgedLog;
-use crate::made::{has_file, is_look_made, is_look_plan, is_member_made};
-use crate::plan::{CallPlan, FlightPlan, are_done};
+use crate::made::{has_file, is_look_made, is_member_made, is_planned};
+use crate::plan::{CallKind, CallPlan, FlightPlan};
 use crate::positions::file_number;
-use crate::state::without;
+use crate::state::remove_file;
 use fx_base::{Closed, NoMemory};
-use fx_chain::{Completion, Request};
+use fx_chain::Completion;
 use fx_flight::LogEvent;
 use fx_order::{Access, Slots};
 use indexmap::IndexSet;
 use std::alloc::Global;
-
-/// A kind of call.
-#[derive(Clone, Copy)]
-pub(crate) enum CallKind<'a> {
-    /// A chain of requests.
-    Chain(&'a [Request]),
-    /// A look of a slot.
-    Look(u32),
-}
 
 /// A call of the flight that the player makes.
 #[derive(Clone, Copy)]
@@ -60,6 +51,18 @@ pub(crate) struct FlightPlayer<'a> {
     pub(crate) closed: IndexSet<u64>,
 }
 
+// Adds the file that an access takes from its slot.
+fn add_removed(removed: &mut Vec<Closed>, access: &Access) -> Result<(), NoMemory>
+    ensures { IfOk result (λ _. removed.new.items
+        ≡ removed.old.items ++ option_to_list (file_removed_by access.now)) }
+{
+    let Some(file) = access.removed() else {
+        return Ok(());
+    };
+    removed.push(file)?;
+    Ok(())
+}
+
 impl<'a> FlightPlayer<'a> {
     /// Begins at these slots.
     pub(crate) fn new(alloc: Global, slots: &Slots) -> Result<FlightPlayer<'a>, NoMemory>
@@ -67,6 +70,8 @@ impl<'a> FlightPlayer<'a> {
             table_of_slots player.slots ≡ table_of_slots slots.now) }
         ensures calls { IfOk result (λ player. player.calls.items ≡ []) }
         ensures removed { IfOk result (λ player. player.removed.items ≡ []) }
+        ensures holds { IfOk result (λ player. player.holds.items ≡ []) }
+        ensures closed { IfOk result (λ player. IsEmpty player.closed) }
     {
         Ok(FlightPlayer {
             slots: slots.copy(alloc)?,
@@ -77,41 +82,15 @@ impl<'a> FlightPlayer<'a> {
         })
     }
 
-    // Checks whether a file may be closed: a file with its number is.
-    fn is_marked(&self, file: Closed) -> bool
-        ensures { IsMarked self.now.closed file → IsTrue result }
-    {
-        self.closed.contains(&file_number(file))
-    }
-
-    // Checks whether a file may be closed, if there is one.
-    fn is_one_marked(&self, found: Option<Closed>) -> bool
+    // Checks whether a file may be closed, if there is one: a file with its number is.
+    fn is_marked(&self, found: Option<Closed>) -> bool
         ensures { (file : Identity) → found ≡ Some file → IsMarked self.now.closed file
             → IsTrue result }
     {
         match found {
-            Some(file) => self.is_marked(file),
+            Some(file) => self.closed.get_index_of(&file_number(file)).is_some(),
             None => false,
         }
-    }
-
-    // Notes the file that an access takes from its slot. Returns whether it isn't closed.
-    fn take_file(&mut self, access: &Access) -> Result<bool, NoMemory>
-        ensures removed { IfOk result (λ _. self.new.removed.items
-            ≡ self.old.removed.items ++ option_to_list (file_removed_by access.now)) }
-        ensures open { IfOk result (λ yes. IsTrue yes → (file : Identity)
-            → file_removed_by access.now ≡ Some file
-            → IsMarked self.old.closed file → ⊥) }
-        ensures slots { IfOk result (λ _. self.new.slots ≡ self.old.slots) }
-        ensures calls { IfOk result (λ _. self.new.calls ≡ self.old.calls) }
-        ensures closed { IfOk result (λ _. self.new.closed ≡ self.old.closed) }
-        ensures holds { IfOk result (λ _. self.new.holds ≡ self.old.holds) }
-    {
-        let Some(file) = access.removed() else {
-            return Ok(true);
-        };
-        self.removed.push(file)?;
-        Ok(!self.is_marked(file))
     }
 
     /// Makes the next access of a call, if it is permitted. Returns whether it is.
@@ -127,57 +106,35 @@ impl<'a> FlightPlayer<'a> {
         let Some(access) = plans[i].accesses.get(made) else {
             return Ok(false);
         };
-        if !self.slots.permits(access) || !self.take_file(access)? {
+        if !self.slots.permits(access) || self.is_marked(access.removed()) {
             return Ok(false);
         }
+        add_removed(&mut self.removed, access)?;
         self.slots.make(access);
         self.calls[i].made = made + 1;
         Ok(true)
     }
 
     // Begins a call. Returns whether it may begin.
-    fn call(
+    fn begin(
         &mut self,
         log: &JudgedLog<'_>,
         plans: &[CallPlan],
         id: u32,
-        requests: &'a [Request],
+        kind: CallKind<'a>,
     ) -> Result<bool, NoMemory>
         ensures { IfOk result (λ yes. IsTrue yes → (read : List Happening)
             → MovesOn log.now plans.now read self.old
-            (read ++ Called id (all_asked requests.now) ∷ []) self.new) }
+            (read ++ begun_by id kind.entry ∷ []) self.new) }
     {
         let i = self.calls.len();
         if id == 0 || id as usize - 1 != i || i >= plans.len() {
             return Ok(false);
         }
-        let plan = &plans[i];
-        if !are_done(log, id, requests, &plan.accesses, &plan.answers)? {
+        if !is_planned(log, id, kind, &plans[i])? {
             return Ok(false);
         }
-        self.calls.push(FlightCall {
-            kind: CallKind::Chain(requests),
-            made: 0,
-        })?;
-        Ok(true)
-    }
-
-    // Begins a look. Returns whether it may begin.
-    fn look(&mut self, plans: &[CallPlan], id: u32, slot: u32) -> Result<bool, NoMemory>
-        ensures { IfOk result (λ yes. IsTrue yes → (log : TheLog) (read : List Happening)
-            → MovesOn log plans.now read self.old (read ++ LookCalled id slot ∷ []) self.new) }
-    {
-        let i = self.calls.len();
-        if id == 0 || id as usize - 1 != i || i >= plans.len() {
-            return Ok(false);
-        }
-        if !is_look_plan(slot, &plans[i].accesses) {
-            return Ok(false);
-        }
-        self.calls.push(FlightCall {
-            kind: CallKind::Look(slot),
-            made: 0,
-        })?;
+        self.calls.push(FlightCall { kind, made: 0 })?;
         Ok(true)
     }
 
@@ -199,7 +156,7 @@ impl<'a> FlightPlayer<'a> {
         let CallKind::Look(slot) = call.kind else {
             return false;
         };
-        if self.is_one_marked(found) {
+        if self.is_marked(found) {
             return false;
         }
         is_look_made(log.setting.size, slot, &plans[i].accesses, call.made, found)
@@ -225,12 +182,11 @@ impl<'a> FlightPlayer<'a> {
     }
 
     // Notes that the hold of a look begins to end.
-    fn free(&mut self, alloc: Global, id: u32) -> Result<bool, NoMemory>
-        ensures { IfOk result (λ yes. (log : TheLog) (plans : List Plan) (read : List Happening)
-            → MovesOn log plans read self.old (read ++ Freed id ∷ []) self.new) }
+    fn free(&mut self, id: u32)
+        ensures { (log : TheLog) (plans : List Plan) (read : List Happening)
+            → MovesOn log plans read self.old (read ++ Freed id ∷ []) self.new }
     {
-        self.holds = without_hold(alloc, &self.holds, id)?;
-        Ok(true)
+        self.holds.retain(|hold| hold.id != id);
     }
 
     // Checks whether an answer may follow.
@@ -258,19 +214,16 @@ impl<'a> FlightPlayer<'a> {
     }
 
     // Closes a file. Returns whether it may be closed.
-    fn close(&mut self, alloc: Global, file: Closed) -> Result<bool, NoMemory>
+    fn close(&mut self, file: Closed) -> Result<bool, NoMemory>
         ensures { IfOk result (λ yes. IsTrue yes → (log : TheLog) (plans : List Plan)
             (read : List Happening)
             → MovesOn log plans read self.old (read ++ FileClosed file ∷ []) self.new) }
     {
-        if !has_file(&self.removed, file) {
+        if !has_file(&self.removed, file) || is_held(&self.holds, file) {
             return Ok(false);
         }
-        if is_held(&self.holds, file) {
-            return Ok(false);
-        }
-        self.removed = without(alloc, &self.removed, file)?;
-        self.closed.insert(file_number(file))?;
+        remove_file(&mut self.removed, file);
+        self.closed.insert_full(file_number(file))?;
         Ok(true)
     }
 
@@ -295,12 +248,17 @@ impl<'a> FlightPlayer<'a> {
             (read ++ happening_of event.now ∷ []) self.new) }
     {
         match event {
-            LogEvent::Call { id, chain } => self.call(log, plans, *id, chain.as_slice()),
+            LogEvent::Call { id, chain } => {
+                self.begin(log, plans, *id, CallKind::Chain(chain.as_slice()))
+            }
             LogEvent::Done(c) => self.may_answer(log, plans, c),
-            LogEvent::Look { id, slot } => self.look(plans, *id, *slot),
+            LogEvent::Look { id, slot } => self.begin(log, plans, *id, CallKind::Look(*slot)),
             LogEvent::Found { id, file } => self.find(log, plans, *id, *file),
-            LogEvent::Free { id } => self.free(log.setting.alloc, *id),
-            LogEvent::Closed(file) => self.close(log.setting.alloc, *file),
+            LogEvent::Free { id } => {
+                self.free(*id);
+                Ok(true)
+            }
+            LogEvent::Closed(file) => self.close(*file),
             LogEvent::Settled => Ok(self.may_settle()),
         }
     }
@@ -312,9 +270,9 @@ impl<'a> FlightPlayer<'a> {
             → MovesOn log.now plan.now.calls.items [] self.old (log_in log.now) self.new) }
     {
         let mut at = 0;
-        for id in &plan.moves {
-            if *id != 0 {
-                if !self.access(&plan.calls, *id)? {
+        for made in &plan.moves {
+            if made.call != 0 {
+                if !self.access(&plan.calls, made.call)? {
                     return Ok(false);
                 }
                 continue;

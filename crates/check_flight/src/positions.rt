@@ -122,10 +122,12 @@ impl LogPositions {
     pub(crate) fn answer_of(&self, id: u32, member: u32) -> usize {
         let call = (id as usize).saturating_sub(1);
         let member = (member as usize).saturating_sub(1);
-        match self.answers.get(call) {
-            Some(own) => own.get(member).copied().unwrap_or(usize::MAX),
-            None => usize::MAX,
+        if let Some(own) = self.answers.get(call)
+            && let Some(position) = own.get(member)
+        {
+            return *position;
         }
+        usize::MAX
     }
 
     /// Returns the position of the first answer of a call, by its number from 0, from a position

@@ -1,13 +1,14 @@
 //! The flight of a search's moves: the accesses and answers of each call, to its end. Nothing is
 //! proved of it.
 
-use crate::call::first_place;
+use crate::call::{first_place, push_call};
 use crate::judged::{ChainCall, JudgedLog};
-use crate::plan::{CallPlan, FlightPlan};
-use crate::search::{Lead, Move, Search, access_from};
-use crate::state::FlightState;
+use crate::plan::{CallPlan, Move};
+use crate::search::{Frame, Lead, Search};
+use crate::state::{FlightState, first_state};
 use check_outcomes::settle;
 use fx_base::NoMemory;
+use fx_order::Slots;
 
 // More accesses than a call may make.
 const MOST_ACCESSES: usize = 1 << 16;
@@ -27,12 +28,8 @@ fn push_calls(
         if i < u32::MAX as usize - 1
             && let Some(own) = plans.last_mut()
         {
-            settle(
-                &log.setting,
-                first_place(i),
-                call.requests,
-                &mut own.answers,
-            )?;
+            let place = first_place(i);
+            settle(&log.setting, place, call.requests, &mut own.answers)?;
         }
     }
     Ok(())
@@ -51,63 +48,67 @@ fn push_access(plans: &mut [CallPlan], made: &mut Move) -> Result<(), NoMemory> 
     Ok(())
 }
 
-// Appends the accesses that are left of each call, the first ones that are permitted. `state` is
+// Appends the accesses that are left of each call, the first ones that are permitted. `frame` is
 // that after the moves.
 fn finish(
     log: &JudgedLog<'_>,
     calls: &[ChainCall<'_>],
     plans: &mut [CallPlan],
-    state: &mut FlightState,
+    frame: &mut Frame,
 ) -> Result<(), NoMemory> {
-    for j in 0..state.chains.len() {
+    for j in 0..frame.state.chains.len() {
         for _ in 0..MOST_ACCESSES {
-            let Some(lead) = access_from(log, calls, 0, state, j, 0)? else {
+            let Some(lead) = frame.after_access(log, calls, j, 0)? else {
                 break;
             };
             let Lead {
                 mut made,
-                state: next,
+                state,
                 ..
             } = lead;
-            *state = next;
+            frame.state = state;
             push_access(plans, &mut made)?;
         }
     }
     Ok(())
 }
 
-// Makes a plan of what a search finds. Returns whether it found a flight.
+// Makes the plan of what a search finds from a state on. Returns whether it found a flight.
 fn plan_found(
     log: &JudgedLog<'_>,
     calls: &[ChainCall<'_>],
     start: FlightState,
     most: usize,
     search: &mut Search,
-    plan: &mut FlightPlan,
 ) -> Result<bool, NoMemory> {
     if !search.run(log, calls, start, most)? {
         return Ok(false);
     }
+    let plan = &mut search.plan;
     push_calls(log, calls, &mut plan.calls)?;
-    for made in search.moves.iter_mut() {
-        plan.moves.push(made.call)?;
+    for made in plan.moves.iter_mut() {
         push_access(&mut plan.calls, made)?;
     }
     if let Some(frame) = search.frames.last_mut() {
-        finish(log, calls, &mut plan.calls, &mut frame.state)?;
+        finish(log, calls, &mut plan.calls, frame)?;
     }
     Ok(true)
 }
 
-/// Adds a flight of the log from a state without calls on to an empty plan, by a search that goes
-/// back over at most `most` states. Returns whether it found one.
+/// Makes the plan of a flight of the log that begins at these slots, by a search that goes back
+/// over at most `most` states. Returns whether it found one.
 pub(crate) fn propose(
     log: &JudgedLog<'_>,
-    calls: &[ChainCall<'_>],
-    start: FlightState,
+    slots: &Slots,
     most: usize,
-    plan: &mut FlightPlan,
+    search: &mut Search,
 ) -> Result<bool, NoMemory> {
-    let mut search = Search::new(log.setting.alloc);
-    plan_found(log, calls, start, most, &mut search, plan)
+    let alloc = log.setting.alloc;
+    let mut calls = Vec::new(alloc);
+    for event in log.events {
+        if !push_call(&mut calls, event)? {
+            return Ok(false);
+        }
+    }
+    plan_found(log, &calls, first_state(alloc, slots)?, most, search)
 }

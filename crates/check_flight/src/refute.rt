@@ -1,23 +1,18 @@
 //! The refutation of a log: all states that flights reach, event by event, until none is left.
-ghost use Rattle.std.specs.Prelude.{◌≡◌, ◌<◌, ◌^◌, [], ◌∷◌, ℕ, IfOk, IsTrue, length, take};
-ghost use Rattle.fx_base.specs.Catalogue.{IsCatalogue};
-ghost use Rattle.fx_order.specs.Slots.{ring_of_slots, table_of_slots};
-ghost use Rattle.fx_flight.specs.Events.{all_happenings, happening_of};
-ghost use Rattle.check_flight.specs.Judged.{catalogue_in, log_in, runs_of_calls};
+ghost use Rattle.std.specs.Prelude.{◌≡◌, ◌<◌, ◌≤◌, ℕ, IfOk, IsTrue, length, take};
+ghost use Rattle.fx_order.specs.Slots.{ring_of_slots};
+ghost use Rattle.fx_flight.specs.Events.{all_happenings};
+ghost use Rattle.check_flight.specs.Judged.{catalogue_in, log_in};
 ghost use Rattle.check_flight.specs.Passages.{IsFirstFront, IsNextFront};
-ghost use Rattle.check_flight.specs.States.{HasNoFlight, runs_with};
+ghost use Rattle.check_flight.specs.States.{HasNoFlight};
 
-use crate::call::look_call;
-use crate::explore::next_front;
-use crate::followed::are_states_followed;
+use crate::call::push_call;
+use crate::explore::{follow_all, pass_all};
 use crate::front::Front;
 use crate::judged::{ChainCall, JudgedLog};
 use crate::passage::is_numbered;
-use crate::passed::are_passed;
-use crate::positions::positions_in;
-use crate::state::FlightState;
-use fx_base::{Catalogue, NoMemory};
-use fx_flight::LogEvent;
+use crate::state::first_state;
+use fx_base::NoMemory;
 use fx_order::{OrderSetting, Slots};
 use std::alloc::Global;
 
@@ -29,30 +24,6 @@ pub(crate) struct Refutation {
     /// The number of events before the first one after which no state is left, or more states than
     /// the limit. A hint.
     pub(crate) at: usize,
-}
-
-/// Adds the call of an event to those before it. Returns whether its requests have no fault. A look
-/// is a call without requests.
-pub(crate) fn push_call<'a>(
-    calls: &mut Vec<ChainCall<'a>>,
-    event: &'a LogEvent,
-) -> Result<bool, NoMemory>
-    ensures runs { IfOk result (λ yes. IsTrue yes → runs_of_calls calls.new.items
-        ≡ runs_with (runs_of_calls calls.old.items) (happening_of event.now)) }
-    ensures front { IfOk result (λ yes. IsTrue yes
-        → take (length calls.old.items) calls.new.items ≡ calls.old.items) }
-{
-    match event {
-        LogEvent::Call { id: _, chain } => {
-            let Some(call) = ChainCall::of(chain.as_slice()) else {
-                return Ok(false);
-            };
-            calls.push(call)?;
-        }
-        LogEvent::Look { id: _, slot: _ } => calls.push(look_call())?,
-        _ => {}
-    }
-    Ok(true)
 }
 
 // Goes on by the event at a position. Returns whether the front then has all states that flights
@@ -74,34 +45,15 @@ fn advance<'a>(
         return Ok(false);
     }
     let calls = calls.as_slice();
-    let before = &calls[..known];
-    let Some(nexts) = next_front(log, before, calls, at, event, front, most)? else {
-        return Ok(false);
-    };
-    if !are_passed(log, before, at, event, front, &nexts)? {
+    let mut nexts = Front::new(log.setting.alloc);
+    if !pass_all(log, &calls[..known], at, event, front, &mut nexts)? {
         return Ok(false);
     }
-    if !are_states_followed(log, calls, &nexts)? {
+    if !follow_all(log, calls, &mut nexts, most)? {
         return Ok(false);
     }
     *front = nexts;
     Ok(true)
-}
-
-/// Returns the state before the first event.
-pub(crate) fn first_state(alloc: Global, slots: &Slots) -> Result<FlightState, NoMemory>
-    ensures table { IfOk result (λ state.
-        table_of_slots state.slots ≡ table_of_slots slots.now) }
-    ensures removed { IfOk result (λ state. state.removed.items ≡ []) }
-    ensures waiting { IfOk result (λ state. state.waiting.items ≡ []) }
-{
-    Ok(FlightState {
-        slots: slots.copy(alloc)?,
-        base: 0,
-        chains: Vec::new(alloc),
-        removed: Vec::new(alloc),
-        waiting: Vec::new(alloc),
-    })
 }
 
 // Returns the front before the first event.
@@ -141,29 +93,29 @@ fn refute_log(log: &JudgedLog<'_>, slots: &Slots, most: usize) -> Result<Refutat
     })
 }
 
-/// Attempts to refute a log that begins at these slots, with at most `most` states at each event.
+/// Attempts to refute the first `count` events of a log that begins at these slots, with at most
+/// `most` states at each event.
 pub(crate) fn refute(
-    alloc: Global,
-    catalogue: &Catalogue,
+    log: &JudgedLog<'_>,
     slots: &Slots,
-    events: &[LogEvent],
+    count: usize,
     most: usize,
 ) -> Result<Refutation, NoMemory>
-    requires catalogue { IsCatalogue catalogue.now }
-    requires slots { length slots.now.at.items < 2 ^ 31 }
+    requires size { log.now.setting.size ≡ length slots.now.at.items }
+    requires count { count ≤ length log.now.events.now }
     ensures { IfOk result (λ refutation. IsTrue refutation.is_refuted
         → (submissions registrations : ℕ) → HasNoFlight
-        (ring_of_slots catalogue.now slots.now submissions registrations)
-        (all_happenings events.now)) }
+        (ring_of_slots (catalogue_in log.now) slots.now submissions registrations)
+        (all_happenings (take count log.now.events.now))) }
 {
-    let log = JudgedLog {
+    let beginning = JudgedLog {
         setting: OrderSetting {
-            alloc,
-            catalogue,
-            size: slots.at.len() as u32,
+            alloc: log.setting.alloc,
+            catalogue: log.setting.catalogue,
+            size: log.setting.size,
         },
-        events,
-        positions: positions_in(alloc, events)?,
+        events: &log.events[..count],
+        positions: log.positions,
     };
-    refute_log(&log, slots, most)
+    refute_log(&beginning, slots, most)
 }

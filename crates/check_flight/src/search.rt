@@ -1,50 +1,31 @@
 //! A search for one flight of a log, depth first. Nothing is proved of it: the player makes the
 //! flight (`crate::player`).
-ghost use Rattle.std.specs.Prelude.{◌+◌, ◌<◌, length};
 
-use crate::followed::accesses_of;
-use crate::front::key_of;
+use crate::explore::accesses_of;
+use crate::front::{key_of, mixed};
 use crate::judged::{ChainCall, JudgedLog};
 use crate::passage::{Passage, passage_of};
+use crate::plan::{FlightPlan, Move};
 use crate::state::{FlightState, WaitingLook};
-use crate::step::allowed_state;
+use crate::step::by_access;
 use fx_base::NoMemory;
-use fx_chain::Completion;
 use fx_flight::LogEvent;
 use fx_order::Access;
 use indexmap::IndexSet;
 use std::alloc::Global;
 
-/// A move of a flight: the next event, or an access.
-#[derive(Drop)]
-pub(crate) struct Move {
-    /// The number of the call that makes the access, or 0 for the next event.
-    pub(crate) call: u32,
-    /// The access.
-    pub(crate) access: Option<Access>,
-    /// The answers of a chain by the access.
-    pub(crate) answered: Vec<Completion>,
-}
-
-/// A move, and the state to which it leads.
+/// A move, the state to which it leads, and the number of events before that state.
 #[derive(Drop)]
 pub(crate) struct Lead {
     /// The move.
     pub(crate) made: Move,
     /// The state.
     pub(crate) state: FlightState,
-    // The look that the move calls.
-    look: Option<WaitingLook>,
-    // The number of events before the state.
     at: usize,
-    // The position of the next access that the call may make in the place of this one, and whether
-    // there is one.
-    next: usize,
-    has_more: bool,
 }
 
-// A state of the search, and which of its moves were tried: the next event first, then the accesses
-// of the calls, the call whose next answer comes first before the others.
+/// A state of the search, and which of its moves were tried: the next event first, then the
+/// accesses of the calls, the call whose next answer comes first before the others.
 #[derive(Drop)]
 pub(crate) struct Frame {
     // The number of events before the state, and that of moves.
@@ -62,39 +43,16 @@ pub(crate) struct Frame {
 }
 
 /// A search: the states from the first one that may be tried again to the last one, the moves that
-/// led there, and the states in numbers that lead nowhere.
+/// led there, and the numbers of the states that lead nowhere.
 #[derive(Drop)]
 pub(crate) struct Search {
     /// The states that may be tried again.
     pub(crate) frames: Vec<Frame>,
-    /// The moves.
-    pub(crate) moves: Vec<Move>,
-    dead: IndexSet<Vec<u64>>,
+    /// The moves, and an empty list of calls.
+    pub(crate) plan: FlightPlan,
+    dead: IndexSet<u64>,
     // More than the number of events before each of those states.
     dead_until: usize,
-}
-
-/// Returns the first access of a call that is allowed after `at` events, from a position on among
-/// those that it may make next: of the call that follows those that are over and `j` others.
-pub(crate) fn access_from(
-    log: &JudgedLog<'_>,
-    calls: &[ChainCall<'_>],
-    at: usize,
-    state: &FlightState,
-    j: usize,
-    first: usize,
-) -> Result<Option<Lead>, NoMemory> {
-    let Some(accesses) = accesses_of(log, calls, state, j)? else {
-        return Ok(None);
-    };
-    for choice in first..accesses.len() {
-        if let Some(mut lead) = lead_by(log, calls, at, state, j, &accesses[choice])? {
-            lead.next = choice.saturating_add(1);
-            lead.has_more = lead.next < accesses.len();
-            return Ok(Some(lead));
-        }
-    }
-    Ok(None)
 }
 
 // Returns an access as a move, and the state to which it leads, if it is allowed.
@@ -106,25 +64,22 @@ fn lead_by(
     j: usize,
     access: &Access,
 ) -> Result<Option<Lead>, NoMemory>
-    requires { state.now.base + j < length calls.now }
 {
-    let call = (state.base + j).saturating_add(1).min(u32::MAX as usize) as u32;
+    let i = state.base.saturating_add(j);
+    if i >= calls.len() {
+        return Ok(None);
+    }
+    let call = i.saturating_add(1).min(u32::MAX as usize) as u32;
     let mut answered = Vec::new(log.setting.alloc);
-    let Some(state) = allowed_state(log, calls, state, j, access, &mut answered)? else {
+    let Passage::Leads(state) = by_access(log, calls, state, j, access, &mut answered)? else {
         return Ok(None);
     };
-    Ok(Some(Lead {
-        made: Move {
-            call,
-            access: Some(*access),
-            answered,
-        },
-        state,
-        look: None,
-        at,
-        next: 0,
-        has_more: false,
-    }))
+    let made = Move {
+        call,
+        access: Some(*access),
+        answered,
+    };
+    Ok(Some(Lead { made, state, at }))
 }
 
 // Checks whether a pair is after the last one, and before the next one.
@@ -192,41 +147,38 @@ impl Frame {
         let Passage::Leads(state) = passage_of(log, calls, self.at, event, &self.state)? else {
             return Ok(None);
         };
-        let look = match event {
-            LogEvent::Look { id, slot } => Some(WaitingLook {
-                id: *id,
-                slot: *slot,
-            }),
-            _ => None,
+        let made = Move {
+            call: 0,
+            access: None,
+            answered: Vec::new(log.setting.alloc),
         };
-        Ok(Some(Lead {
-            made: Move {
-                call: 0,
-                access: None,
-                answered: Vec::new(log.setting.alloc),
-            },
-            state,
-            look,
-            at: self.at.saturating_add(1),
-            next: 0,
-            has_more: false,
-        }))
+        let at = self.at.saturating_add(1);
+        Ok(Some(Lead { made, state, at }))
     }
 
-    // Returns the state after the next access of a call to try that is allowed.
-    fn after_access(
+    /// Returns the state after the first access that is allowed, from a position on among those
+    /// that a call may make next: the call that follows those that are over and `j` others. Notes
+    /// the position after it.
+    pub(crate) fn after_access(
         &mut self,
         log: &JudgedLog<'_>,
         calls: &[ChainCall<'_>],
         j: usize,
+        first: usize,
     ) -> Result<Option<Lead>, NoMemory> {
-        let lead = access_from(log, calls, self.at, &self.state, j, self.choice)?;
         self.has_more = false;
-        if let Some(lead) = &lead {
-            self.choice = lead.next;
-            self.has_more = lead.has_more;
+        let Some(accesses) = accesses_of(log, calls, &self.state, j)? else {
+            return Ok(None);
+        };
+        for choice in first..accesses.len() {
+            let access = &accesses[choice];
+            if let Some(lead) = lead_by(log, calls, self.at, &self.state, j, access)? {
+                self.choice = choice.saturating_add(1);
+                self.has_more = self.choice < accesses.len();
+                return Ok(Some(lead));
+            }
         }
-        Ok(lead)
+        Ok(None)
     }
 
     // Returns the state after the next move that wasn't tried, or `None` if all were tried.
@@ -245,20 +197,23 @@ impl Frame {
         }
         for _ in 0..usize::MAX {
             if !self.has_more {
-                (self.call, self.choice) = (
-                    call_after(log, calls, self.at, &self.state, self.call),
-                    0,
-                );
+                self.call = call_after(log, calls, self.at, &self.state, self.call);
+                self.choice = 0;
             }
             let Some((_, j)) = self.call else {
                 return Ok(None);
             };
-            if let Some(lead) = self.after_access(log, calls, j)? {
+            if let Some(lead) = self.after_access(log, calls, j, self.choice)? {
                 return Ok(Some(lead));
             }
         }
         Ok(None)
     }
+}
+
+// Returns a number of a state after `at` events.
+fn number_of(at: usize, state: &FlightState) -> u64 {
+    mixed(key_of(state), at as u64)
 }
 
 // Appends the access of a look that was made before a state, unless the look waits there. A look
@@ -288,42 +243,42 @@ impl Search {
     pub(crate) fn new(alloc: Global) -> Search {
         Search {
             frames: Vec::new(alloc),
-            moves: Vec::new(alloc),
+            plan: FlightPlan {
+                calls: Vec::new(alloc),
+                moves: Vec::new(alloc),
+            },
             dead: IndexSet::new(alloc),
             dead_until: 0,
         }
     }
 
-    // Returns the number of a state that is looked up.
-    fn key(alloc: Global, at: usize, state: &FlightState) -> Result<Vec<u64>, NoMemory> {
-        let mut key = key_of(alloc, state)?;
-        key.push(at as u64)?;
-        Ok(key)
-    }
-
     // Checks whether the state of a move leads nowhere.
-    fn is_dead(&self, alloc: Global, lead: &Lead) -> Result<bool, NoMemory> {
+    fn is_dead(&self, lead: &Lead) -> bool {
         if lead.at >= self.dead_until {
-            return Ok(false);
+            return false;
         }
-        let key = Search::key(alloc, lead.at, &lead.state)?;
-        Ok(self.dead.contains(&key))
+        let number = number_of(lead.at, &lead.state);
+        self.dead.get_index_of(&number).is_some()
     }
 
     // Appends the accesses of the looks that wait no more in the last state: of those that waited
-    // in the one before it, and of the one that was called.
-    fn push_looks(&mut self, alloc: Global, called: Option<WaitingLook>) -> Result<(), NoMemory> {
-        let count = self.frames.len();
+    // in the one before it, and of the one that an event called between them.
+    fn push_looks(&mut self, log: &JudgedLog<'_>) -> Result<(), NoMemory> {
+        let (alloc, count) = (log.setting.alloc, self.frames.len());
         if count < 2 {
             return Ok(());
         }
-        let (before, state) = (&self.frames[count - 2].state, &self.frames[count - 1].state);
-        for look in &before.waiting {
-            push_look(alloc, &mut self.moves, state, *look)?;
+        let (before, last) = (&self.frames[count - 2], &self.frames[count - 1]);
+        for look in &before.state.waiting {
+            push_look(alloc, &mut self.plan.moves, &last.state, *look)?;
         }
-        match called {
-            Some(look) => push_look(alloc, &mut self.moves, state, look),
-            None => Ok(()),
+        match log.events.get(before.at) {
+            Some(LogEvent::Look { id, slot }) if before.at < last.at => {
+                let (id, slot) = (*id, *slot);
+                let look = WaitingLook { id, slot };
+                push_look(alloc, &mut self.plan.moves, &last.state, look)
+            }
+            _ => Ok(()),
         }
     }
 
@@ -337,22 +292,16 @@ impl Search {
     }
 
     // Goes on to a state, unless it leads nowhere.
-    fn enter(&mut self, alloc: Global, lead: Lead, most: usize) -> Result<(), NoMemory> {
-        if self.is_dead(alloc, &lead)? {
+    fn enter(&mut self, log: &JudgedLog<'_>, lead: Lead, most: usize) -> Result<(), NoMemory> {
+        if self.is_dead(&lead) {
             return Ok(());
         }
         self.forget(most)?;
-        let Lead {
-            made,
-            state,
-            look,
-            at,
-            ..
-        } = lead;
-        let moves = self.moves.len();
-        self.moves.push(made)?;
+        let Lead { made, state, at } = lead;
+        let moves = self.plan.moves.len();
+        self.plan.moves.push(made)?;
         self.frames.push(Frame::new(at, moves, state))?;
-        self.push_looks(alloc, look)
+        self.push_looks(log)
     }
 
     // Leaves the last state, which leads nowhere.
@@ -360,14 +309,13 @@ impl Search {
         let Some(frame) = self.frames.pop() else {
             return Ok(());
         };
-        self.moves.truncate(frame.moves);
+        self.plan.moves.truncate(frame.moves);
         if self.dead.len() > most {
             self.dead = IndexSet::new(alloc);
             self.dead_until = 0;
         }
         self.dead_until = self.dead_until.max(frame.at.saturating_add(1));
-        self.dead
-            .insert(Search::key(alloc, frame.at, &frame.state)?)?;
+        self.dead.insert_full(number_of(frame.at, &frame.state))?;
         Ok(())
     }
 
@@ -381,7 +329,6 @@ impl Search {
         start: FlightState,
         most: usize,
     ) -> Result<bool, NoMemory> {
-        let alloc = log.setting.alloc;
         self.frames.push(Frame::new(0, 0, start))?;
         let (mut furthest, mut tries) = (0, 0);
         for _ in 0..usize::MAX {
@@ -400,8 +347,8 @@ impl Search {
             }
             tries += 1;
             match frame.next(log, calls)? {
-                Some(lead) => self.enter(alloc, lead, most)?,
-                None => self.leave(alloc, most)?,
+                Some(lead) => self.enter(log, lead, most)?,
+                None => self.leave(log.setting.alloc, most)?,
             }
         }
         Ok(false)

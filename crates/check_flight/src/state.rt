@@ -1,4 +1,4 @@
-//! A state of the flights of a log, and where a call, an answer of a look or a close leads from it.
+//! A state of the flights of a log, and where a call leads from it.
 ghost use Rattle.std.specs.Prelude.{◌≡◌, ◌+◌, ◌++◌, ◌<◌, ◌≤◌, ◌^◌, ℕ, [], ◌∷◌, Contains, IfOk, IfSome, IsTrue, Option};
 ghost use Rattle.std.specs.Prelude.{drop, length, slice_index_or};
 ghost use Rattle.fx_chain.specs.Completed.{all_completed};
@@ -10,9 +10,9 @@ ghost use Rattle.fx_flight.specs.Events.{first_of_call};
 ghost use Rattle.check_outcomes.specs.Rests.{settled_at};
 ghost use Rattle.check_outcomes.specs.Views.{not_begun, run_at};
 ghost use Rattle.check_flight.specs.Judged.{log_in, requests_of, rules_of_log, runs_of_calls, flight_view};
-ghost use Rattle.check_flight.specs.States.{AreFewer, AreWithout, IsLookDenied, LeadsByAnswer, LeadsByCall};
+ghost use Rattle.check_flight.specs.States.{AreFewer, AreWithout, IsLookDenied, LeadsByCall};
 
-use crate::call::{first_place, look_call, members_at};
+use crate::call::{first_place, members_at};
 use crate::judged::{ChainCall, JudgedLog};
 use check_outcomes::{Progress, settle};
 use fx_base::{Closed, NoMemory};
@@ -45,35 +45,26 @@ pub(crate) struct FlightState {
     pub(crate) waiting: Vec<WaitingLook>,
 }
 
-/// Returns the files without this one.
-pub(crate) fn without(
-    alloc: Global,
-    files: &[Closed],
-    file: Closed,
-) -> Result<Vec<Closed>, NoMemory>
-    ensures others { IfOk result (λ after. AreWithout files.now file after.items) }
-    ensures gone { IfOk result (λ after. Contains after.items file → ⊥) }
+/// Takes a file from a list.
+pub(crate) fn remove_file(files: &mut Vec<Closed>, file: Closed)
+    ensures others { AreWithout files.old.items file files.new.items }
+    ensures gone { Contains files.new.items file → ⊥ }
 {
-    let mut after = Vec::new(alloc);
-    for other in files {
-        if *other != file {
-            after.push(*other)?;
-        }
-    }
-    Ok(after)
+    files.retain(|other| *other != file);
 }
 
-// Checks whether a look still waits in a table with these slots: it is past the size, or finds what
-// isn't its answer in the log.
+/// Checks whether a look still waits in a table with these slots: it finds what isn't its answer in
+/// the log. Past the size it finds no file.
 pub(crate) fn waits(log: &JudgedLog<'_>, slots: &Slots, look: &WaitingLook) -> bool
     ensures { IsTrue result → (found : Option Identity)
         → Permits (table_of_slots slots.now) (Looks look.now.slot found)
         → IsLookDenied (log_in log.now) look.now.id found }
 {
-    match slots.at.get(look.slot as usize) {
-        Some(found) => log.is_look_denied(look.id, *found),
-        None => true,
-    }
+    let found = match slots.at.get(look.slot as usize) {
+        Some(found) => *found,
+        None => None,
+    };
+    log.is_look_denied(look.id, found)
 }
 
 /// Returns the looks that still wait in a table with these slots.
@@ -87,23 +78,6 @@ pub(crate) fn still_waiting(
     let mut after = Vec::new(log.setting.alloc);
     for look in waiting {
         if waits(log, slots, look) {
-            after.push(*look)?;
-        }
-    }
-    Ok(after)
-}
-
-// Returns the looks without this one.
-fn without_look(
-    alloc: Global,
-    waiting: &[WaitingLook],
-    id: u32,
-) -> Result<Vec<WaitingLook>, NoMemory>
-    ensures { IfOk result (λ after. AreFewer waiting.now after.items) }
-{
-    let mut after = Vec::new(alloc);
-    for look in waiting {
-        if look.id != id {
             after.push(*look)?;
         }
     }
@@ -129,8 +103,14 @@ impl FlightState {
         self.base == other.base && self.removed == other.removed
     }
 
-    // Returns a copy without the first `count` calls of the list, after `base` calls that are over.
-    fn copy_from(&self, alloc: Global, base: usize, count: usize) -> Result<FlightState, NoMemory>
+    /// Returns a copy without the first `count` calls of the list, after `base` calls that are
+    /// over.
+    pub(crate) fn copy(
+        &self,
+        alloc: Global,
+        base: usize,
+        count: usize,
+    ) -> Result<FlightState, NoMemory>
         requires { count ≤ length self.now.chains.items }
         ensures table { IfOk result (λ copy.
             table_of_slots copy.slots ≡ table_of_slots self.now.slots) }
@@ -153,25 +133,31 @@ impl FlightState {
         })
     }
 
-    /// Returns a copy.
-    pub(crate) fn copy(&self, alloc: Global) -> Result<FlightState, NoMemory>
-        ensures table { IfOk result (λ copy.
-            table_of_slots copy.slots ≡ table_of_slots self.now.slots) }
-        ensures base { IfOk result (λ copy. copy.base ≡ self.now.base) }
-        ensures chains { IfOk result (λ copy. copy.chains.items ≡ self.now.chains.items) }
-        ensures removed { IfOk result (λ copy. copy.removed.items ≡ self.now.removed.items) }
-        ensures waiting { IfOk result (λ copy. copy.waiting.items ≡ self.now.waiting.items) }
-    {
-        self.copy_from(alloc, self.base, 0)
-    }
-
     /// Returns the progress of the call that follows those that are over and `j` others.
     pub(crate) fn progress(&self, j: usize) -> Progress
         ensures { result ≡ slice_index_or self.now.chains.items j not_begun }
     {
-        let not_begun = Progress { done: 0, made: 0 };
-        self.chains.get(j).copied().unwrap_or(not_begun)
+        match self.chains.get(j) {
+            Some(progress) => *progress,
+            None => Progress { done: 0, made: 0 },
+        }
     }
+}
+
+/// Returns the state before the first event.
+pub(crate) fn first_state(alloc: Global, slots: &Slots) -> Result<FlightState, NoMemory>
+    ensures table { IfOk result (λ state.
+        table_of_slots state.slots ≡ table_of_slots slots.now) }
+    ensures removed { IfOk result (λ state. state.removed.items ≡ []) }
+    ensures waiting { IfOk result (λ state. state.waiting.items ≡ []) }
+{
+    Ok(FlightState {
+        slots: slots.copy(alloc)?,
+        base: 0,
+        chains: Vec::new(alloc),
+        removed: Vec::new(alloc),
+        waiting: Vec::new(alloc),
+    })
 }
 
 /// Returns where the next call leads, and appends what is answered on the way. `None` if the state
@@ -200,35 +186,8 @@ pub(crate) fn called_state(
         return Ok(None);
     }
     let done = settle(&log.setting, first_place(i), call.requests, answered)?;
-    let mut next = state.copy(alloc)?;
+    let mut next = state.copy(alloc, state.base, 0)?;
     next.chains.push(Progress { done, made: 0 })?;
-    Ok(Some(next))
-}
-
-/// Returns where the next call leads if it is a look of a slot. `None` if the state isn't one of
-/// the log.
-pub(crate) fn looking_state(
-    log: &JudgedLog<'_>,
-    calls: &[ChainCall<'_>],
-    state: &FlightState,
-    look: WaitingLook,
-) -> Result<Option<FlightState>, NoMemory>
-    ensures leads { IfOk result (λ next. IfSome next (λ next. LeadsByCall (rules_of_log log.now)
-        (flight_view (runs_of_calls calls.now) state.now) (length calls.now + 1) []
-        (flight_view (runs_of_calls calls.now ++ [] ∷ []) next))) }
-    ensures waiting { IfOk result (λ next. IfSome next (λ next.
-        AreFewer (state.now.waiting.items ++ look ∷ []) next.waiting.items)) }
-{
-    let alloc = log.setting.alloc;
-    let mut answered = Vec::new(alloc);
-    let call = look_call();
-    let called = called_state(log, calls, state, &call, &mut answered)?;
-    let Some(mut next) = called else {
-        return Ok(None);
-    };
-    next.waiting.push(look)?;
-    let waiting = still_waiting(log, &next.slots, &next.waiting)?;
-    next.waiting = waiting;
     Ok(Some(next))
 }
 
@@ -260,42 +219,6 @@ pub(crate) fn trimmed(
         ≡ flight_view (runs_of_calls calls.now) state.now) }
 {
     let count = count_over(calls, state);
-    let same = state.copy_from(alloc, state.base + count, count)?;
+    let same = state.copy(alloc, state.base + count, count)?;
     Ok(same)
-}
-
-/// Returns where the answer of a look leads: it waits no more.
-pub(crate) fn answered_state(
-    alloc: Global,
-    calls: &[ChainCall<'_>],
-    state: &FlightState,
-    id: u32,
-) -> Result<FlightState, NoMemory>
-    ensures { IfOk result (λ next. LeadsByAnswer (flight_view (runs_of_calls calls.now) state.now)
-        (flight_view (runs_of_calls calls.now) next)) }
-{
-    let waiting = without_look(alloc, &state.waiting, id)?;
-    let mut next = trimmed(alloc, calls, state)?;
-    next.waiting = waiting;
-    Ok(next)
-}
-
-/// Returns where the close of a file leads.
-pub(crate) fn closed_state(
-    alloc: Global,
-    state: &FlightState,
-    file: Closed,
-) -> Result<FlightState, NoMemory>
-    ensures table { IfOk result (λ next.
-        table_of_slots next.slots ≡ table_of_slots state.now.slots) }
-    ensures base { IfOk result (λ next. next.base ≡ state.now.base) }
-    ensures chains { IfOk result (λ next. next.chains.items ≡ state.now.chains.items) }
-    ensures removed { IfOk result (λ next.
-        AreWithout state.now.removed.items file next.removed.items) }
-    ensures waiting { IfOk result (λ next. next.waiting.items ≡ state.now.waiting.items) }
-{
-    let removed = without(alloc, &state.removed, file)?;
-    let mut next = state.copy(alloc)?;
-    next.removed = removed;
-    Ok(next)
 }

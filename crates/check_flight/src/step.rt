@@ -6,14 +6,15 @@ ghost use Rattle.fx_chain.specs.Completed.{all_completed};
 ghost use Rattle.fx_order.specs.Access.{Permits, file_removed_by, table_with};
 ghost use Rattle.fx_order.specs.Slots.{table_of_slots};
 ghost use Rattle.fx_flight.specs.Events.{first_of_call};
-ghost use Rattle.check_outcomes.specs.Rests.{step};
 ghost use Rattle.check_outcomes.specs.Stands.{StepsChain};
 ghost use Rattle.check_outcomes.specs.Views.{not_begun, run_at};
-ghost use Rattle.check_flight.specs.Judged.{flight_view, rest_of, rules_of_log, runs_of_calls};
-ghost use Rattle.check_flight.specs.States.{AreFewer, StepsByAccess};
+ghost use Rattle.check_flight.specs.Judged.{rules_of_log, runs_of_calls};
+ghost use Rattle.check_flight.specs.Passages.{IsAccessPassage};
+ghost use Rattle.check_flight.specs.States.{AreFewer};
 
 use crate::call::{first_place, members_at};
 use crate::judged::{ChainCall, JudgedLog};
+use crate::passage::Passage;
 use crate::state::{FlightState, still_waiting};
 use check_outcomes::{Progress, removed_after, step};
 use fx_base::NoMemory;
@@ -21,8 +22,7 @@ use fx_chain::Completion;
 use fx_order::Access;
 
 // Returns the progress of a call after an access, and appends what is answered on the way: of the
-// call that follows those that are over and `j` others. `None` if the state isn't one of the log,
-// or its table doesn't permit the access.
+// call that follows those that are over and `j` others. `None` if the state isn't one of the log.
 fn progress_after(
     log: &JudgedLog<'_>,
     calls: &[ChainCall<'_>],
@@ -33,17 +33,16 @@ fn progress_after(
 ) -> Result<Option<Progress>, NoMemory>
     requires call { state.now.base + j < length calls.now }
     requires answered { answered.old.items ≡ [] }
+    requires permitted { Permits (table_of_slots state.now.slots) access.now }
     ensures known { IfOk result (λ after. IfSome after (λ _.
         j < length state.now.chains.items)) }
-    ensures permitted { IfOk result (λ after. IfSome after (λ _.
-        Permits (table_of_slots state.now.slots) access.now)) }
     ensures steps { IfOk result (λ after. IfSome after (StepsChain (rules_of_log log.now)
         (first_of_call (state.now.base + j + 1))
         (run_at (runs_of_calls calls.now) (state.now.base + j + 1))
         (slice_index_or state.now.chains.items j not_begun) access.now
         [] (all_completed answered.new.items))) }
 {
-    if state.slots.at.len() != log.setting.size as usize || !state.slots.permits(access) {
+    if state.slots.at.len() != log.setting.size as usize {
         return Ok(None);
     }
     let Some(progress) = state.chains.get(j) else {
@@ -80,67 +79,37 @@ fn moved_state(
         AreFewer state.now.waiting.items next.waiting.items) }
 {
     let alloc = log.setting.alloc;
-    let mut chains = Vec::from_slice(alloc, &state.chains)?;
-    chains[j] = after;
-    let mut slots = state.slots.copy(alloc)?;
-    slots.make(access);
-    let removed = removed_after(alloc, &state.removed, access)?;
-    let waiting = still_waiting(log, &slots, &state.waiting)?;
-    Ok(FlightState {
-        slots,
-        base: state.base,
-        chains,
-        removed,
-        waiting,
-    })
+    let mut next = state.copy(alloc, state.base, 0)?;
+    next.chains[j] = after;
+    next.slots.make(access);
+    next.removed = removed_after(alloc, &state.removed, access)?;
+    next.waiting = still_waiting(log, &next.slots, &state.waiting)?;
+    Ok(next)
 }
 
-/// Returns where an access leads of the call that follows those that are over and `j` others, and
-/// appends what is answered on the way. `None` if the state isn't one of the log, or its table
-/// doesn't permit the access.
-pub(crate) fn next_state(
+/// Returns what an access does to a state, of the call that follows those that are over and `j`
+/// others, and appends what is answered on the way.
+pub(crate) fn by_access(
     log: &JudgedLog<'_>,
     calls: &[ChainCall<'_>],
     state: &FlightState,
     j: usize,
     access: &Access,
     answered: &mut Vec<Completion>,
-) -> Result<Option<FlightState>, NoMemory>
+) -> Result<Passage, NoMemory>
     requires call { state.now.base + j < length calls.now }
     requires answered { answered.old.items ≡ [] }
-    ensures answered { IfOk result (λ next. IfSome next (λ next. all_completed answered.new.items
-        ≡ (step (rules_of_log log.now) (rest_of (runs_of_calls calls.now) state.now
-        (state.now.base + j + 1)) access.now).0)) }
-    ensures leads { IfOk result (λ next. IfSome next (λ next. StepsByAccess (rules_of_log log.now)
-        (flight_view (runs_of_calls calls.now) state.now) (state.now.base + j + 1) access.now
-        (flight_view (runs_of_calls calls.now) next))) }
+    ensures { IfOk result (IsAccessPassage log.now (runs_of_calls calls.now) state.now
+        (state.now.base + j + 1) access.now) }
 {
+    if !state.slots.permits(access) {
+        return Ok(Passage::Stops);
+    }
     let Some(after) = progress_after(log, calls, state, j, access, answered)? else {
-        return Ok(None);
-    };
-    let next = moved_state(log, state, j, access, after)?;
-    Ok(Some(next))
-}
-
-/// Returns where an access leads of the call that follows those that are over and `j` others, and
-/// appends what is answered on the way. `None` if the table doesn't permit the access, or the log
-/// has another answer.
-pub(crate) fn allowed_state(
-    log: &JudgedLog<'_>,
-    calls: &[ChainCall<'_>],
-    state: &FlightState,
-    j: usize,
-    access: &Access,
-    answered: &mut Vec<Completion>,
-) -> Result<Option<FlightState>, NoMemory>
-    requires call { state.now.base + j < length calls.now }
-    requires answered { answered.old.items ≡ [] }
-{
-    let Some(after) = progress_after(log, calls, state, j, access, answered)? else {
-        return Ok(None);
+        return Ok(Passage::IsUnfit);
     };
     if log.is_one_denied(answered) {
-        return Ok(None);
+        return Ok(Passage::Stops);
     }
-    Ok(Some(moved_state(log, state, j, access, after)?))
+    Ok(Passage::Leads(moved_state(log, state, j, access, after)?))
 }

@@ -10,11 +10,11 @@ ghost use Rattle.check_flight.specs.States.{HasNoFlight};
 ghost use Rattle.check_flight.specs.declared.verdict.FlightVerdict.TheVariants.{Faulty, Legal, NotLegal};
 
 use crate::judged::JudgedLog;
-use crate::plan::FlightPlan;
 use crate::player::is_flight;
 use crate::positions::positions_in;
 use crate::propose::propose;
-use crate::refute::{first_state, push_call, refute};
+use crate::refute::refute;
+use crate::search::Search;
 use check_search::Limits;
 use fx_base::{Catalogue, Errno, NoMemory};
 use fx_flight::{LogEvent, LogFault, fault_of_log};
@@ -38,8 +38,8 @@ pub enum FlightVerdict {
     Undecided,
 }
 
-// Returns the largest number of states at an event, and of those that a search goes back over. A
-// slot of a state takes 40 bytes, and its numbers in the key up to 48.
+// Returns the largest number of states at an event, and of those that a search goes back over: a
+// state counts as 88 bytes for each slot, and 768 beside them.
 fn room_for(slots: &Slots, limits: Limits) -> usize {
     let weight = slots.at.len().saturating_mul(88).saturating_add(768);
     limits
@@ -50,30 +50,27 @@ fn room_for(slots: &Slots, limits: Limits) -> usize {
 // Returns the number of events of a beginning of the log that was refuted, the shortest one that
 // was found, or `None` if the log wasn't refuted.
 fn refuted_beginning(
-    alloc: Global,
-    catalogue: &Catalogue,
+    log: &JudgedLog<'_>,
     slots: &Slots,
-    events: &[LogEvent],
     most: usize,
 ) -> Result<Option<usize>, NoMemory>
-    requires catalogue { IsCatalogue catalogue.now }
-    requires slots { length slots.now.at.items < 2 ^ 31 }
+    requires { log.now.setting.size ≡ length slots.now.at.items }
     ensures { IfOk result (λ count. IfSome count (λ count. (submissions registrations : ℕ)
-        → HasNoFlight (ring_of_slots catalogue.now slots.now submissions registrations)
-        (all_happenings (take count events.now)))) }
+        → HasNoFlight (ring_of_slots (catalogue_in log.now) slots.now submissions registrations)
+        (all_happenings (take count log.now.events.now)))) }
 {
-    let whole = refute(alloc, catalogue, slots, events, most)?;
+    let mut high = log.events.len();
+    let whole = refute(log, slots, high, most)?;
     if !whole.is_refuted {
         return Ok(None);
     }
     let mut low = whole.at;
-    let mut high = events.len();
     for _ in 0..64 {
         if low >= high {
             break;
         }
         let middle = low + (high - low) / 2;
-        if refute(alloc, catalogue, slots, &events[..middle], most)?.is_refuted {
+        if refute(log, slots, middle, most)?.is_refuted {
             high = middle;
         } else {
             low = middle + 1;
@@ -82,70 +79,18 @@ fn refuted_beginning(
     Ok(Some(high))
 }
 
-// Adds a flight that a search proposes to an empty plan. Returns whether it found one.
-fn proposes(
-    log: &JudgedLog<'_>,
-    slots: &Slots,
-    most: usize,
-    plan: &mut FlightPlan,
-) -> Result<bool, NoMemory> {
-    let alloc = log.setting.alloc;
-    let mut calls = Vec::new(alloc);
-    for event in log.events {
-        if !push_call(&mut calls, event)? {
-            return Ok(false);
-        }
-    }
-    let start = first_state(alloc, slots)?;
-    propose(log, &calls, start, most, plan)
-}
-
-// Checks whether a search proposes a flight of the log. `plan` is empty at first.
-fn is_shown(
-    log: &JudgedLog<'_>,
-    slots: &Slots,
-    most: usize,
-    plan: &mut FlightPlan,
-) -> Result<bool, NoMemory>
+// Checks whether the log has a flight, by a search that goes back over at most `most` states.
+fn has_flight(log: &JudgedLog<'_>, slots: &Slots, most: usize) -> Result<bool, NoMemory>
     requires { log.now.setting.size ≡ length slots.now.at.items }
     ensures { IfOk result (λ yes. IsTrue yes → (submissions registrations : ℕ) → IsLegalLog
         (ring_of_slots (catalogue_in log.now) slots.now submissions registrations)
         (log_in log.now)) }
 {
-    if !proposes(log, slots, most, plan)? {
+    let mut search = Search::new(log.setting.alloc);
+    if !propose(log, slots, most, &mut search)? {
         return Ok(false);
     }
-    is_flight(log, slots, plan)
-}
-
-// Checks whether the log has a flight, by a search that goes back over at most `most` states.
-fn has_flight(
-    alloc: Global,
-    catalogue: &Catalogue,
-    slots: &Slots,
-    events: &[LogEvent],
-    most: usize,
-) -> Result<bool, NoMemory>
-    requires catalogue { IsCatalogue catalogue.now }
-    requires slots { length slots.now.at.items < 2 ^ 31 }
-    ensures { IfOk result (λ yes. IsTrue yes → (submissions registrations : ℕ) → IsLegalLog
-        (ring_of_slots catalogue.now slots.now submissions registrations)
-        (all_happenings events.now)) }
-{
-    let log = JudgedLog {
-        setting: OrderSetting {
-            alloc,
-            catalogue,
-            size: slots.at.len() as u32,
-        },
-        events,
-        positions: positions_in(alloc, events)?,
-    };
-    let mut plan = FlightPlan {
-        calls: Vec::new(alloc),
-        moves: Vec::new(alloc),
-    };
-    is_shown(&log, slots, most, &mut plan)
+    is_flight(log, slots, &search.plan)
 }
 
 // Checks whether a request of the log lacked memory (-12).
@@ -191,10 +136,21 @@ pub fn judge_events(
     if lacks_memory(events) {
         return Ok(FlightVerdict::Undecided);
     }
-    if has_flight(alloc, catalogue, slots, events, room_for(slots, limits))? {
+    let positions = positions_in(alloc, events)?;
+    let log = JudgedLog {
+        setting: OrderSetting {
+            alloc,
+            catalogue,
+            size: slots.at.len() as u32,
+        },
+        events,
+        positions: &positions,
+    };
+    let most = room_for(slots, limits);
+    if has_flight(&log, slots, most)? {
         return Ok(FlightVerdict::Legal);
     }
-    match refuted_beginning(alloc, catalogue, slots, events, room_for(slots, limits))? {
+    match refuted_beginning(&log, slots, most)? {
         Some(count) if count > 0 => Ok(FlightVerdict::NotLegal { at: count - 1 }),
         _ => Ok(FlightVerdict::Undecided),
     }

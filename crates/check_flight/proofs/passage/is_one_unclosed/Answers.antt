@@ -2,8 +2,12 @@ use Rattle.check_flight.proofs.Words.{false≢true, slice_index_or, sym, ◌∙�
 use Rattle.fx_flight.specs.Events.{happening_of}
 use Rattle.std.proofs.lemmas.List.{take-map}
 use Rattle.std.proofs.lemmas.List.Elements.{Contains-get_or}
-use Rattle.check_flight.proofs.Judging.{no_file}
+use Rattle.fx_base.specs.declared.mark.Mark.TheVariants.{Registered}
+use Rattle.fx_base.specs.Identity.{Identity}
 use Rattle.check_flight.proofs.passage.is_one_unclosed.Goals as goal
+
+abbrev no_file : Identity
+no_file = record { mark = Registered 0 0; entry = 0; tag = 0 }
 
 pub returns-then-not-was_closed : goal.returns-then-not-was_closed
 returns-then-not-was_closed c = λ _.

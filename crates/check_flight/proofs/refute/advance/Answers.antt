@@ -10,8 +10,8 @@ returns c = λ _.
     let event = slice_index_or log.events.now c.args.at c.index-log-at.result in
     let all = c.as_slice-calls.result.now in
     next_front_is log c.args.at c.len-known.result c.args.calls.now.items c.push_call.new.calls.items (take c.len-known.result all) all
-    c.args.front.now.states.items c.in-Some.nexts.states.items (happening_of event)
+    c.args.front.now.states.items c.pass_all.new.nexts.states.items c.follow_all.new.front.states.items (happening_of event)
     (sym (get_or-map happening_of log.events.now c.args.at c.index-log-at.result AllSettled c.requires))
     c.as_slice-calls.ensures.value refl (omega (arith, c.args.calls.now.ok.0)) (c.in_ok-push_call.ensures.front c.if-not-branch.false)
     (c.in_ok-push_call.ensures.runs c.if-not-branch.false) (c.is_numbered.ensures c.if-not-is_numbered.false)
-    (c.in_ok-are_passed.ensures c.if-not-branch-2.false) (c.in_ok-are_states_followed.ensures c.if-not-branch-3.false)
+    (c.in_ok-pass_all.ensures c.if-not-branch-2.false) c.in_ok-follow_all.ensures.kept (c.in_ok-follow_all.ensures.followed c.if-not-branch-3.false)

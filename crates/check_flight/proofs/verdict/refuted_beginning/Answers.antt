@@ -1,13 +1,9 @@
-use Rattle.check_flight.proofs.Words.{arith, length}
-use Rattle.check_outcomes.proofs.Words.{take_all}
+use Rattle.check_flight.proofs.Words.{arith}
 use Rattle.check_flight.proofs.verdict.refuted_beginning.Goals.{then-branch, else-branch}
 use Rattle.check_flight.proofs.verdict.refuted_beginning.Goals as goal
 
 pub loop-init : goal.loop-init
-loop-init c = record {
-  within = omega arith;
-  refuted = rw (take_all (length c.args.events.now) c.args.events.now (omega arith)) (c.in_ok-whole.ensures c.if-not-whole.false);
-}
+loop-init c = record { within = omega arith; refuted = c.in_ok-whole.ensures c.if-not-whole.false }
 
 pub loop-preserved : goal.loop-preserved
 loop-preserved c = elim c.if-branch.branch [

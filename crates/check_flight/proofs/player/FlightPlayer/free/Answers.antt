@@ -1,9 +1,17 @@
-use Rattle.check_flight.proofs.Words.{refl}
+use Rattle.check_flight.proofs.Words.{◌≡◌, ne_eqb, refl}
+use Rattle.check_flight.proofs.Judging.{in_filter}
 use Rattle.check_flight.proofs.Moves.{moves_free}
+use Rattle.check_flight.specs.declared.hold.HeldFile.{HeldFile}
+use Rattle.std.proofs.Common.{rules}
+use Rattle.std.proofs.lemmas.Fn.{filter_same}
+use Rattle.std.specs.Prelude.{filter, nat_eq, not}
 use Rattle.check_flight.proofs.player.FlightPlayer.free.Goals as goal
 
 pub returns : goal.returns
 returns c = λ log plans read old ring so_far.
     let self = c.args.self.now in
-    let next = record self { holds = c.in_ok-self.field-0 } in
-    moves_free old log plans ring self next c.args.id refl refl refl refl (rw c.deref.ensures.value at c.in_ok-self.ensures) so_far
+    let id = c.args.id in
+    let others = λ (hold : HeldFile). not (nat_eq hold.id id) in
+    let next = record self { holds = c.retain.new.self } in
+    let is : next.holds.items ≡ filter others self.holds.items = filter_same _ _ _ (λ x b f' k. search rules) _ _ c.retain.ensures.filtered in
+    moves_free old log plans ring self next id (λ hold inside apart. rw is (in_filter others self.holds.items inside (rw (ne_eqb hold.id id apart) refl))) so_far

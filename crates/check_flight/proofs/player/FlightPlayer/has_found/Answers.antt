@@ -20,5 +20,5 @@ returns c = λ made.
       here = sym c.index-call.ensures;
       kind = c.in-Look.is;
       done = rw own (c.is_look_made.ensures made);
-      unclosed = λ file is marked. false≢true (sym c.if-is_one_marked.false ∙ c.is_one_marked.ensures file is marked);
+      unclosed = λ file is marked. false≢true (sym c.if-is_marked.false ∙ c.is_marked.ensures file is marked);
     }

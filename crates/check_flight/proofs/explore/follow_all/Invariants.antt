@@ -1,0 +1,10 @@
+use Rattle.check_flight.proofs.Words.{ℕ, ◌<◌, slice_index_or}
+use Rattle.check_flight.specs.Judged.{IsFrontOf, IsWhollyFollowed}
+use Rattle.check_flight.specs.declared.state.FlightState.{FlightState}
+use Rattle.check_flight.proofs.explore.follow_all.Given as goal
+
+abbrev pub invariant-loop-number : goal.invariant-loop-number
+invariant-loop-number l = record {
+  kept : IsFrontOf l.initial.front.states.items l.front.states.items;
+  followed : (k : ℕ) (d : FlightState) → k < l.number → IsWhollyFollowed l.log l.calls l.front.states.items (slice_index_or l.front.states.items k d);
+}

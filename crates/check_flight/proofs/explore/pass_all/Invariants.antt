@@ -1,0 +1,11 @@
+use Rattle.check_flight.proofs.Words.{ℕ, ◌<◌, take, slice_index_or}
+use Rattle.check_flight.specs.Judged.{log_in, runs_of_calls}
+use Rattle.check_flight.specs.Passages.{IsStatePassed}
+use Rattle.fx_flight.specs.Events.{happening_of}
+use Rattle.check_flight.specs.declared.state.FlightState.{FlightState}
+use Rattle.check_flight.proofs.explore.pass_all.Given as goal
+
+abbrev pub invariant-loop-state : goal.invariant-loop-state
+invariant-loop-state l = (k : ℕ) (d : FlightState) → k < l.state-index
+    → IsStatePassed l.log (runs_of_calls l.calls) (take l.at (log_in l.log)) l.nexts.states.items (slice_index_or l.front.states.items k d)
+    (happening_of l.event)

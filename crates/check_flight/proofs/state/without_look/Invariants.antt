@@ -1,5 +1,0 @@
-use Rattle.check_flight.specs.States.{AreFewer}
-use Rattle.check_flight.proofs.state.without_look.Given as goal
-
-abbrev pub invariant-loop-look : goal.invariant-loop-look
-invariant-loop-look l = AreFewer l.waiting l.after.items
