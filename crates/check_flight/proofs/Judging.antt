@@ -1,17 +1,16 @@
 -- The states of the judge, call by call, and where an access, a call or a close leads.
 use Rattle.check_flight.proofs.Words.{◌≡◌, ℕ, ◌+◌, ◌-◌, ◌<◌, ◌≤◌, List, [], ◌∷◌, ◌++◌, length, refl, sym, ap, ◌∙◌, arith, ⊎_elim, Access, Asked}
-use Rattle.check_flight.proofs.Words.{Bool, Completed, Contains, Option, None, Rest, Rules, false, over, subst, suc, zero, file_removed_by, run_at}
+use Rattle.check_flight.proofs.Words.{Bool, Completed, Contains, Option, Rest, Rules, false, over, subst, suc, zero, file_removed_by, run_at}
 use Rattle.check_flight.proofs.Words.{settled_at, slice_index_or, step, Contains-append_cases, Contains-append_left, Contains-append_right}
 use Rattle.check_flight.proofs.Words.{option_to_list, table_with, if◌then◌else◌, Identity, inl, inr, take, eq-eqb, true, ◌⊎◌, false≢true}
-use Rattle.check_flight.proofs.Words.{append_assoc, either_way, get_or_append_left, get_or_at}
+use Rattle.check_flight.proofs.Words.{append_assoc, get_or_append_left, get_or_at}
 use Rattle.check_outcomes.proofs.Lists.{one_more_of}
-use Rattle.check_outcomes.proofs.Viewing.{requests_for}
 use Rattle.check_flight.proofs.Steps.{only_one, taken, taken_by}
 use Rattle.std.specs.Prelude.{nat_le, slice_set, IsPermutation, All, map, nat_eq, filter, not}
 use Rattle.std.proofs.Math.Seq.{take-append_seam}
-use Rattle.std.proofs.lemmas.Bool.{cases_Bool, cases_lt, le-leb, lt-leb, leb-false, leb-true}
-use Rattle.std.proofs.lemmas.List.{drop_all, get_or-set_other, get_or-set_same, length-drop, get_or-drop}
-use Rattle.check_outcomes.proofs.Words.{IsPermutation-sym, StepsChain, not_begun, rest_in, table_of_slots, drop, moved, get_or-map}
+use Rattle.std.proofs.lemmas.Bool.{cases_Bool, cases_lt, le-leb, lt-leb, leb-false}
+use Rattle.std.proofs.lemmas.List.{drop_all, get_or-set_other, get_or-set_same, get_or-drop}
+use Rattle.check_outcomes.proofs.Words.{IsPermutation-sym, StepsChain, not_begun, rest_in, table_of_slots, drop, get_or-map}
 use Rattle.check_outcomes.proofs.Words.{file_Decides, length-map, map-append, take-append-drop}
 use Rattle.check_outcomes.specs.declared.submission.Progress.{Progress}
 use Rattle.std.proofs.lemmas.List.Sorted.{Contains-permutation}
@@ -35,7 +34,6 @@ use Rattle.check_flight.specs.Player.{IsMarked, file_number}
 use Rattle.indexmap.specs.IndexSet.{IndexSet, Updates}
 use Rattle.fx_order.specs.Access.{Permits}
 use Rattle.fx_order.specs.declared.access.Access.TheVariants.{Looks}
-use Rattle.fx_flight.specs.Flight.{IsLookDone}
 use Rattle.check_flight.specs.declared.state.FlightState.{FlightState}
 
 -- The removed files.

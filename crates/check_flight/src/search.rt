@@ -63,8 +63,7 @@ fn lead_by(
     state: &FlightState,
     j: usize,
     access: &Access,
-) -> Result<Option<Lead>, NoMemory>
-{
+) -> Result<Option<Lead>, NoMemory> {
     let i = state.base.saturating_add(j);
     if i >= calls.len() {
         return Ok(None);
