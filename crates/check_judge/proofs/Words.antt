@@ -10,15 +10,15 @@ pub use Rattle.fx_chain.specs.declared.completion.Completion.{Completion}
 pub use Rattle.fx_chain.specs.declared.completion.Place.{Place}
 pub use Rattle.fx_chain.specs.declared.request.Request.{Request}
 pub use Rattle.fx_chain.specs.declared.request.Target.TheVariants.{Any, Slot}
-pub use Rattle.check_judge.specs.Chains.{AreDone, YieldsChains, YieldsMember}
-pub use Rattle.check_judge.specs.Claims.{AreClaims, Fits, IsAllocationInRange, IsAnsweredBy, LeavesSo, Possibly, Yields, Expected, found_by, left_by, touched}
+pub use Rattle.check_judge.specs.Chains.{AreDone, AreMembersDone}
+pub use Rattle.check_judge.specs.Claims.{AreAppended, AreClaims, Decides, Fits, IsAllocationInRange, IsAnsweredBy, LeavesSo, Possibly, Expected, found_by, left_by, touched}
 pub use Rattle.check_search.specs.Machine.{Ends, HasNoEnd, IsEndOfClaims, Standing, allows, cell_at, cell_with, cells_after, is_same, is_staying}
 pub use Rattle.check_search.specs.Machine.{is_taken, may_leave, may_stay, next, suits}
 pub use Rattle.check_judge.specs.Played.{HasNoOrder, IsCell, IsOutcome, ShowsFile}
 pub use Rattle.check_search.specs.Starts.{starting}
 pub use Rattle.check_judge.specs.Strands.{AreStrands, seen, strand_for}
 pub use Rattle.check_search.specs.declared.cell.Cell.{Cell}
-pub use Rattle.check_judge.specs.declared.chain_claims.MemberClaims.{MemberClaims}
+pub use Rattle.check_judge.specs.declared.answered.ClaimSetting.{ClaimSetting}
 pub use Rattle.check_search.specs.declared.claim.Claim.{Claim}
 pub use Rattle.check_search.specs.declared.claim.Claim.TheVariants.{At, Full}
 pub use Rattle.check_search.specs.declared.claim.Leaves.{Leaves}
