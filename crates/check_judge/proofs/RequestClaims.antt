@@ -1,42 +1,34 @@
 -- The claims of requests, by what they intend, and the accesses that fit them.
-use Rattle.check_judge.proofs.Words.{FileEntry, bytes_at, Closed, installed, Completed, completed_of, refusal, Opens, Operation, operation_of, Place}
+use Rattle.check_judge.proofs.Words.{FileEntry, bytes_at, Closed, installed, Completed, completed_of, Opens, Operation, operation_of, Place}
 use Rattle.check_judge.proofs.Words.{Any, Slot, AreAppended, Decides, Fits, IsAllocationInRange, IsAnsweredBy, LeavesSo, Possibly, Expected, found_by}
 use Rattle.check_judge.proofs.Words.{left_by, touched, allows, cell_at, cell_with, cells_after, is_same, is_taken, may_leave, suits, IsCell}
 use Rattle.check_judge.proofs.Words.{ShowsFile, Cell, Claim, At, Full, Leaves, Empty, File, Same, Resident, Condition, Stop, Permits, Table}
-use Rattle.check_judge.proofs.Words.{file_removed_by, table_with, Allocates, FindsFull, Looks, Takes, IsDoneAtTable, IsRequestDone, Access}
+use Rattle.check_judge.proofs.Words.{file_removed_by, table_with, Allocates, FindsFull, Looks, Takes, Access}
 use Rattle.check_judge.proofs.Words.{by_equality, unchanged, changed_at, has_slot, All, Contains, Err, IsSome, List, None, Ok, Option, Result, Some}
 use Rattle.check_judge.proofs.Words.{[], ap, append_assoc, arith, eq-eqb, false, if◌then◌else◌, inl, inr, int_lt, is_some, length, map, negsuc, pos}
 use Rattle.check_judge.proofs.Words.{refl, slice_get, subst, suc, sym, take, true, zero, ℕ, ℤ, ◌++◌, ◌+◌, ◌<◌, ◌||◌, ◌∙◌, ◌∷◌, ◌≡◌, ◌⊎◌, ne_eqb}
-use Rattle.check_judge.proofs.Words.{true≢false, ⊎_elim, and_from, cases_Bool, append-nil, take_more, All-head, All-map, All-tail, All-weaker}
+use Rattle.check_judge.proofs.Words.{true≢false, ⊎_elim, and_from, cases_Bool, take_more, All-head, All-map, All-tail, All-weaker}
 use Rattle.check_judge.proofs.Words.{slice_get_within, same_Some, get_or_from_slice_get, AllByRecursion, AllZip, same_size, list_all-from_AllPass}
-use Rattle.check_judge.proofs.Words.{ENOMEM}
 use Rattle.check_judge.specs.Claims.{IsDecided, IsMade, answer}
 use Rattle.check_judge.specs.declared.answered.Answered.{Answered}
 use Rattle.check_search.specs.declared.claim.Condition.TheVariants.{Nothing, Something}
 use Rattle.fx_base.proofs.Entries.{entry_named}
-use Rattle.fx_chain.specs.Intents.{IsOpened, answer_at_table, bytes_asked, bytes_read, intents_of, list_intents}
+use Rattle.fx_chain.specs.Intents.{IsOpened, answer_at_table, bytes_read, intents_of, list_intents}
 use Rattle.fx_chain.specs.Operation.{Closes, Reads, Updates}
-use Rattle.fx_chain.specs.Refusal.{refusal_of}
 use Rattle.fx_chain.specs.declared.intent.Finding.{Finding}
 use Rattle.fx_chain.specs.declared.intent.Finding.TheVariants.{At as FoundAt}
 use Rattle.fx_chain.specs.declared.intent.Intent.{Intent}
 use Rattle.fx_chain.specs.declared.intent.Intent.TheVariants.{Allocate, Look, Take}
 use Rattle.fx_order.proofs.Intents.{single}
-use Rattle.fx_order.proofs.RequestCases.{has_memory}
 use Rattle.fx_order.specs.Access.{IsOf, finding_of, last_finding}
 use Rattle.std.proofs.lemmas.Bool.Decides.{nat_tests}
 use Rattle.std.proofs.lemmas.Slice.Zip.{all_zipped_more}
-use Rattle.std.specs.Ordering.{int_eq}
 
 -- what was decided of all b is decided of all a, if each a has its b
 pub decides_by : (A B X : Type 0) (P : A → Type 0) (Q : B → Type 0) (IsRight : X → A → Type 0) (WasRight : X → B → Type 0) (r : Result X Stop)
     → ((a : A) → P a → (b : B) × Q b × ((x : X) → WasRight x b → IsRight x a)) → Decides B X Q WasRight r → Decides A X P IsRight r
 decides_by A B X P Q IsRight WasRight (Ok x) so right = λ a done. let own = so a done in own.2 x (right own.0 own.1)
 decides_by A B X P Q IsRight WasRight (Err stop) so none = λ refutes a done. let own = so a done in none refutes own.0 own.1
-
--- no access, and no claim
-pub none_appended : (closes : List Closed) (old : List Claim) {accesses : List Access} → accesses ≡ [] → AreAppended closes old old accesses
-none_appended closes old none before fits = rw (none, append-nil before) fits
 
 -- The claims of a request's accesses, one after another.
 
@@ -272,29 +264,6 @@ module _ (it : Answered) {slot : ℕ} where
       taken None is said =
           absurd (true≢false (sym d.0 ∙ (ap (λ (e : Completed). int_lt e.res (pos 0)) (sym said) ∙ high)))
       taken (Some file) is said = (rw is (refl, (file, refl), (refl, refl)), said ∙ (d.1 file ∙ sym (d.1 other)))
-
--- a request that isn't refused, by the entry that it opens
-module _ (catalogue : List FileEntry) (place : Place) (entry : ℕ) (c : Completed) (own : List Access) (size : ℕ) (operation : Operation)
-    (accepted : refusal_of catalogue size operation ≡ None) where
-  pub answered_by : ((0 < bytes_asked operation) × (c ≡ refusal place ENOMEM) → ⊥)
-      → ((other : ℕ) → IsOpened catalogue operation other → other ≡ entry) → IsRequestDone catalogue size place operation own c
-      → AllZip IsOf (intents_of place entry operation) own × (c ≡ answer_at_table catalogue place operation (last_finding own))
-  answered_by full only done = by_cases (rw accepted at done)
-    where
-      by_cases : IsDoneAtTable catalogue place operation own c
-          → AllZip IsOf (intents_of place entry operation) own × (c ≡ answer_at_table catalogue place operation (last_finding own))
-      by_cases (inl x) = absurd (full (x.0, x.1.1))
-      by_cases (inr x) = (subst (λ (e : ℕ). AllZip IsOf (intents_of place e operation) own) (only x.0.0 x.0.1) x.0.2, x.1)
-
-  -- without memory
-  pub none_made : c ≡ refusal place ENOMEM → IsRequestDone catalogue size place operation own c → own ≡ []
-  none_made lacks done = by_cases (rw accepted at done)
-    where
-      by_cases : IsDoneAtTable catalogue place operation own c → own ≡ []
-      by_cases (inl x) = x.1.0
-      by_cases (inr x) =
-          let has = has_memory catalogue place operation (last_finding own) in
-          absurd (true≢false (ap (λ (d : Completed). int_eq d.res (negsuc 11)) (sym lacks ∙ x.1) ∙ has))
 
 -- an entry of the catalogue alone has the name of a request
 pub only_so : (catalogue : List FileEntry) (operation : Operation) (entry : ℕ) → IsOpened catalogue operation entry

@@ -1,5 +1,5 @@
-use Rattle.check_judge.proofs.Words.{operation_of, Some, [], arith, length, slice_get, sym, ◌≡◌, ◌≤◌, nil_from_length, take_all, AllZip-long}
-use Rattle.check_judge.proofs.RequestClaims.{one_more, none_appended, made_at, decided, intents, all_made}
+use Rattle.check_judge.proofs.Words.{operation_of, Some, arith, length, slice_get, sym, ◌≡◌, ◌≤◌, take_all}
+use Rattle.check_judge.proofs.RequestClaims.{one_more, made_at, decided, intents, all_made}
 use Rattle.check_judge.specs.Claims.{IsMade}
 use Rattle.std.proofs.lemmas.Result.{err_from_is_err_and}
 use Rattle.fx_order.proofs.Intents.{as_many_intents}
@@ -14,9 +14,6 @@ pub claim_of-requires : goal.claim_of-requires
 claim_of-requires c =
     let it = c.args.it.now in
     decided it.setting.catalogue.now it.place it.entry (operation_of it.request.now.op) c.loop-made.made (got (goal.at.claim_of-requires c).In-Some)
-
-pub loop-made-init : goal.loop-made-init
-loop-made-init c = λ accesses all. none_appended _ _ (nil_from_length accesses (AllZip-long (IsMade c.args.it.now) [] accesses all))
 
 pub loop-made-preserved : goal.loop-made-preserved
 loop-made-preserved c =
