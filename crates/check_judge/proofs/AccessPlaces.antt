@@ -1,19 +1,13 @@
 -- The places of accesses: of a chain, of all chains, and of an order.
-use Rattle.check_judge.proofs.Words.{◌≡◌, ℕ, ◌+◌, ◌<◌, false, true, List, [], ◌∷◌, ◌++◌, All, length, Option, refl, sym, ap, ◌∙◌, arith, append-nil}
+use Rattle.check_judge.proofs.Words.{◌≡◌, ℕ, ◌+◌, ◌<◌, false, true, List, [], ◌∷◌, ◌++◌, All, length, refl, sym, ap, ◌∙◌, arith, append-nil}
 use Rattle.check_judge.proofs.Words.{append_assoc, length-append, length-map, map, slice_index_or, take, length-take-le, take_more, All-append}
 use Rattle.check_judge.proofs.Words.{All-map, All-nil, FileEntry, Completed, next_member, severs, Asked, Operation, Place, IsChainDone, IsRequestDone}
 use Rattle.check_judge.proofs.Words.{Access, IsChainListed, place_at, AccessPlace, own_places, either_case, drop, zero, suc, Some, slice_get}
 use Rattle.check_judge.proofs.Words.{slice_get_within, take-append-drop, Vec, first_member, accesses_of_chain, AreChainsDone, ChainAccess, AreListsOf}
 use Rattle.check_judge.proofs.Words.{IsListFor, AreAccessPlaces, places_of_chain, add-zero, add_comm, AreChainsListed, parts_of, same_Some, ◌≢◌, ◌-◌}
 use Rattle.check_judge.proofs.Words.{slice_set, ◌≤◌, ◌==◌, filter, take_all, take-length, All-get_or, by_equality, eq-eqb, ne_eqb, get_or_read_under}
-use Rattle.check_judge.proofs.Words.{length_push, map_push, filter-append, each_set, slice_get_read, few_made, positions_of, map-append}
+use Rattle.check_judge.proofs.Words.{length_push, map_push, filter-append, each_set, slice_get_read, few_made, positions_of}
 use Rattle.fx_order.proofs.Accesses.{accesses_of_chain-append}
-
--- with the place of the next position
-pub places_more : (place : Place) (positions : List (Option ℕ)) {i : ℕ} (d : Option ℕ) (old : List AccessPlace) {mid new : List AccessPlace} → i < length positions
-    → mid ≡ old ++ map (place_at place) (take i positions) → new ≡ mid ++ place_at place (slice_index_or positions i d) ∷ []
-    → new ≡ old ++ map (place_at place) (take (i + 1) positions)
-places_more place positions {i} d old inside so_far more = rw (more, so_far, append_assoc, take_more positions i d inside, map-append)
 
 -- as many places as accesses
 pub own_listed : (catalogue : List FileEntry) (size : ℕ) (place : Place) (operation : Operation) (own : List Access) (c : Completed)

@@ -7,7 +7,7 @@ use Rattle.check_judge.proofs.Words.{ring_with_slots, inl, inr, ⊎_elim, ◌⊎
 use Rattle.check_judge.proofs.Words.{result_line, negated, AreInRange, IsRingKept, MOST_REGISTRATIONS, MOST_SUBMISSIONS, suc, ◌+◌, ◌<◌, [], ◌∷◌, refl}
 use Rattle.check_judge.proofs.Words.{slice_index_or, Option, append-nil, append_assoc, length-drop, option_to_list, take_all, new_ring}
 use Rattle.check_judge.proofs.Words.{instruction_of, instructions_of, PrintsEnd, MayPrintBy, LeadsTo, Fault, Order, add-zero, zero-add, add-one}
-use Rattle.check_judge.proofs.Words.{drop-drop, HasNoCloses, PrintsAll, take-add, Meaning, MayPrintAllBy, PrintsAllBy, mapped_at, get_or_past, shown}
+use Rattle.check_judge.proofs.Words.{drop-drop, HasNoCloses, PrintsAll, take-add, Meaning, MayPrintAllBy, PrintsAllBy, mapped_at, shown}
 use Rattle.check_lines.specs.Calls.{IsCall, IsLineOf, after_call, memory_word}
 use Rattle.check_lines.proofs.Calls.{Answers, Fails, answers, may_fail, never_fails, not_failed, one_line_of, called_registrations, called_ring}
 use Rattle.check_lines.proofs.Calls.{called_submissions}
@@ -192,11 +192,6 @@ all_printed ring (command ∷ commands) text orders by = (by.0, by.1, by.2, by.5
 
 pub at_start : (start : RingState) (all : List Instruction) (text : List ℕ) → GoesWith start all text 0 0 [] start
 at_start start all text = record { along = λ aim more can. rw zero-add at can; back = λ aim commands others later may. may }
-
-pub there_is : (catalogue : List FileEntry) (ring : RingSlots) → (r : RingContents) × (ring_of r ≡ ring_with_slots catalogue ring)
-there_is catalogue ring =
-    let state = ring_with_slots catalogue ring in
-    (ring_with_files state, shows_ring state (λ slot past. get_or_past ring.slots.at.items slot None past))
 
 -- a judgement from a ring without a table is one on the script
 pub judged_script : (script : Meaning) (text : List ℕ) (judgement : Judgement) → IsJudgedFrom (new_ring script.catalogue) script.commands text judgement

@@ -96,7 +96,7 @@ possible_all table size range (a ∷ accesses) is are may =
 
 module _ (old : RingState) (requests : List Asked) (recorded : Recorded) where
   abbrev pub IsDone : List ChainAccess → Type 0
-  IsDone = AreDone old.catalogue old.size old.range (old.submissions + 1) (runs_of requests) (all_completed recorded.completions.items)
+  IsDone = AreDone old.catalogue old.size old.range (old.submissions + 1) 1 (runs_of requests) (all_completed recorded.completions.items)
 
   done_so : (room : ℕ) (left : RingState) → (one : IsOneOrder old requests (recorded_report old recorded room) left) → IsDone one.order
   done_so room left one = record {

@@ -1,115 +1,63 @@
 -- The claims of requests, by what they intend, and the accesses that fit them.
-use Rattle.check_judge.proofs.Words.{◌≡◌, List, [], ◌∷◌, ◌++◌, Result, Ok, Err, Vec, AllZip, Closed, Access, Fits, Yields, Claim, Stop, Refuted, refl}
-use Rattle.check_judge.proofs.Words.{sym, ap, subst, ◌∙◌, append_assoc, append-nil, ℕ, ◌+◌, ◌<◌, ℤ, zero, suc, length, drop, Place, ◌||◌, true, All}
-use Rattle.check_judge.proofs.Words.{Contains, Option, Some, ◌⊎◌, inl, inr, ⊎_elim, map, None, IsSome, if◌then◌else◌, is_some, All-head, All-tail}
-use Rattle.check_judge.proofs.Words.{All-map, All-weaker, changed_at, by_equality, unchanged, eq-eqb, ne_eqb, and_from, cases_Bool}
-use Rattle.check_judge.proofs.Words.{list_all-from_AllPass, same_Some, same_size, Table, Permits, table_with, file_removed_by, Looks, Allocates}
-use Rattle.check_judge.proofs.Words.{FindsFull, Takes, LeavesSo, Expected, touched, found_by, left_by, allows, cell_at, cells_after, cell_with, suits}
-use Rattle.check_judge.proofs.Words.{may_leave, is_same, is_taken, IsCell, ShowsFile, has_slot, Cell, At, Full, Condition, Leaves, Same, Empty, File}
-use Rattle.check_judge.proofs.Words.{Resident, arith, int_lt, false, pos, negsuc, slice_get, FileEntry, bytes_at, installed, Completed, refusal}
-use Rattle.check_judge.proofs.Words.{Operation, Opens, Slot, Any, ENOMEM, AllByRecursion, IsAllocationInRange, IsAnsweredBy, IsDoneAtTable}
-use Rattle.check_judge.proofs.Words.{IsRequestDone, Possibly, true≢false}
-use Rattle.check_judge.specs.Claims.{IsDecided, IsMade, YieldsOne}
+use Rattle.check_judge.proofs.Words.{FileEntry, bytes_at, Closed, installed, Completed, completed_of, Opens, Operation, operation_of, Place}
+use Rattle.check_judge.proofs.Words.{Any, Slot, AreAppended, Decides, Fits, IsAllocationInRange, IsAnsweredBy, LeavesSo, Possibly, Expected, found_by}
+use Rattle.check_judge.proofs.Words.{left_by, touched, allows, cell_at, cell_with, cells_after, is_same, is_taken, may_leave, suits, IsCell}
+use Rattle.check_judge.proofs.Words.{ShowsFile, Cell, Claim, At, Full, Leaves, Empty, File, Same, Resident, Condition, Stop, Permits, Table}
+use Rattle.check_judge.proofs.Words.{file_removed_by, table_with, Allocates, FindsFull, Looks, Takes, Access}
+use Rattle.check_judge.proofs.Words.{by_equality, unchanged, changed_at, has_slot, All, Contains, Err, IsSome, List, None, Ok, Option, Result, Some}
+use Rattle.check_judge.proofs.Words.{[], ap, append_assoc, arith, eq-eqb, false, if◌then◌else◌, inl, inr, int_lt, is_some, length, map, negsuc, pos}
+use Rattle.check_judge.proofs.Words.{refl, slice_get, subst, suc, sym, take, true, zero, ℕ, ℤ, ◌++◌, ◌+◌, ◌<◌, ◌||◌, ◌∙◌, ◌∷◌, ◌≡◌, ◌⊎◌, ne_eqb}
+use Rattle.check_judge.proofs.Words.{true≢false, ⊎_elim, and_from, cases_Bool, take_more, All-head, All-map, All-tail, All-weaker}
+use Rattle.check_judge.proofs.Words.{slice_get_within, same_Some, get_or_from_slice_get, AllByRecursion, AllZip, same_size, list_all-from_AllPass}
+use Rattle.check_judge.specs.Claims.{IsDecided, IsMade, answer}
+use Rattle.check_judge.specs.declared.answered.Answered.{Answered}
 use Rattle.check_search.specs.declared.claim.Condition.TheVariants.{Nothing, Something}
 use Rattle.fx_base.proofs.Entries.{entry_named}
-use Rattle.fx_chain.specs.Intents.{IsOpened, answer_at_table, bytes_asked, bytes_read, intents_of, list_intents}
+use Rattle.fx_chain.specs.Intents.{IsOpened, answer_at_table, bytes_read, intents_of, list_intents}
 use Rattle.fx_chain.specs.Operation.{Closes, Reads, Updates}
-use Rattle.fx_chain.specs.Refusal.{refusal_of}
 use Rattle.fx_chain.specs.declared.intent.Finding.{Finding}
 use Rattle.fx_chain.specs.declared.intent.Finding.TheVariants.{At as FoundAt}
 use Rattle.fx_chain.specs.declared.intent.Intent.{Intent}
 use Rattle.fx_chain.specs.declared.intent.Intent.TheVariants.{Allocate, Look, Take}
-use Rattle.fx_order.proofs.Intents.{drop_got, single}
-use Rattle.fx_order.proofs.RequestCases.{has_memory}
+use Rattle.fx_order.proofs.Intents.{single}
 use Rattle.fx_order.specs.Access.{IsOf, finding_of, last_finding}
 use Rattle.std.proofs.lemmas.Bool.Decides.{nat_tests}
-use Rattle.std.specs.Ordering.{int_eq}
+use Rattle.std.proofs.lemmas.Slice.Zip.{all_zipped_more}
 
-pub tells_so : (P Q : List Access → Type 0) (closes : List Closed) (r : Result (Vec Claim) Stop) → ((own : List Access) → P own → Q own)
-    → Yields Q closes r → Yields P closes r
-tells_so P Q closes (Ok claims) so tells = λ own done. tells own (so own done)
-tells_so P Q closes (Err (Refuted reason)) so tells = λ own done. tells own (so own done)
-tells_so P Q closes r so tells = tt
-
-all_zip_append : {A B : Type 0} (R : A → B → Type 0) (xs ys : List A) (us vs : List B) → AllZip R xs us → AllZip R ys vs
-    → AllZip R (xs ++ ys) (us ++ vs)
-all_zip_append R [] ys [] vs first second = second
-all_zip_append R (x ∷ xs) ys (u ∷ us) vs first second = (first.0, all_zip_append R xs ys us vs first.1 second)
-all_zip_append R xs ys us vs first second = absurd first
-
--- accesses that fit these claims, and others with this property
-pub record Parted (closes : List Closed) (claims : List Claim) (Holds : List Access → Type 0) (accesses : List Access) : Type 0 where
-  pub own : List Access
-  pub others : List Access
-  pub whole : accesses ≡ own ++ others
-  pub recorded : AllZip (Fits closes) claims own
-  pub left : Holds others
-
--- accesses with the one property are such, and their others have the property that is left
-pub record Front (closes : List Closed) (Whole : List Access → Type 0) (claims : List Claim) (Left : List Access → Type 0) : Type 0 where
-  pub each : (accesses : List Access) → Whole accesses → Parted closes claims Left accesses
-
-module _ {closes : List Closed} {Whole Left : List Access → Type 0} where
-  pub none_recorded : ((accesses : List Access) → Whole accesses → Left accesses) → Front closes Whole [] Left
-  none_recorded so = record { each = λ accesses done. record { own = []; others = accesses; whole = refl; recorded = tt; left = so accesses done } }
-
-  -- more claims, of later accesses
-  pub more_recorded : {claims more : List Claim} {Next : List Access → Type 0} → Front closes Whole claims Left → Front closes Left more Next
-      → Front closes Whole (claims ++ more) Next
-  more_recorded {claims} {more} first second = record {
-    each = λ accesses done.
-        let p = first.each accesses done in
-        let q = second.each p.others p.left in
-        record {
-          own = p.own ++ q.own;
-          others = q.others;
-          whole = p.whole ∙ ap (λ (l : List Access). p.own ++ l) q.whole ∙ sym (append_assoc p.own q.own q.others);
-          recorded = all_zip_append (Fits closes) claims more p.own q.own p.recorded q.recorded;
-          left = q.left;
-        };
-  }
-
-  pub all_recorded : {claims : List Claim} → Front closes Whole claims Left → ((others : List Access) → Left others → others ≡ [])
-      → (accesses : List Access) → Whole accesses → AllZip (Fits closes) claims accesses
-  all_recorded {claims} front none accesses done =
-      let p = front.each accesses done in
-      let all : p.own ≡ accesses = sym (p.whole ∙ ap (λ (l : List Access). p.own ++ l) (none p.others p.left) ∙ append-nil p.own) in
-      subst (AllZip (Fits closes) claims) all p.recorded
+-- what was decided of all b is decided of all a, if each a has its b
+pub decides_by : (A B X : Type 0) (P : A → Type 0) (Q : B → Type 0) (IsRight : X → A → Type 0) (WasRight : X → B → Type 0) (r : Result X Stop)
+    → ((a : A) → P a → (b : B) × Q b × ((x : X) → WasRight x b → IsRight x a)) → Decides B X Q WasRight r → Decides A X P IsRight r
+decides_by A B X P Q IsRight WasRight (Ok x) so right = λ a done. let own = so a done in own.2 x (right own.0 own.1)
+decides_by A B X P Q IsRight WasRight (Err stop) so none = λ refutes a done. let own = so a done in none refutes own.0 own.1
 
 -- The claims of a request's accesses, one after another.
 
--- the accesses are those of these claims, and those of the intents that are left
-abbrev pub IntentsRecorded : List Closed → (Intent → Access → Type 0) → List Intent → ℕ → List Claim → Type 0
-IntentsRecorded closes R xs made claims = Front closes (AllZip R xs) claims (AllZip R (drop made xs))
+module _ (R : Intent → Access → Type 0) where
+  -- the access of an intent
+  pub made_at : (xs : List Intent) (i : ℕ) {x : Intent} (accesses : List Access) → slice_get xs i ≡ Some x → AllZip R xs accesses → (a : Access) × R x a
+  made_at [] i accesses got all = absurd (cc)
+  made_at (y ∷ xs) i [] got all = absurd all
+  made_at (y ∷ xs) zero (a ∷ accesses) got all = (a, subst (λ (z : Intent). R z a) (same_Some y _ got) all.0)
+  made_at (y ∷ xs) (suc i) (a ∷ accesses) got all = made_at xs i accesses got all.1
 
--- no intent is left
-pub none_left : (R : Intent → Access → Type 0) {xs : List Intent} (others : List Access) → xs ≡ [] → AllZip R xs others → others ≡ []
-none_left R [] none left = refl
-none_left R (a ∷ others) none left = absurd (subst (λ (xs : List Intent). AllZip R xs (a ∷ others)) none left)
+  -- the accesses of one intent more
+  last_made : (xs : List Intent) (x : Intent) (accesses : List Access) → AllZip R (xs ++ x ∷ []) accesses
+      → (own : List Access) × (a : Access) × (accesses ≡ own ++ a ∷ []) × AllZip R xs own × R x a
+  last_made [] x [] all = absurd all
+  last_made [] x (a ∷ []) all = ([], a, refl, tt, all.0)
+  last_made [] x (a ∷ b ∷ accesses) all = absurd all.1
+  last_made (y ∷ xs) x [] all = absurd all
+  last_made (y ∷ xs) x (a ∷ accesses) all =
+      let rest = last_made xs x accesses all.1 in (a ∷ rest.0, rest.1, ap (λ (l : List Access). a ∷ l) rest.2, (all.0, rest.3), rest.4)
 
-module _ (R : Intent → Access → Type 0) (xs : List Intent) (made : ℕ) (x : Intent) (got : slice_get xs made ≡ Some x) where
-  -- the next access
-  next_made : (accesses : List Access) → AllZip R (drop made xs) accesses
-      → (a : Access) × (others : List Access) × (accesses ≡ a ∷ others) × R x a × AllZip R (drop (made + 1) xs) others
-  next_made accesses fits = parts accesses (subst (λ (l : List Intent). AllZip R l accesses) (drop_got xs made x got) fits)
-    where
-      parts : (accesses : List Access) → AllZip R (x ∷ drop (made + 1) xs) accesses
-          → (a : Access) × (others : List Access) × (accesses ≡ a ∷ others) × R x a × AllZip R (drop (made + 1) xs) others
-      parts [] fits = absurd fits
-      parts (a ∷ others) fits = (a, others, refl, fits.0, fits.1)
-
-  pub one_recorded : (closes : List Closed) (claim : Claim) → YieldsOne (R x) closes (Ok claim) → Front closes (AllZip R (drop made xs)) (claim ∷ []) (AllZip R (drop (made + 1) xs))
-  one_recorded closes claim tells = record {
-    each = λ accesses done.
-        let n = next_made accesses done in
-        record { own = n.0 ∷ []; others = n.1; whole = n.2; recorded = (tells n.0 n.3, tt); left = n.4 };
-  }
-
-  pub one_stops : {closes : List Closed} {Whole : List Access → Type 0} {claims : List Claim} (stop : Stop) → Front closes Whole claims (AllZip R (drop made xs))
-      → YieldsOne (R x) closes (Err stop) → Yields Whole closes (Err stop)
-  one_stops (Refuted reason) front none = λ own done.
-      let p = front.each own done in let n = next_made p.others p.left in none n.0 n.3
-  one_stops stop front tells = tt
+  pub one_more : (closes : List Closed) (old new : List Claim) (xs : List Intent) (made : ℕ) {x : Intent} (claim : Claim) → slice_get xs made ≡ Some x
+      → ((accesses : List Access) → AllZip R (take made xs) accesses → AreAppended closes old new accesses)
+      → ((a : Access) → R x a → Fits closes claim a)
+      → (accesses : List Access) → AllZip R (take (made + 1) xs) accesses → AreAppended closes old (new ++ claim ∷ []) accesses
+  one_more closes old new xs made {x} claim got so fits accesses all before first =
+      let next = take_more xs made x (slice_get_within xs made x got) ∙ ap (λ (y : Intent). take made xs ++ y ∷ []) (get_or_from_slice_get xs made x x got) in
+      let p = last_made (take made xs) x accesses (rw next at all) in
+      rw (p.2, sym (append_assoc before p.0 (p.1 ∷ []))) (all_zipped_more (Fits closes) new (before ++ p.0) claim p.1 (so p.0 p.3 before first) (fits p.1 p.4))
 
 -- A claim of an access may be made where the access may, and leaves the same files.
 
@@ -220,64 +168,64 @@ module _ (closes : List Closed) where
 
 -- how the answer of a request depends on what its accesses find
 module _ (catalogue : List FileEntry) (place : Place) (entry : ℕ) where
-  abbrev answer : Operation → Option Finding → Completed
-  answer operation found = answer_at_table catalogue place operation found
+  abbrev by : Operation → Option Finding → Completed
+  by operation = answer_at_table catalogue place operation
 
   -- an intent, if there is one
   abbrev IsDecidedAt : (Option Finding → Completed) → Option Intent → Type 0
   IsDecidedAt by None = Unit {0}
   IsDecidedAt by (Some x) = IsDecided place by x
 
-  list_decided : (by : Option Finding → Completed) → ((found : Option Finding) → by found ≡ by None) → (in_list slot : ℕ) (list : List ℤ) (made : ℕ)
-      → IsDecidedAt by (slice_get (list_intents place in_list slot list) made)
-  list_decided by same in_list slot [] made = tt
-  list_decided by same in_list slot (pos n ∷ list) zero = same
-  list_decided by same in_list slot (pos n ∷ list) (suc made) = list_decided by same (in_list + 1) (slot + 1) list made
-  list_decided by same in_list slot (negsuc zero ∷ list) zero = same
-  list_decided by same in_list slot (negsuc zero ∷ list) (suc made) = list_decided by same (in_list + 1) (slot + 1) list made
-  list_decided by same in_list slot (negsuc (suc n) ∷ list) made = list_decided by same (in_list + 1) (slot + 1) list made
+  list_decided : (same_by : Option Finding → Completed) → ((found : Option Finding) → same_by found ≡ same_by None) → (in_list slot : ℕ) (list : List ℤ) (made : ℕ)
+      → IsDecidedAt same_by (slice_get (list_intents place in_list slot list) made)
+  list_decided same_by same in_list slot [] made = tt
+  list_decided same_by same in_list slot (pos n ∷ list) zero = same
+  list_decided same_by same in_list slot (pos n ∷ list) (suc made) = list_decided same_by same (in_list + 1) (slot + 1) list made
+  list_decided same_by same in_list slot (negsuc zero ∷ list) zero = same
+  list_decided same_by same in_list slot (negsuc zero ∷ list) (suc made) = list_decided same_by same (in_list + 1) (slot + 1) list made
+  list_decided same_by same in_list slot (negsuc (suc n) ∷ list) made = list_decided same_by same (in_list + 1) (slot + 1) list made
 
-  all_decided : (operation : Operation) (made : ℕ) → IsDecidedAt (answer operation) (slice_get (intents_of place entry operation) made)
+  all_decided : (operation : Operation) (made : ℕ) → IsDecidedAt (by operation) (slice_get (intents_of place entry operation) made)
   all_decided (Opens name (Slot slot)) zero = λ _. refl
   all_decided (Opens name Any) zero = (refl, refl, λ _. refl)
   all_decided (Reads slot off len) zero = (refl, λ file. (bytes_at catalogue file.entry off len, refl))
   all_decided (Closes slot) zero = (refl, λ _. refl)
-  all_decided (Updates off list) made = list_decided (answer (Updates off list)) (λ _. refl) 0 off list made
+  all_decided (Updates off list) made = list_decided (by (Updates off list)) (λ _. refl) 0 off list made
   all_decided operation (suc made) = tt
 
   pub decided : (operation : Operation) (made : ℕ) {x : Intent} → slice_get (intents_of place entry operation) made ≡ Some x
-      → IsDecided place (answer operation) x
-  decided operation made got = subst (IsDecidedAt (answer operation)) got (all_decided operation made)
+      → IsDecided place (by operation) x
+  decided operation made got = subst (IsDecidedAt (by operation)) got (all_decided operation made)
 
   -- one access, or the answer doesn't depend on what is found
-  shape : (operation : Operation) → ((x : Intent) × (intents_of place entry operation ≡ x ∷ [])) ⊎ ((found : Option Finding) → answer operation found ≡ answer operation None)
+  shape : (operation : Operation) → ((x : Intent) × (intents_of place entry operation ≡ x ∷ [])) ⊎ ((found : Option Finding) → by operation found ≡ by operation None)
   shape (Opens name (Slot slot)) = inr (λ _. refl)
   shape (Opens name Any) = inl (Allocate (installed place 0 entry), refl)
   shape (Reads slot off len) = inl (Look slot, refl)
   shape (Closes slot) = inl (Take slot, refl)
   shape (Updates off list) = inr (λ _. refl)
 
-  -- so the completion is the answer by what each access found
-  module _ (size : ℕ) (range : ℕ × ℕ) (operation : Operation) (c : Completed) where
-    abbrev AreMade : List Intent → List Access → Type 0
-    AreMade xs own = AllZip (IsMade size range (answer operation) c) xs own
+-- so the completion is the answer by what each access found
+module _ (it : Answered) where
+  abbrev pub intents : List Intent
+  intents = intents_of it.place it.entry (operation_of it.request.now.op)
 
-    same_made : ((found : Option Finding) → c ≡ answer operation found) → (xs : List Intent) (own : List Access)
-        → AllByRecursion (IsAllocationInRange size range) own → AllZip IsOf xs own → AreMade xs own
-    same_made said [] [] inside fits = tt
-    same_made said (x ∷ xs) (a ∷ own) inside fits =
-        ((fits.0, inside.0, said (Some (finding_of a))), same_made said xs own inside.1 fits.1)
-    same_made said [] (a ∷ own) inside fits = absurd fits
-    same_made said (x ∷ xs) [] inside fits = absurd fits
+  same_made : ((found : Option Finding) → completed_of it.c.now ≡ answer it found) → (xs : List Intent) (own : List Access)
+      → AllByRecursion (IsAllocationInRange it.setting.size it.setting.range) own → AllZip IsOf xs own → AllZip (IsMade it) xs own
+  same_made said [] [] inside fits = tt
+  same_made said (x ∷ xs) (a ∷ own) inside fits =
+      ((fits.0, inside.0, said (Some (finding_of a))), same_made said xs own inside.1 fits.1)
+  same_made said [] (a ∷ own) inside fits = absurd fits
+  same_made said (x ∷ xs) [] inside fits = absurd fits
 
-    pub all_made : (own : List Access) → Possibly size range (IsAnsweredBy catalogue place entry operation c) own
-        → AreMade (intents_of place entry operation) own
-    all_made own done = ⊎_elim
-        (λ one. subst (λ (xs : List Intent). AreMade xs own) (sym one.1)
-        (single one.0 (λ l. AllByRecursion (IsAllocationInRange size range) l → c ≡ answer operation (last_finding l) → AreMade (one.0 ∷ []) l) own
-        (subst (λ (xs : List Intent). AllZip IsOf xs own) one.1 done.1.0) (λ a is inside said. ((is, inside.0, said), tt)) done.0 done.1.1))
-        (λ same. same_made (λ found. done.1.1 ∙ (same (last_finding own) ∙ sym (same found))) (intents_of place entry operation) own done.0 done.1.0)
-        (shape operation)
+  pub all_made : (own : List Access) → Possibly it.setting.size it.setting.range (IsAnsweredBy it) own → AllZip (IsMade it) intents own
+  all_made own done = ⊎_elim
+      (λ one. subst (λ (xs : List Intent). AllZip (IsMade it) xs own) (sym one.1)
+      (single one.0 (λ l. AllByRecursion (IsAllocationInRange it.setting.size it.setting.range) l → completed_of it.c.now ≡ answer it (last_finding l)
+      → AllZip (IsMade it) (one.0 ∷ []) l) own
+      (subst (λ (xs : List Intent). AllZip IsOf xs own) one.1 done.1.0) (λ a is inside said. ((is, inside.0, said), tt)) done.0 done.1.1))
+      (λ same. same_made (λ found. done.1.1 ∙ (same (last_finding own) ∙ sym (same found))) intents own done.0 done.1.0)
+      (shape it.setting.catalogue.now it.place it.entry (operation_of it.request.now.op))
 
 -- the bytes of the answer by a file that is found
 pub got_by_entry : (catalogue : List FileEntry) (place : Place) (operation : Operation) (file : Closed)
@@ -291,52 +239,31 @@ got_by_entry catalogue place (Updates off list) file = refl
 not_negative : (n : ℕ) → int_lt (pos n) (pos 0) ≡ false
 not_negative n = grind (arith, nat_tests)
 
--- a request that looks a slot up and fails
-pub look_failed : (by : Option Finding → Completed) (c : Completed) (place : Place) (size : ℕ) (range : ℕ × ℕ) (closes : List Closed) {slot : ℕ}
-    → IsDecided place by (Look slot) → int_lt c.res (pos 0) ≡ true → (a : Access) → IsMade size range by c (Look slot) a
-    → Fits closes (At slot Nothing Same) a × (c ≡ by (Some (FoundAt None)))
-look_failed by c place size range closes {slot} d low a made = failed made.0.0 made.0.1 (rw made.0.1 at made.2)
-  where
-    failed : (found : Option Closed) → a ≡ Looks slot found → c ≡ by (Some (FoundAt found))
-        → Fits closes (At slot Nothing Same) a × (c ≡ by (Some (FoundAt None)))
-    failed None is said = (rw is (refl, refl, refl), said)
-    failed (Some file) is said =
-        let given = d.1 file in
-        absurd (true≢false (sym low ∙ (ap (λ (e : Completed). int_lt e.res (pos 0)) (said ∙ given.1) ∙ not_negative (length given.0))))
-
--- a request that takes a file and doesn't fail
-pub take_recorded : (by : Option Finding → Completed) (c : Completed) (place : Place) (size : ℕ) (range : ℕ × ℕ) (closes : List Closed) {slot : ℕ}
-    → IsDecided place by (Take slot) → int_lt c.res (pos 0) ≡ false → (other : Closed) (a : Access) → IsMade size range by c (Take slot) a
-    → Fits closes (At slot Something Empty) a × (c ≡ by (Some (FoundAt (Some other))))
-take_recorded by c place size range closes {slot} d high other a made = taken made.0.0 made.0.1 (rw made.0.1 at made.2)
-  where
-    taken : (found : Option Closed) → a ≡ Takes slot found → c ≡ by (Some (FoundAt found))
-        → Fits closes (At slot Something Empty) a × (c ≡ by (Some (FoundAt (Some other))))
-    taken None is said =
-        absurd (true≢false (sym d.0 ∙ (ap (λ (e : Completed). int_lt e.res (pos 0)) (sym said) ∙ high)))
-    taken (Some file) is said = (rw is (refl, (file, refl), (refl, refl)), said ∙ (d.1 file ∙ sym (d.1 other)))
-
--- a request that isn't refused, by the entry that it opens
-module _ (catalogue : List FileEntry) (place : Place) (entry : ℕ) (c : Completed) (own : List Access) (size : ℕ) (operation : Operation)
-    (accepted : refusal_of catalogue size operation ≡ None) where
-  pub answered_by : ((0 < bytes_asked operation) × (c ≡ refusal place ENOMEM) → ⊥)
-      → ((other : ℕ) → IsOpened catalogue operation other → other ≡ entry) → IsRequestDone catalogue size place operation own c
-      → IsAnsweredBy catalogue place entry operation c own
-  answered_by full only done = by_cases (rw accepted at done)
+module _ (it : Answered) {slot : ℕ} where
+  -- a request that looks a slot up and fails
+  pub look_failed : IsDecided it.place (answer it) (Look slot) → int_lt (completed_of it.c.now).res (pos 0) ≡ true
+      → (a : Access) → IsMade it (Look slot) a
+      → Fits it.setting.closes.now (At slot Nothing Same) a × (completed_of it.c.now ≡ answer it (Some (FoundAt None)))
+  look_failed d low a made = failed made.0.0 made.0.1 (rw made.0.1 at made.2)
     where
-      by_cases : IsDoneAtTable catalogue place operation own c → IsAnsweredBy catalogue place entry operation c own
-      by_cases (inl x) = absurd (full (x.0, x.1.1))
-      by_cases (inr x) = (subst (λ (e : ℕ). AllZip IsOf (intents_of place e operation) own) (only x.0.0 x.0.1) x.0.2, x.1)
+      failed : (found : Option Closed) → a ≡ Looks slot found → completed_of it.c.now ≡ answer it (Some (FoundAt found))
+          → Fits it.setting.closes.now (At slot Nothing Same) a × (completed_of it.c.now ≡ answer it (Some (FoundAt None)))
+      failed None is said = (rw is (refl, refl, refl), said)
+      failed (Some file) is said =
+          let given = d.1 file in
+          absurd (true≢false (sym low ∙ (ap (λ (e : Completed). int_lt e.res (pos 0)) (said ∙ given.1) ∙ not_negative (length given.0))))
 
-  -- without memory
-  pub none_made : c ≡ refusal place ENOMEM → IsRequestDone catalogue size place operation own c → own ≡ []
-  none_made lacks done = by_cases (rw accepted at done)
+  -- a request that takes a file and doesn't fail
+  pub take_recorded : IsDecided it.place (answer it) (Take slot) → int_lt (completed_of it.c.now).res (pos 0) ≡ false
+      → (other : Closed) (a : Access) → IsMade it (Take slot) a
+      → Fits it.setting.closes.now (At slot Something Empty) a × (completed_of it.c.now ≡ answer it (Some (FoundAt (Some other))))
+  take_recorded d high other a made = taken made.0.0 made.0.1 (rw made.0.1 at made.2)
     where
-      by_cases : IsDoneAtTable catalogue place operation own c → own ≡ []
-      by_cases (inl x) = x.1.0
-      by_cases (inr x) =
-          let has = has_memory catalogue place operation (last_finding own) in
-          absurd (true≢false (ap (λ (d : Completed). int_eq d.res (negsuc 11)) (sym lacks ∙ x.1) ∙ has))
+      taken : (found : Option Closed) → a ≡ Takes slot found → completed_of it.c.now ≡ answer it (Some (FoundAt found))
+          → Fits it.setting.closes.now (At slot Something Empty) a × (completed_of it.c.now ≡ answer it (Some (FoundAt (Some other))))
+      taken None is said =
+          absurd (true≢false (sym d.0 ∙ (ap (λ (e : Completed). int_lt e.res (pos 0)) (sym said) ∙ high)))
+      taken (Some file) is said = (rw is (refl, (file, refl), (refl, refl)), said ∙ (d.1 file ∙ sym (d.1 other)))
 
 -- an entry of the catalogue alone has the name of a request
 pub only_so : (catalogue : List FileEntry) (operation : Operation) (entry : ℕ) → IsOpened catalogue operation entry

@@ -10,15 +10,16 @@ pub use Rattle.fx_chain.specs.declared.completion.Completion.{Completion}
 pub use Rattle.fx_chain.specs.declared.completion.Place.{Place}
 pub use Rattle.fx_chain.specs.declared.request.Request.{Request}
 pub use Rattle.fx_chain.specs.declared.request.Target.TheVariants.{Any, Slot}
-pub use Rattle.check_judge.specs.Chains.{AreDone, YieldsChains, YieldsMember}
-pub use Rattle.check_judge.specs.Claims.{AreClaims, Fits, IsAllocationInRange, IsAnsweredBy, LeavesSo, Possibly, Yields, Expected, found_by, left_by, touched}
+pub use Rattle.check_judge.specs.Chains.{AreDone, AreMembersDone}
+pub use Rattle.check_judge.specs.Claims.{AreAppended, AreClaims, Decides, Fits, IsAllocationInRange, IsAnsweredBy, LeavesSo, Possibly, Expected}
+pub use Rattle.check_judge.specs.Claims.{found_by, left_by, touched}
 pub use Rattle.check_search.specs.Machine.{Ends, HasNoEnd, IsEndOfClaims, Standing, allows, cell_at, cell_with, cells_after, is_same, is_staying}
 pub use Rattle.check_search.specs.Machine.{is_taken, may_leave, may_stay, next, suits}
 pub use Rattle.check_judge.specs.Played.{HasNoOrder, IsCell, IsOutcome, ShowsFile}
 pub use Rattle.check_search.specs.Starts.{starting}
 pub use Rattle.check_judge.specs.Strands.{AreStrands, seen, strand_for}
 pub use Rattle.check_search.specs.declared.cell.Cell.{Cell}
-pub use Rattle.check_judge.specs.declared.chain_claims.MemberClaims.{MemberClaims}
+pub use Rattle.check_judge.specs.declared.answered.ClaimSetting.{ClaimSetting}
 pub use Rattle.check_search.specs.declared.claim.Claim.{Claim}
 pub use Rattle.check_search.specs.declared.claim.Claim.TheVariants.{At, Full}
 pub use Rattle.check_search.specs.declared.claim.Leaves.{Leaves}
@@ -26,17 +27,16 @@ pub use Rattle.check_search.specs.declared.claim.Leaves.TheVariants.{Empty, File
 pub use Rattle.check_search.specs.declared.claim.Resident.{Resident}
 pub use Rattle.check_search.specs.declared.claim.Condition.{Condition}
 pub use Rattle.check_judge.specs.declared.judgement.Stop.{Stop}
-pub use Rattle.check_judge.specs.declared.judgement.Stop.TheVariants.{Refuted}
 pub use Rattle.check_search.specs.declared.claim.Strand.{Strand}
 pub use Rattle.fx_order.proofs.Histories.{each_order_is_a_history}
 pub use Rattle.fx_order.proofs.OneRing.{NonePast, ring_with_files, shows_ring, none_past, each_report_leads_to_one_ring, each_closed_file_is_known}
 pub use Rattle.fx_order.proofs.OneRing.{in_limits, no_file_that_stays_is_closed}
 pub use Rattle.fx_order.specs.Access.{Permits, PermitsAll, Table, accesses_of, accesses_of_chain, file_removed_by, files_removed_in, table_after}
 pub use Rattle.fx_order.specs.Access.{table_with}
-pub use Rattle.fx_order.specs.declared.access.Access.TheVariants.{Allocates, FindsFull, Looks, Puts, Takes}
+pub use Rattle.fx_order.specs.declared.access.Access.TheVariants.{Allocates, FindsFull, Looks, Takes}
 pub use Rattle.fx_order.specs.Order.{IsOneOrder, table_of, IsOrderOf, ring_left}
 pub use Rattle.fx_order.specs.Requests.{AreChainsDone, IsChainDone, IsDoneAtTable, IsRequestDone}
-pub use Rattle.fx_chain.specs.Intents.{completion_of_read, positions_of}
+pub use Rattle.fx_chain.specs.Intents.{positions_of}
 pub use Rattle.fx_order.specs.Slots.{ring_with_slots, table_of_slots}
 pub use Rattle.fx_order.specs.declared.access.Access.{Access}
 pub use Rattle.fx_order.specs.declared.access.ChainAccess.{ChainAccess}
@@ -48,13 +48,12 @@ pub use Rattle.fx_ring.specs.Submission.{Reported}
 pub use Rattle.check_search.specs.AtSlots.{has_slot, keeps, slot_claimed}
 pub use Rattle.fx_table.proofs.SumLemmas.{contains_head, contains_tail, contains_cases, contains_none, each_all}
 pub use Rattle.std.proofs.Common.{All, Bool, Contains, Err, IsSome, List, None, Ok, Option, Result, Some, [], ap, append_assoc, arith, cond, drop}
-pub use Rattle.std.proofs.Common.{eq-eqb, false, filter, get_or, if◌then◌else◌, inl, inr, int_le, int_lt, is_some, length, map, nat_abs, negsuc, not}
-pub use Rattle.std.proofs.Common.{of_z, pos, refl, rules, slice_get, slice_index, slice_index_or, slice_set, subst, suc, sym, take, to_z, true, w32}
-pub use Rattle.std.proofs.Common.{zero, ℕ, ℤ, ◌++◌, ◌+◌, ◌<◌, ◌==◌, ◌||◌, ◌∙◌, ◌∷◌, ◌≡◌, ◌≢◌, ◌≤◌, ◌⊎◌, add_assoc, add-zero, add-one, ne_eqb}
-pub use Rattle.std.proofs.Common.{true≢false, length-drop, ⊎_elim, MatchBool, option_to_list, IfOk, length-append, nat_le, option_map, replicate}
-pub use Rattle.std.proofs.Common.{string_bytes, ◌-◌, ◌^◌, ◌↔◌, IsTrue, unwrap_or, zero-add, add_comm, flat_map, MatchOption, is_lt}
-pub use Rattle.std.proofs.lemmas.Bool.{le-leb, lt-leb, and_from, cases_Bool, cases_lt}
-pub use Rattle.std.proofs.lemmas.Int.{to_z-of_z}
+pub use Rattle.std.proofs.Common.{eq-eqb, false, filter, get_or, if◌then◌else◌, inl, inr, int_lt, is_some, length, map, negsuc, not, of_z, pos, refl}
+pub use Rattle.std.proofs.Common.{rules, slice_get, slice_index, slice_index_or, slice_set, subst, suc, sym, take, to_z, true, w32, zero, ℕ, ℤ, ◌++◌}
+pub use Rattle.std.proofs.Common.{◌+◌, ◌<◌, ◌==◌, ◌||◌, ◌∙◌, ◌∷◌, ◌≡◌, ◌≢◌, ◌≤◌, ◌⊎◌, add-zero, add-one, ne_eqb, true≢false, length-drop, ⊎_elim}
+pub use Rattle.std.proofs.Common.{MatchBool, option_to_list, IfOk, length-append, nat_le, option_map, replicate, string_bytes, ◌-◌, ◌^◌, ◌↔◌, IsTrue}
+pub use Rattle.std.proofs.Common.{unwrap_or, zero-add, add_comm, flat_map, MatchOption, is_lt}
+pub use Rattle.std.proofs.lemmas.Bool.{lt-leb, and_from, cases_Bool, cases_lt}
 pub use Rattle.std.proofs.lemmas.List.{append-nil, get_or_default, length-map, length-set, drop_more, drop_all, length_push, nil_from_length}
 pub use Rattle.std.proofs.lemmas.List.{take_all, length-take-le, take-append-drop, take_more, get_or-drop, get_or-take, get_or_past, length-take}
 pub use Rattle.std.proofs.lemmas.List.{get_or_read_under, map_push, drop-drop, get_or-map, take_rest, map-append, drop-map}
@@ -75,7 +74,7 @@ pub use Rattle.fx_order.specs.declared.slots.Slots.{Slots}
 pub use Rattle.fx_base.specs.Tags.{tag_completion, tags_of}
 pub use Rattle.fx_base.specs.declared.catalogue.TheConstants.{LONGEST_ENTRY}
 pub use Rattle.fx_base.specs.declared.errno.Errno.{Errno}
-pub use Rattle.fx_base.specs.declared.errno.Errno.TheVariants.{EBADF, ENFILE, ENOENT, ENOMEM, ECANCELED}
+pub use Rattle.fx_base.specs.declared.errno.Errno.TheVariants.{ENOENT, ENOMEM, ECANCELED}
 pub use Rattle.fx_base.specs.declared.mark.Mark.{Mark}
 pub use Rattle.fx_base.specs.declared.mark.Mark.TheVariants.{Registered, Submitted}
 pub use Rattle.fx_base.specs.declared.tag_completion.TagCompletion.{TagCompletion}
@@ -85,7 +84,6 @@ pub use Rattle.fx_chain.proofs.Cases.{either_way, either_case}
 pub use Rattle.fx_chain.specs.Faults.{fault_of}
 pub use Rattle.fx_chain.specs.Runs.{runs_of}
 pub use Rattle.fx_chain.specs.declared.chain.Chain.{Chain}
-pub use Rattle.fx_chain.specs.declared.request.Target.{Target}
 pub use Rattle.check_judge.specs.Kept.{IsRingKept, IsOfRing}
 pub use Rattle.check_judge.specs.Met.{BeginsWith, IsMet}
 pub use Rattle.check_judge.specs.Ordered.{MayPrintBy, MayPrintAllBy, PrintsAllBy}
@@ -109,7 +107,7 @@ pub use Rattle.check_lines.specs.LinesView.{lines_in}
 pub use Rattle.check_lines.specs.declared.report_lines.ClosedLine.{ClosedLine}
 pub use Rattle.check_lines.specs.declared.report_lines.ReportLines.{ReportLines}
 pub use Rattle.fx_order.proofs.ChainsFront.{length-done, both_parts, parts_of, first_run, others_completed, own_completed, few_completions, first_is}
-pub use Rattle.fx_order.proofs.ChainsFront.{all_of_rest, too_few}
+pub use Rattle.fx_order.proofs.ChainsFront.{all_of_rest}
 pub use Rattle.fx_order.specs.declared.listed_order.AccessPlace.{AccessPlace}
 pub use Rattle.fx_order.specs.declared.listed_order.Order.{Order}
 pub use Rattle.fx_order.specs.declared.ring_slots.RingSlots.{RingSlots}
@@ -124,5 +122,3 @@ pub use Rattle.std.proofs.lemmas.Slice.Eq.{starts_is, slice_eq-Decides}
 pub use Rattle.fx_order.proofs.RequestCases.{completion_so, each_placed, few_made}
 pub use Rattle.std.proofs.lemmas.List.Sorted.{Contains-permutation, IsPermutation-sym}
 pub use Rattle.check_judge.specs.Answer.{IsCommandVerdict}
-
--- The names that most proofs of this crate use.

@@ -1,14 +1,13 @@
 -- Claims: what completions imply for the accesses that were made, one claim for each access.
-use Rattle.std.specs.Prelude.{◌≡◌, ℕ, ◌+◌, ◌<◌, ◌≤◌, pos, int_lt, true, List, [], length, slice_get}
+use Rattle.std.specs.Prelude.{◌≡◌, ℕ, ◌+◌, ◌<◌, ◌≤◌, pos, int_lt, true, List, [], ◌++◌, length, slice_get}
 use Rattle.std.specs.Prelude.{slice_index_or, Option, Some, None, Result, Ok, Err}
 use Rattle.std.specs.Global.{Vec}
 use Rattle.std.specs.List.{AllZip, AllByRecursion}
 use Rattle.fx_base.specs.Identity.{Identity}
-use Rattle.fx_base.specs.Catalogue.{FileEntry}
 use Rattle.fx_base.specs.declared.open_file.Closed.{Closed}
-use Rattle.fx_chain.specs.Completed.{Completed, completed}
+use Rattle.fx_chain.specs.Completed.{Completed, completed, completed_of}
 use Rattle.fx_chain.specs.Intents.{answer_at_table, intents_of}
-use Rattle.fx_chain.specs.Operation.{Operation}
+use Rattle.fx_chain.specs.Operation.{operation_of}
 use Rattle.fx_chain.specs.declared.completion.Place.{Place}
 use Rattle.fx_chain.specs.declared.intent.Finding.{Finding}
 use Rattle.fx_chain.specs.declared.intent.Finding.TheVariants.{At as FoundAt, Free}
@@ -31,7 +30,9 @@ use Rattle.check_search.specs.declared.claim.Leaves.TheVariants.{Same, Empty, Fi
 use Rattle.check_search.specs.declared.claim.Claim.{Claim}
 use Rattle.check_search.specs.declared.claim.Claim.TheVariants.{At, Full}
 use Rattle.check_judge.specs.declared.judgement.Stop.{Stop}
-use Rattle.check_judge.specs.declared.judgement.Stop.TheVariants.{Refuted, Unknown, NoMemory}
+use Rattle.check_judge.specs.declared.judgement.Stop.TheVariants.{Refuted}
+use Rattle.check_judge.specs.declared.answered.Answered.{Answered}
+use Rattle.check_judge.specs.declared.answered.ClaimSetting.{ClaimSetting}
 
 -- the slot of an access
 abbrev pub touched : Access → Option ℕ
@@ -88,13 +89,15 @@ Fits closes (At slot condition leaves) access =
     × LeavesSo closes leaves access
 Fits closes Full access = access ≡ FindsFull
 
--- these are the claims of all that was done so, or nothing was
-abbrev pub Yields : (List Access → Type 0) → List Closed → Result (Vec Claim) Stop → Type 0
-Yields IsDone closes (Ok claims) =
-    (accesses : List Access) → IsDone accesses → AllZip (Fits closes) claims.items accesses
-Yields IsDone closes (Err (Refuted reason)) = (accesses : List Access) → IsDone accesses → ⊥
-Yields IsDone closes (Err Unknown) = Unit {0}
-Yields IsDone closes (Err NoMemory) = Unit {0}
+-- the stop says that nothing was done so
+abbrev pub Refutes : Stop → Type 0
+Refutes (Refuted reason) = Unit {0}
+Refutes _ = ⊥
+
+-- the value is right of all that was done so, or nothing was
+abbrev pub Decides : (A X : Type 0) → (A → Type 0) → (X → A → Type 0) → Result X Stop → Type 0
+Decides A X IsDone IsRight (Ok x) = (a : A) → IsDone a → IsRight x a
+Decides A X IsDone IsRight (Err stop) = Refutes stop → (a : A) → IsDone a → ⊥
 
 -- an allocation is at a slot of the table and of its allocation range
 abbrev pub IsAllocationInRange : ℕ → ℕ × ℕ → Access → Type 0
@@ -107,20 +110,34 @@ abbrev pub Possibly : ℕ → ℕ × ℕ → (List Access → Type 0) → List A
 Possibly size range IsDone accesses =
     AllByRecursion (IsAllocationInRange size range) accesses × IsDone accesses
 
--- the accesses are those that a request intends that opens this entry, and the completion is the
--- answer by what they found
-abbrev pub IsAnsweredBy : List FileEntry → Place → ℕ → Operation → Completed → List Access → Type 0
-IsAnsweredBy catalogue place entry operation c accesses =
-    AllZip IsOf (intents_of place entry operation) accesses
-    × (c ≡ answer_at_table catalogue place operation (last_finding accesses))
+-- one claim of each of the accesses is appended
+abbrev pub AreAppended : List Closed → List Claim → List Claim → List Access → Type 0
+AreAppended closes old new accesses = (before : List Access) → AllZip (Fits closes) old before
+    → AllZip (Fits closes) new (before ++ accesses)
+
+-- the claims of all that was possibly done so are appended, or nothing was
+abbrev pub Appends : ClaimSetting → (List Access → Type 0) → List Claim → List Claim
+    → Result (Unit {0}) Stop → Type 0
+Appends setting IsDone old new result = Decides (List Access) (Unit {0})
+    (Possibly setting.size setting.range IsDone) (λ _. AreAppended setting.closes.now old new) result
+
+-- the answer of the request, by what the last one of its accesses found
+abbrev pub answer : Answered → Option Finding → Completed
+answer it = answer_at_table it.setting.catalogue.now it.place (operation_of it.request.now.op)
+
+-- the accesses are those that the request intends, and its completion is the answer by what they
+-- found
+abbrev pub IsAnsweredBy : Answered → List Access → Type 0
+IsAnsweredBy it accesses =
+    AllZip IsOf (intents_of it.place it.entry (operation_of it.request.now.op)) accesses
+    × (completed_of it.c.now ≡ answer it (last_finding accesses))
 
 -- the access was intended, this table may permit it, and the completion is the answer by what it
 -- found
-abbrev pub IsMade : ℕ → ℕ × ℕ → (Option Finding → Completed) → Completed → Intent → Access
-    → Type 0
-IsMade size range answer c intent access =
-    IsOf intent access × IsAllocationInRange size range access
-    × (c ≡ answer (Some (finding_of access)))
+abbrev pub IsMade : Answered → Intent → Access → Type 0
+IsMade it intent access =
+    IsOf intent access × IsAllocationInRange it.setting.size it.setting.range access
+    × (completed_of it.c.now ≡ answer it (Some (finding_of access)))
 
 -- how the answer depends on what an access found: a request fails that found no file or no empty
 -- slot, a look-up returns as many bytes as its result, and a change answers the same
@@ -137,13 +154,6 @@ IsDecided place answer (Allocate file) =
     × (answer (Some FoundFull) ≡ answer (Some (FoundAt None)))
     × ((slot : ℕ) → answer (Some (Free slot)) ≡ completed place (pos slot) [])
 IsDecided place answer intent = (found : Option Finding) → answer found ≡ answer None
-
--- this is the claim of each access that was made so, or none was
-abbrev pub YieldsOne : (Access → Type 0) → List Closed → Result Claim Stop → Type 0
-YieldsOne IsDone closes (Ok claim) = (access : Access) → IsDone access → Fits closes claim access
-YieldsOne IsDone closes (Err (Refuted reason)) = (access : Access) → IsDone access → ⊥
-YieldsOne IsDone closes (Err Unknown) = Unit {0}
-YieldsOne IsDone closes (Err NoMemory) = Unit {0}
 
 -- the claims of each chain, the first one's first, are those of its accesses of an order
 abbrev pub AreClaims : List Closed → List (Vec Claim) → List ChainAccess → Type 0

@@ -7,11 +7,11 @@ ghost use Rattle.fx_ring.specs.Ring.{IsRing};
 ghost use Rattle.fx_order.specs.Slots.{ring_with_slots};
 ghost use Rattle.check_judge.specs.Verdict.{CameBy, IsRecordedOutcome, IsVerdict};
 
-use crate::chain_claims::{RecordedChains, claims_of_chains};
+use crate::answered::ClaimSetting;
+use crate::chain_claims::{RecordedChains, push_chains};
 use crate::judgement::{Stop, Verdict};
 use crate::part::{PartVerdict, TableRecorded, judge_table};
 use crate::recorded::Recorded;
-use crate::request_claims::ClaimSetting;
 use check_search::{Doubt, Limits};
 use fx_base::{Catalogue, NoMemory};
 use fx_chain::{Request, cut};
@@ -74,6 +74,7 @@ fn judge_recorded(
 {
     let chains = cut(case.alloc, case.requests)?;
     let setting = ClaimSetting {
+        alloc: case.alloc,
         catalogue: case.catalogue,
         size: ring.slots.at.len() as u32,
         range: ring.slots.range,
@@ -85,8 +86,9 @@ fn judge_recorded(
         chains: &chains,
         completions: &case.recorded.completions,
     };
-    let claims = match claims_of_chains(case.alloc, &setting, &parts) {
-        Ok(claims) => claims,
+    let mut claims = Vec::new(case.alloc);
+    match push_chains(&mut claims, &setting, parts) {
+        Ok(()) => (),
         Err(Stop::Refuted(reason)) => return Ok(PartVerdict::Refuted(reason)),
         Err(Stop::Unknown) => return Ok(PartVerdict::Unsettled(Doubt::NotShown)),
         Err(Stop::NoMemory) => return Err(NoMemory),

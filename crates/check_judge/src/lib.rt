@@ -3,6 +3,7 @@
 //! `NotLegal` are proved.
 #![tactic(auto)]
 
+mod answered;
 mod chain_claims;
 mod command;
 mod judgement;

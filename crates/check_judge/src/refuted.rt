@@ -56,14 +56,7 @@ fn is_brought(chains: &[Vec<Claim>], file: Closed) -> bool
 fn is_at_slot(slots: &[Option<Closed>], file: Closed) -> bool
     ensures { IsTrue result ↔ Contains slots.now (Some file) }
 {
-    for found in slots {
-        if let Some(other) = found {
-            if *other == file {
-                return true;
-            }
-        }
-    }
-    false
+    slots.contains(&Some(file))
 }
 
 // Checks whether this file was at a slot, or a claim of one of the chains leaves it there.

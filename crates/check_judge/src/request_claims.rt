@@ -1,82 +1,50 @@
 //! The claims of one request, from its completion: one for each access that it intends.
-ghost use Rattle.std.specs.Prelude.{◌≡◌, ◌<◌, ◌≤◌, ◌+◌, ◌↔◌, IfOk, IfSome, IsTrue, List, None, Some, slice_index_or, true, ℕ};
+ghost use Rattle.std.specs.Prelude.{◌≡◌, ◌<◌, ◌≤◌, ◌+◌, ◌↔◌, IfOk, IfSome, IsTrue, None, Some, slice_index_or, true, ℕ};
 ghost use Rattle.fx_base.specs.declared.errno.Errno.TheVariants.{ENOMEM};
 ghost use Rattle.fx_base.specs.declared.open_file.Closed.{Closed as FileAt};
 ghost use Rattle.fx_chain.specs.Accepted.{IsWithinLimits};
 ghost use Rattle.fx_chain.specs.Completed.{completed_of, refusal};
-ghost use Rattle.fx_chain.specs.Intents.{IsOpened, answer_at_table, bytes_asked};
+ghost use Rattle.fx_chain.specs.Intents.{IsOpened, bytes_asked};
 ghost use Rattle.fx_chain.specs.Operation.{asked_of, operation_of};
-ghost use Rattle.fx_chain.specs.Refusal.{refusal_of};
 ghost use Rattle.fx_chain.specs.declared.intent.Finding.TheVariants.{At as FoundAt};
-ghost use Rattle.fx_order.specs.Requests.{IsRefused, IsRequestDone};
+ghost use Rattle.fx_order.specs.Requests.{IsRequestDone};
 ghost use Rattle.fx_order.specs.declared.access.Access.{Access as OneAccess};
-ghost use Rattle.check_judge.specs.Claims.{Fits, IsAnsweredBy, IsDecided, IsMade, Possibly, Yields, YieldsOne};
+ghost use Rattle.check_search.specs.declared.claim.Claim.{Claim as OneClaim};
+ghost use Rattle.check_judge.specs.Claims.{Appends, Decides, Fits, IsAnsweredBy, IsDecided, IsMade, answer};
 
+use crate::answered::{Answered, ClaimSetting};
 use crate::judgement::{Reason, Stop};
 use check_search::{Claim, Condition, Leaves, resident_for};
 use fx_base::{Catalogue, Closed, Errno, NoMemory};
 use fx_chain::{Completion, Finding, Intent, Place, Request, answer_of, intent_by, refusal_of};
-use std::alloc::Global;
-
-/// The values that are known when claims are derived.
-#[derive(Clone, Copy)]
-pub(crate) struct ClaimSetting<'a> {
-    pub catalogue: &'a Catalogue,
-    /// The number of slots.
-    pub size: u32,
-    /// The first slot of the allocation range, and its number of slots.
-    pub range: (u32, u32),
-    /// The closed files of the report.
-    pub closes: &'a [Closed],
-}
-
-// A request that isn't refused, its place, the catalogue entry that it opens, and its completion.
-#[derive(Drop)]
-struct Answered<'a> {
-    alloc: Global,
-    setting: ClaimSetting<'a>,
-    place: Place,
-    entry: u8,
-    request: &'a Request,
-    c: &'a Completion,
-}
-
-// Returns the claims of a refused request.
-fn refused(alloc: Global, place: Place, errno: Errno, c: &Completion) -> Result<Vec<Claim>, Stop>
-    ensures { (closes : List FileAt)
-        → Yields (λ own. IsRefused place errno own (completed_of c.now)) closes result }
-{
-    if !c.is_refusal(place, errno) {
-        return Err(Stop::Refuted(Reason::Member(place)));
-    }
-    Ok(Vec::new(alloc))
-}
 
 // Checks whether the completion is the answer of a request whose last access found this file, or
 // none, at its slot.
 fn is_answer(it: &Answered<'_>, file: Option<Closed>) -> Result<bool, NoMemory>
-    requires limits { IsWithinLimits (asked_of it.now.request.now) }
-    requires accepted { refusal_of it.now.setting.catalogue.now it.now.setting.size
-        (operation_of it.now.request.now.op) ≡ None }
-    ensures { IfOk result (λ yes. IsTrue yes ↔ (completed_of it.now.c.now
-        ≡ answer_at_table it.now.setting.catalogue.now it.now.place
-        (operation_of it.now.request.now.op) (Some (FoundAt file)))) }
+    ensures { IfOk result (λ yes. IsTrue yes
+        ↔ (completed_of it.now.c.now ≡ answer it.now (Some (FoundAt file)))) }
 {
     let (catalogue, size, found) = (it.setting.catalogue, it.setting.size, Finding::At(file));
-    let due = answer_of(it.alloc, catalogue, size, it.place, it.request, Some(found))?;
+    let due = answer_of(
+        it.setting.alloc,
+        catalogue,
+        size,
+        it.place,
+        it.request,
+        Some(found),
+    )?;
     Ok(it.c.is_answer(due.place, due.res, &due.got))
 }
 
 // Checks for each catalogue entry whether the completion has the bytes of a file of it.
 #[tactic(auto, using(crate::proofs::RequestClaims::got_by_entry))]
 fn fits_of(it: &Answered<'_>) -> Result<[bool; 256], NoMemory>
-    ensures { IfOk result (λ fits. (file : FileAt) → completed_of it.now.c.now
-        ≡ answer_at_table it.now.setting.catalogue.now it.now.place
-        (operation_of it.now.request.now.op) (Some (FoundAt (Some file)))
+    ensures { IfOk result (λ fits. (file : FileAt)
+        → completed_of it.now.c.now ≡ answer it.now (Some (FoundAt (Some file)))
         → slice_index_or fits file.entry true ≡ true) }
 {
     let mut fits = [true; 256];
-    let mut bytes = Vec::new(it.alloc);
+    let mut bytes = Vec::new(it.setting.alloc);
     for entry in 0..it.setting.catalogue.len() {
         it.request
             .read_into(it.setting.catalogue, entry as u8, &mut bytes)?;
@@ -103,21 +71,13 @@ fn claim_by(
     file: Option<Closed>,
     claim: Claim,
 ) -> Result<Claim, Stop>
-    requires limits { IsWithinLimits (asked_of it.now.request.now) }
-    requires accepted { refusal_of it.now.setting.catalogue.now it.now.setting.size
-        (operation_of it.now.request.now.op) ≡ None }
-    requires fits { (access : OneAccess) → IsMade it.now.setting.size it.now.setting.range
-        (answer_at_table it.now.setting.catalogue.now it.now.place
-        (operation_of it.now.request.now.op)) (completed_of it.now.c.now) intent access
-        → Fits it.now.setting.closes.now claim access × (completed_of it.now.c.now
-        ≡ answer_at_table it.now.setting.catalogue.now it.now.place
-        (operation_of it.now.request.now.op) (Some (FoundAt file))) }
-    ensures { YieldsOne (IsMade it.now.setting.size it.now.setting.range (answer_at_table
-        it.now.setting.catalogue.now it.now.place (operation_of it.now.request.now.op))
-        (completed_of it.now.c.now) intent) it.now.setting.closes.now result }
+    requires { (access : OneAccess) → IsMade it.now intent access
+        → Fits it.now.setting.closes.now claim access
+        × (completed_of it.now.c.now ≡ answer it.now (Some (FoundAt file))) }
+    ensures { Decides OneAccess OneClaim (IsMade it.now intent) (Fits it.now.setting.closes.now)
+        result }
 {
-    let due = is_answer(it, file)?;
-    if !due {
+    if !is_answer(it, file)? {
         return Err(Stop::Refuted(Reason::Member(it.place)));
     }
     Ok(claim)
@@ -125,42 +85,25 @@ fn claim_by(
 
 // Returns the claim of an access by its intent and the completion.
 fn claim_of(it: &Answered<'_>, intent: Intent) -> Result<Claim, Stop>
-    requires limits { IsWithinLimits (asked_of it.now.request.now) }
-    requires accepted { refusal_of it.now.setting.catalogue.now it.now.setting.size
-        (operation_of it.now.request.now.op) ≡ None }
-    requires decided { IsDecided it.now.place (answer_at_table it.now.setting.catalogue.now
-        it.now.place (operation_of it.now.request.now.op)) intent }
-    ensures { YieldsOne (IsMade it.now.setting.size it.now.setting.range (answer_at_table
-        it.now.setting.catalogue.now it.now.place (operation_of it.now.request.now.op))
-        (completed_of it.now.c.now) intent) it.now.setting.closes.now result }
+    requires { IsDecided it.now.place (answer it.now) intent }
+    ensures { Decides OneAccess OneClaim (IsMade it.now intent) (Fits it.now.setting.closes.now)
+        result }
 {
     let (place, c) = (it.place, it.c);
     match intent {
         Intent::Put(slot, file) => {
             let leaves = Leaves::File(resident_for(it.setting.closes, file));
-            claim_by(
-                it,
-                intent,
-                None,
-                Claim::At(slot, Condition::Anything, leaves),
-            )
+            let claim = Claim::At(slot, Condition::Anything, leaves);
+            claim_by(it, intent, None, claim)
         }
         Intent::Clear(slot) => {
-            claim_by(
-                it,
-                intent,
-                None,
-                Claim::At(slot, Condition::Anything, Leaves::Empty),
-            )
+            let claim = Claim::At(slot, Condition::Anything, Leaves::Empty);
+            claim_by(it, intent, None, claim)
         }
         Intent::Look(slot) => {
             if c.res < 0 {
-                return claim_by(
-                    it,
-                    intent,
-                    None,
-                    Claim::At(slot, Condition::Nothing, Leaves::Same),
-                );
+                let claim = Claim::At(slot, Condition::Nothing, Leaves::Same);
+                return claim_by(it, intent, None, claim);
             }
             if c.place != place || c.res as usize != c.got.len() {
                 return Err(Stop::Refuted(Reason::Member(place)));
@@ -191,36 +134,22 @@ fn claim_of(it: &Answered<'_>, intent: Intent) -> Result<Claim, Stop>
     }
 }
 
-// Returns the claims of the accesses that a request intends.
-fn claims_of_intents(it: &Answered<'_>) -> Result<Vec<Claim>, Stop>
-    requires limits { IsWithinLimits (asked_of it.now.request.now) }
-    requires accepted { refusal_of it.now.setting.catalogue.now it.now.setting.size
-        (operation_of it.now.request.now.op) ≡ None }
-    ensures { Yields (Possibly it.now.setting.size it.now.setting.range (IsAnsweredBy
-        it.now.setting.catalogue.now it.now.place it.now.entry
-        (operation_of it.now.request.now.op) (completed_of it.now.c.now)))
-        it.now.setting.closes.now result }
+// Appends the claims of the accesses that a request intends.
+fn push_intents(claims: &mut Vec<Claim>, it: &Answered<'_>) -> Result<(), Stop>
+    ensures { Appends it.now.setting (IsAnsweredBy it.now) claims.old.items claims.new.items result }
 {
     let (catalogue, size) = (it.setting.catalogue, it.setting.size);
     let accesses = it.request.accesses();
-    if accesses == 0 {
-        let due = is_answer(it, None)?;
-        if !due {
-            return Err(Stop::Refuted(Reason::Member(it.place)));
-        }
+    if accesses == 0 && !is_answer(it, None)? {
+        return Err(Stop::Refuted(Reason::Member(it.place)));
     }
-    let mut claims = Vec::new(it.alloc);
     for made in 0..accesses {
         let Some(intent) = intent_by(catalogue, size, it.place, it.entry, it.request, made) else {
             return Err(Stop::Unknown);
         };
-        let claim = match claim_of(it, intent) {
-            Ok(claim) => claim,
-            Err(stop) => return Err(stop),
-        };
-        claims.push(claim)?;
+        claims.push(claim_of(it, intent)?)?;
     }
-    Ok(claims)
+    Ok(())
 }
 
 // Returns the catalogue entry that the request opens, 0 unless it is an open, or `None` unless one
@@ -246,34 +175,38 @@ fn lacks_memory(place: Place, request: &Request, c: &Completion) -> bool
     request.bytes_asked() > 0 && c.is_refusal(place, Errno::ENOMEM)
 }
 
-/// Returns the claims of a request.
-pub(crate) fn claims_of_request(
-    alloc: Global,
+/// Appends the claims of a request.
+pub(crate) fn push_request(
+    claims: &mut Vec<Claim>,
     setting: &ClaimSetting<'_>,
     place: Place,
     request: &Request,
     c: &Completion,
-) -> Result<Vec<Claim>, Stop>
+) -> Result<(), Stop>
     requires { IsWithinLimits (asked_of request.now) }
-    ensures { Yields (Possibly setting.now.size setting.now.range (λ own. IsRequestDone
-        setting.now.catalogue.now setting.now.size place (operation_of request.now.op) own
-        (completed_of c.now))) setting.now.closes.now result }
+    ensures { Appends setting.now (λ own. IsRequestDone setting.now.catalogue.now setting.now.size
+        place (operation_of request.now.op) own (completed_of c.now)) claims.old.items
+        claims.new.items result }
 {
     if let Some(errno) = refusal_of(setting.catalogue, setting.size, request) {
-        return refused(alloc, place, errno, c);
+        if !c.is_refusal(place, errno) {
+            return Err(Stop::Refuted(Reason::Member(place)));
+        }
+        return Ok(());
     }
     if lacks_memory(place, request, c) {
-        return Ok(Vec::new(alloc));
+        return Ok(());
     }
     let Some(entry) = only_opened(setting.catalogue, request) else {
         return Err(Stop::Unknown);
     };
-    claims_of_intents(&Answered {
-        alloc,
-        setting: *setting,
+    let setting = *setting;
+    let it = Answered {
+        setting,
         place,
         entry,
         request,
         c,
-    })
+    };
+    push_intents(claims, &it)
 }

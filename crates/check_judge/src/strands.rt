@@ -34,13 +34,8 @@ fn keeps(cells: &[Cell], claim: &Claim) -> bool
 fn kept(alloc: Global, cells: &[Cell], claims: &[Claim]) -> Result<Vec<Claim>, NoMemory>
     ensures { IfOk result (λ own. own.items ≡ filter (keeps cells.now) claims.now) }
 {
-    let mut own = Vec::new(alloc);
-    for claim in claims {
-        if keeps(cells, claim) {
-            own.push(*claim)?;
-        }
-    }
-    Ok(own)
+    let own = claims.iter().filter(|claim| keeps(cells, claim));
+    Ok(own.copied().collect(alloc)?)
 }
 
 // Appends the claims of a chain, if it has some.

@@ -1,23 +1,11 @@
-use Rattle.check_judge.proofs.Words.{IfOk-weaker, RingState, ap, sym, instruction_of, ring_with_slots, string_bytes, ◌∙◌}
-use Rattle.check_lines.proofs.Calls.{called_submissions}
+use Rattle.check_judge.proofs.Words.{IfOk-weaker, sym, instruction_of, string_bytes}
 use Rattle.check_judge.proofs.Plays.{call_keeps, fails, found, never}
 use Rattle.check_judge.proofs.command.play_call.Goals as goal
-
-pub call-requires-clause-few : goal.call-requires-clause-few
-call-requires-clause-few c = c.requires.kept.few_slots
-
-pub call-requires-clause-ring : goal.call-requires-clause-ring
-call-requires-clause-ring c = c.requires.kept.is_ring
 
 pub returns-in-Here-clause-step : goal.returns-in-Here-clause-step
 returns-in-Here-clause-step c =
     found c.args.catalogue.now c.args.ring.now (instruction_of c.args.command.now) c.args.text.now c.requires.kept c.requires.call
     (string_bytes c.in_ok-called.called.line) c.in_ok-called.ensures.line c.in_ok-called.called.ring c.in_ok-called.ensures.value c.in-Here.ensures
-
-pub returns-in-Here-clause-counted : goal.returns-in-Here-clause-counted
-returns-in-Here-clause-counted c =
-    ap (λ (r : RingState). r.submissions) c.in_ok-called.ensures.value
-    ∙ called_submissions (ring_with_slots c.args.catalogue.now c.args.ring.now) (instruction_of c.args.command.now)
 
 pub returns-in-Here-clause-kept : goal.returns-in-Here-clause-kept
 returns-in-Here-clause-kept c =

@@ -1,29 +1,26 @@
-use Rattle.check_judge.proofs.Words.{◌≡◌, ◌∙◌, length, sym, ap, arith, length-map, members_of, all_asked, ring_with_slots, IfOk-weaker}
+use Rattle.check_judge.proofs.Words.{◌≡◌, length, sym, arith, length-map, members_of, all_asked, ring_with_slots, zero-add, IfOk-weaker}
 use Rattle.check_judge.proofs.Refuting.{no_claims, outcome_recorded}
 use Rattle.check_judge.proofs.judging.judge_recorded.Goals as goal
-
-pub judge_table-requires-clause-few : goal.judge_table-requires-clause-few
-judge_table-requires-clause-few c =
-    let many : length c.in-Ok.claims.items ≡ length c.in_ok-chains.chains.items =
-    c.in-Ok.ensures.0 ∙ length-map c.deref-2.result.now (members_of (all_asked c.args.case.now.requests.now)) ∙ ap length c.deref-2.ensures.value in
-    let same = ap length c.deref-5.ensures.value in
-    let few = c.in_ok-chains.ensures.few in
-    omega (arith, c.in_ok-chains.chains.ok.0)
 
 pub returns-in-Err-Refuted : goal.returns-in-Err-Refuted
 returns-in-Err-Refuted c =
     let size : c.len.result ≡ length c.args.ring.now.slots.at.items = omega (arith, c.args.ring.now.slots.at.ok.0) in
-    let none = rw c.in-Err-Refuted.field-0-is at c.in-Err-Refuted.ensures in
+    let none = rw c.in-Err-Refuted.field-0-is at c.in-Err-Refuted.ensures.claims in
     no_claims (ring_with_slots c.args.case.now.catalogue.now c.args.ring.now) (all_asked c.args.case.now.requests.now) c.args.case.now.recorded.now
-    (λ order done. none order (rw (size, c.deref-2.ensures.value, c.in_ok-chains.ensures.members, c.deref-3.ensures.value) done))
+    (λ order done. none tt order
+    (rw (size, c.deref-2.ensures.value, c.in_ok-chains.ensures.members, c.deref-3.ensures.value, c.new-claims.ensures.items) done))
 
 pub returns : goal.returns
 returns c =
     let size : c.len.result ≡ length c.args.ring.now.slots.at.items = omega (arith, c.args.ring.now.slots.at.ok.0) in
+    let many = rw (c.new-claims.ensures.items, c.deref-2.ensures.value, zero-add) at c.in-Ok.ensures.many in
     IfOk-weaker c.judge_table.result _ _
     (λ o is. outcome_recorded (ring_with_slots c.args.case.now.catalogue.now c.args.ring.now) (all_asked c.args.case.now.requests.now) c.args.case.now.recorded.now
-    c.requires.ring c.in-Ok.claims.items (rw (c.deref-2.ensures.value, c.in_ok-chains.ensures.members) at c.in-Ok.ensures.0)
+    c.requires.ring c.push_chains.new.lists.items
+    (rw (sym c.in_ok-chains.ensures.members, length-map c.in_ok-chains.chains.items (members_of (all_asked c.args.case.now.requests.now))) many)
     (λ order done. rw (sym c.deref.ensures.value)
-    (c.in-Ok.ensures.1 order (rw (size, c.deref-2.ensures.value, c.in_ok-chains.ensures.members, c.deref-3.ensures.value) done)))
+    (c.in-Ok.ensures.claims order
+    (rw (size, c.deref-2.ensures.value, c.in_ok-chains.ensures.members, c.deref-3.ensures.value, c.new-claims.ensures.items) done)
+    (rw c.new-claims.ensures.items (λ k claims is. absurd (cc)))))
     o (rw (sym c.deref-4.ensures.value, sym c.deref-5.ensures.value) is))
     c.judge_table.ensures

@@ -1,7 +1,7 @@
 use Rattle.check_judge.proofs.Words.{◌≡◌, ◌+◌, ◌∷◌, length, length-drop, drop, sym, append-nil, ◌++◌, arith, option_to_list, length-map, refl}
-use Rattle.check_judge.proofs.Words.{instruction_of, instructions_of, ring_with_slots, take_rest, IsCommandVerdict}
+use Rattle.check_judge.proofs.Words.{instruction_of, instructions_of, ring_with_slots, shown, take_rest, IsCommandVerdict}
 use Rattle.check_judge.specs.declared.command.CommandVerdict.{CommandVerdict}
-use Rattle.check_judge.proofs.Plays.{GoesWith, at_start, ended, goes_on, next_instruction, not_ended, stops, there_is}
+use Rattle.check_judge.proofs.Plays.{GoesWith, at_start, ended, goes_on, next_instruction, not_ended, stops}
 use Rattle.check_judge.proofs.play.judge_rest.Goals.{in-Some+in_ok-push-in-Printed, in_default, In_ok-count, In_ok-play_end}
 use Rattle.check_judge.proofs.play.judge_rest.Goals as goal
 
@@ -71,6 +71,6 @@ pub returns-in-None : goal.returns-in-None
 returns-in-None c =
     let e = (goal.at.returns-in-None c).In_ok-play_end in
     let end = rw c.in-None.is at c.in_ok-play_end.ensures.end in (
-      there_is c.args.catalogue.now c.args.start,
+      shown c.args.catalogue.now c.args.start,
       ended (all_done e) (as_many e) (rw (take_rest c.args.text.now c.loop-done.at) at end),
     )

@@ -1,9 +1,6 @@
-use Rattle.check_judge.proofs.Words.{◌≡◌, ◌∙◌, ℕ, List, length, refl, sym, ap, subst, arith, filter, slice_get_read, AreStrands, keeps, Strand}
-use Rattle.check_judge.proofs.StrandClaims.{SoFar, none_yet, one_more}
+use Rattle.check_judge.proofs.Words.{◌≡◌, ◌∙◌, ℕ, length, refl, ap, subst, arith, filter, slice_get_read, AreStrands, keeps}
+use Rattle.check_judge.proofs.StrandClaims.{one_more}
 use Rattle.check_judge.proofs.strands.strands_of.Goals as goal
-
-pub loop-i-init : goal.loop-i-init
-loop-i-init c = subst (λ (l : List Strand). SoFar c.args.cells.now c.args.chains.now 0 l) (sym c.new-strands.ensures.items) (none_yet c.args.cells.now c.args.chains.now)
 
 pub loop-i-preserved : goal.loop-i-preserved
 loop-i-preserved c =

@@ -1,0 +1,35 @@
+//! A request and its completion, of which claims are derived.
+ghost use Rattle.std.specs.Prelude.{◌≡◌, None};
+ghost use Rattle.fx_chain.specs.Accepted.{IsWithinLimits};
+ghost use Rattle.fx_chain.specs.Operation.{asked_of, operation_of};
+ghost use Rattle.fx_chain.specs.Refusal.{refusal_of};
+
+use fx_base::{Catalogue, Closed};
+use fx_chain::{Completion, Place, Request};
+use std::alloc::Global;
+
+/// The values that are known when claims are derived.
+#[derive(Clone, Copy)]
+pub(crate) struct ClaimSetting<'a> {
+    pub alloc: Global,
+    pub catalogue: &'a Catalogue,
+    /// The number of slots.
+    pub size: u32,
+    /// The first slot of the allocation range, and its number of slots.
+    pub range: (u32, u32),
+    /// The closed files of the report.
+    pub closes: &'a [Closed],
+}
+
+/// A request that isn't refused, its place, the catalogue entry that it opens, and its completion.
+#[derive(Drop)]
+pub(crate) struct Answered<'a> {
+    pub setting: ClaimSetting<'a>,
+    pub place: Place,
+    pub entry: u8,
+    pub request: &'a Request,
+    pub c: &'a Completion,
+    pub ghost limits: { IsWithinLimits (asked_of request.now) },
+    pub ghost accepted: { refusal_of setting.catalogue.now setting.size (operation_of request.now.op)
+        ≡ None },
+}
