@@ -1,6 +1,6 @@
 -- The claims of requests, by what they intend, and the accesses that fit them.
 use Rattle.check_judge.proofs.Words.{FileEntry, bytes_at, Closed, installed, Completed, completed_of, Opens, Operation, operation_of, Place}
-use Rattle.check_judge.proofs.Words.{Any, Slot, AreAppended, Decides, Fits, IsAllocationInRange, IsAnsweredBy, LeavesSo, Possibly, Expected, found_by}
+use Rattle.check_judge.proofs.Words.{Any, Slot, AreAppended, Concludes, Fits, IsAllocationInRange, IsAnsweredBy, LeavesSo, Possibly, Expected, found_by}
 use Rattle.check_judge.proofs.Words.{left_by, touched, allows, cell_at, cell_with, cells_after, is_same, is_taken, may_leave, suits, IsCell}
 use Rattle.check_judge.proofs.Words.{ShowsFile, Cell, Claim, At, Full, Leaves, Empty, File, Same, Resident, Condition, Stop, Permits, Table}
 use Rattle.check_judge.proofs.Words.{file_removed_by, table_with, Allocates, FindsFull, Looks, Takes, Access}
@@ -10,7 +10,7 @@ use Rattle.check_judge.proofs.Words.{refl, slice_get, subst, suc, sym, take, tru
 use Rattle.check_judge.proofs.Words.{true≢false, ⊎_elim, and_from, cases_Bool, take_more, All-head, All-map, All-tail, All-weaker}
 use Rattle.check_judge.proofs.Words.{slice_get_within, same_Some, get_or_from_slice_get, AllByRecursion, AllZip, same_size, list_all-from_AllPass}
 use Rattle.check_judge.specs.Claims.{IsDecided, IsMade, answer}
-use Rattle.check_judge.specs.declared.answered.Answered.{Answered}
+use Rattle.check_judge.specs.declared.answered.AnsweredRequest.{AnsweredRequest}
 use Rattle.check_search.specs.declared.claim.Condition.TheVariants.{Nothing, Something}
 use Rattle.fx_base.proofs.Entries.{entry_named}
 use Rattle.fx_chain.specs.Intents.{IsOpened, answer_at_table, bytes_read, intents_of, list_intents}
@@ -26,7 +26,7 @@ use Rattle.std.proofs.lemmas.Slice.Zip.{all_zipped_more}
 
 -- what was decided of all b is decided of all a, if each a has its b
 pub decides_by : (A B X : Type 0) (P : A → Type 0) (Q : B → Type 0) (IsRight : X → A → Type 0) (WasRight : X → B → Type 0) (r : Result X Stop)
-    → ((a : A) → P a → (b : B) × Q b × ((x : X) → WasRight x b → IsRight x a)) → Decides B X Q WasRight r → Decides A X P IsRight r
+    → ((a : A) → P a → (b : B) × Q b × ((x : X) → WasRight x b → IsRight x a)) → Concludes B X Q WasRight r → Concludes A X P IsRight r
 decides_by A B X P Q IsRight WasRight (Ok x) so right = λ a done. let own = so a done in own.2 x (right own.0 own.1)
 decides_by A B X P Q IsRight WasRight (Err stop) so none = λ refutes a done. let own = so a done in none refutes own.0 own.1
 
@@ -206,7 +206,7 @@ module _ (catalogue : List FileEntry) (place : Place) (entry : ℕ) where
   shape (Updates off list) = inr (λ _. refl)
 
 -- so the completion is the answer by what each access found
-module _ (it : Answered) where
+module _ (it : AnsweredRequest) where
   abbrev pub intents : List Intent
   intents = intents_of it.place it.entry (operation_of it.request.now.op)
 
@@ -239,7 +239,7 @@ got_by_entry catalogue place (Updates off list) file = refl
 not_negative : (n : ℕ) → int_lt (pos n) (pos 0) ≡ false
 not_negative n = grind (arith, nat_tests)
 
-module _ (it : Answered) {slot : ℕ} where
+module _ (it : AnsweredRequest) {slot : ℕ} where
   -- a request that looks a slot up and fails
   pub look_failed : IsDecided it.place (answer it) (Look slot) → int_lt (completed_of it.c.now).res (pos 0) ≡ true
       → (a : Access) → IsMade it (Look slot) a

@@ -11,7 +11,7 @@ pub use Rattle.fx_chain.specs.declared.completion.Place.{Place}
 pub use Rattle.fx_chain.specs.declared.request.Request.{Request}
 pub use Rattle.fx_chain.specs.declared.request.Target.TheVariants.{Any, Slot}
 pub use Rattle.check_judge.specs.Chains.{AreDone, AreMembersDone}
-pub use Rattle.check_judge.specs.Claims.{AreAppended, AreClaims, Decides, Fits, IsAllocationInRange, IsAnsweredBy, LeavesSo, Possibly, Expected}
+pub use Rattle.check_judge.specs.Claims.{AreAppended, AreClaims, Concludes, Fits, IsAllocationInRange, IsAnsweredBy, LeavesSo, Possibly, Expected}
 pub use Rattle.check_judge.specs.Claims.{found_by, left_by, touched}
 pub use Rattle.check_search.specs.Machine.{Ends, HasNoEnd, IsEndOfClaims, Standing, allows, cell_at, cell_with, cells_after, is_same, is_staying}
 pub use Rattle.check_search.specs.Machine.{is_taken, may_leave, may_stay, next, suits}

@@ -1,6 +1,6 @@
 -- Claims: what completions imply for the accesses that were made, one claim for each access.
-use Rattle.std.specs.Prelude.{◌≡◌, ℕ, ◌+◌, ◌<◌, ◌≤◌, pos, int_lt, true, List, [], ◌++◌, length, slice_get}
-use Rattle.std.specs.Prelude.{slice_index_or, Option, Some, None, Result, Ok, Err}
+use Rattle.std.specs.Prelude.{◌≡◌, ℕ, ◌+◌, ◌<◌, ◌≤◌, pos, int_lt, true, List, [], ◌++◌, length}
+use Rattle.std.specs.Prelude.{slice_get, slice_index_or, Option, Some, None, Result, Ok, Err}
 use Rattle.std.specs.Global.{Vec}
 use Rattle.std.specs.List.{AllZip, AllByRecursion}
 use Rattle.fx_base.specs.Identity.{Identity}
@@ -31,7 +31,7 @@ use Rattle.check_search.specs.declared.claim.Claim.{Claim}
 use Rattle.check_search.specs.declared.claim.Claim.TheVariants.{At, Full}
 use Rattle.check_judge.specs.declared.judgement.Stop.{Stop}
 use Rattle.check_judge.specs.declared.judgement.Stop.TheVariants.{Refuted}
-use Rattle.check_judge.specs.declared.answered.Answered.{Answered}
+use Rattle.check_judge.specs.declared.answered.AnsweredRequest.{AnsweredRequest}
 use Rattle.check_judge.specs.declared.answered.ClaimSetting.{ClaimSetting}
 
 -- the slot of an access
@@ -95,9 +95,9 @@ Refutes (Refuted reason) = Unit {0}
 Refutes _ = ⊥
 
 -- the value is right of all that was done so, or nothing was
-abbrev pub Decides : (A X : Type 0) → (A → Type 0) → (X → A → Type 0) → Result X Stop → Type 0
-Decides A X IsDone IsRight (Ok x) = (a : A) → IsDone a → IsRight x a
-Decides A X IsDone IsRight (Err stop) = Refutes stop → (a : A) → IsDone a → ⊥
+abbrev pub Concludes : (A X : Type 0) → (A → Type 0) → (X → A → Type 0) → Result X Stop → Type 0
+Concludes A X IsDone IsRight (Ok x) = (a : A) → IsDone a → IsRight x a
+Concludes A X IsDone IsRight (Err stop) = Refutes stop → (a : A) → IsDone a → ⊥
 
 -- an allocation is at a slot of the table and of its allocation range
 abbrev pub IsAllocationInRange : ℕ → ℕ × ℕ → Access → Type 0
@@ -118,23 +118,24 @@ AreAppended closes old new accesses = (before : List Access) → AllZip (Fits cl
 -- the claims of all that was possibly done so are appended, or nothing was
 abbrev pub Appends : ClaimSetting → (List Access → Type 0) → List Claim → List Claim
     → Result (Unit {0}) Stop → Type 0
-Appends setting IsDone old new result = Decides (List Access) (Unit {0})
-    (Possibly setting.size setting.range IsDone) (λ _. AreAppended setting.closes.now old new) result
+Appends setting IsDone old new result =
+    Concludes (List Access) (Unit {0}) (Possibly setting.size setting.range IsDone)
+    (λ _. AreAppended setting.closes.now old new) result
 
 -- the answer of the request, by what the last one of its accesses found
-abbrev pub answer : Answered → Option Finding → Completed
+abbrev pub answer : AnsweredRequest → Option Finding → Completed
 answer it = answer_at_table it.setting.catalogue.now it.place (operation_of it.request.now.op)
 
 -- the accesses are those that the request intends, and its completion is the answer by what they
 -- found
-abbrev pub IsAnsweredBy : Answered → List Access → Type 0
+abbrev pub IsAnsweredBy : AnsweredRequest → List Access → Type 0
 IsAnsweredBy it accesses =
     AllZip IsOf (intents_of it.place it.entry (operation_of it.request.now.op)) accesses
     × (completed_of it.c.now ≡ answer it (last_finding accesses))
 
 -- the access was intended, this table may permit it, and the completion is the answer by what it
 -- found
-abbrev pub IsMade : Answered → Intent → Access → Type 0
+abbrev pub IsMade : AnsweredRequest → Intent → Access → Type 0
 IsMade it intent access =
     IsOf intent access × IsAllocationInRange it.setting.size it.setting.range access
     × (completed_of it.c.now ≡ answer it (Some (finding_of access)))

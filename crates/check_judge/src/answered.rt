@@ -23,7 +23,7 @@ pub(crate) struct ClaimSetting<'a> {
 
 /// A request that isn't refused, its place, the catalogue entry that it opens, and its completion.
 #[derive(Drop)]
-pub(crate) struct Answered<'a> {
+pub(crate) struct AnsweredRequest<'a> {
     pub setting: ClaimSetting<'a>,
     pub place: Place,
     pub entry: u8,

@@ -4,7 +4,7 @@ ghost use Rattle.fx_chain.specs.Accepted.{IsChain, IsWithinLimits, members_of};
 ghost use Rattle.fx_chain.specs.Completed.{all_completed};
 ghost use Rattle.fx_chain.specs.Operation.{all_asked, asked_of};
 ghost use Rattle.fx_order.specs.declared.access.ChainAccess.{ChainAccess};
-ghost use Rattle.check_judge.specs.Claims.{Appends, AreClaims, Decides};
+ghost use Rattle.check_judge.specs.Claims.{Appends, AreClaims, Concludes};
 ghost use Rattle.check_judge.specs.Chains.{AreDone, AreMembersDone};
 
 use crate::answered::ClaimSetting;
@@ -73,7 +73,7 @@ pub(crate) fn push_chains(
 ) -> Result<(), Stop>
     requires within { All (IsChain (all_asked parts.requests.now)) parts.chains.now }
     requires numbers { length lists.old.items + length parts.chains.now + 1 < 2 ^ 32 }
-    ensures claims { Decides (List ChainAccess) (Unit {0}) (AreDone setting.now.catalogue.now
+    ensures claims { Concludes (List ChainAccess) (Unit {0}) (AreDone setting.now.catalogue.now
         setting.now.size setting.now.range parts.entry.submission (length lists.old.items + 1)
         (map (members_of (all_asked parts.entry.requests.now)) parts.entry.chains.now)
         (all_completed parts.entry.completions.now))

@@ -10,9 +10,9 @@ ghost use Rattle.fx_chain.specs.declared.intent.Finding.TheVariants.{At as Found
 ghost use Rattle.fx_order.specs.Requests.{IsRequestDone};
 ghost use Rattle.fx_order.specs.declared.access.Access.{Access as OneAccess};
 ghost use Rattle.check_search.specs.declared.claim.Claim.{Claim as OneClaim};
-ghost use Rattle.check_judge.specs.Claims.{Appends, Decides, Fits, IsAnsweredBy, IsDecided, IsMade, answer};
+ghost use Rattle.check_judge.specs.Claims.{Appends, Concludes, Fits, IsAnsweredBy, IsDecided, IsMade, answer};
 
-use crate::answered::{Answered, ClaimSetting};
+use crate::answered::{AnsweredRequest, ClaimSetting};
 use crate::judgement::{Reason, Stop};
 use check_search::{Claim, Condition, Leaves, resident_for};
 use fx_base::{Catalogue, Closed, Errno, NoMemory};
@@ -20,7 +20,7 @@ use fx_chain::{Completion, Finding, Intent, Place, Request, answer_of, intent_by
 
 // Checks whether the completion is the answer of a request whose last access found this file, or
 // none, at its slot.
-fn is_answer(it: &Answered<'_>, file: Option<Closed>) -> Result<bool, NoMemory>
+fn is_answer(it: &AnsweredRequest<'_>, file: Option<Closed>) -> Result<bool, NoMemory>
     ensures { IfOk result (λ yes. IsTrue yes
         ↔ (completed_of it.now.c.now ≡ answer it.now (Some (FoundAt file)))) }
 {
@@ -38,7 +38,7 @@ fn is_answer(it: &Answered<'_>, file: Option<Closed>) -> Result<bool, NoMemory>
 
 // Checks for each catalogue entry whether the completion has the bytes of a file of it.
 #[tactic(auto, using(crate::proofs::RequestClaims::got_by_entry))]
-fn fits_of(it: &Answered<'_>) -> Result<[bool; 256], NoMemory>
+fn fits_of(it: &AnsweredRequest<'_>) -> Result<[bool; 256], NoMemory>
     ensures { IfOk result (λ fits. (file : FileAt)
         → completed_of it.now.c.now ≡ answer it.now (Some (FoundAt (Some file)))
         → slice_index_or fits file.entry true ≡ true) }
@@ -66,7 +66,7 @@ fn is_in_range(setting: &ClaimSetting<'_>, slot: u32) -> bool
 
 // Returns a claim of an access, if the completion is the answer by this file, or none, at its slot.
 fn claim_by(
-    it: &Answered<'_>,
+    it: &AnsweredRequest<'_>,
     intent: Intent,
     file: Option<Closed>,
     claim: Claim,
@@ -74,7 +74,7 @@ fn claim_by(
     requires { (access : OneAccess) → IsMade it.now intent access
         → Fits it.now.setting.closes.now claim access
         × (completed_of it.now.c.now ≡ answer it.now (Some (FoundAt file))) }
-    ensures { Decides OneAccess OneClaim (IsMade it.now intent) (Fits it.now.setting.closes.now)
+    ensures { Concludes OneAccess OneClaim (IsMade it.now intent) (Fits it.now.setting.closes.now)
         result }
 {
     if !is_answer(it, file)? {
@@ -84,9 +84,9 @@ fn claim_by(
 }
 
 // Returns the claim of an access by its intent and the completion.
-fn claim_of(it: &Answered<'_>, intent: Intent) -> Result<Claim, Stop>
+fn claim_of(it: &AnsweredRequest<'_>, intent: Intent) -> Result<Claim, Stop>
     requires { IsDecided it.now.place (answer it.now) intent }
-    ensures { Decides OneAccess OneClaim (IsMade it.now intent) (Fits it.now.setting.closes.now)
+    ensures { Concludes OneAccess OneClaim (IsMade it.now intent) (Fits it.now.setting.closes.now)
         result }
 {
     let (place, c) = (it.place, it.c);
@@ -135,7 +135,7 @@ fn claim_of(it: &Answered<'_>, intent: Intent) -> Result<Claim, Stop>
 }
 
 // Appends the claims of the accesses that a request intends.
-fn push_intents(claims: &mut Vec<Claim>, it: &Answered<'_>) -> Result<(), Stop>
+fn push_intents(claims: &mut Vec<Claim>, it: &AnsweredRequest<'_>) -> Result<(), Stop>
     ensures { Appends it.now.setting (IsAnsweredBy it.now) claims.old.items claims.new.items result }
 {
     let (catalogue, size) = (it.setting.catalogue, it.setting.size);
@@ -201,7 +201,7 @@ pub(crate) fn push_request(
         return Err(Stop::Unknown);
     };
     let setting = *setting;
-    let it = Answered {
+    let it = AnsweredRequest {
         setting,
         place,
         entry,
