@@ -18,9 +18,11 @@ pub(crate) struct Front {
     keys: IndexSet<u64>,
 }
 
-/// Returns the number of a list with one more element. Lists seldom have the same number.
+/// Returns the number of a list with one more element. Lists seldom have the same number, also
+/// lists of zeros of other lengths.
 pub(crate) fn mixed(number: u64, more: u64) -> u64 {
-    let mixed = (number ^ more).wrapping_mul(0x9e37_79b9_7f4a_7c15);
+    let mixed = (number ^ more).wrapping_add(0xd1b5_4a32_d192_ed03);
+    let mixed = mixed.wrapping_mul(0x9e37_79b9_7f4a_7c15);
     mixed ^ (mixed >> 29)
 }
 
