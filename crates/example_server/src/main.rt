@@ -1,7 +1,7 @@
-//! A server over a table without a lock that never has to be closed. Requests arrive in a bounded
-//! queue, and four threads serve them, each by a pass of its own. Begin with `serve.rt`, the work
-//! of a thread, `life.rt`, the life of the table, and `hand_over.rt`, the order between two
-//! threads.
+//! A table without a lock that never has to be closed: two threads that share one (`lasting.rt`),
+//! and files that are named by keys (`keys.rt`). Then a server: requests arrive in a bounded queue,
+//! and four threads serve them, each by a pass of its own. Begin with `serve.rt`, the work of a
+//! thread, `life.rt`, the life of the table, and `hand_over.rt`, the order between two threads.
 #![tactic(auto)]
 
 ghost use Rattle.std.specs.Prelude.{◌≡◌, ◌<◌, ◌+◌, IfOk, OnOk, length};
@@ -9,6 +9,8 @@ ghost use Rattle.std.specs.Prelude.{◌≡◌, ◌<◌, ◌+◌, IfOk, OnOk, len
 mod desk;
 mod feed;
 mod hand_over;
+mod keys;
+mod lasting;
 mod life;
 mod serve;
 
@@ -17,6 +19,8 @@ use desk::{Desk, Job};
 use feed::feed;
 use fx_base::{AddFault, Catalogue, NoMemory};
 use hand_over::hand_over_once;
+use keys::share_by_key;
+use lasting::replace_while_looked_up;
 use life::serve_all;
 use std::alloc::Global;
 use std::sync::Wait;
@@ -58,6 +62,18 @@ fn serve_clients<R: Threads + Wait + Sync>(
     served
 }
 
+// Shares two tables, one of them by keys.
+fn share_tables<R: Threads + Wait + Print + Sync>(
+    rt: &R,
+    alloc: Global,
+    catalogue: &Catalogue,
+) -> Result<(), NoMemory>
+    requires { 0 < length catalogue.now }
+{
+    replace_while_looked_up(rt, alloc, catalogue)?;
+    share_by_key(rt, alloc, catalogue)
+}
+
 // Serves the clients, hands a file over, and prints the counters of the desk.
 fn run<R: Threads + Wait + Print + Sync>(
     rt: &R,
@@ -68,6 +84,7 @@ fn run<R: Threads + Wait + Print + Sync>(
 ) -> Result<(), NoMemory>
     requires { 1 < length catalogue.now }
 {
+    share_tables(rt, alloc, catalogue)?;
     serve_clients(rt, alloc, desk, clients)?;
     // The very first look-ups may find a slot that no request has filled.
     let read = desk.read.load(Ordering::SeqCst).div_ceil(1000);

@@ -4,7 +4,7 @@ ghost use Rattle.std.specs.Prelude.{◌≡◌, ◌<◌, All, length};
 ghost use Rattle.fx_lasting.specs.Tables.{IsPassOfTable, view_of};
 ghost use Rattle.fx_table.specs.Pass.{IsIdle};
 
-use crate::{discard, discard_all};
+use crate::lasting::{discard, discard_all};
 use fx_base::{Catalogue, Mark, NoMemory};
 use fx_lasting::{Key, KeyFault, KeyLook, KeyPut, KeyTaken, LastingPass, LastingTable, PutOverKey};
 use std::alloc::Global;
@@ -229,7 +229,7 @@ fn use_keys_between<R: Wait + Print>(
 }
 
 /// Opens a table of one slot for two passes, the first of which may install files, and uses keys.
-/// Returns the number of files that were left at the end.
+/// Prints the number of files that were left at the end.
 ///
 /// # Errors
 /// `NoMemory` if an allocation fails.
@@ -237,14 +237,16 @@ pub fn share_by_key<R: Wait + Print>(
     rt: &R,
     alloc: Global,
     catalogue: &Catalogue,
-) -> Result<usize, NoMemory>
+) -> Result<(), NoMemory>
     requires entry { 0 < length catalogue.now }
 {
     let room = Vec::with_capacity(alloc, 1)?;
     match LastingTable::open_sparse(alloc, 1, (0, 1), 2, 1) {
         Ok((table, mut passes)) => {
             use_keys_between(rt, catalogue, &table, &mut passes);
-            Ok(discard_all(table.close(passes, room)))
+            let left = discard_all(table.close(passes, room));
+            let _ = println!(rt; "files left under keys: {left}");
+            Ok(())
         }
         Err(refused) => {
             room.destroy_empty();

@@ -1,17 +1,12 @@
 //! A table that never has to be closed. One thread replaces a file 100,000 times, and another one
-//! looks it up 100,000 times. Afterwards a file of another table is named by its key (`keys.rt`).
-#![tactic(auto)]
-
+//! looks it up 100,000 times.
 ghost use Rattle.std.specs.Prelude.{◌≡◌, ◌<◌, All, IfOk, length};
 ghost use Rattle.fx_table.specs.Opening.{size_of};
 ghost use Rattle.fx_table.specs.Pass.{IsIdle};
 
-mod keys;
-
-use fx_base::{AddFault, Catalogue, Mark, NoMemory, OpenFile};
+use fx_base::{Catalogue, Mark, NoMemory, OpenFile};
 use fx_lasting::LastingTable;
 use fx_table::{LookUp, SharedTable};
-use keys::share_by_key;
 use std::alloc::Global;
 use std::sync::Wait;
 use std::sync::atomic::{AtomicU32, Ordering};
@@ -22,8 +17,8 @@ const SLOTS: u32 = 4;
 
 const TIMES: u32 = 100_000;
 
-// Discards a file that a call returned, and counts it. A server would close it.
-fn discard(file: Option<OpenFile>, closed: &AtomicU32) {
+/// Discards a file that a call returned, and counts it. A server would close it.
+pub(crate) fn discard(file: Option<OpenFile>, closed: &AtomicU32) {
     if let Some(file) = file {
         file.discard();
         closed.fetch_add(1, Ordering::SeqCst);
@@ -114,9 +109,9 @@ fn run_both<T: SharedTable, R: Threads + Wait + Sync>(
     );
 }
 
-// Discards the files that the closed table had, and returns their number. A server would close
-// them.
-fn discard_all(mut left: Vec<(u32, OpenFile)>) -> usize {
+/// Discards the files that the closed table had, and returns their number. A server would close
+/// them.
+pub(crate) fn discard_all(mut left: Vec<(u32, OpenFile)>) -> usize {
     let count = left.len();
     while let Some((_slot, file)) = left.pop() {
         file.discard();
@@ -149,30 +144,21 @@ fn share<R: Threads + Wait + Sync>(
     }
 }
 
-// Makes a catalogue of one file.
-fn one_file(alloc: Global) -> Result<Catalogue, AddFault>
-    ensures { IfOk result (λ catalogue. length catalogue ≡ 1) }
+/// Shares a table, and prints how many files its calls returned, and how many were left.
+///
+/// # Errors
+/// `NoMemory` if an allocation fails.
+pub fn replace_while_looked_up<R: Threads + Wait + Print + Sync>(
+    rt: &R,
+    alloc: Global,
+    catalogue: &Catalogue,
+) -> Result<(), NoMemory>
+    requires { 0 < length catalogue.now }
 {
-    let mut catalogue = Catalogue::new(alloc);
-    catalogue.add(
-        String::from_str(alloc, "page.html")?,
-        b"hello".to_vec(alloc)?,
-    )?;
-    Ok(catalogue)
-}
-
-fn main(rt: HostRuntime) -> Result<(), AddFault> {
-    let catalogue = one_file(rt.alloc())?;
     let closed = AtomicU32::new(0);
-    let Ok(at_end) = share(&rt, rt.alloc(), &catalogue, &closed) else {
-        return Err(AddFault::NoMemory);
-    };
+    let at_end = share(rt, alloc, catalogue, &closed)?;
     let by_threads = closed.load(Ordering::SeqCst);
     // A line that can't be written changes nothing.
-    let _ = println!(&rt; "closed by the threads: {by_threads}, at the end: {at_end}");
-    let Ok(at_end) = share_by_key(&rt, rt.alloc(), &catalogue) else {
-        return Err(AddFault::NoMemory);
-    };
-    let _ = println!(&rt; "files left under keys: {at_end}");
+    let _ = println!(rt; "closed by the threads: {by_threads}, at the end: {at_end}");
     Ok(())
 }
