@@ -1,14 +1,77 @@
 -- All states that flights reach, from event to event.
-use Rattle.check_flight.proofs.Words.{◌≡◌, ℕ, List, [], ◌∷◌, ◌++◌, length, refl, sym, ap, ◌∙◌, arith, ⊎_elim, Asked, ◌-◌, subst}
-use Rattle.check_flight.proofs.Words.{Contains-append_cases, get_or_append_left, get_or_at, run_at, Completed, Contains, RingState, length-append}
-use Rattle.check_flight.proofs.Words.{rules_of, ◌≤◌, ◌⊎◌, inl, inr, append-nil, append_assoc}
-use Rattle.check_flight.proofs.Steps.{answered_in, event_leads, followed_on, looks_on, looks_seen, not_stopped, only_one, seen_before}
-use Rattle.check_flight.specs.States.{AreLooksSeen, IsNumbered, runs_with, AreReached, AreAnswers, AreCalls, AreFollowed, ArePassed, HasNoFlight}
-use Rattle.check_flight.specs.States.{IsStopped, GoesOnTo, FlightView, setting_of}
-use Rattle.fx_flight.specs.Events.{Happening, Called, Answered, LookCalled, LookAnswered, Freed, FileClosed, AllSettled}
-use Rattle.fx_flight.proofs.Beginnings.{lasts, logged as was_logged}
+use Rattle.check_flight.proofs.Words.{Access, Accesses, Answered, AreCalls, AreLooksSeen, Asked, ChainAccess, Completed, Contains}
+use Rattle.check_flight.proofs.Words.{Contains-append_right, FlightSetting, Happening, Identity, IsFlight, List, Logged, LookAnswered, LookCalled}
+use Rattle.check_flight.proofs.Words.{Looks, Moment, Option, RingState, WasLogged, ap, arith, by_equality, contains_head, either_way, if◌then◌else◌}
+use Rattle.check_flight.proofs.Words.{inl, inr, leb-true, log_of, made_by, nat_le, setting_of, suc, sym, zero, ℕ, ⊎_elim, ◌++◌, ◌∙◌, ◌∷◌, ◌≡◌, ◌≤◌}
+use Rattle.check_flight.proofs.Words.{◌⊎◌, [], length, refl, ◌-◌, subst, Contains-push_cases, get_or_append_left, get_or_at, run_at, length-append}
+use Rattle.check_flight.proofs.Words.{rules_of, append-nil, append_assoc, IsNumbered, runs_with, AreReached, AreAnswers, AreFollowed, ArePassed}
+use Rattle.check_flight.proofs.Words.{HasNoFlight, IsStopped, GoesOnTo, FlightView, Called, Freed, FileClosed, AllSettled, MayFollow}
 use Rattle.check_flight.specs.Refutations.{IsRefutation, IsRefutedFrom}
-use Rattle.fx_flight.specs.Flight.{Accesses, IsFlight, Logged, MayFollow, Moment, log_of}
+use Rattle.fx_flight.proofs.Beginnings.{lasts, logged as was_logged}
+use Rattle.fx_flight.proofs.InTime.{in_log as was_read}
+use Rattle.check_flight.proofs.Steps.{event_leads, followed_on, looks_on, not_stopped, shifted}
+
+-- a look that was answered is past the size, or what it found first is its answer
+abbrev HasLooked : ℕ → List Moment → ℕ → Option Identity → Type 0
+HasLooked size flight id found = (slot : ℕ) × WasLogged flight (LookCalled id slot)
+    × ((size ≤ slot) ⊎ ((more : List Access) × (made_by id flight ≡ Looks slot found ∷ more)))
+
+one_more : (x : ChainAccess) (flight : List Moment) (id : ℕ) (first : Access) (more : List Access) → made_by id flight ≡ first ∷ more
+    → (most : List Access) × (made_by id (Accesses x ∷ flight) ≡ first ∷ most)
+one_more x flight id first more made = by_equality x.chain id
+    (λ b. (most : List Access) × ((if b then made_by id flight ++ x.access ∷ [] else made_by id flight) ≡ first ∷ most))
+    (λ _. (more ++ x.access ∷ [], ap (λ (l : List Access). l ++ x.access ∷ []) made)) (λ _. (more, made))
+
+has_looked : (s : FlightSetting) (flight : List Moment) → IsFlight s flight → (id : ℕ) (found : Option Identity)
+    → WasLogged flight (LookAnswered id found) → HasLooked s.old.size flight id found
+has_looked s [] is id found (k, low, at) = absurd (omega arith)
+has_looked s (Logged e ∷ flight) is id found (zero, low, at) =
+    let same : e ≡ LookAnswered id found = cc in
+    let (slot, was, done, unclosed) = rw same at is.1 in (
+      slot,
+      shifted flight was,
+      either_way (nat_le s.old.size slot) (λ past _. inl (leb-true s.old.size slot past)) (λ _ made. inr ([], made)) done,
+    )
+has_looked s (Accesses x ∷ flight) is id found (zero, low, at) = absurd (cc)
+has_looked s (Logged e ∷ flight) is id found (suc k, low, at) =
+    let (slot, was, either) = has_looked s flight is.0 id found (k, omega arith, at) in (slot, shifted flight was, either)
+has_looked s (Accesses x ∷ flight) is id found (suc k, low, at) =
+    let (slot, was, either) = has_looked s flight is.0 id found (k, omega arith, at) in (
+      slot,
+      shifted flight was,
+      ⊎_elim (λ past. inl past) (λ made. inr (one_more x flight id (Looks slot found) made.0 made.1)) either,
+    )
+
+-- in a flight of the log, each look finds what the log has
+looks_seen : (s : FlightSetting) (runs : List (List Asked)) (log : List Happening) (flight : List Moment) → AreCalls runs log
+    → IsFlight s flight → log_of flight ≡ log → AreLooksSeen s.old.size log flight
+looks_seen s runs log flight calls is same id slot found seen more was low made inside =
+    let (other, there, either) = has_looked s flight is id seen (was_logged flight (LookAnswered id seen) (rw same inside)) in
+    let slots : other ≡ slot = calls.once id other slot (rw same at (was_read flight (LookCalled id other) there))
+    (rw same at (was_read flight (LookCalled id slot) was)) in
+    ⊎_elim (λ past. absurd (omega arith))
+    (λ own.
+    let both : Looks other seen ∷ own.0 ≡ Looks slot found ∷ more = sym own.1 ∙ made in
+    let first : Looks other seen ≡ Looks slot found = cc in cc) either
+
+-- and before its last moment
+seen_before : (size : ℕ) (log : List Happening) (m : Moment) (flight : List Moment) → AreLooksSeen size log (m ∷ flight)
+    → AreLooksSeen size log flight
+seen_before size log (Logged e) flight all id slot found seen more was low made inside = all id slot found seen more (shifted flight was) low made inside
+seen_before size log (Accesses x) flight all id slot found seen more was low made inside =
+    let (most, still) = one_more x flight id (Looks slot found) more made in
+    all id slot found seen most (shifted flight was) low still inside
+
+-- each answer that was seen is one of its call
+answered_in : (old : RingState) (answers : ℕ → List Completed) (flight : List Moment) → IsFlight (setting_of old answers) flight
+    → (id : ℕ) (c : Completed) → WasLogged flight (Answered id c) → Contains (answers id) c
+answered_in old answers [] is id c (k, low, at) = absurd (omega arith)
+answered_in old answers (Logged e ∷ flight) is id c (zero, low, at) =
+    let same : e ≡ Answered id c = cc in
+    let may = rw same at is.1 in
+    rw may.2.answer (Contains-append_right may.2.earlier (c ∷ may.2.later) c (contains_head c may.2.later))
+answered_in old answers (Accesses x ∷ flight) is id c (zero, low, at) = absurd (cc)
+answered_in old answers (m ∷ flight) is id c (suc k, low, at) = answered_in old answers flight is.0 id c (k, omega arith, at)
 
 never_empty : (xs : List Happening) (x : Happening) → xs ++ x ∷ [] ≡ [] → ⊥
 never_empty xs x is = let long = ap length is in omega (arith, length-append xs (x ∷ []))
@@ -87,20 +150,19 @@ module _ (old : RingState) (log : List Happening) where
 
 -- the calls with one event more
 module _ {runs : List (List Asked)} {read : List Happening} (calls : AreCalls runs read) where
+  -- another event than the last one
+  known : (e f : Happening) → (e ≡ f → ⊥) → Contains (read ++ e ∷ []) f → Contains read f
+  known e f other inside = ⊎_elim (λ before. before) (λ last. absurd (other last)) (Contains-push_cases read e f inside)
+
   -- an event other than a call
   no_call : (e : Happening) → ((id : ℕ) (requests : List Asked) → e ≡ Called id requests → ⊥)
       → ((id slot : ℕ) → e ≡ LookCalled id slot → ⊥) → AreCalls runs (read ++ e ∷ [])
   no_call e chain look = record {
-    chain = λ id requests inside. ⊎_elim (λ before. calls.chain id requests before)
-        (λ last. absurd (chain id requests (only_one e (Called id requests) last)))
-        (Contains-append_cases read (e ∷ []) (Called id requests) inside);
-    look = λ id slot inside. calls.look id slot (known id slot inside);
-    once = λ id slot other inside there. calls.once id slot other (known id slot inside) (known id other there);
+    chain = λ id requests inside. calls.chain id requests (known e (Called id requests) (chain id requests) inside);
+    look = λ id slot inside. calls.look id slot (known e (LookCalled id slot) (look id slot) inside);
+    once = λ id slot other inside there.
+        calls.once id slot other (known e (LookCalled id slot) (look id slot) inside) (known e (LookCalled id other) (look id other) there);
   }
-    where
-      known : (id slot : ℕ) → Contains (read ++ e ∷ []) (LookCalled id slot) → Contains read (LookCalled id slot)
-      known id slot inside = ⊎_elim (λ before. before) (λ last. absurd (look id slot (only_one e (LookCalled id slot) last)))
-          (Contains-append_cases read (e ∷ []) (LookCalled id slot) inside)
 
   -- a look is still one with a call more
   still_look : (requests : List Asked) (id : ℕ) → (1 ≤ id) × (id ≤ length runs) × (run_at runs id ≡ [])
@@ -118,30 +180,24 @@ module _ {runs : List (List Asked)} {read : List Happening} (calls : AreCalls ru
         let (low, high, same) = calls.chain other own before in
         let at : run_at (runs ++ requests ∷ []) other ≡ run_at runs other = get_or_append_left runs (requests ∷ []) [] (other - 1) (omega arith) in
         (low, omega (arith, length-append runs (requests ∷ [])), rw at same))
-        (λ last.
-        let is : Called id requests ≡ Called other own = only_one (Called id requests) (Called other own) last in
+        (λ (is : Called id requests ≡ Called other own).
         let number : id ≡ other = cc in
         let own_is : requests ≡ own = cc in
         let at : run_at (runs ++ requests ∷ []) other ≡ requests = get_or_at runs requests [] [] (other - 1) (omega arith) in
         (omega arith, omega (arith, length-append runs (requests ∷ [])), rw at (sym own_is)))
-        (Contains-append_cases read (Called id requests ∷ []) (Called other own) inside);
+        (Contains-push_cases read (Called id requests) (Called other own) inside);
     look = λ other slot inside. still_look requests other (calls.look other slot (no_look other slot inside));
     once = λ other slot another inside there. calls.once other slot another (no_look other slot inside) (no_look other another there);
   }
     where
       no_look : (other slot : ℕ) → Contains (read ++ Called id requests ∷ []) (LookCalled other slot) → Contains read (LookCalled other slot)
-      no_look other slot inside = ⊎_elim (λ before. before)
-          (λ last. absurd (let is : Called id requests ≡ LookCalled other slot = only_one (Called id requests) (LookCalled other slot) last in cc))
-          (Contains-append_cases read (Called id requests ∷ []) (LookCalled other slot) inside)
+      no_look other slot = known (Called id requests) (LookCalled other slot) (λ is. cc)
   calls_with (Answered id c) numbered = no_call (Answered id c) (λ _ _ is. cc) (λ _ _ is. cc)
   calls_with (LookCalled id slot) numbered = record {
-    chain = λ other own inside. ⊎_elim
-        (λ before.
-        let (low, high, same) = calls.chain other own before in
+    chain = λ other own inside.
+        let (low, high, same) = calls.chain other own (known (LookCalled id slot) (Called other own) (λ is. cc) inside) in
         let at : run_at (runs ++ [] ∷ []) other ≡ run_at runs other = get_or_append_left runs ([] ∷ []) [] (other - 1) (omega arith) in
-        (low, omega (arith, length-append runs ([] ∷ [])), rw at same))
-        (λ last. absurd (let is : LookCalled id slot ≡ Called other own = only_one (LookCalled id slot) (Called other own) last in cc))
-        (Contains-append_cases read (LookCalled id slot ∷ []) (Called other own) inside);
+        (low, omega (arith, length-append runs ([] ∷ [])), rw at same);
     look = λ other place inside. ⊎_elim (λ before. still_look [] other (calls.look other place before))
         (λ is.
         let at : run_at (runs ++ [] ∷ []) other ≡ [] = get_or_at runs [] [] [] (other - 1) (omega (arith, is.0)) in
@@ -157,9 +213,8 @@ module _ {runs : List (List Asked)} {read : List Happening} (calls : AreCalls ru
     where
       is_look : (other place : ℕ) → Contains (read ++ LookCalled id slot ∷ []) (LookCalled other place)
           → Contains read (LookCalled other place) ⊎ ((id ≡ other) × (slot ≡ place))
-      is_look other place inside = ⊎_elim (λ before. inl before)
-          (λ last. let is : LookCalled id slot ≡ LookCalled other place = only_one (LookCalled id slot) (LookCalled other place) last in inr (cc, cc))
-          (Contains-append_cases read (LookCalled id slot ∷ []) (LookCalled other place) inside)
+      is_look other place inside = ⊎_elim (λ before. inl before) (λ (is : LookCalled id slot ≡ LookCalled other place). inr (cc, cc))
+          (Contains-push_cases read (LookCalled id slot) (LookCalled other place) inside)
   calls_with (LookAnswered id found) numbered = no_call (LookAnswered id found) (λ _ _ is. cc) (λ _ _ is. cc)
   calls_with (Freed id) numbered = no_call (Freed id) (λ _ _ is. cc) (λ _ _ is. cc)
   calls_with (FileClosed file) numbered = no_call (FileClosed file) (λ _ _ is. cc) (λ _ _ is. cc)

@@ -1,40 +1,26 @@
 -- The states of the judge, call by call, and where an access, a call or a close leads.
-use Rattle.check_flight.proofs.Words.{◌≡◌, ℕ, ◌+◌, ◌-◌, ◌<◌, ◌≤◌, List, [], ◌∷◌, ◌++◌, length, refl, sym, ap, ◌∙◌, arith, ⊎_elim, Access, Asked}
-use Rattle.check_flight.proofs.Words.{Bool, Completed, Contains, Option, Rest, Rules, false, over, subst, suc, zero, file_removed_by, run_at}
-use Rattle.check_flight.proofs.Words.{settled_at, slice_index_or, step, Contains-append_cases, Contains-append_left, Contains-append_right}
+use Rattle.check_flight.proofs.Words.{IsStatePassed, runs_with, take_more, happening_of, LogEvent, all_happenings, length-map, get_or-map, ◌≡◌, ℕ}
+use Rattle.check_flight.proofs.Words.{◌+◌, ◌-◌, ◌<◌, ◌≤◌, List, [], ◌∷◌, ◌++◌, length, refl, sym, ap, ◌∙◌, arith, ⊎_elim, Access, Asked, Bool}
+use Rattle.check_flight.proofs.Words.{Completed, Contains, Option, Rest, Rules, false, over, subst, suc, zero, file_removed_by, run_at, settled_at}
+use Rattle.check_flight.proofs.Words.{slice_index_or, step, Contains-append_cases, Contains-push_cases, Contains-append_left, Contains-append_right}
 use Rattle.check_flight.proofs.Words.{option_to_list, table_with, if◌then◌else◌, Identity, inl, inr, take, eq-eqb, true, ◌⊎◌, false≢true}
-use Rattle.check_flight.proofs.Words.{append_assoc, get_or_append_left, get_or_at}
-use Rattle.check_outcomes.proofs.Lists.{one_more_of}
-use Rattle.check_flight.proofs.Steps.{only_one, taken, taken_by}
-use Rattle.std.specs.Prelude.{nat_le, slice_set, IsPermutation, All, map, nat_eq, filter, not}
-use Rattle.std.proofs.Math.Seq.{take-append_seam}
-use Rattle.std.proofs.lemmas.Bool.{cases_Bool, cases_lt, le-leb, lt-leb, leb-false}
-use Rattle.std.proofs.lemmas.List.{drop_all, get_or-set_other, get_or-set_same, get_or-drop}
-use Rattle.check_outcomes.proofs.Words.{IsPermutation-sym, StepsChain, not_begun, rest_in, table_of_slots, drop, get_or-map}
-use Rattle.check_outcomes.proofs.Words.{file_Decides, length-map, map-append, take-append-drop}
-use Rattle.check_outcomes.specs.declared.submission.Progress.{Progress}
-use Rattle.std.proofs.lemmas.List.Sorted.{Contains-permutation}
-use Rattle.fx_flight.specs.Events.{all_happenings, first_of_call, happening_of, Happening}
-use Rattle.fx_flight.specs.declared.event.LogEvent.{LogEvent}
-use Rattle.fx_order.proofs.Apart.{same_file}
+use Rattle.check_flight.proofs.Words.{append_assoc, get_or_append_left, get_or_at, one_more_of, nat_le, slice_set, IsPermutation, All, map, nat_eq}
+use Rattle.check_flight.proofs.Words.{filter, not, take-append_seam, cases_Bool, drop_all, get_or-set_other, get_or-set_same, get_or-drop}
+use Rattle.check_flight.proofs.Words.{IsPermutation-sym, not_begun, table_of_slots, drop, file_Decides, map-append, take-append-drop, Progress}
+use Rattle.check_flight.proofs.Words.{Contains-permutation, first_of_call, Happening, same_file, IsAccessFollowed, IsCallFollowed, IsFrontOf}
+use Rattle.check_flight.proofs.Words.{IsWhollyFollowed, catalogue_in, flight_view, flight_views, log_in, rest_of, runs_of_calls, IsOneDenied}
+use Rattle.check_flight.proofs.Words.{IsStateFollowed, AreFewer, AreWith, AreWithout, FlightView, LeadsByCall, StepsByAccess, AreFollowed}
+use Rattle.check_flight.proofs.Words.{AreWaitsDenied, IsLookDenied, ChainCall, JudgedLog, IsWithinLimits, all_asked, asked_of, Request, WaitingLook}
+use Rattle.check_flight.proofs.Words.{IsMarked, file_number, IndexSet, Updates, Permits, Looks, FlightState}
+use Rattle.check_outcomes.specs.Stands.{HasEachNext, StepsChain, rest_in}
 use Rattle.fx_table.proofs.SumLemmas.{contains_map, contains_tail}
-use Rattle.check_flight.specs.Judged.{IsAccessFollowed, IsCallFollowed, IsFrontOf, IsWhollyFollowed, catalogue_in, flight_view, flight_views, log_in}
-use Rattle.check_flight.specs.Judged.{rest_of, runs_of_calls}
-use Rattle.check_flight.specs.States.{IsOneDenied, IsStateFollowed, AreFewer, AreWith, AreWithout, FlightView, LeadsByCall, StepsByAccess}
-use Rattle.check_flight.specs.States.{AreFollowed, AreWaitsDenied, IsLookDenied}
-use Rattle.check_flight.specs.declared.judged.ChainCall.{ChainCall}
-use Rattle.check_flight.specs.declared.judged.JudgedLog.{JudgedLog}
-use Rattle.check_outcomes.specs.Stands.{HasEachNext}
-use Rattle.fx_chain.specs.Accepted.{IsWithinLimits}
-use Rattle.fx_chain.specs.Operation.{all_asked, asked_of}
-use Rattle.fx_chain.specs.declared.request.Request.{Request}
+use Rattle.std.proofs.lemmas.Bool.{cases_lt, le-leb, leb-false, lt-leb}
 use Rattle.std.proofs.lemmas.List.Elements.{All-contains, All-contains_itself, All-filter, filter_passes}
-use Rattle.check_flight.specs.declared.state.WaitingLook.{WaitingLook}
-use Rattle.check_flight.specs.Player.{IsMarked, file_number}
-use Rattle.indexmap.specs.IndexSet.{IndexSet, Updates}
-use Rattle.fx_order.specs.Access.{Permits}
-use Rattle.fx_order.specs.declared.access.Access.TheVariants.{Looks}
-use Rattle.check_flight.specs.declared.state.FlightState.{FlightState}
+use Rattle.check_flight.specs.Judged.{IsAccessPassage, IsCopy, IsPassage, IsTakenIn}
+use Rattle.std.proofs.Common.{add-zero}
+use Rattle.check_flight.specs.declared.passage.Passage.{Passage}
+use Rattle.check_flight.specs.declared.passage.Passage.TheVariants.{IsUnfit, Leads, Stops}
+use Rattle.check_flight.proofs.Steps.{taken, taken_by}
 
 -- The removed files.
 
@@ -179,32 +165,27 @@ module _ (runs : List (List Asked)) (state : FlightState) (n : ℕ)
       (cases_lt state.base id)))
       (cases_lt base id)
 
-  pub without_first : (next : FlightState) → table_of_slots next.slots ≡ table_of_slots state.slots → next.base ≡ state.base + n
-      → next.chains.items ≡ drop n state.chains.items → next.removed.items ≡ state.removed.items → next.waiting.items ≡ state.waiting.items
-      → flight_view runs next ≡ flight_view runs state
-  without_first next table base chains removed waiting =
-      let each : (id : ℕ) → rest_of runs next id ≡ rest_of runs state id = λ id. rw chains (rest_without next.base id base) in
+  pub without_first : (next : FlightState) → IsCopy state (state.base + n) n next → flight_view runs next ≡ flight_view runs state
+  without_first next copy =
+      let each : (id : ℕ) → rest_of runs next id ≡ rest_of runs state id = λ id. rw copy.chains (rest_without next.base id copy.base) in
       λ i. record {
-        table = table i;
+        table = copy.table i;
         rests = λ id. each id i;
-        removed = removed i;
-        waiting = waiting i;
+        removed = copy.removed i;
+        waiting = copy.waiting i;
       }
 
 -- a copy
-pub copied : (runs : List (List Asked)) (state next : FlightState) → table_of_slots next.slots ≡ table_of_slots state.slots → next.base ≡ state.base
-    → next.chains.items ≡ state.chains.items → next.removed.items ≡ state.removed.items → next.waiting.items ≡ state.waiting.items
-    → flight_view runs next ≡ flight_view runs state
-copied runs state next table base chains removed waiting =
-    without_first runs state 0 (λ j few. absurd (omega arith)) next table (omega (arith, base)) chains removed waiting
+pub copied : (runs : List (List Asked)) (state next : FlightState) → IsCopy state state.base 0 next → flight_view runs next ≡ flight_view runs state
+copied runs state next copy = without_first runs state 0 (λ j few. absurd (omega arith)) next (rw add-zero copy)
 
 -- The looks that wait.
 
 -- one look more was looked at, which waits
 pub waits_more : (waiting after : List WaitingLook) (look : WaitingLook) → AreFewer waiting after → Contains waiting look
     → AreFewer waiting (after ++ look ∷ [])
-waits_more waiting after look fewer inside other there = ⊎_elim (λ before. fewer other before) (λ last. rw (← only_one look other last) inside)
-    (Contains-append_cases after (look ∷ []) other there)
+waits_more waiting after look fewer inside other there =
+    ⊎_elim (λ before. fewer other before) (λ last. rw (← last) inside) (Contains-push_cases after look other there)
 
 -- a look more waits, and some wait no more
 pub fewer_more : (waiting before after : List WaitingLook) (look : WaitingLook) → AreFewer waiting before → AreFewer (before ++ look ∷ []) after
@@ -221,6 +202,29 @@ pub not_logged : (events : List LogEvent) (event : Happening)
 not_logged events event none inside =
     let (x, (k, low, is), same) = contains_map happening_of events event inside in
     none k x low (ap happening_of is ∙ sym same)
+
+-- one event more was read
+pub read_more : (events : List LogEvent) (at : ℕ) (event : LogEvent) → at < length events → event ≡ slice_index_or events at event
+    → take (at + 1) (all_happenings events) ≡ take at (all_happenings events) ++ happening_of event ∷ []
+read_more events at event few is =
+    take_more (map happening_of events) at (happening_of event) (omega (arith, few, length-map events happening_of))
+    ∙ ap (λ (e : Happening). take at (map happening_of events) ++ e ∷ [])
+    (get_or-map happening_of events at event (happening_of event) few ∙ ap happening_of (sym is))
+
+-- what a front takes in
+
+pub passed_by : (log : JudgedLog) (runs : List (List Asked)) (read : List Happening) (nexts : List FlightState) (state : FlightState) (event : Happening)
+    (passage : Passage) → IsPassage log runs read state event passage → IsTakenIn nexts passage → IsStatePassed log runs read nexts state event
+passed_by log runs read nexts state event Stops is inside = inl is
+passed_by log runs read nexts state event (Leads next) is inside =
+    inr (flight_view (runs_with runs event) next, inside (runs_with runs event), is)
+passed_by log runs read nexts state event IsUnfit is inside = absurd inside
+
+pub followed_by : (log : JudgedLog) (runs : List (List Asked)) (states : List FlightState) (state : FlightState) (id : ℕ) (a : Access)
+    (passage : Passage) → IsAccessPassage log runs state id a passage → IsTakenIn states passage → IsAccessFollowed log runs states state id a
+followed_by log runs states state id a Stops is inside permits = inl (is permits)
+followed_by log runs states state id a (Leads next) is inside permits = inr (flight_view runs next, inside runs, is)
+followed_by log runs states state id a IsUnfit is inside permits = absurd inside
 
 -- Lists that go on.
 
@@ -245,19 +249,19 @@ views_more runs before after is view inside =
     subst (λ (l : List FlightState). Contains (flight_views runs l) view) (by_front before after is)
     (rw map-append (Contains-append_left (flight_views runs before) (flight_views runs (drop (length before) after)) view inside))
 
+pub access_more : (log : JudgedLog) (runs : List (List Asked)) (before after : List FlightState) (state : FlightState) (id : ℕ) (a : Access)
+    → IsFrontOf before after → IsAccessFollowed log runs before state id a → IsAccessFollowed log runs after state id a
+access_more log runs before after state id a is followed permits =
+    ⊎_elim (λ denied. inl denied) (λ led. inr (led.0, views_more runs before after is led.0 led.1, led.2)) (followed permits)
+
 pub call_more : (log : JudgedLog) (runs : List (List Asked)) (before after : List FlightState) (state : FlightState) (id : ℕ)
     → IsFrontOf before after → IsCallFollowed log runs before state id → IsCallFollowed log runs after state id
-call_more log runs before after state id is followed a next permits =
-    ⊎_elim (λ denied. inl denied) (λ led. inr (led.0, views_more runs before after is led.0 led.1, led.2)) (followed a next permits)
+call_more log runs before after state id is followed a next = access_more log runs before after state id a is (followed a next)
 
 state_more : (log : JudgedLog) (calls : List ChainCall) (before after : List FlightState) (state : FlightState)
     → IsFrontOf before after → IsWhollyFollowed log calls before state → IsWhollyFollowed log calls after state
-state_more log calls before after state is (followed, denied) = (
-  λ id low high a next permits.
-      ⊎_elim (λ denied. inl denied) (λ led. inr (led.0, views_more (runs_of_calls calls) before after is led.0 led.1, led.2))
-      (followed id low high a next permits),
-  denied,
-)
+state_more log calls before after state is (followed, denied) =
+    (λ id low high a next. access_more log (runs_of_calls calls) before after state id a is (followed id low high a next), denied)
 
 -- Calls and states that were looked through.
 

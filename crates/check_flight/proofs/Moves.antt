@@ -1,38 +1,20 @@
 -- The player's flight goes on, by an access or an event.
-use Rattle.check_flight.proofs.Words.{◌≡◌, ◌⊎◌, ℕ, ◌+◌, ◌-◌, ◌<◌, ◌≤◌, List, [], ◌∷◌, ◌++◌, length, take, refl, sym, ap, ◌∙◌, arith, inl, inr, ⊎_elim}
+use Rattle.check_flight.proofs.Words.{◌≡◌, ◌⊎◌, ℕ, ◌+◌, ◌-◌, ◌<◌, List, [], ◌∷◌, ◌++◌, length, take, refl, sym, ap, ◌∙◌, arith, inl, inr, ⊎_elim}
 use Rattle.check_flight.proofs.Words.{Access, Asked, ChainAccess, Completed, Contains, IsChainDone, Option, Some, Table, cases_eq, file_removed_by}
 use Rattle.check_flight.proofs.Words.{get_or_append_left, get_or_at, length-append, ne_eqb, option_to_list, slice_index_or, suc, zero, table_with}
-use Rattle.check_flight.proofs.Words.{Contains-append_cases, Contains-append_left, Contains-append_right, contains_head, Identity, RingState}
-use Rattle.check_flight.proofs.Words.{FileEntry, append-nil}
-use Rattle.check_flight.proofs.Steps.{shifted, taken}
-use Rattle.check_outcomes.proofs.Words.{Permits, all_asked, drop, get_or-map, get_or-set_other, get_or-set_same, map, slice_set, table_of}
-use Rattle.check_outcomes.proofs.Words.{table_of_slots, take-append-drop, cases_Bool, eq-eqb, false≢true, file_Decides, AreChainsDone}
-use Rattle.check_outcomes.proofs.Words.{accesses_of_chain, take_all, length-map}
-use Rattle.fx_order.proofs.Apart.{same_file}
-use Rattle.std.proofs.Math.Seq.{drop-cons}
-use Rattle.std.proofs.lemmas.List.{length-set, length-take-le, take-take, take_more, take-map}
-use Rattle.fx_chain.specs.Accepted.{members_of}
-use Rattle.fx_chain.specs.declared.chain.Chain.{Chain}
-use Rattle.fx_chain.specs.Completed.{all_completed, completed_of}
-use Rattle.fx_chain.specs.Operation.{asked_of}
-use Rattle.fx_chain.specs.declared.completion.Completion.{Completion}
-use Rattle.fx_flight.specs.Events.{Happening, Called, Answered, LookAnswered, Freed, FileClosed, AllSettled, all_happenings}
-use Rattle.fx_flight.specs.Events.{first_of_call, happening_of}
-use Rattle.fx_flight.specs.declared.event.LogEvent.{LogEvent}
-use Rattle.fx_flight.specs.Flight.{Accesses, IsLookDone, Logged, MayAccess, MayFollow, Moment, WasLogged, made_by, taken_in}
-use Rattle.check_flight.specs.Player.{IsCallDone, IsMemberMade, HasMadeFlight, IsCallMade, IsRingOf, accesses_in, accesses_of_plan, answers_in}
-use Rattle.check_flight.specs.Player.{AreCallsMade, AreFilesTaken, AreFoundHeld, IsLookAnswered, IsCallLogged, IsMarked, IsPlanned, answers_of_plan}
-use Rattle.check_flight.specs.Player.{begun_by}
-use Rattle.check_flight.specs.declared.hold.HeldFile.{HeldFile}
+use Rattle.check_flight.proofs.Words.{Contains-append_cases, Contains-append_left, Contains-append_right, contains_head, Identity, RingState, Permits}
+use Rattle.check_flight.proofs.Words.{all_asked, drop, get_or-map, get_or-set_other, get_or-set_same, slice_set, table_of, table_of_slots}
+use Rattle.check_flight.proofs.Words.{take-append-drop, cases_Bool, eq-eqb, false≢true, file_Decides, same_file, drop-cons, length-set}
+use Rattle.check_flight.proofs.Words.{length-take-le, take-take, take_more, Happening, Called, Answered, LookAnswered, Freed, FileClosed, AllSettled}
+use Rattle.check_flight.proofs.Words.{first_of_call, Accesses, IsLookDone, Logged, MayAccess, MayFollow, Moment, WasLogged, made_by, taken_in}
+use Rattle.check_flight.proofs.Words.{IsCallDone, IsMemberMade, HasMadeFlight, IsCallMade, IsRingOf, accesses_in, accesses_of_plan, answers_in}
+use Rattle.check_flight.proofs.Words.{AreCallsMade, AreFilesTaken, AreFoundHeld, IsLookAnswered, IsCallLogged, IsMarked, IsPlanned, answers_of_plan}
+use Rattle.check_flight.proofs.Words.{begun_by, HeldFile, IndexSet, AreWithout, setting_of, JudgedLog, FlightCall}
 use Rattle.check_flight.specs.declared.plan.CallKind.{CallKind}
-use Rattle.check_flight.specs.declared.plan.CallKind.TheVariants.{Chain as ChainCall, Look}
-use Rattle.indexmap.specs.IndexSet.{IndexSet}
-use Rattle.fx_chain.specs.declared.request.Request.{Request}
-use Rattle.check_flight.specs.States.{AreWithout, setting_of}
-use Rattle.check_flight.specs.declared.judged.JudgedLog.{JudgedLog}
+use Rattle.check_flight.specs.declared.plan.CallKind.TheVariants.{Look, Chain as ChainCall}
 use Rattle.check_flight.specs.declared.plan.CallPlan.{CallPlan}
 use Rattle.check_flight.specs.declared.player.FlightPlayer.{FlightPlayer}
-use Rattle.check_flight.specs.declared.player.FlightCall.{FlightCall}
+use Rattle.check_flight.proofs.Steps.{shifted, taken}
 
 unshifted : {x : ChainAccess} (flight : List Moment) {e : Happening} → WasLogged (Accesses x ∷ flight) e → WasLogged flight e
 unshifted flight (zero, low, is) = absurd (cc)
@@ -208,19 +190,29 @@ module _ (old : RingState) (log : JudgedLog) (plans : List CallPlan) (ring : IsR
       → AreCallsMade log plans (Logged e ∷ flight) calls
   calls_on e all = record { each = λ k d low. stays_call refl (all.each k d low); unmade = all.unmade }
 
+  -- one that may follow
+  follows : {read : List Happening} {player : FlightPlayer} (next : FlightPlayer) (e : Happening) (so_far : HasMadeFlight old log plans read player)
+      → MayFollow (setting_of old (answers_in plans)) so_far.flight e → table_of_slots next.slots ≡ table_of_slots player.slots
+      → AreCallsMade log plans (Logged e ∷ so_far.flight) next.calls.items
+      → AreFilesTaken (Logged e ∷ so_far.flight) next.removed.items next.closed → AreFoundHeld (Logged e ∷ so_far.flight) next.holds.items
+      → HasMadeFlight old log plans (read ++ e ∷ []) next
+  follows next e so_far may table calls files holds = record {
+    flight = Logged e ∷ so_far.flight;
+    is = (so_far.is, may);
+    logged = ap (λ (l : List Happening). l ++ e ∷ []) so_far.logged;
+    table = table ∙ so_far.table;
+    calls = calls;
+    files = files;
+    holds = holds;
+  }
+
   -- one that changes nothing
   pub moves_event : {read : List Happening} {player : FlightPlayer} (e : Happening) → ((file : Identity) → e ≡ FileClosed file → ⊥)
       → ((id : ℕ) (found : Option Identity) → e ≡ LookAnswered id found → ⊥) → (so_far : HasMadeFlight old log plans read player)
       → MayFollow (setting_of old (answers_in plans)) so_far.flight e → HasMadeFlight old log plans (read ++ e ∷ []) player
-  moves_event {read} {player} e close look so_far may = record {
-    flight = Logged e ∷ so_far.flight;
-    is = (so_far.is, may);
-    logged = ap (λ (l : List Happening). l ++ e ∷ []) so_far.logged;
-    table = so_far.table;
-    calls = calls_on e so_far.calls;
-    files = files_on e close so_far.files;
-    holds = held_on so_far.flight player.holds.items e look so_far.holds;
-  }
+  moves_event {read} {player} e close look so_far may =
+      follows player e so_far may refl (calls_on e so_far.calls) (files_on e close so_far.files)
+      (held_on so_far.flight player.holds.items e look so_far.holds)
 
   -- a call may begin if its plan fits it
   may_begin : (flight : List Moment) (id : ℕ) (kind : CallKind) → IsPlanned log id kind (accesses_in plans id) (answers_in plans id)
@@ -244,24 +236,18 @@ module _ (old : RingState) (log : JudgedLog) (plans : List CallPlan) (ring : IsR
         made = so_far.calls.unmade id (omega arith);
       } in
       let long : length next.calls.items ≡ length before + 1 = ap (λ (l : List FlightCall). length l) calls ∙ length-append before (call ∷ []) in
-      record {
-        flight = Logged e ∷ flight;
-        is = (so_far.is, may_begin flight id kind planned);
-        logged = ap (λ (l : List Happening). l ++ e ∷ []) so_far.logged;
-        table = so_far.table;
-        calls = record {
-          each = λ k d low. rw calls (⊎_elim
-              (λ (same : k ≡ length before).
-              let number : k + 1 ≡ id = omega arith in
-              rw (number, get_or_at before call [] d k (sym same)) mine)
-              (λ (other : k ≡ length before → ⊥). rw (get_or_append_left before (call ∷ []) d k (omega (arith, long)))
-              (stays_call refl (so_far.calls.each k d (omega (arith, long)))))
-              (cases_eq k (length before)));
-          unmade = λ other high. so_far.calls.unmade other (omega (arith, long));
-        };
-        files = files_on e (no_close id kind) so_far.files;
-        holds = held_on flight player.holds.items e (no_answer id kind) so_far.holds;
-      }
+      follows (record player { calls = next.calls }) e so_far (may_begin flight id kind planned) refl
+      (record {
+        each = λ k d low. rw calls (⊎_elim
+            (λ (same : k ≡ length before).
+            let number : k + 1 ≡ id = omega arith in
+            rw (number, get_or_at before call [] d k (sym same)) mine)
+            (λ (other : k ≡ length before → ⊥). rw (get_or_append_left before (call ∷ []) d k (omega (arith, long)))
+            (stays_call refl (so_far.calls.each k d (omega (arith, long)))))
+            (cases_eq k (length before)));
+        unmade = λ other high. so_far.calls.unmade other (omega (arith, long));
+      })
+      (files_on e (no_close id kind) so_far.files) (held_on flight player.holds.items e (no_answer id kind) so_far.holds)
 
   -- an answer
   pub moves_answer : {read : List Happening} {player : FlightPlayer} (i : ℕ) {id : ℕ} {call : FlightCall} {plan : CallPlan} {c : Completed} {requests : List Asked}
@@ -315,37 +301,29 @@ module _ (old : RingState) (log : JudgedLog) (plans : List CallPlan) (ring : IsR
       let flight : List Moment = so_far.flight in
       let files = so_far.files in
       let e : Happening = FileClosed file in
-      record {
-        flight = Logged e ∷ flight;
-        is = (
-          so_far.is,
-          record {
-            removed = (files.left file inside).0;
-            once = (files.left file inside).1;
-            unheld = λ id was. ⊎_elim (λ held. absurd (unheld (record { id = id; file = file }) held refl)) (λ freed. freed)
-                (so_far.holds id file was);
-          },
-        );
-        logged = ap (λ (l : List Happening). l ++ e ∷ []) so_far.logged;
-        table = so_far.table;
-        calls = calls_on e so_far.calls;
-        files = record {
-          taken = λ other there. ⊎_elim
-              (λ (same : other ≡ file). inr (rw same (contains_head (Logged e) flight)))
-              (λ (apart : other ≡ file → ⊥). ⊎_elim (λ still. inl ((without other).1 apart still)) (λ was. inr (shifted flight was))
-              (files.taken other there))
-              (same_or_not other file);
-          left = λ other there.
-              let before = (without other).0 there in (
-                (files.left other before).0,
-                λ was. ⊎_elim (λ same. let it : file ≡ other = cc in gone (rw it there))
-                    (λ earlier. (files.left other before).1 earlier) (last_or_before flight was),
-              );
-          closed = λ other was. closed other (⊎_elim (λ same. inl (let it : file ≡ other = cc in it)) (λ earlier. inr (files.closed other earlier))
-              (last_or_before flight was));
-        };
-        holds = held_on flight player.holds.items e (λ id found same. cc) so_far.holds;
-      }
+      follows (record player { removed = next.removed; closed = next.closed }) e so_far
+      (record {
+        removed = (files.left file inside).0;
+        once = (files.left file inside).1;
+        unheld = λ id was. ⊎_elim (λ held. absurd (unheld (record { id = id; file = file }) held refl)) (λ freed. freed) (so_far.holds id file was);
+      })
+      refl (calls_on e so_far.calls)
+      (record {
+        taken = λ other there. ⊎_elim
+            (λ (same : other ≡ file). inr (rw same (contains_head (Logged e) flight)))
+            (λ (apart : other ≡ file → ⊥). ⊎_elim (λ still. inl ((without other).1 apart still)) (λ was. inr (shifted flight was))
+            (files.taken other there))
+            (same_or_not other file);
+        left = λ other there.
+            let before = (without other).0 there in (
+              (files.left other before).0,
+              λ was. ⊎_elim (λ same. let it : file ≡ other = cc in gone (rw it there))
+                  (λ earlier. (files.left other before).1 earlier) (last_or_before flight was),
+            );
+        closed = λ other was. closed other (⊎_elim (λ same. inl (let it : file ≡ other = cc in it)) (λ earlier. inr (files.closed other earlier))
+            (last_or_before flight was));
+      })
+      (held_on flight player.holds.items e (λ id found same. cc) so_far.holds)
 
   -- the answer of a look
   pub moves_found : {read : List Happening} (player next : FlightPlayer) (id : ℕ) (found : Option Identity) → IsLookAnswered log plans player id found
@@ -359,22 +337,17 @@ module _ (old : RingState) (log : JudgedLog) (plans : List CallPlan) (ring : IsR
       let it : IsCallMade log plans flight id has.call = rw (has.here, ← has.is) at (so_far.calls.each has.at has.call has.inside) in
       let logged : IsCallLogged log plans flight id (Look has.slot) = rw has.kind at it.logged in
       let done : IsLookDone old.size has.slot (made_by id flight) found = rw (ring.size, it.made) has.done in
-      record {
-        flight = Logged e ∷ flight;
-        is = (so_far.is, (has.slot, logged.0, done, λ file same was. has.unclosed file same (so_far.files.closed file was)));
-        logged = ap (λ (l : List Happening). l ++ e ∷ []) so_far.logged;
-        table = so_far.table;
-        calls = calls_on e so_far.calls;
-        files = files_on e (λ file same. cc) so_far.files;
-        holds = λ other file was. ⊎_elim
-            (λ same.
-            let number : id ≡ other = cc in
-            let is : found ≡ Some file = cc in
-            inl (rw number at (more file is)))
-            (λ earlier. still_held next.holds.items flight (Logged e) other file (⊎_elim (λ held. inl (holds (record { id = other; file = file }) held)) (λ freed. inr freed)
-            (so_far.holds other file earlier)))
-            (last_or_before flight was);
-      }
+      follows (record player { holds = next.holds }) e so_far
+      (has.slot, logged.0, done, λ file same was. has.unclosed file same (so_far.files.closed file was)) refl (calls_on e so_far.calls)
+      (files_on e (λ file same. cc) so_far.files)
+      (λ other file was. ⊎_elim
+      (λ same.
+      let number : id ≡ other = cc in
+      let is : found ≡ Some file = cc in
+      inl (rw number at (more file is)))
+      (λ earlier. still_held next.holds.items flight (Logged e) other file (⊎_elim (λ held. inl (holds (record { id = other; file = file }) held)) (λ freed. inr freed)
+      (so_far.holds other file earlier)))
+      (last_or_before flight was))
 
   -- the end of a hold
   pub moves_free : {read : List Happening} (player next : FlightPlayer) (id : ℕ)
@@ -385,18 +358,11 @@ module _ (old : RingState) (log : JudgedLog) (plans : List CallPlan) (ring : IsR
       let flight : List Moment = so_far.flight in
       let e : Happening = Freed id in
       let on = held_on flight player.holds.items e (λ other found same. cc) so_far.holds in
-      record {
-        flight = Logged e ∷ flight;
-        is = (so_far.is, tt);
-        logged = ap (λ (l : List Happening). l ++ e ∷ []) so_far.logged;
-        table = so_far.table;
-        calls = calls_on e so_far.calls;
-        files = files_on e (λ file same. cc) so_far.files;
-        holds = λ other file was. ⊎_elim
-            (λ held. ⊎_elim (λ (same : other ≡ id). inr (rw same (contains_head (Logged e) flight)))
-            (λ (apart : other ≡ id → ⊥). inl (holds (record { id = other; file = file }) held apart)) (cases_eq other id))
-            (λ freed. inr freed) (on other file was);
-      }
+      follows (record player { holds = next.holds }) e so_far tt refl (calls_on e so_far.calls) (files_on e (λ file same. cc) so_far.files)
+      (λ other file was. ⊎_elim
+      (λ held. ⊎_elim (λ (same : other ≡ id). inr (rw same (contains_head (Logged e) flight)))
+      (λ (apart : other ≡ id → ⊥). inl (holds (record { id = other; file = file }) held apart)) (cases_eq other id))
+      (λ freed. inr freed) (on other file was))
 
   -- the end of a wait for all closes
   pub moves_end : {read : List Happening} {player : FlightPlayer} → player.removed.items ≡ [] → HasMadeFlight old log plans read player
@@ -422,36 +388,3 @@ module _ (old : RingState) (log : JudgedLog) (plans : List CallPlan) (ring : IsR
     };
     holds = λ id file was. absurd (let few = was.1 in omega arith);
   }
-
--- The accesses of a call, as those of chain 1.
-
--- one chain is done
-pub one_done : (catalogue : List FileEntry) (size id : ℕ) (run : List Asked) (order : List ChainAccess) (answers : List Completed)
-    → AreChainsDone catalogue size id 1 (run ∷ []) order answers
-    → IsChainDone catalogue size (first_of_call id) run (accesses_of_chain 1 order) answers
-one_done catalogue size id run order answers (own, others, whole, done, none) = rw (whole, none, append-nil) done
-
--- the requests are one chain
-pub one_chain : (requests : List Asked) (chains : List Chain) (d : Chain) → length chains ≡ 1 → (slice_index_or chains 0 d).first ≡ 0
-    → (slice_index_or chains 0 d).len ≡ length requests → map (members_of requests) chains ≡ requests ∷ []
-one_chain requests [] d many first len = absurd (omega arith)
-one_chain requests (x ∷ []) d many first len =
-    rw (first, len) (ap (λ (l : List Asked). l ∷ []) (take_all (length requests) requests (omega arith)))
-one_chain requests (x ∷ y ∷ chains) d many first len = absurd (omega arith)
-
--- the first members of a call are done
-pub member_done : (log : JudgedLog) (plan : CallPlan) (requests : List Request) (id m own : ℕ) (accesses : List Access) (answers : List Completion) → 1 ≤ m
-    → accesses ≡ plan.accesses.items → answers ≡ plan.answers.items
-    → IsCallDone log id (all_asked (take m requests)) (take own accesses) (all_completed (take m answers))
-    → IsCallDone log id (take (m - 1 + 1) (all_asked requests)) (take own plan.accesses.items) (take (m - 1 + 1) (answers_of_plan plan))
-member_done log plan requests id m own accesses answers some those these done =
-    let n : m - 1 + 1 ≡ m = omega arith in
-    rw (n, take-map asked_of m requests, take-map completed_of m plan.answers.items, ← those, ← these) done
-
--- one event more was read
-pub read_more : (events : List LogEvent) (at : ℕ) (event : LogEvent) → at < length events → event ≡ slice_index_or events at event
-    → take (at + 1) (all_happenings events) ≡ take at (all_happenings events) ++ happening_of event ∷ []
-read_more events at event few is =
-    take_more (map happening_of events) at (happening_of event) (omega (arith, few, length-map events happening_of))
-    ∙ ap (λ (e : Happening). take at (map happening_of events) ++ e ∷ [])
-    (get_or-map happening_of events at event (happening_of event) few ∙ ap happening_of (sym is))

@@ -1,23 +1,12 @@
 -- A refutation, from front to front.
 use Rattle.check_flight.proofs.Words.{◌≡◌, ℕ, ◌+◌, ◌<◌, List, [], ◌∷◌, ◌++◌, length, take, refl, sym, ap, ◌∙◌, arith, subst, suc, Asked}
-use Rattle.check_flight.proofs.Words.{contains_head, Contains, inl, inr, ⊎_elim}
-use Rattle.check_outcomes.proofs.Words.{drop, length-map, drop_all}
-use Rattle.std.proofs.Math.Seq.{drop-cons}
-use Rattle.std.proofs.lemmas.List.{take_more}
-use Rattle.fx_flight.specs.Events.{Happening, AllSettled}
-use Rattle.fx_order.specs.Slots.{ring_of_slots}
-use Rattle.fx_order.specs.declared.slots.Slots.{Slots}
+use Rattle.check_flight.proofs.Words.{contains_head, Contains, inl, inr, ⊎_elim, drop, length-map, drop_all, drop-cons, take_more, Happening}
+use Rattle.check_flight.proofs.Words.{AllSettled, ring_of_slots, Slots, WaitingLook, IsFrontOf, catalogue_in, flight_view, flight_views, log_in}
+use Rattle.check_flight.proofs.Words.{requests_of, rules_of_log, runs_of_calls, IsFirstFront, IsNextFront, IsRefutedAfter, event_at, rules_of}
+use Rattle.check_flight.proofs.Words.{AreFollowed, ArePassed, FlightView, HasNoFlight, IsNumbered, runs_with, ChainCall, JudgedLog, FlightState}
 use Rattle.check_flight.proofs.Fronts.{refuted}
 use Rattle.check_flight.proofs.Judging.{views_more}
 use Rattle.check_flight.proofs.Steps.{only_one}
-use Rattle.check_flight.specs.declared.state.WaitingLook.{WaitingLook}
-use Rattle.check_flight.specs.Judged.{IsFrontOf, catalogue_in, flight_view, flight_views, log_in, requests_of, rules_of_log, runs_of_calls}
-use Rattle.check_flight.specs.Passages.{IsFirstFront, IsNextFront, IsRefutedAfter, event_at}
-use Rattle.check_outcomes.specs.Rests.{rules_of}
-use Rattle.check_flight.specs.States.{AreFollowed, ArePassed, FlightView, HasNoFlight, IsNumbered, runs_with}
-use Rattle.check_flight.specs.declared.judged.ChainCall.{ChainCall}
-use Rattle.check_flight.specs.declared.judged.JudgedLog.{JudgedLog}
-use Rattle.check_flight.specs.declared.state.FlightState.{FlightState}
 
 module _ (log : JudgedLog) (slots : Slots) where
   -- before the first event

@@ -1,24 +1,61 @@
--- A chain's accesses one after another, and how few members are left after them.
-use Rattle.check_flight.proofs.Words.{◌≡◌, ℕ, ◌+◌, ◌≤◌, List, [], ◌∷◌, ◌++◌, length, take, refl, sym, ap, arith, suc, zero, Access, Asked}
-use Rattle.check_flight.proofs.Words.{AllByRecursion, Completed, FileEntry, HasMemory, IsChainDone, MatchBool, Place, Rest, Rules, AreRight, behind}
-use Rattle.check_flight.proofs.Words.{canceled, either_way, last_of, ne_eqb, eq-eqb, next_member, over, rest_at}
-use Rattle.check_flight.proofs.Words.{settled_at, severs, step, step_of, Some, None, if◌then◌else◌, Bool, true, false, false≢true, ◌==◌, subst}
-use Rattle.std.proofs.lemmas.List.{length-take}
-use Rattle.check_flight.specs.States.{rest_after}
+-- The places of a chain's completions, its accesses one after another, and how few members are left
+-- after them.
+use Rattle.check_flight.specs.declared.plan.CallPlan.{CallPlan}
+use Rattle.check_flight.proofs.Words.{if◌then◌else◌, Bool, true, false, false≢true, IsCallDone, JudgedLog, Request, Completion, AreChainsDone}
+use Rattle.check_flight.proofs.Words.{ChainAccess, Chain, accesses_of_chain, append-nil, first_of_call, members_of, map, take_all, take-map}
+use Rattle.check_flight.proofs.Words.{all_asked, all_completed, answers_of_plan, asked_of, completed_of, ◌-◌, slice_index_or, length, ◌≡◌, ℕ, ◌+◌}
+use Rattle.check_flight.proofs.Words.{◌≤◌, List, [], ◌∷◌, ◌++◌, take, refl, sym, ap, arith, suc, zero, Access, Asked, AllByRecursion, Completed}
+use Rattle.check_flight.proofs.Words.{FileEntry, HasMemory, IsChainDone, MatchBool, Place, Rest, Rules, AreRight, behind, canceled, either_way}
+use Rattle.check_flight.proofs.Words.{last_of, ne_eqb, eq-eqb, cases_Bool, ⊎_elim, next_member, over, rest_at, settled_at, severs, step, step_of}
+use Rattle.check_flight.proofs.Words.{Some, None, ◌==◌, length-take, rest_after, ◌<◌, ◌∙◌, Contains, moved}
 use Rattle.fx_chain.proofs.ChainGoesOn.{canceled_count}
+use Rattle.fx_order.proofs.RequestCases.{request_place}
 
--- by a test
-pub by_test : {X : Type 0} (b : Bool) (P : X → Type 0) (x y : X) → (b ≡ true → P x) → (b ≡ false → P y) → P (if b then x else y)
-by_test true P x y yes_so not_so = yes_so refl
-by_test false P x y yes_so not_so = not_so refl
+-- each completion is at the place after the one before
+abbrev pub AreAt : Place → List Completed → Type 0
+AreAt place [] = Unit {0}
+AreAt place (c ∷ cs) = (c.place ≡ place) × AreAt (next_member place) cs
 
-pub if_true : {X : Type 0} (b : Bool) (x y : X) → b ≡ true → (if b then x else y) ≡ x
-if_true true x y is = refl
-if_true false x y is = absurd (false≢true is)
+canceled_at : (place : Place) (requests : List Asked) → AreAt place (canceled place requests)
+canceled_at place [] = tt
+canceled_at place (request ∷ requests) = (refl, canceled_at (next_member place) requests)
 
-pub if_false : {X : Type 0} (b : Bool) (x y : X) → b ≡ false → (if b then x else y) ≡ y
-if_false true x y is = absurd (false≢true (sym is))
-if_false false x y is = refl
+module _ (catalogue : List FileEntry) (size : ℕ) where
+  pub chain_at : (place : Place) (requests : List Asked) (accesses : List Access) (cs : List Completed)
+      → IsChainDone catalogue size place requests accesses cs → AreAt place cs
+  chain_at place [] accesses cs x = rw x.1 tt
+  chain_at place (request ∷ requests) accesses cs x =
+      let (own, others, c, later, are, whole, done, on) = x in
+      rw whole (
+        request_place catalogue place size request.operation own c done,
+        either_way (severs request c) (λ _ y. rw y.1 (canceled_at (next_member place) requests))
+            (λ _. chain_at (next_member place) requests others later) on,
+      )
+
+-- the member of the completion at a position
+pub member_at : (place : Place) (cs : List Completed) → AreAt place cs → (k : ℕ) (d : Completed) → k < length cs
+    → (slice_index_or cs k d).place ≡ moved place k
+member_at place [] at k d few = absurd (omega arith)
+member_at place (c ∷ cs) at zero d few = at.0 ∙ (let n : place.member ≡ place.member + 0 = omega arith in λ i. record place { member = n i })
+member_at place (c ∷ cs) at (suc k) d few =
+    let n : place.member + 1 + k ≡ place.member + suc k = omega arith in
+    member_at (next_member place) cs at.1 k d (omega arith) ∙ (λ i. record place { member = n i })
+
+-- two completions at one place are one
+pub same_place : (place : Place) (cs : List Completed) → AreAt place cs → (c d : Completed) → Contains cs c → Contains cs d → c.place ≡ d.place
+    → c ≡ d
+same_place place cs at c d (k, low, is) (j, few, are) same =
+    let p = member_at place cs at k c low in
+    let q = member_at place cs at j d few in
+    let m : place.member + k ≡ place.member + j =
+    ap (λ (x : Place). x.member) (sym p ∙ ap (λ (x : Completed). x.place) is ∙ same ∙ sym (ap (λ (x : Completed). x.place) are) ∙ q) in
+    let n : k ≡ j = omega arith in
+    sym is ∙ rw n (at_any cs j c d few) ∙ are
+  where
+    at_any : (cs : List Completed) (j : ℕ) (c d : Completed) → j < length cs → slice_index_or cs j c ≡ slice_index_or cs j d
+    at_any [] j c d few = absurd (omega arith)
+    at_any (x ∷ cs) zero c d few = refl
+    at_any (x ∷ cs) (suc j) c d few = at_any cs j c d (omega arith)
 
 module _ (rules : Rules) where
   pub after_both : (rest : Rest) (front later : List Access)
@@ -27,47 +64,28 @@ module _ (rules : Rules) where
   after_both rest (a ∷ front) later = after_both (step rules rest a).1 front later
 
   -- a chain that is over stays so
-  stays_over : (accesses : List Access) → length (rest_after rules over accesses).requests ≡ 0
-  stays_over [] = refl
-  stays_over (a ∷ accesses) = stays_over accesses
-
   pub over_stays : (accesses : List Access) → rest_after rules over accesses ≡ over
   over_stays [] = refl
   over_stays (a ∷ accesses) = over_stays accesses
 
-  abbrev Fewer : List Asked → List Completed × Rest → Type 0
-  Fewer requests now = length now.1.requests ≤ length requests
+  behind_fewer : (place : Place) (request : Asked) (requests : List Asked) (c : Completed)
+      → length (settled_at rules (next_member place) requests).1.requests ≤ length requests
+      → length (behind rules place request requests c).1.requests ≤ length requests
+  behind_fewer place request requests c rest =
+      ⊎_elim (λ cut. rw cut (omega arith)) (λ on. rw on rest) (cases_Bool (severs request c))
 
   pub settled_fewer : (place : Place) (requests : List Asked) → length (settled_at rules place requests).1.requests ≤ length requests
   settled_fewer place [] = omega arith
   settled_fewer place (request ∷ requests) =
-      let c : Completed = rules.answer place request None in
-      let rest = settled_fewer (next_member place) requests in
-      by_test (rules.count request == 0) (Fewer (request ∷ requests))
-      (if severs request c then (c ∷ canceled (next_member place) requests, over)
-      else (c ∷ (settled_at rules (next_member place) requests).0, (settled_at rules (next_member place) requests).1))
-      ([], rest_at place (request ∷ requests) 0)
-      (λ _. by_test (severs request c) (Fewer (request ∷ requests)) (c ∷ canceled (next_member place) requests, over)
-      (c ∷ (settled_at rules (next_member place) requests).0, (settled_at rules (next_member place) requests).1)
-      (λ _. omega arith) (λ _. omega (arith, rest)))
-      (λ _. omega arith)
-
-  behind_fewer : (place : Place) (request : Asked) (requests : List Asked) (c : Completed)
-      → length (behind rules place request requests c).1.requests ≤ length requests
-  behind_fewer place request requests c =
-      let rest = settled_fewer (next_member place) requests in
-      by_test (severs request c) (Fewer requests) (c ∷ canceled (next_member place) requests, over)
-      (c ∷ (settled_at rules (next_member place) requests).0, (settled_at rules (next_member place) requests).1)
-      (λ _. omega arith) (λ _. rest)
+      let few = behind_fewer place request requests (rules.answer place request None) (settled_fewer (next_member place) requests) in
+      ⊎_elim (λ none. rw none (omega (arith, few))) (λ some. rw some (omega arith)) (cases_Bool (rules.count request == 0))
 
   step_fewer : (place : Place) (requests : List Asked) (made : ℕ) (a : Access)
       → length (step_of rules place requests made a).1.requests ≤ length requests
   step_fewer place [] made a = omega arith
   step_fewer place (request ∷ requests) made a =
-      let rest = behind_fewer place request requests (rules.answer place request (Some a)) in
-      by_test (rules.count request == made + 1) (Fewer (request ∷ requests))
-      (behind rules place request requests (rules.answer place request (Some a))) ([], rest_at place (request ∷ requests) (made + 1))
-      (λ _. omega (arith, rest)) (λ _. omega arith)
+      let few = behind_fewer place request requests (rules.answer place request (Some a)) (settled_fewer (next_member place) requests) in
+      ⊎_elim (λ last. rw last (omega (arith, few))) (λ more. rw more (omega arith)) (cases_Bool (rules.count request == made + 1))
 
   pub after_fewer : (rest : Rest) (accesses : List Access) → length (rest_after rules rest accesses).requests ≤ length rest.requests
   after_fewer rest [] = omega arith
@@ -115,22 +133,8 @@ module _ (rules : Rules) where
         (IsChainDone catalogue size (next_member place) (take m requests) others cs)
         → Few (behind rules place request requests c).1 others (suc (length cs)) (request ∷ requests)
     few_behind place request requests m c others cs goes = either_way (severs request c)
-        (λ cut x.
-        let none : behind rules place request requests c ≡ (c ∷ canceled (next_member place) requests, over) =
-        if_true (severs request c) (c ∷ canceled (next_member place) requests, over)
-        (c ∷ (settled_at rules (next_member place) requests).0, (settled_at rules (next_member place) requests).1) cut in
-        let long : length cs ≤ length requests = few_canceled (next_member place) requests m cs x.1 in
-        let over_still = stays_over others in
-        subst (λ (now : List Completed × Rest). length (rest_after rules now.1 others).requests + suc (length cs) ≤ length (request ∷ requests))
-        (sym none) (omega arith))
-        (λ on x.
-        let is : behind rules place request requests c
-        ≡ (c ∷ (settled_at rules (next_member place) requests).0, (settled_at rules (next_member place) requests).1) =
-        if_false (severs request c) (c ∷ canceled (next_member place) requests, over)
-        (c ∷ (settled_at rules (next_member place) requests).0, (settled_at rules (next_member place) requests).1) on in
-        let few = goes x in
-        subst (λ (now : List Completed × Rest). length (rest_after rules now.1 others).requests + suc (length cs) ≤ length (request ∷ requests))
-        (sym is) (omega arith))
+        (λ cut x. rw (cut, over_stays others) (omega (arith, few_canceled (next_member place) requests m cs x.1)))
+        (λ on x. rw on (omega (arith, goes x)))
 
     -- after the accesses of the first request, or at once if it makes none
     first_own : (place : Place) (request : Asked) (requests : List Asked) (mine others : List Access) (c : Completed) (done : ℕ)
@@ -169,3 +173,28 @@ module _ (rules : Rules) where
         let so = right place request mine c done mem.0 in
         let goes = few_behind place request requests m c others later (done_members (next_member place) requests m others later mem.1) on in
         rw (whole, are, after_both) (first_own place request requests mine others c (suc (length later)) so.0 so.1 goes)
+
+-- The accesses of a call, as those of chain 1.
+
+-- one chain is done
+pub one_done : (catalogue : List FileEntry) (size id : ℕ) (run : List Asked) (order : List ChainAccess) (answers : List Completed)
+    → AreChainsDone catalogue size id 1 (run ∷ []) order answers
+    → IsChainDone catalogue size (first_of_call id) run (accesses_of_chain 1 order) answers
+one_done catalogue size id run order answers (own, others, whole, done, none) = rw (whole, none, append-nil) done
+
+-- the requests are one chain
+pub one_chain : (requests : List Asked) (chains : List Chain) (d : Chain) → length chains ≡ 1 → (slice_index_or chains 0 d).first ≡ 0
+    → (slice_index_or chains 0 d).len ≡ length requests → map (members_of requests) chains ≡ requests ∷ []
+one_chain requests [] d many first len = absurd (omega arith)
+one_chain requests (x ∷ []) d many first len =
+    rw (first, len) (ap (λ (l : List Asked). l ∷ []) (take_all (length requests) requests (omega arith)))
+one_chain requests (x ∷ y ∷ chains) d many first len = absurd (omega arith)
+
+-- the first members of a call are done
+pub member_done : (log : JudgedLog) (plan : CallPlan) (requests : List Request) (id m own : ℕ) (accesses : List Access) (answers : List Completion) → 1 ≤ m
+    → accesses ≡ plan.accesses.items → answers ≡ plan.answers.items
+    → IsCallDone log id (all_asked (take m requests)) (take own accesses) (all_completed (take m answers))
+    → IsCallDone log id (take (m - 1 + 1) (all_asked requests)) (take own plan.accesses.items) (take (m - 1 + 1) (answers_of_plan plan))
+member_done log plan requests id m own accesses answers some those these done =
+    let n : m - 1 + 1 ≡ m = omega arith in
+    rw (n, take-map asked_of m requests, take-map completed_of m plan.answers.items, ← those, ← these) done

@@ -2,26 +2,21 @@
 use Rattle.check_flight.proofs.Words.{◌≡◌, ℕ, ◌+◌, ◌<◌, ◌≤◌, List, [], ◌∷◌, ◌++◌, length, take, refl, sym, ap, ◌∙◌, arith, inl, inr, ⊎_elim, suc}
 use Rattle.check_flight.proofs.Words.{zero, Access, AllByRecursion, Asked, ChainAccess, Completed, Contains, HasMemory, IsNext, None, Option, Some}
 use Rattle.check_flight.proofs.Words.{Place, Rest, Rules, append_assoc, by_equality, cases_eq, file_removed_by, get_or_append_left, get_or_at}
-use Rattle.check_flight.proofs.Words.{length-append, ne_eqb, option_to_list, OfChain, are_right, rules_of, run_at, settled_at, settles}
-use Rattle.check_flight.proofs.Words.{slice_index_or, step, steps_on, table_with, Contains-append_cases, Contains-append_left, RingState, ◌-◌, Table}
-use Rattle.check_flight.proofs.Words.{subst, Contains-append_right, Identity, if◌then◌else◌, contains_head, ◌⊎◌, either_way, eq-eqb}
-use Rattle.check_flight.proofs.Words.{over, table_of}
-use Rattle.check_flight.proofs.Places.{AreAt, chain_at, member_at, same_place}
-use Rattle.check_flight.proofs.Runs.{after_both, after_fewer, done_members, over_stays}
-use Rattle.check_flight.specs.States.{AreAnswers, AreCalls, IsLed, IsOneDenied, IsStopped, StepsByAccess, LeadsByCall, LeadsByClose, AreFewer}
-use Rattle.check_flight.specs.States.{AreLooksSeen, AreWaitsDenied, LeadsByAnswer, IsStateFollowed, GoesOnTo, FlightView, rest_after, setting_of}
-use Rattle.check_flight.specs.States.{origin_of, IsNumbered, runs_with}
-use Rattle.check_flight.specs.declared.state.WaitingLook.{WaitingLook}
-use Rattle.fx_flight.specs.Events.{Happening, Called, Answered, LookCalled, LookAnswered, Freed, FileClosed, AllSettled, first_of_call}
-use Rattle.fx_flight.specs.Flight.{Accesses, FlightSetting, IsBegun, IsFlight, IsLookDone, Logged, MayFollow, Moment, WasLogged, log_of, made_by}
-use Rattle.fx_flight.specs.Flight.{taken_in, table_left_by}
+use Rattle.check_flight.proofs.Words.{length-append, ne_eqb, option_to_list, rules_of, run_at, settled_at, settles, step, table_with}
+use Rattle.check_flight.proofs.Words.{Contains-append_cases, Contains-push_cases, Contains-append_left, RingState, ◌-◌, Table, subst}
+use Rattle.check_flight.proofs.Words.{Contains-append_right, Identity, if◌then◌else◌, contains_head, ◌⊎◌, eq-eqb, over, table_of, AreAnswers}
+use Rattle.check_flight.proofs.Words.{AreCalls, IsLed, IsOneDenied, IsStopped, StepsByAccess, LeadsByCall, AreFewer, AreLooksSeen, AreWaitsDenied}
+use Rattle.check_flight.proofs.Words.{IsStateFollowed, GoesOnTo, FlightView, rest_after, setting_of, IsNumbered, runs_with, WaitingLook, Happening}
+use Rattle.check_flight.proofs.Words.{Called, Answered, LookCalled, LookAnswered, Freed, FileClosed, AllSettled, first_of_call, Accesses, IsBegun}
+use Rattle.check_flight.proofs.Words.{IsLookDone, Logged, MayFollow, Moment, WasLogged, log_of, made_by, taken_in, table_left_by, Permits, Looks}
+use Rattle.check_flight.proofs.Words.{both_parts}
+use Rattle.check_flight.specs.States.{LeadsByAnswer, LeadsByClose, origin_of}
+use Rattle.check_outcomes.proofs.Playing.{OfChain, steps_on}
+use Rattle.check_outcomes.proofs.Requests.{are_right}
+use Rattle.fx_flight.proofs.Chains.{answer_place}
+use Rattle.fx_flight.proofs.InTime.{size_stays, in_log as was_read}
+use Rattle.check_flight.proofs.Runs.{AreAt, chain_at, member_at, same_place, after_both, after_fewer, done_members, over_stays}
 use Rattle.fx_flight.proofs.Beginnings.{logged as was_logged}
-use Rattle.fx_flight.proofs.InTime.{in_log as was_read, size_stays}
-use Rattle.fx_order.specs.Access.{Permits}
-use Rattle.fx_order.specs.declared.access.Access.TheVariants.{Looks}
-use Rattle.std.specs.Prelude.{nat_le}
-use Rattle.std.proofs.lemmas.Bool.{leb-true}
-use Rattle.fx_order.proofs.ChainsFront.{both_parts}
 
 -- A flight's events are those of its log.
 
@@ -143,13 +138,12 @@ module _ (old : RingState) where
       → GoesOnTo old runs flight state → id ≡ length runs + 1 → AreFewer (state.waiting ++ record { id = id; slot = slot } ∷ []) waiting
       → Waits (Logged (LookCalled id slot) ∷ flight) waiting
   more_looks {flight = flight} {state} waiting id slot to is fewer look inside =
-      let it : WaitingLook = record { id = id; slot = slot } in
       let e : Happening = LookCalled id slot in
       ⊎_elim
       (λ before. let was = to.waits look before in (shifted flight was.0, was.1))
-      (λ last. subst (λ (l : WaitingLook). WasLogged (Logged e ∷ flight) (LookCalled l.id l.slot) × (made_by l.id flight ≡ []))
-      (only_one it look last) (contains_head (Logged e) flight, to.unmade id (omega arith)))
-      (Contains-append_cases state.waiting (it ∷ []) look (fewer look inside))
+      (λ last. subst (λ (l : WaitingLook). WasLogged (Logged e ∷ flight) (LookCalled l.id l.slot) × (made_by l.id flight ≡ [])) last
+      (contains_head (Logged e) flight, to.unmade id (omega arith)))
+      (Contains-push_cases state.waiting (record { id = id; slot = slot }) look (fewer look inside))
 
   -- the answer of a look
   answer_leads : {runs : List (List Asked)} {flight : List Moment} {state next : FlightView} (e : Happening)
@@ -251,7 +245,7 @@ module _ (old : RingState) where
       answered_not_stopped id c (requests, was, is) stopped =
           let (low, high, same) = calls.chain id requests (was_read flight (Called id requests) was) in
           let start : Rest = origin_of rules id requests in
-          let whole : answers id ≡ (is.earlier ++ c ∷ []) ++ is.later = is.answer ∙ answer_is is.earlier is.later in
+          let whole : answers id ≡ (is.earlier ++ c ∷ []) ++ is.later = is.answer ∙ sym (append_assoc is.earlier (c ∷ []) is.later) in
           let parts = both_parts HasMemory (is.earlier ++ c ∷ []) is.later (subst (AllByRecursion HasMemory) whole (fits.memory id)) in
           let few = done_members rules old.catalogue old.size (are_right old.catalogue old.size) (first_of_call id) requests
           (length is.earlier + 1) is.own (is.earlier ++ c ∷ []) parts.0 is.done in
@@ -261,21 +255,15 @@ module _ (old : RingState) where
           let from : rest_after rules (origin_of rules id (run_at runs id)) (made_by id flight)
           ≡ rest_after rules (rest_after rules start is.own) is.others = rw (← same) both in
           let rest : state.rests id ≡ rest_after rules (rest_after rules start is.own) is.others = to.rests id low high ∙ from in
-          let at = member_at (first_of_call id) (is.earlier ++ c ∷ [])
-          (chain_at old.catalogue old.size (first_of_call id) (take (length is.earlier + 1) requests) is.own (is.earlier ++ c ∷ []) is.done)
-          (length is.earlier) c (omega (arith, length-append is.earlier (c ∷ []))) in
-          let here : slice_index_or (is.earlier ++ c ∷ []) (length is.earlier) c ≡ c = get_or_at is.earlier c [] c (length is.earlier) refl in
-          let member : c.place.member ≡ 1 + length is.earlier = ap (λ (x : Completed). x.place.member) (sym here) ∙ ap (λ (x : Place). x.member) at in
+          let member : c.place.member ≡ 1 + length is.earlier =
+          answer_place old.catalogue old.size (first_of_call id) (take (length is.earlier + 1) requests) is.own (is.earlier ++ c ∷ []) is.earlier c []
+          is.done refl in
           let count = length-append is.earlier (c ∷ []) in
           let runs_same : length requests ≡ length (run_at runs id) = ap length same in
           let left : length (state.rests id).requests ≡ length (rest_after rules (rest_after rules start is.own) is.others).requests =
           ap (λ (r : Rest). length r.requests) rest in
           let stop : length (run_at runs id) < length (state.rests id).requests + c.place.member = stopped in
           omega arith
-        where
-          answer_is : (earlier later : List Completed) → earlier ++ c ∷ later ≡ (earlier ++ c ∷ []) ++ later
-          answer_is [] later = refl
-          answer_is (d ∷ earlier) later = ap (λ cs. d ∷ cs) (answer_is earlier later)
 
       -- a look that waits isn't a chain
       apart_from : (x : ChainAccess) (requests : List Asked) → WasLogged flight (Called x.chain requests)
@@ -361,65 +349,3 @@ module _ (old : RingState) where
       not_stopped (FileClosed file) may stopped = close_not_stopped file may stopped
       not_stopped AllSettled may (file, inside, unclosed) =
           unclosed (was_read flight (FileClosed file) (may file (to.only file inside)))
-
--- a look that was answered is past the size, or what it found first is its answer
-abbrev HasLooked : ℕ → List Moment → ℕ → Option Identity → Type 0
-HasLooked size flight id found = (slot : ℕ) × WasLogged flight (LookCalled id slot)
-    × ((size ≤ slot) ⊎ ((more : List Access) × (made_by id flight ≡ Looks slot found ∷ more)))
-
-one_more : (x : ChainAccess) (flight : List Moment) (id : ℕ) (first : Access) (more : List Access) → made_by id flight ≡ first ∷ more
-    → (most : List Access) × (made_by id (Accesses x ∷ flight) ≡ first ∷ most)
-one_more x flight id first more made = by_equality x.chain id
-    (λ b. (most : List Access) × ((if b then made_by id flight ++ x.access ∷ [] else made_by id flight) ≡ first ∷ most))
-    (λ _. (more ++ x.access ∷ [], ap (λ (l : List Access). l ++ x.access ∷ []) made)) (λ _. (more, made))
-
-has_looked : (s : FlightSetting) (flight : List Moment) → IsFlight s flight → (id : ℕ) (found : Option Identity)
-    → WasLogged flight (LookAnswered id found) → HasLooked s.old.size flight id found
-has_looked s [] is id found (k, low, at) = absurd (omega arith)
-has_looked s (Logged e ∷ flight) is id found (zero, low, at) =
-    let same : e ≡ LookAnswered id found = cc in
-    let (slot, was, done, unclosed) = rw same at is.1 in (
-      slot,
-      shifted flight was,
-      either_way (nat_le s.old.size slot) (λ past _. inl (leb-true s.old.size slot past)) (λ _ made. inr ([], made)) done,
-    )
-has_looked s (Accesses x ∷ flight) is id found (zero, low, at) = absurd (cc)
-has_looked s (Logged e ∷ flight) is id found (suc k, low, at) =
-    let (slot, was, either) = has_looked s flight is.0 id found (k, omega arith, at) in (slot, shifted flight was, either)
-has_looked s (Accesses x ∷ flight) is id found (suc k, low, at) =
-    let (slot, was, either) = has_looked s flight is.0 id found (k, omega arith, at) in (
-      slot,
-      shifted flight was,
-      ⊎_elim (λ past. inl past) (λ made. inr (one_more x flight id (Looks slot found) made.0 made.1)) either,
-    )
-
--- in a flight of the log, each look finds what the log has
-pub looks_seen : (s : FlightSetting) (runs : List (List Asked)) (log : List Happening) (flight : List Moment) → AreCalls runs log
-    → IsFlight s flight → log_of flight ≡ log → AreLooksSeen s.old.size log flight
-looks_seen s runs log flight calls is same id slot found seen more was low made inside =
-    let (other, there, either) = has_looked s flight is id seen (was_logged flight (LookAnswered id seen) (rw same inside)) in
-    let slots : other ≡ slot = calls.once id other slot (rw same at (was_read flight (LookCalled id other) there))
-    (rw same at (was_read flight (LookCalled id slot) was)) in
-    ⊎_elim (λ past. absurd (omega arith))
-    (λ own.
-    let both : Looks other seen ∷ own.0 ≡ Looks slot found ∷ more = sym own.1 ∙ made in
-    let first : Looks other seen ≡ Looks slot found = cc in cc) either
-
--- and before its last moment
-pub seen_before : (size : ℕ) (log : List Happening) (m : Moment) (flight : List Moment) → AreLooksSeen size log (m ∷ flight)
-    → AreLooksSeen size log flight
-seen_before size log (Logged e) flight all id slot found seen more was low made inside = all id slot found seen more (shifted flight was) low made inside
-seen_before size log (Accesses x) flight all id slot found seen more was low made inside =
-    let (most, still) = one_more x flight id (Looks slot found) more made in
-    all id slot found seen most (shifted flight was) low still inside
-
--- each answer that was seen is one of its call
-pub answered_in : (old : RingState) (answers : ℕ → List Completed) (flight : List Moment) → IsFlight (setting_of old answers) flight
-    → (id : ℕ) (c : Completed) → WasLogged flight (Answered id c) → Contains (answers id) c
-answered_in old answers [] is id c (k, low, at) = absurd (omega arith)
-answered_in old answers (Logged e ∷ flight) is id c (zero, low, at) =
-    let same : e ≡ Answered id c = cc in
-    let may = rw same at is.1 in
-    rw may.2.answer (Contains-append_right may.2.earlier (c ∷ may.2.later) c (contains_head c may.2.later))
-answered_in old answers (Accesses x ∷ flight) is id c (zero, low, at) = absurd (cc)
-answered_in old answers (m ∷ flight) is id c (suc k, low, at) = answered_in old answers flight is.0 id c (k, omega arith, at)

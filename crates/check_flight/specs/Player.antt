@@ -19,7 +19,7 @@ use Rattle.fx_flight.specs.Flight.{IsFlight, IsLookDone, Moment, WasLogged, log_
 use Rattle.fx_flight.specs.Flight.{table_left_by, taken_in}
 use Rattle.check_flight.specs.Judged.{catalogue_in}
 use Rattle.check_flight.specs.States.{setting_of}
-use Rattle.check_flight.specs.declared.hold.HeldFile.{HeldFile}
+use Rattle.check_flight.specs.declared.player.HeldFile.{HeldFile}
 use Rattle.check_flight.specs.declared.judged.JudgedLog.{JudgedLog}
 use Rattle.check_flight.specs.declared.plan.CallPlan.{CallPlan}
 use Rattle.check_flight.specs.declared.plan.CallKind.{CallKind}

@@ -5,45 +5,21 @@ ghost use Rattle.fx_chain.specs.Operation.{Asked};
 ghost use Rattle.fx_flight.specs.Events.{happening_of};
 ghost use Rattle.fx_order.specs.Slots.{table_of_slots};
 ghost use Rattle.check_outcomes.specs.Stands.{HasEachNext};
-ghost use Rattle.check_flight.specs.Judged.{IsAccessFollowed, IsCallFollowed, IsFrontOf, IsWhollyFollowed};
+ghost use Rattle.check_flight.specs.Judged.{IsCallFollowed, IsFrontOf, IsWhollyFollowed};
 ghost use Rattle.check_flight.specs.Judged.{catalogue_in, flight_view, flight_views, log_in, rest_of};
 ghost use Rattle.check_flight.specs.Judged.{rules_of_log, runs_of_calls};
-ghost use Rattle.check_flight.specs.Passages.{IsStatePassed};
 ghost use Rattle.check_flight.specs.States.{AreFollowed, ArePassed, AreWaitsDenied, runs_with};
 
 use crate::call::{first_place, members_at};
 use crate::front::Front;
 use crate::judged::{ChainCall, JudgedLog};
-use crate::passage::{Passage, passage_of};
+use crate::passage::passage_of;
 use crate::state::{FlightState, waits};
 use crate::step::by_access;
 use check_outcomes::chain_accesses;
 use fx_base::NoMemory;
 use fx_flight::LogEvent;
 use fx_order::Access;
-
-// Adds the state to which the event at a position leads from a state. Returns whether it leads to
-// one, or is impossible.
-fn pass(
-    log: &JudgedLog<'_>,
-    calls: &[ChainCall<'_>],
-    at: usize,
-    event: &LogEvent,
-    state: &FlightState,
-    nexts: &mut Front,
-) -> Result<bool, NoMemory>
-    requires { at ≤ length log.now.events.now }
-    ensures kept { IfOk result (λ _. IsFrontOf nexts.old.states.items nexts.new.states.items) }
-    ensures passed { IfOk result (λ yes. IsTrue yes → IsStatePassed log.now
-        (runs_of_calls calls.now) (take at (log_in log.now)) nexts.new.states.items state.now
-        (happening_of event.now)) }
-{
-    match passage_of(log, calls, at, event, state)? {
-        Passage::Stops => Ok(true),
-        Passage::Leads(next) => nexts.add(next),
-        Passage::IsUnfit => Ok(false),
-    }
-}
 
 /// Adds the states to which the event at a position leads from those of a front. Returns whether it
 /// leads to one from each of them, or is impossible there.
@@ -63,7 +39,8 @@ pub(crate) fn pass_all(
         nexts.new.states.items) (happening_of event.now)) }
 {
     for state in &front.states {
-        if !pass(log, calls, at, event, state, nexts)? {
+        let passage = passage_of(log, calls, at, event, state)?;
+        if !nexts.take_in(passage)? {
             return Ok(false);
         }
     }
@@ -98,30 +75,6 @@ pub(crate) fn accesses_of(
     Ok(Some(accesses))
 }
 
-// Adds the state to which an access leads of the call that follows those that are over and `j`
-// others. Returns whether it leads to one, or is impossible or denied.
-fn follow_access(
-    log: &JudgedLog<'_>,
-    calls: &[ChainCall<'_>],
-    state: &FlightState,
-    j: usize,
-    access: &Access,
-    front: &mut Front,
-) -> Result<bool, NoMemory>
-    requires { state.now.base + j < length calls.now }
-    ensures kept { IfOk result (λ _. IsFrontOf front.old.states.items front.new.states.items) }
-    ensures followed { IfOk result (λ yes. IsTrue yes → IsAccessFollowed log.now
-        (runs_of_calls calls.now) front.new.states.items state.now (state.now.base + j + 1)
-        access.now) }
-{
-    let mut answered = Vec::new(log.setting.alloc);
-    match by_access(log, calls, state, j, access, &mut answered)? {
-        Passage::Stops => Ok(true),
-        Passage::Leads(next) => front.add(next),
-        Passage::IsUnfit => Ok(false),
-    }
-}
-
 // Adds the states to which accesses lead that the call may make next that follows those that are
 // over and `j` others. Returns whether each access is followed.
 fn follow_call(
@@ -139,7 +92,9 @@ fn follow_call(
         return Ok(false);
     };
     for access in &accesses {
-        if !follow_access(log, calls, state, j, access, front)? {
+        let mut answered = Vec::new(log.setting.alloc);
+        let passage = by_access(log, calls, state, j, access, &mut answered)?;
+        if !front.take_in(passage)? {
             return Ok(false);
         }
     }

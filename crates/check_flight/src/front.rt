@@ -1,8 +1,9 @@
 //! The states that a search met: the front of the flights at an event.
 ghost use Rattle.std.specs.Prelude.{◌≡◌, [], ◌∷◌, Contains, IfOk, IsTrue, List};
 ghost use Rattle.fx_chain.specs.Operation.{Asked};
-ghost use Rattle.check_flight.specs.Judged.{IsFrontOf, flight_view, flight_views};
+ghost use Rattle.check_flight.specs.Judged.{IsFrontOf, flight_view, flight_views, IsTakenIn};
 
+use crate::passage::Passage;
 use crate::positions::file_number;
 use crate::state::FlightState;
 use fx_base::NoMemory;
@@ -68,8 +69,8 @@ impl Front {
         Ok(front)
     }
 
-    /// Adds a state, unless it is known. Returns false if another one has its numbers.
-    pub(crate) fn add(&mut self, state: FlightState) -> Result<bool, NoMemory>
+    // Adds a state, unless it is known. Returns false if another one has its numbers.
+    fn add(&mut self, state: FlightState) -> Result<bool, NoMemory>
         ensures kept { IfOk result (λ _.
             IsFrontOf self.old.states.items self.new.states.items) }
         ensures has { IfOk result (λ yes. IsTrue yes → (runs : List (List Asked)) → Contains
@@ -83,6 +84,21 @@ impl Front {
         match self.states.get(number) {
             Some(there) => Ok(there.is_same(&state)),
             None => Ok(false),
+        }
+    }
+
+    /// Adds the state to which a passage leads, if it leads to one. Returns false if the passage is
+    /// unfit, or another state has the numbers of that one.
+    pub(crate) fn take_in(&mut self, passage: Passage) -> Result<bool, NoMemory>
+        ensures kept { IfOk result (λ _.
+            IsFrontOf self.old.states.items self.new.states.items) }
+        ensures taken { IfOk result (λ yes. IsTrue yes
+            → IsTakenIn self.new.states.items passage) }
+    {
+        match passage {
+            Passage::Stops => Ok(true),
+            Passage::Leads(next) => self.add(next),
+            Passage::IsUnfit => Ok(false),
         }
     }
 }

@@ -8,7 +8,6 @@
 mod call;
 mod explore;
 mod front;
-mod hold;
 mod judged;
 pub mod laws;
 mod log;

@@ -7,8 +7,7 @@ ghost use Rattle.fx_flight.specs.Events.{Answered, Called, FileClosed, AllSettle
 ghost use Rattle.fx_flight.specs.Events.{happening_of};
 ghost use Rattle.fx_flight.specs.Flight.{IsLookDone};
 ghost use Rattle.check_outcomes.specs.Views.{run_at};
-ghost use Rattle.check_flight.specs.Judged.{flight_view, log_in, rest_of, runs_of_calls};
-ghost use Rattle.check_flight.specs.Passages.{IsPassage};
+ghost use Rattle.check_flight.specs.Judged.{flight_view, log_in, rest_of, runs_of_calls, IsPassage};
 ghost use Rattle.check_flight.specs.States.{IsNumbered, IsUnmade};
 
 use crate::call::members_at;

@@ -1,7 +1,6 @@
 //! A player of a flight: it makes a proposed flight move by move, and checks each move.
 ghost use Rattle.std.specs.Prelude.{◌≡◌, ◌++◌, [], ◌∷◌, ℕ, Contains, IfOk, IsTrue, List, Some, length};
 ghost use Rattle.std.specs.Option.{option_to_list};
-ghost use Rattle.indexmap.specs.IndexSet.{IsEmpty};
 ghost use Rattle.fx_base.specs.Identity.{Identity};
 ghost use Rattle.fx_chain.specs.Completed.{completed_of};
 ghost use Rattle.fx_flight.specs.Events.{Answered, FileClosed, AllSettled, Happening, Freed, LookAnswered};
@@ -13,8 +12,8 @@ ghost use Rattle.check_flight.specs.Judged.{catalogue_in, log_in};
 ghost use Rattle.check_flight.specs.Player.{IsLookAnswered, IsMarked, MovesOn, begun_by};
 ghost use Rattle.check_flight.specs.declared.judged.JudgedLog.{JudgedLog as TheLog};
 ghost use Rattle.check_flight.specs.declared.plan.CallPlan.{CallPlan as Plan};
+ghost use Rattle.check_flight.specs.declared.player.HeldFile.{HeldFile as TheHold};
 
-use crate::hold::{HeldFile, add_hold, is_held};
 use crate::judged::JudgedLog;
 use crate::made::{has_file, is_look_made, is_member_made, is_planned};
 use crate::plan::{CallKind, CallPlan, FlightPlan};
@@ -34,6 +33,15 @@ pub(crate) struct FlightCall<'a> {
     pub(crate) kind: CallKind<'a>,
     /// The number of accesses that it has made.
     pub(crate) made: usize,
+}
+
+/// A file that a look holds.
+#[derive(Clone, Copy)]
+pub(crate) struct HeldFile {
+    /// The number of the look.
+    pub(crate) id: u32,
+    /// The file.
+    pub(crate) file: Closed,
 }
 
 /// The state of the flight that the player makes.
@@ -63,6 +71,32 @@ fn add_removed(removed: &mut Vec<Closed>, access: &Access) -> Result<(), NoMemor
     Ok(())
 }
 
+// Checks whether a look holds a file.
+fn is_held(holds: &[HeldFile], file: Closed) -> bool
+    ensures { (hold : TheHold) → Contains holds.now hold → hold.file ≡ file → IsTrue result }
+{
+    for hold in holds {
+        if hold.file == file {
+            return true;
+        }
+    }
+    false
+}
+
+// Adds the hold of a look, if it found a file.
+fn add_hold(holds: &mut Vec<HeldFile>, id: u32, found: Option<Closed>) -> Result<(), NoMemory>
+    ensures kept { IfOk result (λ _. (hold : TheHold) → Contains holds.old.items hold
+        → Contains holds.new.items hold) }
+    ensures more { IfOk result (λ _. (file : Identity) → found ≡ Some file
+        → Contains holds.new.items (record { id = id; file = file })) }
+{
+    let Some(file) = found else {
+        return Ok(());
+    };
+    holds.push(HeldFile { id, file })?;
+    Ok(())
+}
+
 impl<'a> FlightPlayer<'a> {
     /// Begins at these slots.
     pub(crate) fn new(alloc: Global, slots: &Slots) -> Result<FlightPlayer<'a>, NoMemory>
@@ -70,8 +104,6 @@ impl<'a> FlightPlayer<'a> {
             table_of_slots player.slots ≡ table_of_slots slots.now) }
         ensures calls { IfOk result (λ player. player.calls.items ≡ []) }
         ensures removed { IfOk result (λ player. player.removed.items ≡ []) }
-        ensures holds { IfOk result (λ player. player.holds.items ≡ []) }
-        ensures closed { IfOk result (λ player. IsEmpty player.closed) }
     {
         Ok(FlightPlayer {
             slots: slots.copy(alloc)?,

@@ -2,8 +2,7 @@
 ghost use Rattle.std.specs.Prelude.{◌≡◌, ◌<◌, ◌≤◌, ℕ, IfOk, IsTrue, length, take};
 ghost use Rattle.fx_order.specs.Slots.{ring_of_slots};
 ghost use Rattle.fx_flight.specs.Events.{all_happenings};
-ghost use Rattle.check_flight.specs.Judged.{catalogue_in, log_in};
-ghost use Rattle.check_flight.specs.Passages.{IsFirstFront, IsNextFront};
+ghost use Rattle.check_flight.specs.Judged.{catalogue_in, log_in, IsNextFront};
 ghost use Rattle.check_flight.specs.States.{HasNoFlight};
 
 use crate::call::push_call;
@@ -14,7 +13,6 @@ use crate::passage::is_numbered;
 use crate::state::first_state;
 use fx_base::NoMemory;
 use fx_order::{OrderSetting, Slots};
-use std::alloc::Global;
 
 /// The result of an attempt to refute a log.
 #[derive(Clone, Copy)]
@@ -56,14 +54,6 @@ fn advance<'a>(
     Ok(true)
 }
 
-// Returns the front before the first event.
-fn first_front(alloc: Global, slots: &Slots) -> Result<Front, NoMemory>
-    ensures { IfOk result (λ front. IsFirstFront slots.now front.states.items) }
-{
-    let state = first_state(alloc, slots)?;
-    Front::with(alloc, state)
-}
-
 // Attempts to refute a log that begins at these slots.
 fn refute_log(log: &JudgedLog<'_>, slots: &Slots, most: usize) -> Result<Refutation, NoMemory>
     requires { log.now.setting.size ≡ length slots.now.at.items }
@@ -74,7 +64,8 @@ fn refute_log(log: &JudgedLog<'_>, slots: &Slots, most: usize) -> Result<Refutat
 {
     let alloc = log.setting.alloc;
     let mut calls = Vec::new(alloc);
-    let mut front = first_front(alloc, slots)?;
+    let state = first_state(alloc, slots)?;
+    let mut front = Front::with(alloc, state)?;
     let mut last = 0;
     for at in 0..log.events.len() {
         if !front.states.is_empty() {

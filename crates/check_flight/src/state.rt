@@ -1,6 +1,6 @@
 //! A state of the flights of a log, and where a call leads from it.
 ghost use Rattle.std.specs.Prelude.{◌≡◌, ◌+◌, ◌++◌, ◌<◌, ◌≤◌, ◌^◌, ℕ, [], ◌∷◌, Contains, IfOk, IfSome, IsTrue, Option};
-ghost use Rattle.std.specs.Prelude.{drop, length, slice_index_or};
+ghost use Rattle.std.specs.Prelude.{length, slice_index_or};
 ghost use Rattle.fx_chain.specs.Completed.{all_completed};
 ghost use Rattle.fx_base.specs.Identity.{Identity};
 ghost use Rattle.fx_order.specs.Access.{Permits};
@@ -9,7 +9,7 @@ ghost use Rattle.fx_order.specs.Slots.{table_of_slots};
 ghost use Rattle.fx_flight.specs.Events.{first_of_call};
 ghost use Rattle.check_outcomes.specs.Rests.{settled_at};
 ghost use Rattle.check_outcomes.specs.Views.{not_begun, run_at};
-ghost use Rattle.check_flight.specs.Judged.{log_in, requests_of, rules_of_log, runs_of_calls, flight_view};
+ghost use Rattle.check_flight.specs.Judged.{IsCopy, log_in, requests_of, rules_of_log, runs_of_calls, flight_view};
 ghost use Rattle.check_flight.specs.States.{AreFewer, AreWithout, IsLookDenied, LeadsByCall};
 
 use crate::call::{first_place, members_at};
@@ -87,12 +87,7 @@ pub(crate) fn still_waiting(
 impl FlightState {
     /// Checks whether both are one.
     pub(crate) fn is_same(&self, other: &FlightState) -> bool
-        ensures table { IsTrue result
-            → table_of_slots self.now.slots ≡ table_of_slots other.now.slots }
-        ensures base { IsTrue result → self.now.base ≡ other.now.base }
-        ensures chains { IsTrue result → self.now.chains.items ≡ other.now.chains.items }
-        ensures removed { IsTrue result → self.now.removed.items ≡ other.now.removed.items }
-        ensures waiting { IsTrue result → self.now.waiting.items ≡ other.now.waiting.items }
+        ensures { IsTrue result → IsCopy other.now other.now.base 0 self.now }
     {
         if !self.slots.is_same(&other.slots) || self.chains != other.chains {
             return false;
@@ -112,13 +107,7 @@ impl FlightState {
         count: usize,
     ) -> Result<FlightState, NoMemory>
         requires { count ≤ length self.now.chains.items }
-        ensures table { IfOk result (λ copy.
-            table_of_slots copy.slots ≡ table_of_slots self.now.slots) }
-        ensures base { IfOk result (λ copy. copy.base ≡ base) }
-        ensures chains { IfOk result (λ copy.
-            copy.chains.items ≡ drop count self.now.chains.items) }
-        ensures removed { IfOk result (λ copy. copy.removed.items ≡ self.now.removed.items) }
-        ensures waiting { IfOk result (λ copy. copy.waiting.items ≡ self.now.waiting.items) }
+        ensures { IfOk result (IsCopy self.now base count) }
     {
         let slots = self.slots.copy(alloc)?;
         let chains = Vec::from_slice(alloc, &self.chains[count..])?;

@@ -8,8 +8,7 @@ ghost use Rattle.fx_order.specs.Slots.{table_of_slots};
 ghost use Rattle.fx_flight.specs.Events.{first_of_call};
 ghost use Rattle.check_outcomes.specs.Stands.{StepsChain};
 ghost use Rattle.check_outcomes.specs.Views.{not_begun, run_at};
-ghost use Rattle.check_flight.specs.Judged.{rules_of_log, runs_of_calls};
-ghost use Rattle.check_flight.specs.Passages.{IsAccessPassage};
+ghost use Rattle.check_flight.specs.Judged.{rules_of_log, runs_of_calls, IsAccessPassage};
 ghost use Rattle.check_flight.specs.States.{AreFewer};
 
 use crate::call::{first_place, members_at};

@@ -1,12 +1,5 @@
-use Rattle.check_flight.proofs.Words.{Identity, Option, arith}
-use Rattle.check_outcomes.proofs.Lists.{one_more_at}
-use Rattle.check_flight.specs.States.{IsLookDenied}
-use Rattle.check_flight.specs.declared.state.WaitingLook.{WaitingLook}
-use Rattle.fx_order.specs.Access.{Permits}
-use Rattle.fx_order.specs.Slots.{table_of_slots}
-use Rattle.fx_order.specs.declared.access.Access.TheVariants.{Looks}
+use Rattle.check_flight.proofs.Words.{Identity, Option, arith, one_more_at, IsLookDenied, WaitingLook, Permits, table_of_slots, Looks, log_in}
 use Rattle.check_flight.proofs.Judging.{each_waits}
-use Rattle.check_flight.specs.Judged.{log_in}
 use Rattle.check_flight.proofs.explore.are_waits_denied.Goals as goal
 
 abbrev no_look : WaitingLook

@@ -1,11 +1,4 @@
-use Rattle.check_flight.proofs.Words.{ℕ, ◌<◌, Option, slice_index_or}
-use Rattle.check_flight.specs.Judged.{log_in}
-use Rattle.check_flight.specs.States.{IsLookDenied}
-use Rattle.check_flight.specs.declared.state.WaitingLook.{WaitingLook}
-use Rattle.fx_base.specs.Identity.{Identity}
-use Rattle.fx_order.specs.Access.{Permits}
-use Rattle.fx_order.specs.Slots.{table_of_slots}
-use Rattle.fx_order.specs.declared.access.Access.TheVariants.{Looks}
+use Rattle.check_flight.proofs.Words.{ℕ, ◌<◌, Option, slice_index_or, log_in, IsLookDenied, WaitingLook, Identity, Permits, table_of_slots, Looks}
 use Rattle.check_flight.proofs.explore.are_waits_denied.Given as goal
 
 abbrev pub invariant-loop-look : goal.invariant-loop-look

@@ -1,7 +1,5 @@
-use Rattle.check_flight.proofs.Words.{◌+◌, length, arith}
-use Rattle.check_outcomes.proofs.Words.{below_more}
+use Rattle.check_flight.proofs.Words.{◌+◌, length, arith, below_more, IsCallFollowed, runs_of_calls}
 use Rattle.check_flight.proofs.Judging.{call_more, front_on, state_followed}
-use Rattle.check_flight.specs.Judged.{IsCallFollowed, runs_of_calls}
 use Rattle.check_flight.proofs.explore.follow.Goals as goal
 
 pub loop-j-preserved : goal.loop-j-preserved

@@ -1,5 +1,4 @@
-use Rattle.check_flight.proofs.Words.{ℕ, ◌+◌, ◌<◌}
-use Rattle.check_flight.specs.Judged.{IsCallFollowed, IsFrontOf, runs_of_calls}
+use Rattle.check_flight.proofs.Words.{ℕ, ◌+◌, ◌<◌, IsCallFollowed, IsFrontOf, runs_of_calls}
 use Rattle.check_flight.proofs.explore.follow.Given as goal
 
 abbrev pub invariant-loop-j : goal.invariant-loop-j

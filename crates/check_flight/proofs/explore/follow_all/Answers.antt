@@ -1,7 +1,5 @@
-use Rattle.check_flight.proofs.Words.{arith}
-use Rattle.std.proofs.lemmas.Bool.{leb-true}
+use Rattle.check_flight.proofs.Words.{arith, leb-true, runs_of_calls}
 use Rattle.check_flight.proofs.Judging.{all_followed, copied, front_on, more_followed, same_followed}
-use Rattle.check_flight.specs.Judged.{runs_of_calls}
 use Rattle.check_flight.proofs.explore.follow_all.Goals as goal
 
 pub loop-number-preserved : goal.loop-number-preserved
@@ -13,8 +11,7 @@ loop-number-preserved c =
     let items = c.deref.ensures.value in
     let state = c.in-Some.state.now in
     let own = c.in_ok-state.state in
-    let copy = c.in_ok-state.ensures in
-    let same = copied (runs_of_calls calls) state own copy.table copy.base copy.chains copy.removed copy.waiting in
+    let same = copied (runs_of_calls calls) state own c.in_ok-state.ensures in
     record {
       kept = front_on _ _ _ c.loop-number.invariant.kept next.kept;
       followed = more_followed log calls c.loop-number.front.states.items c.follow.new.front.states.items (rw items at found.3.0) (rw items at found.1) next.kept

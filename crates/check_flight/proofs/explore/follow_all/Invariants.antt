@@ -1,6 +1,4 @@
-use Rattle.check_flight.proofs.Words.{ℕ, ◌<◌, slice_index_or}
-use Rattle.check_flight.specs.Judged.{IsFrontOf, IsWhollyFollowed}
-use Rattle.check_flight.specs.declared.state.FlightState.{FlightState}
+use Rattle.check_flight.proofs.Words.{ℕ, ◌<◌, slice_index_or, IsFrontOf, IsWhollyFollowed, FlightState}
 use Rattle.check_flight.proofs.explore.follow_all.Given as goal
 
 abbrev pub invariant-loop-number : goal.invariant-loop-number

@@ -1,23 +1,20 @@
-use Rattle.check_flight.proofs.Words.{◌+◌, Access, None, arith, inl, inr, ⊎_elim}
-use Rattle.check_outcomes.proofs.Lists.{one_more_at}
-use Rattle.check_flight.proofs.Judging.{call_followed, front_on, views_more}
-use Rattle.check_flight.specs.Judged.{IsAccessFollowed, runs_of_calls}
-use Rattle.fx_order.specs.declared.access.Access.TheVariants.{Looks}
+use Rattle.check_flight.proofs.Words.{◌+◌, Access, None, arith, one_more_at, IsAccessFollowed, runs_of_calls, Looks}
+use Rattle.check_flight.proofs.Judging.{access_more, call_followed, followed_by, front_on}
 use Rattle.check_flight.proofs.explore.follow_call.Goals as goal
 
 pub loop-access-preserved : goal.loop-access-preserved
 loop-access-preserved c =
     let state = c.args.state.now in
-    let next = c.in_ok-follow_access.ensures in
+    let next = c.in_ok-take_in.ensures in
     record {
       kept = front_on _ _ _ c.loop-access.invariant.kept next.kept;
       followed = one_more_at
-          (λ (a : Access). IsAccessFollowed c.args.log.now (runs_of_calls c.args.calls.now) c.follow_access.new.front.states.items state
+          (λ (a : Access). IsAccessFollowed c.args.log.now (runs_of_calls c.args.calls.now) c.take_in.new.self.states.items state
           (state.base + c.args.j + 1) a) c.deref-access-items.result.now (Looks 0 None)
-          (λ k d low permits. ⊎_elim (λ denied. inl denied)
-          (λ led. inr (led.0, views_more (runs_of_calls c.args.calls.now) c.loop-access.front.states.items c.follow_access.new.front.states.items next.kept led.0 led.1, led.2))
-          (c.loop-access.invariant.followed k d low permits))
-          c.loop-access-test.true (next.followed c.if-not-branch.false);
+          (λ k d low. access_more c.args.log.now (runs_of_calls c.args.calls.now) c.loop-access.front.states.items c.take_in.new.self.states.items state
+          _ _ next.kept (c.loop-access.invariant.followed k d low))
+          c.loop-access-test.true (followed_by c.args.log.now (runs_of_calls c.args.calls.now) c.take_in.new.self.states.items state
+          _ _ c.in_ok-passage.passage c.in_ok-passage.ensures (next.taken c.if-not-branch.false));
     }
 
 pub returns : goal.returns

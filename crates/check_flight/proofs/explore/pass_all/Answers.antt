@@ -1,26 +1,23 @@
-use Rattle.check_flight.proofs.Words.{◌⊎◌, Contains, arith, inl, inr, take, ⊎_elim}
-use Rattle.check_outcomes.proofs.Lists.{one_more_of}
-use Rattle.check_flight.proofs.Judging.{each_view, views_more}
-use Rattle.check_flight.specs.Judged.{flight_view, flight_views, log_in, rules_of_log, runs_of_calls}
-use Rattle.check_flight.specs.Passages.{IsStatePassed}
-use Rattle.check_flight.specs.States.{FlightView, IsLed, IsStopped, runs_with}
-use Rattle.check_flight.specs.declared.state.FlightState.{FlightState}
-use Rattle.fx_flight.specs.Events.{happening_of}
+use Rattle.check_flight.proofs.Words.{◌⊎◌, Contains, arith, inl, inr, take, ⊎_elim, one_more_of, flight_view, flight_views, log_in, rules_of_log}
+use Rattle.check_flight.proofs.Words.{runs_of_calls, IsStatePassed, FlightView, IsLed, IsStopped, runs_with, FlightState, happening_of}
+use Rattle.check_flight.proofs.Judging.{each_view, passed_by, views_more}
 use Rattle.check_flight.proofs.explore.pass_all.Goals as goal
 
 pub loop-state-preserved : goal.loop-state-preserved
 loop-state-preserved c =
     let items = c.deref-state-items.ensures.value in
     let states = c.args.front.now.states.items in
-    let passed = c.in_ok-pass.ensures in
+    let next = c.in_ok-take_in.ensures in
     let runs = runs_with (runs_of_calls c.args.calls.now) (happening_of c.args.event.now) in
     one_more_of
     (λ (state : FlightState). IsStatePassed c.args.log.now (runs_of_calls c.args.calls.now) (take c.args.at (log_in c.args.log.now))
-    c.pass.new.nexts.states.items state (happening_of c.args.event.now)) states
+    c.take_in.new.self.states.items state (happening_of c.args.event.now)) states
     (λ k d low. ⊎_elim (λ stopped. inl stopped)
-    (λ led. inr (led.0, views_more runs c.loop-state.nexts.states.items c.pass.new.nexts.states.items passed.kept led.0 led.1, led.2))
+    (λ led. inr (led.0, views_more runs c.loop-state.nexts.states.items c.take_in.new.self.states.items next.kept led.0 led.1, led.2))
     (c.loop-state.invariant k d low))
-    (rw items at c.loop-state-test.true) (rw items at c.state-item.is) (passed.passed c.if-not-branch.false)
+    (rw items at c.loop-state-test.true) (rw items at c.state-item.is) (passed_by c.args.log.now (runs_of_calls c.args.calls.now)
+    (take c.args.at (log_in c.args.log.now)) c.take_in.new.self.states.items c.state-item.result (happening_of c.args.event.now) c.in_ok-passage.passage
+    c.in_ok-passage.ensures (next.taken c.if-not-branch.false))
 
 pub returns : goal.returns
 returns c = λ _.

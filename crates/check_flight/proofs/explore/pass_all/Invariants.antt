@@ -1,8 +1,4 @@
-use Rattle.check_flight.proofs.Words.{ℕ, ◌<◌, take, slice_index_or}
-use Rattle.check_flight.specs.Judged.{log_in, runs_of_calls}
-use Rattle.check_flight.specs.Passages.{IsStatePassed}
-use Rattle.fx_flight.specs.Events.{happening_of}
-use Rattle.check_flight.specs.declared.state.FlightState.{FlightState}
+use Rattle.check_flight.proofs.Words.{ℕ, ◌<◌, take, slice_index_or, log_in, runs_of_calls, IsStatePassed, happening_of, FlightState}
 use Rattle.check_flight.proofs.explore.pass_all.Given as goal
 
 abbrev pub invariant-loop-state : goal.invariant-loop-state

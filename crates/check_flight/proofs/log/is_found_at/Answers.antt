@@ -1,5 +1,4 @@
-use Rattle.check_outcomes.proofs.Lists.{inside_at}
-use Rattle.fx_flight.specs.Events.{happening_of}
+use Rattle.check_flight.proofs.Words.{inside_at, happening_of}
 use Rattle.check_flight.proofs.log.is_found_at.Goals as goal
 
 pub returns-in-Some : goal.returns-in-Some

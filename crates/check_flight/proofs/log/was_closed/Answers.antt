@@ -1,6 +1,5 @@
-use Rattle.check_flight.proofs.Words.{arith}
+use Rattle.check_flight.proofs.Words.{arith, FileClosed}
 use Rattle.check_flight.proofs.Judging.{not_logged}
-use Rattle.fx_flight.specs.Events.{FileClosed}
 use Rattle.check_flight.proofs.log.was_closed.Goals as goal
 
 pub returns : goal.returns

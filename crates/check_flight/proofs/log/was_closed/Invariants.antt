@@ -1,6 +1,4 @@
-use Rattle.check_flight.proofs.Words.{◌≡◌, ℕ, ◌<◌, slice_index_or}
-use Rattle.fx_flight.specs.Events.{FileClosed, happening_of}
-use Rattle.fx_flight.specs.declared.event.LogEvent.{LogEvent}
+use Rattle.check_flight.proofs.Words.{◌≡◌, ℕ, ◌<◌, slice_index_or, FileClosed, happening_of, LogEvent}
 use Rattle.check_flight.proofs.log.was_closed.Given as goal
 
 abbrev pub invariant-loop-event : goal.invariant-loop-event

@@ -1,6 +1,5 @@
-use Rattle.check_flight.proofs.Words.{arith}
+use Rattle.check_flight.proofs.Words.{arith, Freed}
 use Rattle.check_flight.proofs.Judging.{not_logged}
-use Rattle.fx_flight.specs.Events.{Freed}
 use Rattle.check_flight.proofs.log.was_freed.Goals as goal
 
 pub returns : goal.returns

@@ -1,7 +1,5 @@
-use Rattle.check_flight.proofs.Words.{◌-◌, ◌<◌, ◌∙◌, ap, arith, length, sym}
-use Rattle.check_outcomes.proofs.Words.{IfOk-weaker, get_or-map, length-map}
-use Rattle.fx_chain.specs.Completed.{completed_of}
-use Rattle.check_flight.proofs.Moves.{member_done}
+use Rattle.check_flight.proofs.Words.{◌-◌, ◌<◌, ◌∙◌, ap, arith, length, sym, IfOk-weaker, get_or-map, length-map, completed_of}
+use Rattle.check_flight.proofs.Runs.{member_done}
 use Rattle.check_flight.proofs.made.is_member_made.Goals as goal
 
 pub returns : goal.returns

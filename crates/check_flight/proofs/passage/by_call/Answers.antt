@@ -1,7 +1,5 @@
-use Rattle.check_flight.proofs.Words.{ap, arith, length}
+use Rattle.check_flight.proofs.Words.{ap, arith, length, log_in, rules_of_log, runs_of_calls, all_asked}
 use Rattle.check_flight.proofs.Judging.{called_led, denied_call}
-use Rattle.check_flight.specs.Judged.{log_in, rules_of_log, runs_of_calls}
-use Rattle.fx_chain.specs.Operation.{all_asked}
 use Rattle.check_flight.proofs.passage.by_call.Goals as goal
 
 pub returns-then-is_one_denied : goal.returns-then-is_one_denied

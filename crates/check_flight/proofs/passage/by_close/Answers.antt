@@ -1,7 +1,5 @@
-use Rattle.check_flight.proofs.Words.{ap, inr}
+use Rattle.check_flight.proofs.Words.{ap, inr, runs_of_calls, FlightView}
 use Rattle.check_flight.proofs.Judging.{copied}
-use Rattle.check_flight.specs.Judged.{runs_of_calls}
-use Rattle.check_flight.specs.States.{FlightView}
 use Rattle.check_flight.proofs.passage.by_close.Goals as goal
 
 pub returns-then-is_held : goal.returns-then-is_held
@@ -10,7 +8,7 @@ returns-then-is_held c = inr (c.is_held.ensures c.if-is_held.true)
 pub returns : goal.returns
 returns c =
     let copy = c.in_ok-next.ensures in
-    let same = copied (runs_of_calls c.args.calls.now) c.args.state.now c.in_ok-next.next copy.table copy.base copy.chains copy.removed copy.waiting in
+    let same = copied (runs_of_calls c.args.calls.now) c.args.state.now c.in_ok-next.next copy in
     record {
       table = copy.table;
       rests = ap (λ (view : FlightView). view.rests) same;

@@ -1,6 +1,4 @@
-use Rattle.check_flight.proofs.Words.{ap, inl, inr}
-use Rattle.check_flight.specs.Judged.{runs_of_calls}
-use Rattle.check_flight.specs.States.{FlightView}
+use Rattle.check_flight.proofs.Words.{ap, inl, inr, runs_of_calls, FlightView}
 use Rattle.check_flight.proofs.passage.by_found.Goals as goal
 
 pub returns-then-is_found_closed : goal.returns-then-is_found_closed

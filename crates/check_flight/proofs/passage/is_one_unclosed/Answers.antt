@@ -1,9 +1,5 @@
-use Rattle.check_flight.proofs.Words.{false≢true, slice_index_or, sym, ◌∙◌}
-use Rattle.fx_flight.specs.Events.{happening_of}
-use Rattle.std.proofs.lemmas.List.{take-map}
-use Rattle.std.proofs.lemmas.List.Elements.{Contains-get_or}
+use Rattle.check_flight.proofs.Words.{false≢true, slice_index_or, sym, ◌∙◌, happening_of, take-map, Contains-get_or, Identity}
 use Rattle.fx_base.specs.declared.mark.Mark.TheVariants.{Registered}
-use Rattle.fx_base.specs.Identity.{Identity}
 use Rattle.check_flight.proofs.passage.is_one_unclosed.Goals as goal
 
 abbrev no_file : Identity

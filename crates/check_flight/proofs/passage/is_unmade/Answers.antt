@@ -1,7 +1,4 @@
-use Rattle.check_flight.proofs.Words.{◌≡◌, ℕ, List, [], Contains, arith, length, slice_index_or, subst}
-use Rattle.std.proofs.lemmas.List.Elements.{Contains-get_or}
-use Rattle.check_flight.specs.declared.state.WaitingLook.{WaitingLook}
-use Rattle.fx_flight.specs.Flight.{IsLookDone}
+use Rattle.check_flight.proofs.Words.{◌≡◌, ℕ, List, [], Contains, arith, length, slice_index_or, subst, Contains-get_or, WaitingLook, IsLookDone}
 use Rattle.check_flight.proofs.passage.is_unmade.Goals as goal
 
 abbrev no_look : WaitingLook

@@ -1,10 +1,6 @@
-use Rattle.check_flight.proofs.Words.{◌≡◌, ◌∙◌, [], ◌∷◌, arith, length, sym}
-use Rattle.check_outcomes.proofs.Words.{IfOk-weaker, length-map, map}
-use Rattle.fx_chain.specs.Accepted.{members_of}
-use Rattle.fx_chain.specs.Completed.{all_completed}
-use Rattle.fx_chain.specs.Operation.{all_asked, asked_of}
-use Rattle.fx_chain.specs.declared.chain.Chain.{Chain}
-use Rattle.check_flight.proofs.Moves.{one_chain, one_done}
+use Rattle.check_flight.proofs.Words.{◌≡◌, ◌∙◌, [], ◌∷◌, arith, length, sym, IfOk-weaker, length-map, map, members_of, all_completed, all_asked}
+use Rattle.check_flight.proofs.Words.{asked_of, Chain}
+use Rattle.check_flight.proofs.Runs.{one_done, one_chain}
 use Rattle.check_flight.proofs.plan.are_done.Goals as goal
 
 abbrev no_chain : Chain

@@ -1,5 +1,4 @@
-use Rattle.check_flight.proofs.Words.{◌≡◌, take}
-use Rattle.fx_order.specs.Access.{accesses_of_chain}
+use Rattle.check_flight.proofs.Words.{◌≡◌, take, accesses_of_chain}
 use Rattle.check_flight.proofs.plan.order_of.Given as goal
 
 abbrev pub invariant-loop-access : goal.invariant-loop-access

@@ -1,9 +1,5 @@
-use Rattle.check_flight.proofs.Words.{refl, sym}
-use Rattle.check_outcomes.proofs.Words.{IfOk-weaker}
+use Rattle.check_flight.proofs.Words.{refl, sym, IfOk-weaker, catalogue_in, IsRingOf, answers_in, ring_of_slots}
 use Rattle.check_flight.proofs.Moves.{moves_first}
-use Rattle.check_flight.specs.Judged.{catalogue_in}
-use Rattle.check_flight.specs.Player.{IsRingOf, answers_in}
-use Rattle.fx_order.specs.Slots.{ring_of_slots}
 use Rattle.check_flight.proofs.player.is_flight.Goals as goal
 
 pub returns : goal.returns

@@ -1,7 +1,5 @@
-use Rattle.check_flight.proofs.Words.{arith, refl, slice_index_or, sym, take}
-use Rattle.check_outcomes.proofs.Words.{get_or-map}
+use Rattle.check_flight.proofs.Words.{arith, refl, slice_index_or, sym, take, get_or-map, AllSettled, happening_of}
 use Rattle.check_flight.proofs.Refuting.{next_front_is}
-use Rattle.fx_flight.specs.Events.{AllSettled, happening_of}
 use Rattle.check_flight.proofs.refute.advance.Goals as goal
 
 pub returns : goal.returns

@@ -1,11 +1,15 @@
-use Rattle.check_flight.proofs.Words.{arith, nil_from_length, sym, ◌∙◌}
-use Rattle.check_outcomes.proofs.Words.{eqb-true, length-map}
+use Rattle.check_flight.proofs.Words.{arith, nil_from_length, sym, ◌∙◌, eqb-true, length-map, happening_of}
 use Rattle.check_flight.proofs.Refuting.{refutes_first, refutes_last, refutes_next}
-use Rattle.fx_flight.specs.Events.{happening_of}
 use Rattle.check_flight.proofs.refute.refute_log.Goals as goal
 
 pub loop-at-init : goal.loop-at-init
-loop-at-init c = refutes_first c.args.log.now c.args.slots.now c.new-calls.ensures.items c.in_ok-front.ensures
+loop-at-init c = refutes_first c.args.log.now c.args.slots.now c.new-calls.ensures.items (record {
+  state = c.in_ok-state.state;
+  only = c.in_ok-front.ensures;
+  table = c.in_ok-state.ensures.table;
+  removed = c.in_ok-state.ensures.removed;
+  waiting = c.in_ok-state.ensures.waiting;
+})
 
 pub loop-at-preserved : goal.loop-at-preserved
 loop-at-preserved c =

@@ -1,4 +1,4 @@
-use Rattle.check_flight.specs.Passages.{IsRefutedAfter}
+use Rattle.check_flight.proofs.Words.{IsRefutedAfter}
 use Rattle.check_flight.proofs.refute.refute_log.Given as goal
 
 abbrev pub invariant-loop-at : goal.invariant-loop-at

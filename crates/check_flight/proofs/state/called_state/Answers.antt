@@ -1,7 +1,5 @@
-use Rattle.check_flight.proofs.Words.{arith, length}
-use Rattle.check_outcomes.proofs.Words.{length-map}
+use Rattle.check_flight.proofs.Words.{arith, length, length-map, requests_of, runs_of_calls}
 use Rattle.check_flight.proofs.Judging.{called}
-use Rattle.check_flight.specs.Judged.{requests_of, runs_of_calls}
 use Rattle.check_flight.proofs.state.called_state.Goals as goal
 
 pub returns-clause-leads : goal.returns-clause-leads

@@ -1,6 +1,4 @@
-use Rattle.check_flight.proofs.Words.{ℕ, ◌+◌, ◌<◌, ◌≤◌, length, run_at, slice_index_or}
-use Rattle.check_flight.specs.Judged.{runs_of_calls}
-use Rattle.check_outcomes.specs.Views.{not_begun}
+use Rattle.check_flight.proofs.Words.{ℕ, ◌+◌, ◌<◌, ◌≤◌, length, run_at, slice_index_or, runs_of_calls, not_begun}
 use Rattle.check_flight.proofs.state.count_over.Given as goal
 
 abbrev pub invariant-loop-j : goal.invariant-loop-j

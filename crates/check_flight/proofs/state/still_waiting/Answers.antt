@@ -1,6 +1,4 @@
-use Rattle.check_flight.proofs.Words.{slice_index_or}
-use Rattle.std.proofs.lemmas.List.Elements.{Contains-get_or}
-use Rattle.check_flight.specs.declared.state.WaitingLook.{WaitingLook}
+use Rattle.check_flight.proofs.Words.{slice_index_or, Contains-get_or, WaitingLook}
 use Rattle.check_flight.proofs.Judging.{waits_more}
 use Rattle.check_flight.proofs.state.still_waiting.Goals.{then-waits+in_ok-push, else-waits}
 use Rattle.check_flight.proofs.state.still_waiting.Goals as goal

@@ -1,9 +1,8 @@
+use Rattle.check_flight.proofs.Words.{runs_of_calls}
 use Rattle.check_flight.proofs.Judging.{without_first}
-use Rattle.check_flight.specs.Judged.{runs_of_calls}
 use Rattle.check_flight.proofs.state.trimmed.Goals as goal
 
 pub returns : goal.returns
 returns c =
-    let same = c.in_ok-same.ensures in
     without_first (runs_of_calls c.args.calls.now) c.args.state.now c.count_over-count.result c.count_over-count.ensures.over c.in_ok-same.same
-    same.table same.base same.chains same.removed same.waiting
+    c.in_ok-same.ensures

@@ -1,7 +1,5 @@
-use Rattle.check_flight.proofs.Words.{◌+◌, ◌∙◌, Rest, ap, file_removed_by, refl, step, subst, sym}
+use Rattle.check_flight.proofs.Words.{◌+◌, ◌∙◌, Rest, ap, file_removed_by, refl, step, subst, sym, log_in, rules_of_log, runs_of_calls, IsOneDenied}
 use Rattle.check_flight.proofs.Judging.{are_with, open_rest, stepped}
-use Rattle.check_flight.specs.Judged.{log_in, rules_of_log, runs_of_calls}
-use Rattle.check_flight.specs.States.{IsOneDenied}
 use Rattle.check_flight.proofs.step.by_access.Goals as goal
 
 pub returns-then-is_one_denied : goal.returns-then-is_one_denied

@@ -1,8 +1,4 @@
-use Rattle.check_flight.proofs.Words.{ℕ, ◌≤◌, length, take}
-use Rattle.fx_order.specs.Slots.{ring_of_slots}
-use Rattle.fx_flight.specs.Events.{all_happenings}
-use Rattle.check_flight.specs.Judged.{catalogue_in}
-use Rattle.check_flight.specs.States.{HasNoFlight}
+use Rattle.check_flight.proofs.Words.{ℕ, ◌≤◌, length, take, ring_of_slots, all_happenings, catalogue_in, HasNoFlight}
 use Rattle.check_flight.proofs.verdict.refuted_beginning.Given as goal
 
 abbrev pub invariant-loop : goal.invariant-loop

@@ -1,6 +1,6 @@
 use Rattle.check_flight.proofs.Judging.{limits_of}
+use Rattle.check_flight.proofs.Words.{all_asked}
 use Rattle.fx_chain.proofs.Accepted.{accepted-each}
-use Rattle.fx_chain.specs.Operation.{all_asked}
 use Rattle.check_flight.proofs.judged.ChainCall.of.Goals as goal
 
 pub invariant_of-result-clause-limits : goal.invariant_of-result-clause-limits

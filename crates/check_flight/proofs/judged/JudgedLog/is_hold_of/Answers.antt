@@ -1,6 +1,4 @@
-use Rattle.check_flight.proofs.Words.{◌∙◌, false≢true, sym}
-use Rattle.fx_flight.specs.Events.{happening_of}
-use Rattle.std.proofs.lemmas.List.{take-map}
+use Rattle.check_flight.proofs.Words.{◌∙◌, false≢true, sym, happening_of, take-map}
 use Rattle.check_flight.proofs.judged.JudgedLog.is_hold_of.Goals as goal
 
 pub returns : goal.returns

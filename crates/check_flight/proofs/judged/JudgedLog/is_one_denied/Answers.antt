@@ -1,6 +1,4 @@
-use Rattle.check_flight.proofs.Words.{refl}
-use Rattle.check_outcomes.proofs.Lists.{inside_at}
-use Rattle.fx_chain.specs.Completed.{completed_of}
+use Rattle.check_flight.proofs.Words.{refl, inside_at, completed_of}
 use Rattle.check_flight.proofs.judged.JudgedLog.is_one_denied.Goals as goal
 
 pub returns-then-is_denied : goal.returns-then-is_denied

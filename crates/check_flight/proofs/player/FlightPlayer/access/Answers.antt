@@ -1,9 +1,7 @@
-use Rattle.check_flight.proofs.Words.{◌≡◌, ◌+◌, ◌<◌, ◌∙◌, ap, arith, false≢true, length, refl, sym}
+use Rattle.check_flight.proofs.Words.{◌≡◌, ◌+◌, ◌<◌, ◌∙◌, ap, arith, false≢true, length, refl, sym, accesses_in, FlightCall}
 use Rattle.std.proofs.lemmas.List.{get_or_default}
-use Rattle.check_flight.proofs.Moves.{accesses_at, moves_access}
-use Rattle.check_flight.specs.Player.{accesses_in}
-use Rattle.check_flight.specs.declared.player.FlightCall.{FlightCall}
 use Rattle.std.specs.Vec.{with_item}
+use Rattle.check_flight.proofs.Moves.{accesses_at, moves_access}
 use Rattle.check_flight.proofs.player.FlightPlayer.access.Goals as goal
 
 pub returns : goal.returns

@@ -1,10 +1,6 @@
-use Rattle.check_flight.proofs.Words.{◌≡◌, ne_eqb, refl}
+use Rattle.check_flight.proofs.Words.{◌≡◌, ne_eqb, refl, HeldFile, rules, filter_same, filter, nat_eq, not}
 use Rattle.check_flight.proofs.Judging.{in_filter}
 use Rattle.check_flight.proofs.Moves.{moves_free}
-use Rattle.check_flight.specs.declared.hold.HeldFile.{HeldFile}
-use Rattle.std.proofs.Common.{rules}
-use Rattle.std.proofs.lemmas.Fn.{filter_same}
-use Rattle.std.specs.Prelude.{filter, nat_eq, not}
 use Rattle.check_flight.proofs.player.FlightPlayer.free.Goals as goal
 
 pub returns : goal.returns

@@ -1,5 +1,4 @@
-use Rattle.check_flight.proofs.Words.{arith, nil_from_length, sym, ◌∙◌}
-use Rattle.check_outcomes.proofs.Words.{eqb-true}
+use Rattle.check_flight.proofs.Words.{arith, nil_from_length, sym, ◌∙◌, eqb-true}
 use Rattle.check_flight.proofs.Moves.{moves_end}
 use Rattle.check_flight.proofs.player.FlightPlayer.may_settle.Goals as goal
 

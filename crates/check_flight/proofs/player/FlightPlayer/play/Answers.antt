@@ -1,8 +1,5 @@
-use Rattle.check_flight.proofs.Words.{◌≡◌, arith, length, take}
-use Rattle.check_outcomes.proofs.Words.{eqb-true, length-map, take_all}
-use Rattle.check_flight.proofs.Moves.{read_more}
-use Rattle.check_flight.specs.Judged.{log_in}
-use Rattle.fx_flight.specs.Events.{happening_of}
+use Rattle.check_flight.proofs.Words.{◌≡◌, arith, length, take, eqb-true, length-map, take_all, log_in, happening_of}
+use Rattle.check_flight.proofs.Judging.{read_more}
 use Rattle.check_flight.proofs.player.FlightPlayer.play.Goals as goal
 
 pub loop-made-init : goal.loop-made-init

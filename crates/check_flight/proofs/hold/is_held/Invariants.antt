@@ -1,6 +1,0 @@
-use Rattle.check_flight.proofs.Words.{◌≡◌, ℕ, ◌<◌, slice_index_or}
-use Rattle.check_flight.specs.declared.hold.HeldFile.{HeldFile}
-use Rattle.check_flight.proofs.hold.is_held.Given as goal
-
-abbrev pub invariant-loop-hold : goal.invariant-loop-hold
-invariant-loop-hold l = (k : ℕ) (d : HeldFile) → k < l.hold-index → (slice_index_or l.holds k d).file ≡ l.file → ⊥
