@@ -6,8 +6,7 @@ use Rattle.check_judge.proofs.Words.{Access, IsChainListed, place_at, AccessPlac
 use Rattle.check_judge.proofs.Words.{slice_get_within, take-append-drop, Vec, first_member, accesses_of_chain, AreChainsDone, ChainAccess, AreListsOf}
 use Rattle.check_judge.proofs.Words.{IsListFor, AreAccessPlaces, places_of_chain, add-zero, add_comm, AreChainsListed, parts_of, same_Some, ◌≢◌, ◌-◌}
 use Rattle.check_judge.proofs.Words.{slice_set, ◌≤◌, ◌==◌, filter, take_all, take-length, All-get_or, by_equality, eq-eqb, ne_eqb, get_or_read_under}
-use Rattle.check_judge.proofs.Words.{length_push, map_push, filter-append, each_set, slice_get_read, few_made, positions_of}
-use Rattle.fx_order.proofs.Accesses.{accesses_of_chain-append}
+use Rattle.check_judge.proofs.Words.{length_push, map_push, filter-append, each_set, slice_get_read, few_made, positions_of, accesses_of_chain-append}
 
 -- as many places as accesses
 pub own_listed : (catalogue : List FileEntry) (size : ℕ) (place : Place) (operation : Operation) (own : List Access) (c : Completed)

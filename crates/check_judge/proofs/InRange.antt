@@ -1,17 +1,18 @@
 -- The lines of a report have numbers that their types have.
 use Rattle.check_judge.proofs.Words.{◌≡◌, inl, inr, ℕ, zero, suc, ◌+◌, ◌<◌, ◌≤◌, ◌^◌, pos, List, [], ◌∷◌, length, take, drop, All, refl, subst, arith}
 use Rattle.check_judge.proofs.Words.{Option, Some, None, slice_get, get_or_from_slice_get, slice_get_within, All-append, All-cons, All-get_or}
-use Rattle.check_judge.proofs.Words.{All-head, All-nil, All-tail, FileEntry, Errno, ENOENT, Completed, completed, next_member, canceled, first_member}
-use Rattle.check_judge.proofs.Words.{severs, Asked, Operation, Place, accesses_of, accesses_of_chain, Access, ChainAccess, IsRequestDone, IsChainDone}
+use Rattle.check_judge.proofs.Words.{All-head, All-nil, All-tail, FileEntry, Errno, Completed, completed, next_member, canceled, first_member, severs}
+use Rattle.check_judge.proofs.Words.{Asked, Operation, Place, accesses_of, accesses_of_chain, Access, ChainAccess, IsRequestDone, IsChainDone}
 use Rattle.check_judge.proofs.Words.{AreChainsDone, either_way, AreFiles, length-drop, get_or-drop, get_or-take, get_or_past, length-take}
-use Rattle.check_judge.proofs.Words.{IsCompletionInRange, IsPlaceInRange, cases_lt, refusal, bytes_at, part_of, LONGEST_ENTRY, Allocates, ECANCELED}
-use Rattle.check_judge.proofs.Words.{both_parts, ◌==◌, not, filter, map, sym, ap, slice_get-get_or, slice_index_or, option_map, All-map}
-use Rattle.check_judge.proofs.Words.{tag_completion, tags_of, Closed, TagCompletion, IsFileInRange, runs_of, each_all, RingState, Reported}
-use Rattle.check_judge.proofs.Words.{IsOneOrder, table_of, lines_of, named_close, RingSlots, MayBeClosed, ring_with_slots, name_of, IsTrue, unwrap_or}
-use Rattle.check_judge.proofs.Words.{AreLinesInRange, IsCloseInRange, is_without, All-filter, AllByRecursion, completion_so, name_without_end}
-use Rattle.hex.specs.Hex.{IsBytes}
+use Rattle.check_judge.proofs.Words.{IsCompletionInRange, IsPlaceInRange, cases_lt, refusal, bytes_at, part_of, Allocates, both_parts, ◌==◌, not}
+use Rattle.check_judge.proofs.Words.{filter, map, sym, ap, slice_get-get_or, slice_index_or, option_map, All-map, tag_completion, tags_of, Closed}
+use Rattle.check_judge.proofs.Words.{IsFileInRange, runs_of, each_all, RingState, Reported, IsOneOrder, table_of, lines_of, named_close, RingSlots}
+use Rattle.check_judge.proofs.Words.{MayBeClosed, ring_with_slots, name_of, IsTrue, unwrap_or, AreLinesInRange, IsCloseInRange, is_without}
+use Rattle.check_judge.proofs.Words.{All-filter, AllByRecursion, completion_so, name_without_end, IsBytes, IsAllocationInRange}
+use Rattle.fx_base.specs.declared.catalogue.TheConstants.{LONGEST_ENTRY}
+use Rattle.fx_base.specs.declared.errno.Errno.TheVariants.{ECANCELED, ENOENT}
+use Rattle.fx_base.specs.declared.tag_completion.TagCompletion.{TagCompletion}
 use Rattle.check_judge.proofs.StrandClaims.{possible_of_chain}
-use Rattle.check_judge.specs.Claims.{IsAllocationInRange}
 use Rattle.check_judge.proofs.Refuting.{possible_all}
 use Rattle.check_judge.proofs.OrderFiles.{IsCounted, closed_in_range, may_close_all, short_runs}
 

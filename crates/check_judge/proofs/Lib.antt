@@ -1,6 +1,5 @@
 pub mod RequestClaims
 pub mod StrandClaims
-pub mod ChainClaims
 pub mod Refuting
 pub mod Words
 pub mod AccessPlaces

@@ -1,27 +1,27 @@
 -- The files that an order installs, closes and leaves.
 use Rattle.check_judge.proofs.Words.{◌≡◌, inl, inr, ⊎_elim, ℕ, ◌+◌, ◌<◌, ◌≤◌, List, [], ◌∷◌, ◌++◌, length, arith, flat_map, FileEntry, Mark}
 use Rattle.check_judge.proofs.Words.{Submitted, Completed, next_member, first_member, severs, Asked, Place, accesses_of_chain, Access, ChainAccess}
-use Rattle.check_judge.proofs.Words.{IsRequestDone, IsChainDone, AreChainsDone, length-done, Has, placed, either_way, by_equality, Installed}
-use Rattle.check_judge.proofs.Words.{OneInstalled, has_either, placed-append, Closed, sym, ap, ◌∙◌, ◌^◌, All, Contains, subst, All-map, AreInRange}
-use Rattle.check_judge.proofs.Words.{IsFileInRange, IsAccepted, IsChain, members_of, runs_of, Chain, each_all, RingState, Reported, accesses_of}
-use Rattle.check_judge.proofs.Words.{RingSlots, IsOneOrder, table_of, ring_with_slots, AreFrom, IsFileAtSlot, MayBeClosed, ◌⊎◌, All-weaker, HasNone}
-use Rattle.check_judge.proofs.Words.{MayCloseAll, left_from, removes_contained, each_closed_file_is_known, in_limits, HasCounted, files_removed_in}
-use Rattle.check_judge.proofs.Words.{fault_of, IsRingKept, MOST_SUBMISSIONS, None, false, zero, suc, map, drop, refl, Some, slice_index_or}
-use Rattle.check_judge.proofs.Words.{length-map, slice_get-get_or, is_lt, name_at, all_completed, completed_of, all_asked, asked_of, Slots}
-use Rattle.check_judge.proofs.Words.{named_close_of, named_close, named_closes, ClosedLine, AreApart, name_of, drop_all, get_or-map, get_or_default}
-use Rattle.check_judge.proofs.Words.{HasDistinctMarks, each_placed, Contains-permutation, IsPermutation-sym, Completion, Request}
-use Rattle.fx_chain.specs.Chains.{chains_of}
-use Rattle.fx_chain.proofs.Accepted.{accepted-chains, members-are-runs}
-use Rattle.fx_chain.proofs.Runs.{are_runs}
-use Rattle.fx_order.specs.Laws.{AreKnown, IsOfNext, IsThere}
-use Rattle.fx_order.proofs.Placed.{removed_from}
-use Rattle.fx_order.proofs.PlacedNew.{AnyPlace, InLimits, chain_places, has_in_chain}
-use Rattle.fx_table.specs.declared.limits.TheConstants.{MAX_CHAINS}
+use Rattle.check_judge.proofs.Words.{IsRequestDone, IsChainDone, AreChainsDone, either_way, by_equality, Installed, OneInstalled, Closed, sym, ap}
+use Rattle.check_judge.proofs.Words.{◌∙◌, ◌^◌, All, Contains, subst, All-map, AreInRange, IsFileInRange, IsAccepted, IsChain, members_of, runs_of}
+use Rattle.check_judge.proofs.Words.{Chain, each_all, RingState, Reported, accesses_of, RingSlots, IsOneOrder, table_of, ring_with_slots, AreFrom}
+use Rattle.check_judge.proofs.Words.{IsFileAtSlot, MayBeClosed, ◌⊎◌, All-weaker, HasNone, MayCloseAll, removes_contained, HasCounted}
+use Rattle.check_judge.proofs.Words.{files_removed_in, fault_of, IsRingKept, MOST_SUBMISSIONS, None, false, zero, suc, map, drop, refl, Some}
+use Rattle.check_judge.proofs.Words.{slice_index_or, length-map, slice_get-get_or, is_lt, name_at, all_completed, completed_of, all_asked, asked_of}
+use Rattle.check_judge.proofs.Words.{Slots, named_close_of, named_close, named_closes, ClosedLine, AreApart, name_of, drop_all, get_or-map}
+use Rattle.check_judge.proofs.Words.{get_or_default, HasDistinctMarks, each_placed, Contains-permutation, IsPermutation-sym, Request, chains_of}
+use Rattle.check_judge.proofs.Words.{accepted-chains, members-are-runs, are_runs}
 use Rattle.check_lines.proofs.Cuts.{from_here}
-use Rattle.fx_base.proofs.Marks.{same_cmp as derived_cmp}
-use Rattle.fx_base.specs.CloseList.{IsInOrderOfMark}
-use Rattle.fx_base.specs.contracts.mark.MarkOrd.TheImpl.{ghosts}
 use Rattle.check_lines.proofs.Marks.{neither_below, same_cmp}
+use Rattle.fx_base.specs.CloseList.{IsInOrderOfMark}
+use Rattle.fx_chain.specs.declared.completion.Completion.{Completion}
+use Rattle.fx_order.proofs.ChainsFront.{length-done}
+use Rattle.fx_order.proofs.OneRing.{each_closed_file_is_known, in_limits}
+use Rattle.fx_order.proofs.Placed.{Has, has_either, left_from, placed, placed-append, removed_from}
+use Rattle.fx_order.proofs.PlacedNew.{AnyPlace, InLimits, chain_places, has_in_chain}
+use Rattle.fx_order.specs.Laws.{AreKnown, IsOfNext, IsThere}
+use Rattle.fx_table.specs.declared.limits.TheConstants.{MAX_CHAINS}
+use Rattle.fx_base.proofs.Marks.{same_cmp as derived_cmp}
+use Rattle.fx_base.specs.contracts.mark.MarkOrd.TheImpl.{ghosts}
 
 module _ (s : ℕ) (f : Closed) where
   abbrev Places : List Access → Type 0

@@ -1,21 +1,27 @@
 -- The plays of a script go along with the text, command by command.
-use Rattle.check_judge.proofs.Words.{◌≡◌, ◌≤◌, List, sym, subst, IsAccepted, Asked, RingState, IsRing, ring_of, Reported, submitted_rings, IsOneOrder}
+use Rattle.check_judge.proofs.Words.{◌≡◌, ◌≤◌, List, sym, subst, IsAccepted, Asked, RingState, IsRing, ring_of, Reported, IsOneOrder}
 use Rattle.check_judge.proofs.Words.{each_order_is_a_history, NonePast, ring_with_files, shows_ring, ◌↔◌, ◌-◌, ℕ, ◌++◌, drop, length, length-append}
-use Rattle.check_judge.proofs.Words.{take, ap, ◌∙◌, arith, drop-append_seam, take-append_seam, length-take-le, take-append-drop, FileEntry}
-use Rattle.check_judge.proofs.Words.{RingContents, Instruction, Prints, RingSlots, BeginsWith, IsMet, ContinuesText, IsStep, Met, Here, Apart}
-use Rattle.check_judge.proofs.Words.{ring_with_slots, inl, inr, ⊎_elim, ◌⊎◌, Some, None, ENOMEM, MOST_SLOTS, LeadsNowhere, table_of_slots}
-use Rattle.check_judge.proofs.Words.{result_line, negated, AreInRange, IsRingKept, MOST_REGISTRATIONS, MOST_SUBMISSIONS, suc, ◌+◌, ◌<◌, [], ◌∷◌, refl}
-use Rattle.check_judge.proofs.Words.{slice_index_or, Option, append-nil, append_assoc, length-drop, option_to_list, take_all, new_ring}
-use Rattle.check_judge.proofs.Words.{instruction_of, instructions_of, PrintsEnd, MayPrintBy, LeadsTo, Fault, Order, add-zero, zero-add, add-one}
-use Rattle.check_judge.proofs.Words.{drop-drop, HasNoCloses, PrintsAll, take-add, Meaning, MayPrintAllBy, PrintsAllBy, mapped_at, shown}
-use Rattle.check_lines.specs.Calls.{IsCall, IsLineOf, after_call, memory_word}
-use Rattle.check_lines.proofs.Calls.{Answers, Fails, answers, may_fail, never_fails, not_failed, one_line_of, called_registrations, called_ring}
-use Rattle.check_lines.proofs.Calls.{called_submissions}
-use Rattle.fx_language.specs.declared.command.Command.{Command}
-use Rattle.check_lines.proofs.PlaysBegin.{command_begins, plays_begin}
+use Rattle.check_judge.proofs.Words.{take, ap, ◌∙◌, arith, length-take-le, take-append-drop, FileEntry, RingContents, Instruction, Prints, RingSlots}
+use Rattle.check_judge.proofs.Words.{BeginsWith, IsMet, ContinuesText, IsStep, ring_with_slots, inl, inr, ⊎_elim, ◌⊎◌, Some, None, ENOMEM, MOST_SLOTS}
+use Rattle.check_judge.proofs.Words.{LeadsNowhere, table_of_slots, result_line, negated, AreInRange, IsRingKept, MOST_SUBMISSIONS, suc, ◌+◌, ◌<◌, []}
+use Rattle.check_judge.proofs.Words.{◌∷◌, refl, slice_index_or, Option, append-nil, append_assoc, length-drop, option_to_list, take_all, new_ring}
+use Rattle.check_judge.proofs.Words.{instruction_of, instructions_of, MayPrintBy, LeadsTo, Fault, Order, add-zero, zero-add, add-one, HasNoCloses}
+use Rattle.check_judge.proofs.Words.{Meaning, MayPrintAllBy, PrintsAllBy, mapped_at, shown}
 use Rattle.check_judge.specs.Judged.{IsBrokenFrom, IsJudged, IsJudgedFrom, MayPrintFront, PrintsBeginning}
+use Rattle.check_judge.specs.declared.command.Met.{Met}
+use Rattle.check_judge.specs.declared.command.Met.TheVariants.{Apart, Here}
 use Rattle.check_judge.specs.declared.judgement.Judgement.{Judgement}
 use Rattle.check_judge.specs.declared.judgement.Judgement.TheVariants.{Legal, NotLegal, Undecided}
+use Rattle.check_lines.proofs.Calls.{Answers, Fails, answers, called_registrations, called_ring, called_submissions, may_fail, never_fails}
+use Rattle.check_lines.proofs.Calls.{not_failed, one_line_of}
+use Rattle.check_lines.proofs.PlaysBegin.{command_begins, plays_begin}
+use Rattle.check_lines.specs.Calls.{IsCall, IsLineOf, after_call, memory_word}
+use Rattle.fx_language.specs.declared.command.Command.{Command}
+use Rattle.fx_ring.proofs.SubmittedRing.{submitted_rings}
+use Rattle.fx_ring.specs.declared.ring.TheConstants.{MOST_REGISTRATIONS}
+use Rattle.fx_script.specs.Play.{PrintsAll, PrintsEnd}
+use Rattle.std.proofs.Math.Seq.{drop-append_seam, take-add, take-append_seam}
+use Rattle.std.proofs.lemmas.List.{drop-drop}
 
 pub order_rings : {old left : RingState} {requests : List Asked} {report : Reported} → IsRing old → NonePast old.size old.at → old.size ≤ 256
     → IsAccepted requests → IsOneOrder old requests report left → IsRing left

@@ -7,10 +7,10 @@ use Rattle.check_judge.proofs.Words.{none-some, Brings, contains_none, Slots, re
 use Rattle.check_judge.proofs.Words.{files_removed_in, Allocates, IsOneOrder, table_of, AreDone, AreClaims, IsAllocationInRange, IsOutcome, same_size}
 use Rattle.check_judge.proofs.Words.{◌-◌, Removes, emptied, removes_contained, IsBrought, IsKnown, IsPermutation-sym, Contains-permutation, runs_of}
 use Rattle.check_judge.proofs.Words.{IsRecordedOutcome, IsRefuted, recorded_report, Recorded, no_file_that_stays_is_closed}
-use Rattle.check_judge.proofs.RequestClaims.{at_after, found_at, some_or_none, untouched, same_range}
-use Rattle.check_judge.proofs.StrandClaims.{of_its_chain}
 use Rattle.check_judge.specs.declared.part.PartVerdict.{PartVerdict}
 use Rattle.check_judge.specs.declared.part.PartVerdict.TheVariants.{Refuted}
+use Rattle.check_judge.proofs.RequestClaims.{at_after, found_at, some_or_none, untouched, same_range}
+use Rattle.check_judge.proofs.StrandClaims.{of_its_chain}
 
 module _ (closes : List Closed) (file : Closed) where
   -- an access that leaves the file found it

@@ -1,28 +1,27 @@
 -- The claims of requests, by what they intend, and the accesses that fit them.
 use Rattle.check_judge.proofs.Words.{FileEntry, bytes_at, Closed, installed, Completed, completed_of, Opens, Operation, operation_of, Place}
-use Rattle.check_judge.proofs.Words.{Any, Slot, AreAppended, Concludes, Fits, IsAllocationInRange, IsAnsweredBy, LeavesSo, Possibly, Expected, found_by}
-use Rattle.check_judge.proofs.Words.{left_by, touched, allows, cell_at, cell_with, cells_after, is_same, is_taken, may_leave, suits, IsCell}
-use Rattle.check_judge.proofs.Words.{ShowsFile, Cell, Claim, At, Full, Leaves, Empty, File, Same, Resident, Condition, Stop, Permits, Table}
-use Rattle.check_judge.proofs.Words.{file_removed_by, table_with, Allocates, FindsFull, Looks, Takes, Access}
-use Rattle.check_judge.proofs.Words.{by_equality, unchanged, changed_at, has_slot, All, Contains, Err, IsSome, List, None, Ok, Option, Result, Some}
-use Rattle.check_judge.proofs.Words.{[], ap, append_assoc, arith, eq-eqb, false, if◌then◌else◌, inl, inr, int_lt, is_some, length, map, negsuc, pos}
-use Rattle.check_judge.proofs.Words.{refl, slice_get, subst, suc, sym, take, true, zero, ℕ, ℤ, ◌++◌, ◌+◌, ◌<◌, ◌||◌, ◌∙◌, ◌∷◌, ◌≡◌, ◌⊎◌, ne_eqb}
-use Rattle.check_judge.proofs.Words.{true≢false, ⊎_elim, and_from, cases_Bool, take_more, All-head, All-map, All-tail, All-weaker}
-use Rattle.check_judge.proofs.Words.{slice_get_within, same_Some, get_or_from_slice_get, AllByRecursion, AllZip, same_size, list_all-from_AllPass}
-use Rattle.check_judge.specs.Claims.{IsDecided, IsMade, answer}
+use Rattle.check_judge.proofs.Words.{AreAppended, Concludes, Fits, IsAllocationInRange, IsAnsweredBy, LeavesSo, Possibly, Expected, found_by, left_by}
+use Rattle.check_judge.proofs.Words.{touched, cells_after, IsCell, ShowsFile, Cell, Claim, At, Full, Leaves, Empty, File, Same, Resident, Condition}
+use Rattle.check_judge.proofs.Words.{Permits, Table, file_removed_by, table_with, Allocates, FindsFull, Looks, Takes, Access, by_equality, unchanged}
+use Rattle.check_judge.proofs.Words.{changed_at, has_slot, All, Contains, Err, IsSome, List, None, Ok, Option, Result, Some, [], ap, append_assoc}
+use Rattle.check_judge.proofs.Words.{arith, eq-eqb, false, if◌then◌else◌, inl, inr, int_lt, is_some, length, map, negsuc, pos, refl, slice_get, subst}
+use Rattle.check_judge.proofs.Words.{suc, sym, take, true, zero, ℕ, ℤ, ◌++◌, ◌+◌, ◌<◌, ◌||◌, ◌∙◌, ◌∷◌, ◌≡◌, ◌⊎◌, ne_eqb, true≢false, ⊎_elim, and_from}
+use Rattle.check_judge.proofs.Words.{cases_Bool, take_more, All-head, All-map, All-tail, All-weaker, slice_get_within, same_Some}
+use Rattle.check_judge.proofs.Words.{get_or_from_slice_get, AllByRecursion, AllZip, same_size, list_all-from_AllPass, IsDecided, IsMade, answer}
+use Rattle.check_judge.proofs.Words.{IsOpened, Closes, Reads, Updates, nat_tests, all_zipped_more}
 use Rattle.check_judge.specs.declared.answered.AnsweredRequest.{AnsweredRequest}
+use Rattle.check_judge.specs.declared.judgement.Stop.{Stop}
+use Rattle.check_search.specs.Machine.{allows, cell_at, cell_with, is_same, is_taken, may_leave, suits}
 use Rattle.check_search.specs.declared.claim.Condition.TheVariants.{Nothing, Something}
 use Rattle.fx_base.proofs.Entries.{entry_named}
-use Rattle.fx_chain.specs.Intents.{IsOpened, answer_at_table, bytes_read, intents_of, list_intents}
-use Rattle.fx_chain.specs.Operation.{Closes, Reads, Updates}
+use Rattle.fx_chain.specs.Intents.{answer_at_table, bytes_read, intents_of, list_intents}
 use Rattle.fx_chain.specs.declared.intent.Finding.{Finding}
-use Rattle.fx_chain.specs.declared.intent.Finding.TheVariants.{At as FoundAt}
 use Rattle.fx_chain.specs.declared.intent.Intent.{Intent}
 use Rattle.fx_chain.specs.declared.intent.Intent.TheVariants.{Allocate, Look, Take}
+use Rattle.fx_chain.specs.declared.request.Target.TheVariants.{Any, Slot}
 use Rattle.fx_order.proofs.Intents.{single}
 use Rattle.fx_order.specs.Access.{IsOf, finding_of, last_finding}
-use Rattle.std.proofs.lemmas.Bool.Decides.{nat_tests}
-use Rattle.std.proofs.lemmas.Slice.Zip.{all_zipped_more}
+use Rattle.fx_chain.specs.declared.intent.Finding.TheVariants.{At as FoundAt}
 
 -- what was decided of all b is decided of all a, if each a has its b
 pub decides_by : (A B X : Type 0) (P : A → Type 0) (Q : B → Type 0) (IsRight : X → A → Type 0) (WasRight : X → B → Type 0) (r : Result X Stop)

@@ -7,13 +7,16 @@ use Rattle.check_judge.proofs.Words.{slot_claimed, strand_for, Cell, Claim, At, 
 use Rattle.check_judge.proofs.Words.{All, slice_index, slice_index_or, slice_set, Option, option_to_list, length-map, length-set, All-contains}
 use Rattle.check_judge.proofs.Words.{Contains-append_right, slice_get_within, Table, Permits, PermitsAll, table_with, table_after, file_removed_by}
 use Rattle.check_judge.proofs.Words.{files_removed_in, Standing, HasNoOrder, table_of_slots, eq-eqb, ◌==◌, IsEndOfClaims, Ends, cells_after}
-use Rattle.check_judge.proofs.Words.{is_staying, may_stay, next, IsCell, ShowsFile, starting, has_slot, Resident, All-weaker, ne_eqb, true≢false}
-use Rattle.check_judge.proofs.Words.{length-drop, drop_more, drop_all, cases_Bool, list_all-from_AllPass, same_Some, slice_get_cases, slice_get_past}
-use Rattle.check_judge.proofs.Words.{not_own, Slots, each_set}
-use Rattle.check_search.specs.Machine.{HasNoEnd}
-use Rattle.check_judge.proofs.RequestClaims.{allowed, cells_follow, at_after, moved, some_or_none, untouched}
-use Rattle.std.proofs.lemmas.List.Folds.{list_any_at}
+use Rattle.check_judge.proofs.Words.{is_staying, may_stay, next, IsCell, ShowsFile, has_slot, Resident, All-weaker, ne_eqb, true≢false, length-drop}
+use Rattle.check_judge.proofs.Words.{drop_more, drop_all, cases_Bool, list_all-from_AllPass, same_Some, slice_get_cases, slice_get_past, not_own}
+use Rattle.check_judge.proofs.Words.{Slots, each_set, Completed, next_member, first_member, severs, Asked, Place, AreDone, AreMembersDone}
+use Rattle.check_judge.proofs.Words.{Possibly, IsRequestDone, take, both_parts, parts_of}
 use Rattle.check_search.proofs.Uneven.{slots_after}
+use Rattle.check_search.specs.Machine.{HasNoEnd}
+use Rattle.check_search.specs.Starts.{starting}
+use Rattle.std.proofs.lemmas.List.Folds.{list_any_at}
+use Rattle.check_judge.proofs.RequestClaims.{allowed, cells_follow, at_after, moved, some_or_none, untouched}
+use Rattle.check_judge.specs.declared.answered.ClaimSetting.{ClaimSetting}
 
 -- a property of an order's accesses holds of its chains' accesses
 pub possible_of_chain : (size : ℕ) (range : ℕ × ℕ) (chain : ℕ) (order : List ChainAccess) → AllByRecursion (IsAllocationInRange size range) (accesses_of order)
@@ -315,3 +318,35 @@ no_order slots closes chains cells strands same all strands_are is none order pl
     } in
     let path = along closes strands cells are.once order (starting strands cells) begins played.permitted played.removed played.stay in
     (rw is at none) path.0 path.1
+
+module _ (setting : ClaimSetting) where
+  -- the accesses of a member that wasn't canceled, and those of the later ones
+  pub member_parts : (place : Place) (request : Asked) (requests : List Asked) (c : Completed) (cs : List Completed) (accesses : List Access)
+      → Possibly setting.size setting.range (AreMembersDone setting false place (request ∷ requests) (c ∷ cs)) accesses
+      → (own : List Access) × (others : List Access) × (accesses ≡ own ++ others)
+      × Possibly setting.size setting.range (λ l. IsRequestDone setting.catalogue.now setting.size place request.operation l c) own
+      × Possibly setting.size setting.range (AreMembersDone setting (severs request c) (next_member place) requests cs) others
+  member_parts place request requests c cs accesses done =
+      let (own, others, d, ds, whole, is, made, behind) = done.1 in
+      let parts = both_parts (IsAllocationInRange setting.size setting.range) own others (rw whole at done.0) in
+      let head : d ≡ c = cc in
+      let tail : ds ≡ cs = cc in
+      (own, others, whole, (parts.0, rw head at made), (parts.1, rw (head, tail) at behind))
+
+  -- the accesses and completions of a chain, and those of the later ones
+  pub chain_parts : (submission chain : ℕ) (run : List Asked) (runs : List (List Asked)) (cs own others : List Completed)
+      → own ≡ take (length run) cs → others ≡ drop (length run) cs → (order : List ChainAccess)
+      → AreDone setting.catalogue.now setting.size setting.range submission chain (run ∷ runs) cs order
+      → Possibly setting.size setting.range (AreMembersDone setting false (first_member submission chain) run own) (accesses_of_chain chain order)
+      × AreDone setting.catalogue.now setting.size setting.range submission (chain + 1) runs others order
+  chain_parts submission chain run runs cs own others front back order done =
+      let p = parts_of setting.catalogue.now setting.size submission chain run runs order cs done.done in
+      ((possible_of_chain setting.size setting.range chain order done.possible, rw front p.0), record { possible = done.possible; done = rw back p.1 })
+
+-- the claims of one chain more
+pub claims_more : (closes : List Closed) (lists : List (Vec Claim)) (own : Vec Claim) (order : List ChainAccess) → AreClaims closes lists order
+    → AllZip (Fits closes) own.items (accesses_of_chain (length lists + 1) order) → AreClaims closes (lists ++ own ∷ []) order
+claims_more closes lists own order so fits = λ k those at. elim (get_push lists k at) [
+  | inl old ↦ so k those old
+  | inr new ↦ rw (sym new.1, new.0) fits
+]

@@ -1,17 +1,20 @@
 -- Accepted submissions, and the lines that a text goes on with.
 use Rattle.check_judge.proofs.Words.{◌≡◌, ℕ, ◌+◌, ◌≤◌, List, length, map, filter, not, ◌==◌, take, sym, ap, subst, ◌∙◌, arith, Some, refl, lt-leb}
 use Rattle.check_judge.proofs.Words.{FileEntry, tags_of, all_completed, Asked, runs_of, IsOneOrder, ChainAccess, MOST_SLOTS, RingState, IsRing}
-use Rattle.check_judge.proofs.Words.{ring_of, Reported, MOST_SUBMISSIONS, SubmitsAll, report_text, Closed, named_close_of, lines_in, ReportLines}
-use Rattle.check_judge.proofs.Words.{lines_of, lines_text, named_closes, CameBy, recorded_report, RingSlots, Recorded, IsRingKept, BeginsWith, MayPrintBy}
-use Rattle.check_judge.proofs.Words.{AreAccessPlaces, AreChainsDone, Order, Bool, MatchBool, MatchOption, Option, Prints, PrintsReport, RingContents}
-use Rattle.check_judge.proofs.Words.{false, nat_le, refused_line, too_many_line, ◌↔◌, ring_with_slots, printed_lines, IsOrderOf, ring_left, HasLines}
-use Rattle.check_judge.proofs.Words.{◌++◌, None, Result, Ok, Err, Lines, ReadsReport, ContinuesText, LeadsNowhere, LeadsTo, AreApart, YieldsKnown}
-use Rattle.check_judge.proofs.Words.{Fault, IsReportBefore, YieldsCloses, each_report_leads_to_one_ring, one_at, IsRefuted, each_order_is_a_history}
-use Rattle.fx_chain.specs.declared.fault.CutFault.{CutFault}
+use Rattle.check_judge.proofs.Words.{ring_of, Reported, MOST_SUBMISSIONS, SubmitsAll, Closed, named_close_of, lines_in, lines_of, lines_text}
+use Rattle.check_judge.proofs.Words.{named_closes, CameBy, recorded_report, RingSlots, Recorded, IsRingKept, BeginsWith, MayPrintBy, AreAccessPlaces}
+use Rattle.check_judge.proofs.Words.{AreChainsDone, Order, Bool, MatchOption, Option, Prints, PrintsReport, RingContents, false, nat_le, refused_line}
+use Rattle.check_judge.proofs.Words.{too_many_line, ◌↔◌, ring_with_slots, printed_lines, IsOrderOf, ring_left, HasLines, ◌++◌, None, Result, Ok, Err}
+use Rattle.check_judge.proofs.Words.{Lines, ReadsReport, ContinuesText, LeadsNowhere, LeadsTo, AreApart, YieldsKnown, Fault, IsReportBefore}
+use Rattle.check_judge.proofs.Words.{YieldsCloses, one_at, IsRefuted, each_order_is_a_history, CutFault}
+use Rattle.check_lines.proofs.CompletionTexts.{each_request}
+use Rattle.check_lines.specs.declared.report_lines.ReportLines.{ReportLines}
+use Rattle.std.specs.Bool.{MatchBool}
+use Rattle.fx_order.proofs.OneRing.{each_report_leads_to_one_ring}
+use Rattle.fx_order.proofs.Ordered.{each_history_is_an_order}
+use Rattle.fx_script.specs.Text.{report_text}
 use Rattle.std.proofs.lemmas.Simd.{map-map}
 use Rattle.check_judge.proofs.OrderFiles.{IsCounted, left_in_range, are_from, may_close_all}
-use Rattle.fx_order.proofs.Ordered.{each_history_is_an_order}
-use Rattle.check_lines.proofs.CompletionTexts.{each_request}
 use Rattle.check_judge.proofs.Plays.{rest_behind}
 use Rattle.check_judge.proofs.InRange.{report_in_range}
 

@@ -1,13 +1,14 @@
--- Claims: what completions imply for the accesses that were made, one claim for each access.
+-- Claims: what completions imply for the accesses that were made, one claim for each access, and
+-- the claims of all chains of a submission.
 use Rattle.std.specs.Prelude.{◌≡◌, ℕ, ◌+◌, ◌<◌, ◌≤◌, pos, int_lt, true, List, [], ◌++◌, length}
-use Rattle.std.specs.Prelude.{slice_get, slice_index_or, Option, Some, None, Result, Ok, Err}
+use Rattle.std.specs.Prelude.{slice_get, slice_index_or, Option, Some, None, Result, Ok, Err, Bool}
 use Rattle.std.specs.Global.{Vec}
 use Rattle.std.specs.List.{AllZip, AllByRecursion}
 use Rattle.fx_base.specs.Identity.{Identity}
 use Rattle.fx_base.specs.declared.open_file.Closed.{Closed}
 use Rattle.fx_chain.specs.Completed.{Completed, completed, completed_of}
 use Rattle.fx_chain.specs.Intents.{answer_at_table, intents_of}
-use Rattle.fx_chain.specs.Operation.{operation_of}
+use Rattle.fx_chain.specs.Operation.{operation_of, Asked}
 use Rattle.fx_chain.specs.declared.completion.Place.{Place}
 use Rattle.fx_chain.specs.declared.intent.Finding.{Finding}
 use Rattle.fx_chain.specs.declared.intent.Finding.TheVariants.{At as FoundAt, Free}
@@ -15,7 +16,7 @@ use Rattle.fx_chain.specs.declared.intent.Finding.TheVariants.{Full as FoundFull
 use Rattle.fx_chain.specs.declared.intent.Intent.{Intent}
 use Rattle.fx_chain.specs.declared.intent.Intent.TheVariants.{Allocate, Look, Take}
 use Rattle.fx_order.specs.Access.{IsOf, file_removed_by, accesses_of_chain, finding_of}
-use Rattle.fx_order.specs.Access.{last_finding}
+use Rattle.fx_order.specs.Access.{last_finding, accesses_of}
 use Rattle.fx_order.specs.declared.access.Access.TheVariants.{Looks, Puts, Clears, Takes, Allocates}
 use Rattle.fx_order.specs.declared.access.Access.TheVariants.{FindsFull}
 use Rattle.fx_order.specs.declared.access.Access.{Access}
@@ -23,8 +24,7 @@ use Rattle.fx_order.specs.declared.access.ChainAccess.{ChainAccess}
 use Rattle.check_search.specs.Residents.{IsResident}
 use Rattle.check_search.specs.declared.claim.Condition.{Condition}
 use Rattle.check_search.specs.declared.claim.Condition.TheVariants.{Anything, Nothing}
-use Rattle.check_search.specs.declared.claim.Condition.TheVariants.{NothingToTake}
-use Rattle.check_search.specs.declared.claim.Condition.TheVariants.{Something, Bytes}
+use Rattle.check_search.specs.declared.claim.Condition.TheVariants.{NothingToTake, Something, Bytes}
 use Rattle.check_search.specs.declared.claim.Leaves.{Leaves}
 use Rattle.check_search.specs.declared.claim.Leaves.TheVariants.{Same, Empty, File}
 use Rattle.check_search.specs.declared.claim.Claim.{Claim}
@@ -33,6 +33,10 @@ use Rattle.check_judge.specs.declared.judgement.Stop.{Stop}
 use Rattle.check_judge.specs.declared.judgement.Stop.TheVariants.{Refuted}
 use Rattle.check_judge.specs.declared.answered.AnsweredRequest.{AnsweredRequest}
 use Rattle.check_judge.specs.declared.answered.ClaimSetting.{ClaimSetting}
+use Rattle.std.specs.Bool.{MatchBool}
+use Rattle.fx_base.specs.Catalogue.{FileEntry}
+use Rattle.fx_chain.specs.Explains.{canceled}
+use Rattle.fx_order.specs.Requests.{AreChainsDone, IsChainDone}
 
 -- the slot of an access
 abbrev pub touched : Access → Option ℕ
@@ -160,3 +164,19 @@ IsDecided place answer intent = (found : Option Finding) → answer found ≡ an
 abbrev pub AreClaims : List Closed → List (Vec Claim) → List ChainAccess → Type 0
 AreClaims closes chains order = (k : ℕ) (claims : Vec Claim) → slice_get chains k ≡ Some claims
     → AllZip (Fits closes) claims.items (accesses_of_chain (k + 1) order)
+
+-- the chains from this one on have these completions by an order whose accesses this table may
+-- permit
+pub record AreDone (catalogue : List FileEntry) (size : ℕ) (range : ℕ × ℕ) (submission chain : ℕ)
+    (runs : List (List Asked)) (completions : List Completed) (order : List ChainAccess)
+    : Type 0 where
+  pub possible : AllByRecursion (IsAllocationInRange size range) (accesses_of order)
+  pub done : AreChainsDone catalogue size submission chain runs order completions
+
+-- the members of a chain from this place on were canceled if it was cut, else they made these
+-- accesses
+abbrev pub AreMembersDone :
+    ClaimSetting → Bool → Place → List Asked → List Completed → List Access → Type 0
+AreMembersDone setting cut place requests completions accesses =
+    MatchBool cut ((accesses ≡ []) × (completions ≡ canceled place requests))
+    (IsChainDone setting.catalogue.now setting.size place requests accesses completions)

@@ -1,15 +1,9 @@
 pub mod Verdict
 pub mod Claims
-pub mod Chains
-pub mod Strands
 pub mod Played
-pub mod Known
 pub mod Kept
-pub mod Met
 pub mod Recorded
 pub mod Places
-pub mod PlaceLists
 pub mod Ordered
 pub mod Step
-pub mod Answer
 pub mod Judged

@@ -1,6 +1,6 @@
--- The places of an order's accesses: the member of a chain that makes each access.
+-- The places of an order's accesses: the member of a chain that makes each access, chain by chain.
 use Rattle.std.specs.Prelude.{◌≡◌, ℕ, ◌+◌, ◌==◌, List, [], ◌∷◌, ◌++◌, map, filter, length, take}
-use Rattle.std.specs.Prelude.{Option}
+use Rattle.std.specs.Prelude.{Option, All}
 use Rattle.std.specs.Bool.{MatchBool}
 use Rattle.fx_base.specs.Catalogue.{FileEntry}
 use Rattle.fx_chain.specs.Completed.{Completed, next_member}
@@ -13,6 +13,7 @@ use Rattle.fx_order.specs.Requests.{IsRequestDone}
 use Rattle.fx_order.specs.declared.access.Access.{Access}
 use Rattle.fx_order.specs.declared.access.ChainAccess.{ChainAccess}
 use Rattle.fx_order.specs.declared.listed_order.AccessPlace.{AccessPlace}
+use Rattle.std.specs.Global.{Vec}
 
 -- the place of an access: that of its request, and its position in the list of an update
 abbrev pub place_at : Place → Option ℕ → AccessPlace
@@ -60,3 +61,23 @@ pub record AreAccessPlaces (catalogue : List FileEntry) (size submission : ℕ) 
     : Type 0 where
   pub chains : map (λ p. p.chain) places ≡ map (λ x. x.chain) order
   pub members : AreChainsListed catalogue size submission 1 runs order places completions
+
+-- the places of the chains from this one on, as `AreChainsListed` has them, each chain's in a list
+-- of its own
+abbrev pub AreListsOf : List FileEntry → ℕ → ℕ → ℕ → List (List Asked) → List ChainAccess
+    → List (Vec AccessPlace) → List Completed → Type 0
+AreListsOf catalogue size submission chain [] order lists completions =
+    (lists ≡ []) × (completions ≡ [])
+AreListsOf catalogue size submission chain (run ∷ runs) order lists completions =
+    (first : Vec AccessPlace) × (later : List (Vec AccessPlace))
+    × (own : List Completed) × (others : List Completed)
+    × (lists ≡ first ∷ later) × (completions ≡ own ++ others)
+    × IsChainListed catalogue size (first_member submission chain) run
+    (accesses_of_chain chain order) first.items own
+    × AreListsOf catalogue size submission (chain + 1) runs order later others
+
+-- as many places as a chain has accesses in the order, and all of them of the chain
+pub record IsListFor (order : List ChainAccess) (chain : ℕ) (places : List AccessPlace)
+    : Type 0 where
+  pub as_many : length places ≡ length (accesses_of_chain chain order)
+  pub same : All (λ p. p.chain ≡ chain) places

@@ -1,19 +1,28 @@
--- Orders of a table's accesses that fit the claims of chains and the closes.
+-- Orders of a table's accesses that fit the claims of chains and the closes, the files that are in
+-- the table at some time, and the claims of chains at some slots alone.
 use Rattle.std.specs.Prelude.{◌≡◌, ℕ, ◌<◌, ◌≤◌, List, length, Option, Some, None, Contains, All}
-use Rattle.std.specs.Prelude.{IsTrue}
+use Rattle.std.specs.Prelude.{IsTrue, ◌⊎◌, Any, ◌==◌, [], ◌∷◌, filter, slice_get, if◌then◌else◌}
 use Rattle.std.specs.Global.{Vec}
 use Rattle.fx_base.specs.Identity.{Identity}
 use Rattle.fx_base.specs.declared.open_file.Closed.{Closed}
 use Rattle.fx_order.specs.Access.{Table, IsInRange, PermitsAll, table_after, files_removed_in}
-use Rattle.fx_order.specs.Access.{accesses_of}
+use Rattle.fx_order.specs.Access.{accesses_of, accesses_of_chain}
+use Rattle.fx_order.specs.Slots.{table_of_slots}
 use Rattle.fx_order.specs.declared.access.ChainAccess.{ChainAccess}
-use Rattle.check_judge.specs.Claims.{AreClaims}
+use Rattle.check_judge.specs.Claims.{AreClaims, Fits, touched}
 use Rattle.check_search.specs.declared.cell.Cell.{Cell}
 use Rattle.check_search.specs.declared.claim.Claim.{Claim}
 use Rattle.check_search.specs.declared.claim.Resident.{Resident}
+use Rattle.check_judge.specs.declared.answered.TableRecorded.{TableRecorded}
 use Rattle.check_judge.specs.declared.part.PartVerdict.{PartVerdict}
 use Rattle.check_judge.specs.declared.part.PartVerdict.TheVariants.{Order, Refuted, Unsettled}
 use Rattle.check_search.specs.Residents.{IsResident}
+use Rattle.check_search.specs.declared.claim.Claim.TheVariants.{At, Full}
+use Rattle.check_search.specs.declared.claim.Leaves.TheVariants.{Same, Empty, File}
+use Rattle.std.specs.List.{AllZip}
+use Rattle.fx_order.specs.declared.access.Access.{Access}
+use Rattle.check_search.specs.AtSlots.{has_slot}
+use Rattle.check_search.specs.declared.claim.Strand.{Strand}
 
 -- the file at a slot, and a test of whether the closes have it
 abbrev pub ShowsFile : List Closed → Option Identity → Option Resident → Type 0
@@ -50,3 +59,51 @@ abbrev pub IsOutcome : Table → List Closed → List (Vec Claim) → PartVerdic
 IsOutcome table closes chains (Order order) = Unit {0}
 IsOutcome table closes chains (Refuted reason) = HasNoOrder table closes chains
 IsOutcome table closes chains (Unsettled doubt) = Unit {0}
+
+-- the same of a table with its closes and claims: no order, the verdict on it, and cells that are
+-- slots of it
+abbrev pub IsOrderless : TableRecorded → Type 0
+IsOrderless table = HasNoOrder (table_of_slots table.slots.now) table.closes.now table.chains.now
+
+abbrev pub IsTableVerdict : TableRecorded → PartVerdict → Type 0
+IsTableVerdict table =
+    IsOutcome (table_of_slots table.slots.now) table.closes.now table.chains.now
+
+abbrev pub AreCellsOf : TableRecorded → List Cell → Type 0
+AreCellsOf table = All (IsCell (table_of_slots table.slots.now) table.closes.now)
+
+-- the claim leaves the file at its slot
+abbrev pub Brings : Claim → Identity → Type 0
+Brings (At slot condition Same) file = ⊥
+Brings (At slot condition Empty) file = ⊥
+Brings (At slot condition (File resident)) file = resident.file ≡ file
+Brings Full file = ⊥
+
+-- a claim of a chain does
+abbrev pub IsBrought : List (Vec Claim) → Identity → Type 0
+IsBrought chains file = Any (λ claims. Any (λ claim. Brings claim file) claims.items) chains
+
+-- the file was at a slot, or a claim leaves it there
+abbrev pub IsKnown : List (Option Identity) → List (Vec Claim) → Identity → Type 0
+IsKnown slots chains file = Contains slots (Some file) ⊎ IsBrought chains file
+
+-- the accesses of these slots
+abbrev pub seen : List Cell → List Access → List Access
+seen cells accesses = filter (λ access. has_slot cells (touched access)) accesses
+
+-- these are the claims of an order's chains at these slots, each chain's once; the other
+-- chains have none
+pub record AreStrands (closes : List Closed) (cells : List Cell) (chains : ℕ)
+    (order : List ChainAccess) (strands : List Strand) : Type 0 where
+  pub fits : (i : ℕ) (strand : Strand) → slice_get strands i ≡ Some strand
+      → AllZip (Fits closes) strand.claims.items (seen cells (accesses_of_chain strand.chain order))
+  pub each : (chain : ℕ) → 1 ≤ chain → chain ≤ chains
+      → ((i : ℕ) × (strand : Strand) × (slice_get strands i ≡ Some strand) × (strand.chain ≡ chain))
+      ⊎ (seen cells (accesses_of_chain chain order) ≡ [])
+  pub once : (i j : ℕ) (one other : Strand) → slice_get strands i ≡ Some one
+      → slice_get strands j ≡ Some other → one.chain ≡ other.chain → i ≡ j
+
+-- the claims of a chain at these slots, if it has some
+abbrev pub strand_for : ℕ → Vec Claim → List Strand
+strand_for chain claims =
+    if length claims.items == 0 then [] else record { chain = chain; claims = claims } ∷ []

@@ -1,4 +1,5 @@
--- Steps of a play: a text that continues with a text of the next command, and the ring after it.
+-- Steps of a play: a text that begins with a text of the next command, the ring after it, and the
+-- verdict on that command.
 use Rattle.std.specs.Prelude.{◌≡◌, ℕ, ◌≤◌, List, ◌++◌, length, take, drop}
 use Rattle.fx_base.specs.Catalogue.{FileEntry}
 use Rattle.fx_ring.specs.Ring.{RingContents, RingState, ring_of}
@@ -9,6 +10,20 @@ use Rattle.fx_order.specs.declared.ring_slots.RingSlots.{RingSlots}
 use Rattle.check_judge.specs.declared.command.Met.{Met}
 use Rattle.check_judge.specs.declared.command.Met.TheVariants.{Here, Apart}
 use Rattle.fx_order.specs.Slots.{ring_with_slots}
+use Rattle.check_judge.specs.Ordered.{MayPrintBy}
+use Rattle.check_judge.specs.declared.command.CommandVerdict.{CommandVerdict}
+use Rattle.check_judge.specs.declared.command.CommandVerdict.TheVariants.{Printed, Broken}
+use Rattle.check_judge.specs.declared.command.CommandVerdict.TheVariants.{Undecided}
+
+-- the first `count` bytes of the text are this line
+pub record BeginsWith (text : List ℕ) (count : ℕ) (line : List ℕ) : Type 0 where
+  pub inside : count ≤ length text
+  pub is_line : take count text ≡ line
+
+-- the text begins with the line, or it doesn't
+abbrev pub IsMet : List ℕ → List ℕ → Met → Type 0
+IsMet text line (Here count) = BeginsWith text count line
+IsMet text line (Apart expected) = (others : List ℕ) → text ≡ line ++ others → ⊥
 
 -- each ring of the one state may be led to the other by the command, and print this
 abbrev pub MayPrint : RingState → Instruction → RingState → List ℕ → Type 0
@@ -49,3 +64,16 @@ IsStep catalogue old command text (Here count) new =
     × LeadsTo (ring_with_slots catalogue old) command text count (ring_with_slots catalogue new)
 IsStep catalogue old command text (Apart expected) new =
     LeadsNowhere (ring_with_slots catalogue old) command text
+
+-- the text continues with a text of the command in one way alone, by this order if there is one,
+-- and leads to that ring; or in no way; an undecided verdict says nothing
+abbrev pub IsCommandVerdict :
+    List FileEntry → RingSlots → Instruction → List ℕ → CommandVerdict → RingSlots → Type 0
+IsCommandVerdict catalogue old command text (Printed count order) new =
+    (count ≤ length text)
+    × MayPrintBy (ring_with_slots catalogue old) command (ring_with_slots catalogue new)
+    (take count text) order
+    × LeadsTo (ring_with_slots catalogue old) command text count (ring_with_slots catalogue new)
+IsCommandVerdict catalogue old command text (Broken fault) new =
+    LeadsNowhere (ring_with_slots catalogue old) command text
+IsCommandVerdict catalogue old command text (Undecided doubt) new = Unit {0}

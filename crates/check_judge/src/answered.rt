@@ -1,11 +1,13 @@
-//! A request and its completion, of which claims are derived.
-ghost use Rattle.std.specs.Prelude.{◌≡◌, None};
+//! A request and its completion, of which claims are derived, and a table with its claims.
+ghost use Rattle.std.specs.Prelude.{◌≡◌, ◌+◌, ◌<◌, ◌^◌, None, length};
 ghost use Rattle.fx_chain.specs.Accepted.{IsWithinLimits};
 ghost use Rattle.fx_chain.specs.Operation.{asked_of, operation_of};
 ghost use Rattle.fx_chain.specs.Refusal.{refusal_of};
 
+use check_search::Claim;
 use fx_base::{Catalogue, Closed};
 use fx_chain::{Completion, Place, Request};
+use fx_order::Slots;
 use std::alloc::Global;
 
 /// The values that are known when claims are derived.
@@ -32,4 +34,14 @@ pub(crate) struct AnsweredRequest<'a> {
     pub ghost limits: { IsWithinLimits (asked_of request.now) },
     pub ghost accepted: { refusal_of setting.catalogue.now setting.size (operation_of request.now.op)
         ≡ None },
+}
+
+/// A table, the files that were closed, and the claims of each chain.
+#[derive(Clone, Copy)]
+pub(crate) struct TableRecorded<'a> {
+    pub slots: &'a Slots,
+    pub closes: &'a [Closed],
+    pub chains: &'a [Vec<Claim>],
+    pub ghost small: { length slots.now.at.items < 2 ^ 32 },
+    pub ghost few: { length chains.now + 1 < 2 ^ 32 },
 }

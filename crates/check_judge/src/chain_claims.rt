@@ -4,8 +4,7 @@ ghost use Rattle.fx_chain.specs.Accepted.{IsChain, IsWithinLimits, members_of};
 ghost use Rattle.fx_chain.specs.Completed.{all_completed};
 ghost use Rattle.fx_chain.specs.Operation.{all_asked, asked_of};
 ghost use Rattle.fx_order.specs.declared.access.ChainAccess.{ChainAccess};
-ghost use Rattle.check_judge.specs.Claims.{Appends, AreClaims, Concludes};
-ghost use Rattle.check_judge.specs.Chains.{AreDone, AreMembersDone};
+ghost use Rattle.check_judge.specs.Claims.{Appends, AreClaims, Concludes, AreDone, AreMembersDone};
 
 use crate::answered::ClaimSetting;
 use crate::judgement::{Reason, Stop};

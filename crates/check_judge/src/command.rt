@@ -3,9 +3,7 @@ ghost use Rattle.std.specs.Prelude.{◌≡◌, ℕ, List, string_bytes, IfOk, On
 ghost use Rattle.fx_base.specs.Catalogue.{FileEntry};
 ghost use Rattle.fx_language.specs.Instruction.{Instruction, instruction_of};
 ghost use Rattle.fx_order.specs.declared.ring_slots.RingSlots.{RingSlots};
-ghost use Rattle.check_judge.specs.Answer.{IsCommandVerdict};
-ghost use Rattle.check_judge.specs.Step.{IsStep};
-ghost use Rattle.check_judge.specs.Met.{IsMet};
+ghost use Rattle.check_judge.specs.Step.{IsCommandVerdict, IsStep, IsMet};
 ghost use Rattle.fx_base.specs.declared.errno.Errno.TheVariants.{ENOMEM};
 ghost use Rattle.fx_chain.specs.Completed.{negated};
 ghost use Rattle.check_judge.specs.Kept.{IsRingKept};

@@ -7,10 +7,10 @@ ghost use Rattle.fx_ring.specs.Ring.{IsRing};
 ghost use Rattle.fx_order.specs.Slots.{ring_with_slots};
 ghost use Rattle.check_judge.specs.Verdict.{CameBy, IsRecordedOutcome, IsVerdict};
 
-use crate::answered::ClaimSetting;
+use crate::answered::{ClaimSetting, TableRecorded};
 use crate::chain_claims::{RecordedChains, push_chains};
 use crate::judgement::{Stop, Verdict};
-use crate::part::{PartVerdict, TableRecorded, judge_table};
+use crate::part::{PartVerdict, judge_table};
 use crate::recorded::Recorded;
 use check_search::{Doubt, Limits};
 use fx_base::{Catalogue, NoMemory};

@@ -1,17 +1,18 @@
 //! Judges the closes and claims of a table, slot by slot and by slots that chains have in common.
-ghost use Rattle.std.specs.Prelude.{◌≡◌, ◌<◌, ◌+◌, ◌^◌, All, IfOk, length, ℕ};
+ghost use Rattle.std.specs.Prelude.{◌<◌, IfOk, length};
 ghost use Rattle.fx_order.specs.Slots.{table_of_slots};
-ghost use Rattle.check_judge.specs.Played.{IsCell, IsOutcome};
+ghost use Rattle.check_judge.specs.Played.{AreCellsOf, IsCell, IsTableVerdict};
 
+use crate::answered::TableRecorded;
 use crate::judgement::Reason;
 use crate::refuted::{has_unknown, judge_counts};
 use crate::strands::{accesses_along, is_range_empty, strands_of, with_full};
 use check_search::{
-    Cell, Claim, Doubt, FEW_STATES, Found, Limits, Steps, Web, components, explore, resident_for,
+    Cell, Doubt, FEW_STATES, Found, Limits, Steps, Web, components, explore, resident_for,
     shows_no_end,
 };
-use fx_base::{Closed, NoMemory};
-use fx_order::{ChainAccess, Slots};
+use fx_base::NoMemory;
+use fx_order::ChainAccess;
 use std::alloc::Global;
 
 /// The result of a search.
@@ -25,18 +26,9 @@ pub enum PartVerdict {
     Unsettled(Doubt),
 }
 
-/// A table, the files that were closed, and the claims of each chain.
-#[derive(Clone, Copy)]
-pub(crate) struct TableRecorded<'a> {
-    pub slots: &'a Slots,
-    pub closes: &'a [Closed],
-    pub chains: &'a [Vec<Claim>],
-}
-
 /// Returns a slot as it is before the submission.
 pub(crate) fn cell_of(table: &TableRecorded<'_>, slot: usize) -> Cell
-    requires inside { slot < length table.now.slots.now.at.items }
-    requires small { length table.now.slots.now.at.items < 2 ^ 32 }
+    requires { slot < length table.now.slots.now.at.items }
     ensures { IsCell (table_of_slots table.now.slots.now) table.now.closes.now result }
 {
     let (first, len) = table.slots.range;
@@ -56,11 +48,8 @@ fn judge_part(
     limits: Limits,
     reason: Reason,
 ) -> Result<PartVerdict, NoMemory>
-    requires cells { All (IsCell (table_of_slots table.now.slots.now) table.now.closes.now)
-        cells.now }
-    requires few { length table.now.chains.now + 1 < 2 ^ 32 }
-    ensures { IfOk result (IsOutcome (table_of_slots table.now.slots.now) table.now.closes.now
-        table.now.chains.now) }
+    requires { AreCellsOf table.now cells.now }
+    ensures { IfOk result (IsTableVerdict table.now) }
 {
     let strands = strands_of(alloc, cells, table.chains)?;
     let steps = Steps::new(alloc, &strands, cells)?;
@@ -89,10 +78,7 @@ fn judge_slots(
     parts: &[Vec<usize>],
     limits: Limits,
 ) -> Result<PartVerdict, NoMemory>
-    requires small { length table.now.slots.now.at.items < 2 ^ 32 }
-    requires few { length table.now.chains.now + 1 < 2 ^ 32 }
-    ensures { IfOk result (IsOutcome (table_of_slots table.now.slots.now) table.now.closes.now
-        table.now.chains.now) }
+    ensures { IfOk result (IsTableVerdict table.now) }
 {
     for i in 0..parts.len() {
         if parts[i].len() < 2 {
@@ -118,9 +104,7 @@ pub(crate) fn cells_of(
     table: &TableRecorded<'_>,
     slots: &[usize],
 ) -> Result<Vec<Cell>, NoMemory>
-    requires small { length table.now.slots.now.at.items < 2 ^ 32 }
-    ensures { IfOk result (λ cells. All (IsCell (table_of_slots table.now.slots.now)
-        table.now.closes.now) cells.items) }
+    ensures { IfOk result (λ cells. AreCellsOf table.now cells.items) }
 {
     let mut cells = Vec::new(alloc);
     for slot in slots {
@@ -147,10 +131,7 @@ fn judge_components(
     parts: &[Vec<usize>],
     limits: Limits,
 ) -> Result<PartVerdict, NoMemory>
-    requires small { length table.now.slots.now.at.items < 2 ^ 32 }
-    requires few { length table.now.chains.now + 1 < 2 ^ 32 }
-    ensures { IfOk result (IsOutcome (table_of_slots table.now.slots.now) table.now.closes.now
-        table.now.chains.now) }
+    ensures { IfOk result (IsTableVerdict table.now) }
 {
     let mut order = Vec::new(alloc);
     let mut doubt: Option<Doubt> = None;
@@ -190,10 +171,7 @@ fn judge_searched(
     table: &TableRecorded<'_>,
     limits: Limits,
 ) -> Result<PartVerdict, NoMemory>
-    requires small { length table.now.slots.now.at.items < 2 ^ 32 }
-    requires few { length table.now.chains.now + 1 < 2 ^ 32 }
-    ensures { IfOk result (IsOutcome (table_of_slots table.now.slots.now) table.now.closes.now
-        table.now.chains.now) }
+    ensures { IfOk result (IsTableVerdict table.now) }
 {
     let parts = components(alloc, table.slots.at.len(), table.slots.range, table.chains)?;
     let first = judge_components(alloc, table, &parts, first_limits(table, limits))?;
@@ -215,10 +193,7 @@ pub(crate) fn judge_table(
     table: &TableRecorded<'_>,
     limits: Limits,
 ) -> Result<PartVerdict, NoMemory>
-    requires small { length table.now.slots.now.at.items < 2 ^ 32 }
-    requires few { length table.now.chains.now + 1 < 2 ^ 32 }
-    ensures { IfOk result (IsOutcome (table_of_slots table.now.slots.now) table.now.closes.now
-        table.now.chains.now) }
+    ensures { IfOk result (IsTableVerdict table.now) }
 {
     if has_unknown(table) {
         return Ok(PartVerdict::Refuted(Reason::Closes));

@@ -7,8 +7,8 @@ ghost use Rattle.fx_chain.specs.Operation.{all_asked, operation_of};
 ghost use Rattle.fx_order.specs.Requests.{AreChainsDone, IsChainDone, IsRequestDone};
 ghost use Rattle.fx_order.specs.declared.access.Access.{Access};
 ghost use Rattle.fx_order.specs.declared.access.ChainAccess.{ChainAccess as Made};
-ghost use Rattle.check_judge.specs.PlaceLists.{AreListsOf, IsListFor};
-ghost use Rattle.check_judge.specs.Places.{AreAccessPlaces, IsChainListed, own_places, places_of_chain};
+ghost use Rattle.check_judge.specs.Places.{AreListsOf, IsListFor, AreAccessPlaces, IsChainListed, own_places};
+ghost use Rattle.check_judge.specs.Places.{places_of_chain};
 ghost use Rattle.fx_order.specs.declared.listed_order.AccessPlace.{AccessPlace as Listed};
 
 use fx_base::NoMemory;
@@ -138,10 +138,7 @@ fn in_order(
         → slice_get lists.now k ≡ Some list
         → places_of_chain (k + 1) places.items ≡ list.items) }
 {
-    let mut next = Vec::new(alloc);
-    for _list in lists {
-        next.push(0usize)?;
-    }
+    let mut next = vec![in alloc; 0usize; lists.len()]?;
     let mut places = Vec::new(alloc);
     for x in order {
         let chain = x.chain as usize - 1;

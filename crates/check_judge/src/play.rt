@@ -4,7 +4,7 @@ ghost use Rattle.fx_base.specs.Catalogue.{FileEntry};
 ghost use Rattle.fx_ring.specs.Ring.{new_ring};
 ghost use Rattle.fx_language.specs.Instruction.{instruction_of, instructions_of};
 ghost use Rattle.fx_script.specs.Play.{PrintsEnd};
-ghost use Rattle.check_judge.specs.Answer.{IsCommandVerdict};
+ghost use Rattle.check_judge.specs.Step.{IsCommandVerdict};
 ghost use Rattle.check_judge.specs.Judged.{IsJudged, IsJudgedFrom};
 ghost use Rattle.check_judge.specs.Kept.{IsRingKept};
 ghost use Rattle.check_judge.specs.declared.judgement.Judgement.TheVariants.{NotLegal};

@@ -1,14 +1,13 @@
 //! Refutes a table's claims without a search: a closed file was never in the table, the counts of a
 //! slot's files differ, or a request waits for a file that is never installed.
-ghost use Rattle.std.specs.Prelude.{◌≡◌, ◌↔◌, Any, Contains, IsTrue, Some, ◌<◌, ◌+◌, ◌^◌, All, IfOk, length, ℕ};
-ghost use Rattle.fx_order.specs.Slots.{table_of_slots};
-ghost use Rattle.check_judge.specs.Known.{Brings, IsBrought, IsKnown};
-ghost use Rattle.check_judge.specs.Played.{HasNoOrder, IsCell, IsOutcome};
+ghost use Rattle.std.specs.Prelude.{◌↔◌, Any, Contains, IfOk, IsTrue};
+ghost use Rattle.check_judge.specs.Played.{Brings, IsBrought, IsKnown, AreCellsOf, IsOrderless, IsTableVerdict};
 ghost use Rattle.check_search.specs.Machine.{HasNoEnd};
 ghost use Rattle.check_search.specs.Starts.{starting};
 
+use crate::answered::TableRecorded;
 use crate::judgement::Reason;
-use crate::part::{PartVerdict, TableRecorded, cell_of, cells_of};
+use crate::part::{PartVerdict, cell_of, cells_of};
 use crate::strands::strands_of;
 use check_search::{Cell, Claim, Doubt, Leaves, Steps, Strand, is_dead_by, is_uneven, start_of};
 use fx_base::{Closed, Mark, NoMemory};
@@ -52,19 +51,12 @@ fn is_brought(chains: &[Vec<Claim>], file: Closed) -> bool
     false
 }
 
-// Checks whether this file is at one of the slots.
-fn is_at_slot(slots: &[Option<Closed>], file: Closed) -> bool
-    ensures { IsTrue result ↔ Contains slots.now (Some file) }
-{
-    slots.contains(&Some(file))
-}
-
 // Checks whether this file was at a slot, or a claim of one of the chains leaves it there.
 fn is_known(table: &TableRecorded<'_>, file: Closed) -> bool
     ensures { IsTrue result
         ↔ IsKnown table.now.slots.now.at.items table.now.chains.now file }
 {
-    is_at_slot(&table.slots.at, file) || is_brought(table.chains, file)
+    table.slots.at.contains(&Some(file)) || is_brought(table.chains, file)
 }
 
 // Checks whether the chain that the file's mark names leaves it at a slot. Only that chain installs
@@ -84,8 +76,7 @@ fn is_own(table: &TableRecorded<'_>, file: Closed) -> bool {
 
 // Checks whether this file was never in the table. If so, no order closes it.
 fn is_unknown(table: &TableRecorded<'_>, file: Closed) -> bool
-    ensures { IsTrue result → Contains table.now.closes.now file
-        → HasNoOrder (table_of_slots table.now.slots.now) table.now.closes.now table.now.chains.now }
+    ensures { IsTrue result → Contains table.now.closes.now file → IsOrderless table.now }
 {
     if is_own(table, file) {
         return false;
@@ -95,8 +86,7 @@ fn is_unknown(table: &TableRecorded<'_>, file: Closed) -> bool
 
 /// Checks whether a closed file was never in the table.
 pub(crate) fn has_unknown(table: &TableRecorded<'_>) -> bool
-    ensures { IsTrue result → HasNoOrder (table_of_slots table.now.slots.now) table.now.closes.now
-        table.now.chains.now }
+    ensures { IsTrue result → IsOrderless table.now }
 {
     for file in table.closes {
         if is_unknown(table, *file) {
@@ -132,21 +122,15 @@ fn is_refuted_by(
     cells: &[Cell],
     slot: u32,
 ) -> Result<bool, NoMemory>
-    requires cells { All (IsCell (table_of_slots table.now.slots.now) table.now.closes.now)
-        cells.now }
-    requires few { length table.now.chains.now + 1 < 2 ^ 32 }
-    ensures { IfOk result (λ yes. IsTrue yes → HasNoOrder (table_of_slots table.now.slots.now)
-        table.now.closes.now table.now.chains.now) }
+    requires { AreCellsOf table.now cells.now }
+    ensures { IfOk result (λ yes. IsTrue yes → IsOrderless table.now) }
 {
     let strands = strands_of(alloc, cells, table.chains)?;
     sees_no_end(alloc, &strands, cells, slot)
 }
 
 // Returns the slots whose counts of claims differ. No contract says anything of them.
-fn suspects(alloc: Global, table: &TableRecorded<'_>) -> Result<Vec<usize>, NoMemory>
-    requires small { length table.now.slots.now.at.items < 2 ^ 32 }
-    requires few { length table.now.chains.now + 1 < 2 ^ 32 }
-{
+fn suspects(alloc: Global, table: &TableRecorded<'_>) -> Result<Vec<usize>, NoMemory> {
     let slots: Vec<usize> = (0..table.slots.at.len()).collect(alloc)?;
     let cells = cells_of(alloc, table, &slots)?;
     let strands = strands_of(alloc, &cells, table.chains)?;
@@ -172,10 +156,7 @@ pub(crate) fn judge_counts(
     alloc: Global,
     table: &TableRecorded<'_>,
 ) -> Result<PartVerdict, NoMemory>
-    requires small { length table.now.slots.now.at.items < 2 ^ 32 }
-    requires few { length table.now.chains.now + 1 < 2 ^ 32 }
-    ensures { IfOk result (IsOutcome (table_of_slots table.now.slots.now) table.now.closes.now
-        table.now.chains.now) }
+    ensures { IfOk result (IsTableVerdict table.now) }
 {
     let slots = suspects(alloc, table)?;
     for slot in &slots {

@@ -4,7 +4,7 @@ ghost use Rattle.std.specs.List.{list_any};
 ghost use Rattle.fx_base.specs.declared.open_file.Closed.{Closed as FileAt};
 ghost use Rattle.fx_order.specs.declared.access.ChainAccess.{ChainAccess as OneAccess};
 ghost use Rattle.check_judge.specs.Claims.{AreClaims};
-ghost use Rattle.check_judge.specs.Strands.{AreStrands, strand_for};
+ghost use Rattle.check_judge.specs.Played.{AreStrands, strand_for};
 ghost use Rattle.check_search.specs.AtSlots.{keeps};
 
 use check_search::{Cell, Claim, Condition, Leaves, Strand, apply, cell_at, claim_of, has_slot};

@@ -7,7 +7,7 @@ ghost use Rattle.fx_chain.specs.Completed.{all_completed};
 ghost use Rattle.fx_chain.specs.Runs.{runs_of};
 ghost use Rattle.fx_ring.specs.declared.ring.TheConstants.{MOST_SUBMISSIONS};
 ghost use Rattle.fx_language.specs.Instruction.{SubmitsAll};
-ghost use Rattle.check_judge.specs.Answer.{IsCommandVerdict};
+ghost use Rattle.check_judge.specs.Step.{IsCommandVerdict};
 ghost use Rattle.check_judge.specs.Kept.{IsRingKept};
 ghost use Rattle.check_judge.specs.Places.{AreAccessPlaces};
 ghost use Rattle.fx_order.specs.Requests.{AreChainsDone};

@@ -1,7 +1,6 @@
-use Rattle.check_judge.proofs.Words.{sym, ◌++◌, append_assoc, completed_of, asked_of, first_is}
-use Rattle.std.proofs.lemmas.Result.{err_from_is_err_and}
+use Rattle.check_judge.proofs.Words.{sym, ◌++◌, append_assoc, completed_of, asked_of, first_is, err_from_is_err_and}
 use Rattle.check_judge.proofs.RequestClaims.{decides_by}
-use Rattle.check_judge.proofs.ChainClaims.{member_parts}
+use Rattle.check_judge.proofs.StrandClaims.{member_parts}
 use Rattle.check_judge.proofs.chain_claims.+push_members.Goals as goal
 
 pub returns-then-cut : goal.returns-then-cut

@@ -4,4 +4,4 @@ use Rattle.check_judge.proofs.part.judge_part.Goals as goal
 pub returns-in-NoEnd : goal.returns-in-NoEnd
 returns-in-NoEnd c =
     no_order c.args.table.now.slots.now c.args.table.now.closes.now c.args.table.now.chains.now c.args.cells.now c.in_ok-strands.strands.items _
-    c.requires.cells c.in_ok-strands.ensures c.deref-in-NoEnd.ensures.value (c.in_ok-shows_no_end-in-NoEnd.ensures c.if-not-branch.false)
+    c.requires c.in_ok-strands.ensures c.deref-in-NoEnd.ensures.value (c.in_ok-shows_no_end-in-NoEnd.ensures c.if-not-branch.false)

@@ -33,8 +33,8 @@ loop-x-preserved c =
       size = length-set c.loop-x.next.items ((slice_index_or c.args.order.now c.loop-x.x-index first).chain - 1) (c.index-at.result.now + 1)
           ∙ c.loop-x.invariant.size;
       counts = counts_more r;
-      chains = ap (map (λ (q : AccessPlace). q.chain)) c.in_ok-push-2.ensures.items ∙ chains_listed r places p c.index.ensures c.loop-x.invariant.chains;
-      listed = λ k own got. ap (places_of_chain (k + 1)) c.in_ok-push-2.ensures.items
+      chains = ap (map (λ (q : AccessPlace). q.chain)) c.in_ok-push.ensures.items ∙ chains_listed r places p c.index.ensures c.loop-x.invariant.chains;
+      listed = λ k own got. ap (places_of_chain (k + 1)) c.in_ok-push.ensures.items
           ∙ lists_more r places p c.index.ensures k got (c.loop-x.invariant.listed k own got);
     }
 

@@ -1,10 +1,6 @@
-use Rattle.check_judge.proofs.Words.{◌≡◌, ◌+◌, ◌<◌, ℕ, Some, length, map, replicate, slice_get, slice_index_or, take, Vec, places_of_chain}
-use Rattle.check_judge.proofs.Words.{AccessPlace}
+use Rattle.check_judge.proofs.Words.{◌≡◌, ◌+◌, ◌<◌, ℕ, Some, length, map, slice_get, slice_index_or, take, Vec, places_of_chain, AccessPlace}
 use Rattle.check_judge.proofs.AccessPlaces.{count_of}
 use Rattle.check_judge.proofs.places.in_order.Given as goal
-
-abbrev pub invariant-loop-list : goal.invariant-loop-list
-invariant-loop-list l = l.next.items ≡ replicate l._list-index 0
 
 abbrev pub invariant-loop-x : goal.invariant-loop-x
 invariant-loop-x l = record {

@@ -1,5 +1,4 @@
-use Rattle.check_judge.proofs.Words.{◌≡◌, true, slice_index_or, Some, Closed, completed_of}
-use Rattle.check_judge.specs.Claims.{answer}
+use Rattle.check_judge.proofs.Words.{◌≡◌, true, slice_index_or, Some, Closed, completed_of, answer}
 use Rattle.fx_chain.specs.declared.intent.Finding.TheVariants.{At as FoundAt}
 use Rattle.check_judge.proofs.request_claims.fits_of.Given as goal
 

@@ -1,6 +1,5 @@
-use Rattle.check_judge.proofs.Words.{AreAppended, Access, List, take, AllZip}
+use Rattle.check_judge.proofs.Words.{AreAppended, Access, List, take, AllZip, IsMade}
 use Rattle.check_judge.proofs.RequestClaims.{intents}
-use Rattle.check_judge.specs.Claims.{IsMade}
 use Rattle.check_judge.proofs.request_claims.push_intents.Given as goal
 
 -- the claims so far are those of the accesses so far
