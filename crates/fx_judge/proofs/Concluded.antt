@@ -1,11 +1,9 @@
 -- The number of a text that isn't legal is that of no other verdict.
-use Rattle.std.proofs.Common.{◌≡◌, ℕ, List, sym, ◌∙◌}
-use Rattle.fx_language.specs.Script.{IsScript, Meaning}
+use Rattle.fx_judge.proofs.Words.{◌≡◌, ℕ, List, sym, ◌∙◌, IsScript, Meaning, LEGAL, NOT_LEGAL, UNDECIDED}
 use Rattle.check_judge.specs.Judged.{IsJudged}
 use Rattle.check_judge.specs.declared.judgement.Judgement.{Judgement}
 use Rattle.check_judge.specs.declared.judgement.Judgement.TheVariants.{Legal, NotLegal, Undecided}
 use Rattle.fx_judge.specs.Verdicts.{IsConclusion, IsNotPrinted}
-use Rattle.fx_judge.specs.declared.codes.TheConstants.{LEGAL, NOT_LEGAL, UNDECIDED}
 use Rattle.fx_judge.specs.declared.judge.YachtVerdict.{YachtVerdict}
 
 pub not_legal : {script text : List ℕ} {code : ℕ} {meaning : Meaning} (verdict : YachtVerdict) → IsScript script meaning

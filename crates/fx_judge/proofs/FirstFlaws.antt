@@ -1,9 +1,6 @@
 -- The first flaw of a list, once it is found.
-use Rattle.std.proofs.Common.{◌≡◌, ℕ, ◌+◌, ◌<◌, ◌≤◌, ◌==◌, false, List, ◌∷◌, length, drop, sym, refl, ◌∙◌, arith, Option, Some, slice_index_or, if◌then◌else◌}
-use Rattle.std.proofs.lemmas.Bool.{ne_eqb}
-use Rattle.std.proofs.lemmas.List.{at_drop_more}
-use Rattle.fx_judge.specs.Arrays.{Arrays}
-use Rattle.fx_judge.specs.Flaws.{event_flaw, flaw_of_log, request_flaw, requests_flaw}
+use Rattle.fx_judge.proofs.Words.{◌≡◌, ℕ, ◌+◌, ◌<◌, ◌≤◌, ◌==◌, false, List, ◌∷◌, length, drop, sym, refl, ◌∙◌, arith, Option, Some, slice_index_or}
+use Rattle.fx_judge.proofs.Words.{if◌then◌else◌, ne_eqb, at_drop_more, Arrays, event_flaw, flaw_of_log, request_flaw, requests_flaw}
 use Rattle.fx_judge.specs.declared.events.YachtEvent.{YachtEvent}
 use Rattle.fx_judge.specs.declared.events.YachtRequest.{YachtRequest}
 use Rattle.fx_judge.specs.declared.flaws.LogFlaw.{LogFlaw}

@@ -2,4 +2,4 @@ pub mod Concluded
 pub mod FirstFlaws
 pub mod LogVerdicts
 pub mod Found
-pub mod Listings
+pub mod Words

@@ -1,26 +1,16 @@
 -- What the number of a verdict says of a log.
-use Rattle.std.proofs.Common.{◌≡◌, ◌↔◌, ℕ, ◌+◌, ◌≤◌, List, [], take, ap, sym, refl, subst, ◌∙◌, arith, Option, Some, None}
-use Rattle.std.proofs.lemmas.List.{take-map}
+use Rattle.fx_judge.proofs.Words.{◌≡◌, ◌↔◌, ℕ, ◌+◌, ◌≤◌, List, [], take, ap, sym, refl, subst, ◌∙◌, arith, Option, Some, None, take-map, Table}
+use Rattle.fx_judge.proofs.Words.{ring_of_slots, table_of_slots, Slots, RingState, new_ring, Happening, all_happenings, happening_of, LogEvent}
+use Rattle.fx_judge.proofs.Words.{HasNoFlight, IsScript, Meaning, flaw_of_log, HasLogFault, AreLogEvents, HasNotHappened, IsNumberOf, IsReadable}
+use Rattle.fx_judge.proofs.Words.{IsFlightVerdict, PassedLog, arrays_of, events_passed, ring_passed, FAULTY, LEGAL, NOT_LEGAL, UNDECIDED}
+use Rattle.check_flight.specs.declared.verdict.FlightVerdict.{FlightVerdict}
+use Rattle.check_flight.specs.declared.verdict.FlightVerdict.TheVariants.{Faulty, Legal, NotLegal, Undecided}
 use Rattle.fx_base.specs.Catalogue.{FileEntry}
-use Rattle.fx_order.specs.Access.{Table}
-use Rattle.fx_order.specs.Slots.{ring_of_slots, table_of_slots}
-use Rattle.fx_order.specs.declared.slots.Slots.{Slots}
-use Rattle.fx_ring.specs.Registration.{registered_sparse}
-use Rattle.fx_ring.specs.Ring.{RingState, new_ring}
-use Rattle.fx_flight.specs.Events.{Happening, all_happenings, happening_of}
 use Rattle.fx_flight.specs.Faults.{IsFaultless, fault_of_log}
 use Rattle.fx_flight.specs.Flight.{IsLegalLog}
-use Rattle.fx_flight.specs.declared.event.LogEvent.{LogEvent}
 use Rattle.fx_flight.specs.declared.fault.LogFault.{LogFault}
-use Rattle.check_flight.specs.States.{HasNoFlight}
-use Rattle.check_flight.specs.declared.verdict.FlightVerdict.{FlightVerdict}
-use Rattle.check_flight.specs.declared.verdict.FlightVerdict.TheVariants.{Faulty, NotLegal, Legal, Undecided}
-use Rattle.fx_language.specs.Script.{IsScript, Meaning}
-use Rattle.fx_judge.specs.Flaws.{flaw_of_log}
-use Rattle.fx_judge.specs.Logs.{HasLogFault, AreLogEvents, HasNotHappened, IsNumberOf, IsReadable, IsFlightVerdict, PassedLog}
-use Rattle.fx_judge.specs.Logs.{arrays_of, events_passed, ring_passed}
-use Rattle.fx_judge.specs.declared.codes.TheConstants.{FAULTY, LEGAL, NOT_LEGAL, UNDECIDED}
 use Rattle.fx_judge.specs.declared.flights.YachtJudgement.{YachtJudgement}
+use Rattle.fx_ring.specs.Registration.{registered_sparse}
 
 -- the ring of empty slots is the one after `sparse`
 

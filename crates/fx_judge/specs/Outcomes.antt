@@ -1,12 +1,18 @@
--- The written list of the texts of a script.
-use Rattle.std.specs.Prelude.{◌≡◌, ℕ, Bool, IsTrue, List, length, take, All}
-use Rattle.std.specs.Prelude.{Contains, nat_eq}
+-- The texts of a script one after another, and the written list of them.
+use Rattle.std.specs.Prelude.{◌≡◌, ℕ, Bool, IsTrue, List, length, take, All, Contains, nat_eq, map}
 use lib.Pointwise.{pointwise}
-use Rattle.std.specs.List.{IsDistinct}
+use Rattle.std.specs.List.{IsDistinct, concat}
 use Rattle.fx_language.specs.Script.{IsScript, Meaning}
 use Rattle.check_texts.specs.Texts.{IsTextFound}
-use Rattle.fx_judge.specs.Listed.{joined, lengths_in}
 use Rattle.fx_judge.specs.declared.outcomes.YachtTexts.{YachtTexts}
+
+-- their bytes
+abbrev pub joined : List (List ℕ) → List ℕ
+joined texts = concat texts
+
+-- the length of each text
+abbrev pub lengths_in : List (List ℕ) → List ℕ
+lengths_in texts = map length texts
 
 -- the same bytes
 abbrev pub same_bytes : List ℕ → List ℕ → Bool

@@ -10,7 +10,6 @@ mod flaws;
 mod flights;
 mod judge;
 mod limits;
-mod listed;
 mod note;
 mod outcomes;
 

@@ -1,14 +1,13 @@
-//! The list of the texts of a script.
-ghost use Rattle.std.specs.Prelude.{◌≡◌, ◌≤◌, IsTrue, true, false, length, take};
-ghost use Rattle.fx_judge.specs.Outcomes.{AreOutcomes};
+//! The list of the texts of a script, one after another, and their lengths.
+ghost use Rattle.std.specs.Prelude.{◌≡◌, ◌≤◌, IfOk, IsTrue, true, false, length, map, string_bytes, take};
+ghost use Rattle.fx_judge.specs.Outcomes.{AreOutcomes, joined, lengths_in};
 ghost use Rattle.fx_judge.specs.Verdicts.{HasFaultOnLine};
 
 use crate::codes::{ALL, BAD_SCRIPT, NO_MEMORY, NO_ROOM, SOME};
 use crate::limits::limits_of;
-use crate::listed::{Listed, list, put_bytes, put_lengths};
 use check_texts::texts_of;
 use fx_script::{Script, ScriptError};
-use std::alloc::Global;
+use std::alloc::{AllocError, Global};
 
 /// The details of a list of texts. A field that the number doesn't speak of is 0.
 #[repr(C)]
@@ -21,6 +20,52 @@ pub struct YachtTexts {
     /// Of bytes that aren't a script: the line of the first fault, from 1, or 0 if there are too
     /// many bytes.
     pub line: u32,
+}
+
+// Texts, one after another.
+#[derive(Drop)]
+struct Listed {
+    // All their bytes.
+    bytes: Vec<u8>,
+    // The number of bytes of each.
+    lengths: Vec<u64>,
+}
+
+// Returns texts one after another.
+fn list(alloc: Global, texts: &[String]) -> Result<Listed, AllocError>
+    ensures bytes { IfOk result (λ listed.
+        listed.bytes.items ≡ joined (map string_bytes texts.now)) }
+    ensures lengths { IfOk result (λ listed.
+        listed.lengths.items ≡ lengths_in (map string_bytes texts.now)) }
+{
+    let mut listed = Listed {
+        bytes: Vec::new(alloc),
+        lengths: Vec::new(alloc),
+    };
+    for text in texts {
+        let bytes = text.as_bytes();
+        listed.bytes.extend_from_slice(bytes)?;
+        listed.lengths.push(bytes.len() as u64)?;
+    }
+    Ok(listed)
+}
+
+// Copies bytes to the beginning of a buffer that has room for them.
+fn put_bytes(bytes: &[u8], into: &mut [u8])
+    requires { length bytes.now ≤ length into.old }
+    ensures { take (length bytes.now) into.new ≡ bytes.now }
+{
+    let count = bytes.len();
+    into[..count].copy_from_slice(bytes);
+}
+
+// Copies lengths to the beginning of a buffer that has room for them.
+fn put_lengths(lengths: &[u64], into: &mut [u64])
+    requires { length lengths.now ≤ length into.old }
+    ensures { take (length lengths.now) into.new ≡ lengths.now }
+{
+    let count = lengths.len();
+    into[..count].copy_from_slice(lengths);
 }
 
 // Writes the texts and their lengths, if there is room for all of them, and in any case their

@@ -1,6 +1,4 @@
-use Rattle.std.proofs.Common.{◌≡◌, drop}
-use Rattle.fx_judge.specs.Arrays.{arrays_in}
-use Rattle.fx_judge.specs.Flaws.{flaw_of_log}
+use Rattle.fx_judge.proofs.Words.{◌≡◌, drop, arrays_in, flaw_of_log}
 use Rattle.fx_judge.proofs.flaws.flaw_of_log.Given as goal
 
 -- the first flaw is that of the events that are left

@@ -1,5 +1,4 @@
-use Rattle.std.proofs.Common.{arith}
-use Rattle.fx_judge.specs.Arrays.{arrays_in}
+use Rattle.fx_judge.proofs.Words.{arith, arrays_in}
 use Rattle.fx_judge.proofs.FirstFlaws.{in_request}
 use Rattle.fx_judge.proofs.flaws.requests_flaw.Goals as goal
 

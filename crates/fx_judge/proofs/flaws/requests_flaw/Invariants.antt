@@ -1,6 +1,4 @@
-use Rattle.std.proofs.Common.{◌≡◌, drop}
-use Rattle.fx_judge.specs.Arrays.{arrays_in}
-use Rattle.fx_judge.specs.Flaws.{requests_flaw}
+use Rattle.fx_judge.proofs.Words.{◌≡◌, drop, arrays_in, requests_flaw}
 use Rattle.fx_judge.proofs.flaws.requests_flaw.Given as goal
 
 -- the first flaw is that of the requests that are left

@@ -1,5 +1,4 @@
-use Rattle.std.proofs.Common.{◌∙◌, sym}
-use Rattle.fx_judge.specs.Logs.{passed}
+use Rattle.fx_judge.proofs.Words.{◌∙◌, sym, passed}
 use Rattle.fx_judge.proofs.LogVerdicts.{a_log, faulty, is_readable, not_legal}
 use Rattle.fx_judge.proofs.flights.judge_log.Goals as goal
 

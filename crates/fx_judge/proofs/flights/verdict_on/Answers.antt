@@ -1,5 +1,4 @@
-use Rattle.std.proofs.Common.{ap, ◌∙◌}
-use Rattle.fx_flight.specs.Events.{all_happenings}
+use Rattle.fx_judge.proofs.Words.{ap, ◌∙◌, all_happenings}
 use Rattle.fx_judge.proofs.LogVerdicts.{of_judge}
 use Rattle.fx_judge.proofs.flights.verdict_on.Goals as goal
 

@@ -1,4 +1,4 @@
-use Rattle.std.proofs.Common.{◌≡◌, true, false}
+use Rattle.fx_judge.proofs.Words.{◌≡◌, true, false}
 use Rattle.fx_judge.proofs.Found.{outcomes, written}
 use Rattle.fx_judge.proofs.outcomes.list_texts.Goals as goal
 

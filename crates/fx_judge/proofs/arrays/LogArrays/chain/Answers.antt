@@ -1,6 +1,5 @@
-use Rattle.fx_chain.specs.Operation.{asked_of}
-use Rattle.fx_judge.specs.Arrays.{arrays_in, asked_passed}
-use Rattle.fx_judge.proofs.Listings.{map_one_more}
+use Rattle.fx_judge.proofs.Words.{asked_of, arrays_in, asked_passed}
+use Rattle.fx_judge.proofs.Found.{map_one_more}
 use Rattle.fx_judge.proofs.arrays.LogArrays.chain.Goals as goal
 
 pub loop-request-preserved : goal.loop-request-preserved

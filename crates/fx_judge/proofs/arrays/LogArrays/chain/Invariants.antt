@@ -1,6 +1,4 @@
-use Rattle.std.proofs.Common.{◌≡◌, map, take}
-use Rattle.fx_chain.specs.Operation.{all_asked}
-use Rattle.fx_judge.specs.Arrays.{arrays_in, asked_passed}
+use Rattle.fx_judge.proofs.Words.{◌≡◌, map, take, all_asked, arrays_in, asked_passed}
 use Rattle.fx_judge.proofs.arrays.LogArrays.chain.Given as goal
 
 -- the requests so far are those of the arrays

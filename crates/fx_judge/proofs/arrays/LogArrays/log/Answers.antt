@@ -1,6 +1,5 @@
-use Rattle.fx_flight.specs.Events.{happening_of}
-use Rattle.fx_judge.specs.Arrays.{arrays_in, happening_passed}
-use Rattle.fx_judge.proofs.Listings.{map_one_more}
+use Rattle.fx_judge.proofs.Words.{happening_of, arrays_in, happening_passed}
+use Rattle.fx_judge.proofs.Found.{map_one_more}
 use Rattle.fx_judge.proofs.arrays.LogArrays.log.Goals as goal
 
 pub loop-event-preserved : goal.loop-event-preserved

@@ -1,6 +1,4 @@
-use Rattle.std.proofs.Common.{◌≡◌, map, take}
-use Rattle.fx_flight.specs.Events.{all_happenings}
-use Rattle.fx_judge.specs.Arrays.{arrays_in, happening_passed}
+use Rattle.fx_judge.proofs.Words.{◌≡◌, map, take, all_happenings, arrays_in, happening_passed}
 use Rattle.fx_judge.proofs.arrays.LogArrays.log.Given as goal
 
 -- the events so far are those of the arrays

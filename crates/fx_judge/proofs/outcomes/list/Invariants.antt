@@ -1,6 +1,5 @@
-use Rattle.std.proofs.Common.{◌≡◌, map, string_bytes, take}
-use Rattle.fx_judge.specs.Listed.{joined, lengths_in}
-use Rattle.fx_judge.proofs.listed.list.Given as goal
+use Rattle.fx_judge.proofs.Words.{◌≡◌, map, string_bytes, take, joined, lengths_in}
+use Rattle.fx_judge.proofs.outcomes.list.Given as goal
 
 -- the texts so far are listed
 abbrev pub invariant-loop-text : goal.invariant-loop-text

@@ -1,7 +1,6 @@
-use Rattle.std.proofs.Common.{◌≡◌, ◌+◌, [], ◌∷◌, ◌++◌, take, ap, sym, ◌∙◌, string_bytes}
-use Rattle.std.proofs.lemmas.List.{take_more}
-use Rattle.fx_judge.proofs.Listings.{joined_more, lengths_more}
-use Rattle.fx_judge.proofs.listed.list.Goals as goal
+use Rattle.fx_judge.proofs.Words.{◌≡◌, ◌+◌, [], ◌∷◌, ◌++◌, take, ap, sym, ◌∙◌, string_bytes, take_more}
+use Rattle.fx_judge.proofs.Found.{joined_more, lengths_more}
+use Rattle.fx_judge.proofs.outcomes.list.Goals as goal
 
 pub loop-text-preserved : goal.loop-text-preserved
 loop-text-preserved c =
