@@ -1,6 +1,7 @@
 //! A player of a flight: it makes a proposed flight move by move, and checks each move.
 ghost use Rattle.std.specs.Prelude.{◌≡◌, ◌++◌, [], ◌∷◌, ℕ, Contains, IfOk, IsTrue, List, Some, length};
 ghost use Rattle.std.specs.Option.{option_to_list};
+ghost use Rattle.indexmap.specs.IndexSet.{IsEmpty};
 ghost use Rattle.fx_base.specs.Identity.{Identity};
 ghost use Rattle.fx_chain.specs.Completed.{completed_of};
 ghost use Rattle.fx_flight.specs.Events.{Answered, FileClosed, AllSettled, Happening, Freed, LookAnswered};
@@ -104,6 +105,8 @@ impl<'a> FlightPlayer<'a> {
             table_of_slots player.slots ≡ table_of_slots slots.now) }
         ensures calls { IfOk result (λ player. player.calls.items ≡ []) }
         ensures removed { IfOk result (λ player. player.removed.items ≡ []) }
+        ensures holds { IfOk result (λ player. player.holds.items ≡ []) }
+        ensures closed { IfOk result (λ player. IsEmpty player.closed) }
     {
         Ok(FlightPlayer {
             slots: slots.copy(alloc)?,
