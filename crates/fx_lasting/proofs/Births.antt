@@ -1,10 +1,11 @@
 -- A pass finds a free node of its stock, takes its place, and lays a node to rest.
-use Rattle.fx_lasting.proofs.Words.{◌≡◌, ◌≢◌, ℕ, ◌+◌, ◌<◌, ◌≤◌, List, [], ◌∷◌, set, sym, refl, ap, ◌∙◌, subst, arith, Option, Some, None}
-use Rattle.fx_lasting.proofs.Words.{none, some, keeps, takes, gives, rest, set_here, set_else, Closed, WorkAgrees, MayBeUnmarked}
-use Rattle.fx_lasting.proofs.Words.{nodes_of, word_of, hold_word_of, held_in, if_file, taken_of, taking, owed, Phase, free, placed, seated, leaving}
-use Rattle.fx_lasting.proofs.Words.{retired, emptied, kept, owner, file_in, removed_in, changed_here, Log, Work, Idle, Searching, Placing, Emptying, Seeks}
-use Rattle.fx_lasting.proofs.Words.{Births, Rests, SeeksKeep, BirthsKeep, RestsKeep, birth_word, step, inl, inr, ⊎_elim, dite, ℕ_discrete, sum_by}
-use Rattle.fx_lasting.proofs.Words.{sum_set, length-set, Start, Agrees, first_log}
+use Rattle.fx_lasting.proofs.Words.{◌≡◌, ◌≢◌, ℕ, ◌+◌, ◌<◌, ◌≤◌, List, [], ◌∷◌, set, sym, refl, ap, ◌∙◌, subst, arith, Option, Some, None, none, some}
+use Rattle.fx_lasting.proofs.Words.{keeps, takes, gives, rest, set_here, set_else, Closed, WorkAgrees, MayBeUnmarked, nodes_of, word_of, hold_word_of}
+use Rattle.fx_lasting.proofs.Words.{held_in, if_file, taken_of, taking, owed, Phase, free, placed, seated, leaving, retired, emptied, kept, owner}
+use Rattle.fx_lasting.proofs.Words.{file_in, removed_in, changed_here, Log, Work, Idle, Searching, Placing, Emptying, Seeks, Births, Rests, SeeksKeep}
+use Rattle.fx_lasting.proofs.Words.{BirthsKeep, RestsKeep, birth_word, step, inl, inr, ⊎_elim, dite, ℕ_discrete, sum_by, sum_set, length-set, Start}
+use Rattle.fx_lasting.proofs.Words.{Agrees, first_log, HasNoFile, HoldAgrees, IsAllowed, GuardAgrees, rested, IsInside, changed_at, IsInStock, Bool}
+use Rattle.fx_lasting.proofs.Words.{cond, le-ltb, get_or, HasItsPlace, Placement, as_written, Unlabelled}
 use Rattle.fx_lasting.proofs.Histories.{grows_none, each_changed}
 use Rattle.fx_lasting.proofs.Frames.{busy, does_now}
 use Rattle.fx_lasting.proofs.Keeping.{Turn, turn_of, After, Homes, word_at, slot_word, Made, by_turn, its_log, its_work, its_stock, in_its_stock, in_range, tells, tells_less, w, end}
@@ -12,11 +13,8 @@ use Rattle.fx_lasting.proofs.NodeSteps.{after, node_kept, own_keeps, guards_else
 use Rattle.fx_lasting.proofs.Places.{node_words, node_here, node_else, node_slot, node_hold, node_alike, node_list, node_label}
 use Rattle.fx_lasting.proofs.Calm.{read_before, read_before_kept, Reads}
 use Rattle.fx_lasting.proofs.Choosing.{no_file, no_take, not_busy, holds_none}
-use Rattle.fx_lasting.proofs.Words.{HasNoFile, HoldAgrees, IsAllowed, GuardAgrees, rested, IsInside, changed_at}
 use Rattle.fx_lasting.proofs.FreeNodes.{some_free, entry_is, named_by}
-use Rattle.fx_lasting.proofs.Words.{IsInStock, Bool, cond, le-ltb, get_or}
 use Rattle.fx_lasting.proofs.Unheld.{NodeNow, in_phase}
-use Rattle.fx_lasting.proofs.Words.{HasItsPlace, Placement, as_written, Unlabelled}
 
 -- a pass that looks for a node works with none
 names_nothing : {d : Work} → HasNoFile d → named_by d ≡ 0

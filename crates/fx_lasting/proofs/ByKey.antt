@@ -1,28 +1,17 @@
 -- A pass that holds a file by a key, while another pass changes the slot.
 use Rattle.fx_lasting.proofs.Words.{◌≡◌, ℕ, List, [], ◌∷◌, ◌++◌, map, length, length-append, sym, refl, ap, ◌∙◌, subst, arith, Option, Some, None}
-use Rattle.fx_lasting.proofs.Words.{File, Event, Action, Look, Close, ◌▷◌, IsSeenBy, part_of_pass, held_by, Closed, Start, opening_of}
-use Rattle.fx_lasting.proofs.Words.{Put, Take, inr}
-use Rattle.std.specs.Prelude.{Ok, Err}
-use Rattle.std.proofs.lemmas.List.Elements.{filter-append}
-use Rattle.fx_table.proofs.Calls.{seen_further}
+use Rattle.fx_lasting.proofs.Words.{File, Event, Action, Look, Close, ◌▷◌, IsSeenBy, part_of_pass, held_by, Closed, Start, opening_of, Put, Take, inr}
+use Rattle.fx_lasting.proofs.Words.{Ok, Err, filter-append, seen_further, Adds, LookedUp, ReleasesFile, Released, Use, no_use, one_number, Opening}
+use Rattle.fx_lasting.proofs.Words.{PassView, IsFront, IsIdle, IsFileRemoval, event_of, Learns, Doing, Holding, Hold, IsOneOnItsNode, IsOn, HasMissed}
+use Rattle.fx_lasting.proofs.Words.{HasTakenIf, HasPutIf, LookedByKey, HeldByKey, LeftIt, FailsByKey, TakesByKey, PutsOverKey, fault_for}
+use Rattle.fx_lasting.proofs.Words.{taken_answer, put_answer, Miss, KeyFault}
 use Rattle.fx_table.proofs.Growing.{held_mine}
-use Rattle.fx_table.specs.Calls.{Adds, LookedUp, ReleasesFile, Released, Use, no_use, one_number}
-use Rattle.fx_table.specs.Opening.{Opening}
-use Rattle.fx_table.specs.Pass.{PassView, IsFront, IsIdle, IsFileRemoval, event_of}
-use Rattle.fx_table.specs.Showing.{Learns}
-use Rattle.fx_table.specs.declared.values.Doing.{Doing}
-use Rattle.fx_table.specs.declared.values.Doing.TheVariants.{Holding, Retiring as Retires}
-use Rattle.fx_table.specs.declared.values.Hold.{Hold}
-use Rattle.fx_lasting.specs.HeldFiles.{IsOneOnItsNode}
-use Rattle.fx_lasting.specs.Keyed.{IsOn, HasMissed, HasTakenIf, HasPutIf}
-use Rattle.fx_lasting.specs.Keys.{LookedByKey, HeldByKey, LeftIt, FailsByKey, TakesByKey, PutsOverKey, fault_for, taken_answer, put_answer}
-use Rattle.fx_lasting.specs.declared.answers.Miss.{Miss}
+use Rattle.fx_table.specs.declared.values.Doing.TheVariants.{Retiring as Retires}
 use Rattle.fx_lasting.specs.declared.answers.PutIf.{PutIf}
 use Rattle.fx_lasting.specs.declared.answers.PutIf.TheVariants as put
 use Rattle.fx_lasting.specs.declared.answers.TakenIf.{TakenIf}
 use Rattle.fx_lasting.specs.declared.answers.TakenIf.TheVariants as taken
 use Rattle.fx_lasting.specs.declared.key.Key.{Key}
-use Rattle.fx_lasting.specs.declared.key_answers.KeyFault.{KeyFault}
 use Rattle.fx_lasting.specs.declared.key_answers.KeyFault.TheVariants.{NoSlot, Empty, Other, Again}
 use Rattle.fx_lasting.proofs.ByNode.{was_before}
 use Rattle.fx_lasting.proofs.HeldFiles.{held_in_part, held_same}

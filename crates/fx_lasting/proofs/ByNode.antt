@@ -1,23 +1,14 @@
 -- The calls that name a node: what their steps leave, one after another.
 use Rattle.fx_lasting.proofs.Words.{◌-◌, ◌<◌, List, get_elem?, some, rest, as_swapped, IsInStock, NamesANode, name_in, name_of_file, nodes_of}
-use Rattle.fx_lasting.proofs.Words.{IsAtWork, IsStockOf, as_stocked, set}
+use Rattle.fx_lasting.proofs.Words.{IsAtWork, IsStockOf, as_stocked, set, ◌≡◌, ◌≢◌, ℕ, ◌+◌, ◌≤◌, [], sym, refl, ap, ◌∙◌, subst, arith, Option, Some}
+use Rattle.fx_lasting.proofs.Words.{None, Bool, true, false, File, Event, IsSeenBy, Closed, Action, ◌▷◌, ◌▷▷◌, Take, Put, numbered, full_name_in}
+use Rattle.fx_lasting.proofs.Words.{entry_in, count_in, Names, Start, Sat, At, Work, Glance, Change, Outside, Runs, Stepped, Sees, retiring_work}
+use Rattle.fx_lasting.proofs.Words.{retired_at, slot_of, pass_in, state_after_all, node_of_number, account, uncounted, range_at_start, is_in}
+use Rattle.fx_lasting.proofs.Words.{group_of, TableId, LastingPass, IsPassOf, opening_of, view_of, pass_of, Result, Ok, Err, seen_further, Adds}
+use Rattle.fx_lasting.proofs.Words.{no_use, IsIdle, IsFileRemoval, Doing, DoesNothing, Retired, IsOneOnItsNode, IsOn, FitsMiss, WasSo, WasIn, SaysIf}
+use Rattle.fx_lasting.proofs.Words.{SawIf, FailedIf, HasTriedIf, TriedTake, TriedReplace, TriedSwap, TriedOut, Miss}
 use Rattle.fx_lasting.proofs.Running.{swapped_then, at_swapped, number_is, stock_is}
-use Rattle.fx_lasting.proofs.Words.{◌≡◌, ◌≢◌, ℕ, ◌+◌, ◌-◌, ◌≤◌, List, [], sym, refl, ap, ◌∙◌, subst, arith, Option, Some, None, Bool, true, false}
-use Rattle.fx_lasting.proofs.Words.{File, Event, IsSeenBy, Closed, Action, ◌▷◌, ◌▷▷◌, Take, Put, numbered, full_name_in, entry_in, count_in, Names}
-use Rattle.fx_lasting.proofs.Words.{Start, Sat, At, Work, Glance, Change, Outside, Runs, Stepped, Sees, retiring_work, retired_at, slot_of}
-use Rattle.fx_lasting.proofs.Words.{pass_in, state_after_all, node_of_number, account, uncounted, range_at_start, is_in, group_of, TableId, LastingPass}
-use Rattle.fx_lasting.proofs.Words.{IsPassOf, opening_of, view_of, pass_of}
-use Rattle.std.specs.Prelude.{Result, Ok, Err}
-use Rattle.fx_table.proofs.Calls.{seen_further}
-use Rattle.fx_table.specs.Calls.{Adds, no_use}
-use Rattle.fx_table.specs.Pass.{IsIdle, IsFileRemoval}
-use Rattle.fx_table.specs.declared.values.Doing.{Doing}
-use Rattle.fx_table.specs.declared.values.Doing.TheVariants.{Idle as DoesNothing}
-use Rattle.fx_table.specs.declared.values.Retired.{Retired}
 use Rattle.fx_lasting.specs.Ends.{Does}
-use Rattle.fx_lasting.specs.HeldFiles.{IsOneOnItsNode}
-use Rattle.fx_lasting.specs.Keyed.{IsOn, FitsMiss, WasSo, WasIn, SaysIf, SawIf, FailedIf, HasTriedIf, TriedTake, TriedReplace, TriedSwap, TriedOut}
-use Rattle.fx_lasting.specs.declared.answers.Miss.{Miss}
 use Rattle.fx_lasting.specs.declared.answers.Miss.TheVariants.{Empty, Other, Again}
 use Rattle.fx_lasting.proofs.Passing.{adds_so}
 use Rattle.fx_lasting.proofs.Running.{runs_one, runs_then, runs_goes, runs_within, does_then}

@@ -1,13 +1,7 @@
 -- The calls of a caller that looks for an empty slot by itself: what their steps leave.
-use Rattle.fx_lasting.proofs.Words.{◌≡◌, ℕ, [], ◌▷◌, refl, subst, arith, Option, Some, None, Bool, true, false, File, Full}
-use Rattle.fx_lasting.proofs.Words.{Start, Sat, At, Sees, Names, slot_of, pass_in, state_after_all, node_of_number, file_node_in}
-use Rattle.fx_lasting.proofs.Words.{LastingTable, LastingPass, opening_of, view_of}
-use Rattle.std.specs.Prelude.{is_some}
-use Rattle.fx_table.proofs.Calls.{adds_then}
-use Rattle.fx_table.specs.Calls.{Adds, no_use}
-use Rattle.fx_table.specs.declared.values.Doing.TheVariants.{Idle as DoesNothing}
-use Rattle.fx_lasting.specs.Questions.{HasAsked}
-use Rattle.fx_lasting.specs.Vacant.{FitsSight, SeesFile, AnswersFull}
+use Rattle.fx_lasting.proofs.Words.{◌≡◌, ℕ, [], ◌▷◌, refl, subst, arith, Option, Some, None, Bool, true, false, File, Full, Start, Sat, At, Sees}
+use Rattle.fx_lasting.proofs.Words.{Names, slot_of, pass_in, state_after_all, node_of_number, file_node_in, LastingTable, LastingPass, opening_of}
+use Rattle.fx_lasting.proofs.Words.{view_of, is_some, adds_then, Adds, no_use, DoesNothing, HasAsked, FitsSight, SeesFile, AnswersFull}
 use Rattle.fx_lasting.proofs.Questions.{asked_full, asked_nothing}
 use Rattle.fx_lasting.proofs.Running.{no_name, its_name, runs_goes}
 

@@ -1,13 +1,12 @@
 -- The end, when one seat has all passes again, and does nothing: everything is settled, and each
 -- file is at its slot.
-use Rattle.fx_lasting.specs.Passes.{contents_of}
-use Rattle.fx_lasting.proofs.Words.{◌≡◌, ℕ, suc, ◌<◌, ◌≤◌, map, sym, ap, ◌∙◌, subst, arith, Option, Some, None, sum_by, dite, some, dec_le, get_elem?}
-use Rattle.fx_lasting.proofs.Words.{Closed, State, IsSettled, File, sum_zero_at, ℕ_discrete, Does, OwnerAgrees, NodeAgrees, Agrees, Shared, slots_of}
-use Rattle.fx_lasting.proofs.Words.{nodes_of, word_of, state_after_all, state_at_start, held_of, if_file, taken_of, owed, count_in, Phase, free}
-use Rattle.fx_lasting.proofs.Words.{placed, seated, leaving, retired, emptied, kept, removed_in, Start, View, Work, HasNoFile, IsSeated, action_of, refl}
+use Rattle.fx_lasting.proofs.Words.{contents_of, ◌≡◌, ℕ, suc, ◌<◌, ◌≤◌, map, sym, ap, ◌∙◌, subst, arith, Option, Some, None, sum_by, dite, some}
+use Rattle.fx_lasting.proofs.Words.{dec_le, get_elem?, Closed, State, IsSettled, File, sum_zero_at, ℕ_discrete, Does, OwnerAgrees, NodeAgrees, Agrees}
+use Rattle.fx_lasting.proofs.Words.{Shared, slots_of, nodes_of, word_of, state_after_all, state_at_start, held_of, if_file, taken_of, owed, count_in}
+use Rattle.fx_lasting.proofs.Words.{Phase, free, placed, seated, leaving, retired, emptied, kept, removed_in, Start, View, Work, HasNoFile, IsSeated}
+use Rattle.fx_lasting.proofs.Words.{action_of, refl, inside_behind, opens_inside}
 use Rattle.fx_lasting.proofs.Choosing.{no_file, no_take, not_busy, holds_none}
 use Rattle.fx_lasting.proofs.Frames.{busy}
-use Rattle.fx_plain.proofs.Prepared.{inside_behind, opens_inside}
 use Rattle.fx_lasting.proofs.Counts.{owed_found}
 use Rattle.fx_lasting.proofs.Histories.{same_shape}
 use Rattle.fx_lasting.proofs.Keeping.{word_at, slot_word, find_pass}

@@ -4,8 +4,9 @@ use Rattle.fx_lasting.proofs.Words.{◌≡◌, ℕ, zero, suc, ◌+◌, ◌<◌,
 use Rattle.fx_lasting.proofs.Words.{⊎_elim, ◌⊎◌, inl, inr, dite, ℕ_discrete, eqb, one_if, sum_by, sum_by-cons, sum_at, sum_le_at, bit_here, bit_else}
 use Rattle.fx_lasting.proofs.Words.{NodeAgrees, OwnerAgrees, HoldAgrees, Names, slots_of, nodes_of, word_of, hold_word_of, state_after_all, taken_of}
 use Rattle.fx_lasting.proofs.Words.{taking, owed, count_in, lengths, Phase, free, placed, seated, leaving, retired, emptied, kept, Log, View, Work}
-use Rattle.fx_lasting.proofs.Words.{Idle, Announced, Counted, Guarded, Owing, Yielding, Searching, Placing, Retiring, Emptying, Keeping, Does, Agrees, Shared}
-use Rattle.fx_lasting.proofs.Words.{Start, ◌≢◌, get_or, set, at_set, sum_set, Contains, contains_head, at_slot, in_stock, StockAgrees, name_of_file}
+use Rattle.fx_lasting.proofs.Words.{Idle, Announced, Counted, Guarded, Owing, Yielding, Searching, Placing, Retiring, Emptying, Keeping, Does, Agrees}
+use Rattle.fx_lasting.proofs.Words.{Shared, Start, ◌≢◌, get_or, set, at_set, sum_set, Contains, contains_head, at_slot, in_stock, StockAgrees}
+use Rattle.fx_lasting.proofs.Words.{name_of_file}
 use Rattle.fx_lasting.proofs.Counts.{owed_found}
 use Rattle.fx_lasting.proofs.Keeping.{word_at, slot_word, find_pass}
 

@@ -1,21 +1,14 @@
 -- Passes as they are dealt out, and all of them in one seat again: what the one history says of
 -- each.
 use Rattle.fx_lasting.proofs.Words.{pass_in, ◌≡◌, ◌≢◌, ℕ, ◌+◌, ◌≤◌, List, [], ◌∷◌, sym, refl, ap, ◌∙◌, subst, arith, Option, All, TableId, take, drop}
-use Rattle.fx_lasting.proofs.Words.{map, length, reverse, Closed, Sat, new_log, pass_of, view_of, IsPassOf, IsSeatOf, Knows, LastingPass}
-use Rattle.fx_lasting.proofs.Words.{Log, Start, View, IsNewPass, dealt, numbers_of_pass, first_stock, some, get_elem?, Contains, sum_by}
-use Rattle.fx_lasting.proofs.Words.{Contents, state_of, IsSettled, contains_head, contains_map, Agrees, LogAgrees, logs_in, Shared, opening_of}
-use Rattle.fx_lasting.proofs.Words.{state_after_all, first_log, Event, HasNoFile, inl, IsAtWork, IsHistory, lengths, one_if, eqb, true, false}
-use Rattle.atomic_table.specs.declared.shared.Seat.{Seat}
-use Rattle.fx_lasting.specs.Cuts.{without_first, first_alone}
-use Rattle.fx_lasting.specs.Tables.{first_passes, as_first}
-use Rattle.std.proofs.lemmas.List.{length-reverse, length-map}
-use Rattle.fx_table.specs.Closing.{ClosesTable, times_drawn}
+use Rattle.fx_lasting.proofs.Words.{map, length, reverse, Closed, Sat, new_log, pass_of, view_of, IsPassOf, IsSeatOf, Knows, LastingPass, Log, Start}
+use Rattle.fx_lasting.proofs.Words.{View, IsNewPass, dealt, numbers_of_pass, first_stock, some, get_elem?, Contains, sum_by, Contents, state_of}
+use Rattle.fx_lasting.proofs.Words.{IsSettled, contains_head, contains_map, Agrees, LogAgrees, logs_in, Shared, opening_of, state_after_all}
+use Rattle.fx_lasting.proofs.Words.{first_log, Event, HasNoFile, inl, IsAtWork, IsHistory, lengths, one_if, eqb, true, false, Seat, without_first}
+use Rattle.fx_lasting.proofs.Words.{first_alone, first_passes, as_first, length-reverse, length-map, ClosesTable, times_drawn, HasSameFiles, PassView}
+use Rattle.fx_lasting.proofs.Words.{new_pass, new_passes, in_part, first_left, last_left, IsReady, fits, each_log, sum_gathered, each_seat, only_here}
+use Rattle.fx_lasting.proofs.Words.{contains_tail, contains_none, contains_mapped, contains_reverse, contains_reversed, found_by, sum_zero, sum_map}
 use Rattle.fx_table.specs.Numbers.{once}
-use Rattle.fx_table.specs.Opening.{HasSameFiles}
-use Rattle.fx_table.specs.Pass.{PassView, new_pass, new_passes}
-use Rattle.fx_table.proofs.Chains.{in_part, first_left, last_left, IsReady, fits}
-use Rattle.fx_table.proofs.Seats.{logs_are as each_log, sum_gathered, each_seat, only_here}
-use Rattle.fx_table.proofs.SumLemmas.{contains_tail, contains_none, contains_mapped, contains_reverse, contains_reversed, found_by, sum_zero, sum_map}
 use Rattle.fx_table.proofs.Histories.{IsWhole, closes_table}
 use Rattle.fx_lasting.proofs.Ending.{settled_end}
 use Rattle.fx_lasting.proofs.Openings.{first_stock_is}

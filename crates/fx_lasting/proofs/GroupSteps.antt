@@ -1,14 +1,14 @@
 -- Steps on the words that count full slots keep the rule.
-use Rattle.fx_lasting.proofs.Words.{◌≡◌, ◌≢◌, ℕ, ◌+◌, ◌-◌, ◌%◌, ◌^◌, ◌<◌, ◌≤◌, List, [], ◌∷◌, set, length, sym, refl, ap, ◌∙◌, subst}
-use Rattle.fx_lasting.proofs.Words.{arith, get_or-set_other, get_or-set_same, Option, IsSome, dite, some, none, one_if, eqb, eq-eqb, ne_eqb}
-use Rattle.fx_lasting.proofs.Words.{ℕ_discrete, get_elem?, keeps, step, sum_by, sum_at, Closed, File, Full, Event, pass_event, sum_set, bit_here}
-use Rattle.fx_lasting.proofs.Words.{sum_le_at, range_at_start, Agrees, RangeCounts, GroupCounts, AreFull, HasVisitedFull, HasQuestionOf, WorkAgrees, lengths}
-use Rattle.fx_lasting.proofs.Words.{owing, owing_of, full_in, question_place, group_place, group_len, group_start, group_of, groups_in, slot_place, word_of}
-use Rattle.fx_lasting.proofs.Words.{hold_word_of, slots_of, list_place, state_after_all, IsHistory, Change, Outside, Lowered, Inside, Log, Start, View, Work}
-use Rattle.fx_lasting.proofs.Words.{Shared, IsInside, Goes, Stepped, Lowers, Raises, Counts, as_asked}
-use Rattle.fx_lasting.proofs.Words.{LowersKeep, RaisesKeep, CountsKeep, IsGroup, length-set}
-use Rattle.fx_lasting.proofs.Words.{inl, held_by, Idle, Announced, Counted, Guarded, Owing, Yielding, Survey, Covered, Contains}
-use Rattle.fx_lasting.proofs.Words.{Searching, Placing, Retiring, Emptying, Keeping, State, Phase, contains_only, part_of_pass}
+use Rattle.fx_lasting.proofs.Words.{◌≡◌, ◌≢◌, ℕ, ◌+◌, ◌-◌, ◌%◌, ◌^◌, ◌<◌, ◌≤◌, List, [], ◌∷◌, set, length, sym, refl, ap, ◌∙◌, subst, arith}
+use Rattle.fx_lasting.proofs.Words.{get_or-set_other, get_or-set_same, Option, IsSome, dite, some, none, one_if, eqb, eq-eqb, ne_eqb, ℕ_discrete}
+use Rattle.fx_lasting.proofs.Words.{get_elem?, keeps, step, sum_by, sum_at, Closed, File, Full, Event, pass_event, sum_set, bit_here, sum_le_at}
+use Rattle.fx_lasting.proofs.Words.{range_at_start, Agrees, RangeCounts, GroupCounts, AreFull, HasVisitedFull, HasQuestionOf, WorkAgrees, lengths}
+use Rattle.fx_lasting.proofs.Words.{owing, owing_of, full_in, question_place, group_place, group_len, group_start, group_of, groups_in, slot_place}
+use Rattle.fx_lasting.proofs.Words.{word_of, hold_word_of, slots_of, list_place, state_after_all, IsHistory, Change, Outside, Lowered, Inside, Log}
+use Rattle.fx_lasting.proofs.Words.{Start, View, Work, Shared, IsInside, Goes, Stepped, Lowers, Raises, Counts, as_asked, LowersKeep, RaisesKeep}
+use Rattle.fx_lasting.proofs.Words.{CountsKeep, IsGroup, length-set, inl, held_by, Idle, Announced, Counted, Guarded, Owing, Yielding, Survey}
+use Rattle.fx_lasting.proofs.Words.{Covered, Contains, Searching, Placing, Retiring, Emptying, Keeping, State, Phase, contains_only, part_of_pass}
+use Rattle.fx_lasting.proofs.Words.{full_few, full_all}
 use Rattle.fx_lasting.proofs.Histories.{Grows, grows_none, grows_one, legal_more, held_mine, same_shape}
 use Rattle.fx_lasting.proofs.Counts.{bit_few}
 use Rattle.fx_lasting.proofs.Frames.{sees_same, guards_same, covers_same}
@@ -18,7 +18,6 @@ use Rattle.fx_lasting.proofs.Places.{group_back, label_same}
 use Rattle.fx_lasting.proofs.Keeping.{Turn, turn_of, After, word_at, slot_word, Made, by_turn, its_log, its_work, in_range, tells}
 use Rattle.fx_lasting.proofs.Keeping.{tells_asked, asks_alike, few_slots, has_x, logged, w, end}
 use Rattle.fx_lasting.proofs.Calm.{calm_after, calm_kept}
-use Rattle.fx_table.proofs.FullSlots.{full_few, full_all}
 
 one_at_most : (g : ℕ) (c : Change) → owing g c ≤ 1
 one_at_most g Outside = omega arith

@@ -1,13 +1,12 @@
 -- The words that count full slots, and the questions whether all are full, when a slot, a word or a
 -- pass's account changes.
-use Rattle.fx_lasting.proofs.Words.{◌≡◌, ◌≢◌, ℕ, suc, ◌+◌, ◌-◌, ◌*◌, ◌/◌, ◌%◌, ◌^◌, ◌<◌, ◌≤◌, List, set, sym, refl, ap, ◌∙◌, arith, Option, Some, None, Bool, true}
-use Rattle.fx_lasting.proofs.Words.{false, cond, nat_lt, lt-ltb, le-ltb, dec_le, subst, dite, some, get_elem?, changed_at, changed_here, changed_else, File}
-use Rattle.fx_lasting.proofs.Words.{sum_set, owing, owing_of, if_full, full_in, GroupCounts, RangeCounts, AreFull, HasVisitedFull, HasQuestionOf, is_in}
-use Rattle.fx_lasting.proofs.Words.{uncounted, account, View, Log, Change, Outside, Inside, Survey, NotAsked, Covered, full_else, full_here, full_few, IsSome}
-use Rattle.fx_lasting.proofs.Words.{group_size, groups_in, group_of, group_start, group_len, group_place, question_place, ◌⊎◌, ⊎_elim, inl, inr, at_set}
-use Rattle.fx_lasting.proofs.Words.{ℕ_discrete, eq-eqb, ne_eqb, get_or, Contains}
-use Rattle.std.specs.Prelude.{is_some, not}
-use Rattle.fx_lasting.specs.declared.layout.TheConstants.{MOST_SLOTS}
+use Rattle.fx_lasting.proofs.Words.{◌≡◌, ◌≢◌, ℕ, suc, ◌+◌, ◌-◌, ◌*◌, ◌/◌, ◌%◌, ◌^◌, ◌<◌, ◌≤◌, List, set, sym, refl, ap, ◌∙◌, arith, Option, Some}
+use Rattle.fx_lasting.proofs.Words.{None, Bool, true, false, cond, nat_lt, lt-ltb, le-ltb, dec_le, subst, dite, some, get_elem?, changed_at}
+use Rattle.fx_lasting.proofs.Words.{changed_here, changed_else, File, sum_set, owing, owing_of, if_full, full_in, GroupCounts, RangeCounts, AreFull}
+use Rattle.fx_lasting.proofs.Words.{HasVisitedFull, HasQuestionOf, is_in, uncounted, account, View, Log, Change, Outside, Inside, Survey, NotAsked}
+use Rattle.fx_lasting.proofs.Words.{Covered, full_else, full_here, full_few, IsSome, group_size, groups_in, group_of, group_start, group_len}
+use Rattle.fx_lasting.proofs.Words.{group_place, question_place, ◌⊎◌, ⊎_elim, inl, inr, at_set, ℕ_discrete, eq-eqb, ne_eqb, get_or, Contains, is_some}
+use Rattle.fx_lasting.proofs.Words.{not, MOST_SLOTS}
 
 -- what holds of each size of a group
 pub by_size : (P : ℕ → Type 0) → P 4 → P 64 → P 1024 → P 16384 → (len : ℕ) → P (group_size len)

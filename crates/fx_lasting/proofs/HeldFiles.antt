@@ -1,9 +1,8 @@
 -- The file at a slot is the one that passes hold on its node.
-use Rattle.fx_lasting.proofs.Words.{◌≡◌, ℕ, ◌<◌, List, [], ◌∷◌, sym, refl, ap, ◌∙◌, subst, Option, Some, None}
-use Rattle.fx_lasting.proofs.Words.{⊎_elim, File, Event, Start, Shared, Work, Agrees, WorkAgrees, HoldsAt, Counted, Guarded, Yielding}
-use Rattle.fx_lasting.proofs.Words.{held_in, held_by, held_after, part_of_pass, state_after_all, slots_of, node_of_number, file_in, once_is}
-use Rattle.fx_lasting.proofs.Words.{IsSeated, eq-eqb, ne_eqb, dite, ℕ_discrete}
-use Rattle.fx_lasting.specs.HeldFiles.{IsOneOnItsNode}
+use Rattle.fx_lasting.proofs.Words.{◌≡◌, ℕ, ◌<◌, List, [], ◌∷◌, sym, refl, ap, ◌∙◌, subst, Option, Some, None, ⊎_elim, File, Event, Start, Shared}
+use Rattle.fx_lasting.proofs.Words.{Work, Agrees, WorkAgrees, HoldsAt, Counted, Guarded, Yielding, held_in, held_by, held_after, part_of_pass}
+use Rattle.fx_lasting.proofs.Words.{state_after_all, slots_of, node_of_number, file_in, once_is, IsSeated, eq-eqb, ne_eqb, dite, ℕ_discrete}
+use Rattle.fx_lasting.proofs.Words.{IsOneOnItsNode}
 use Rattle.fx_lasting.proofs.Holds.{on_node}
 use Rattle.fx_lasting.proofs.Keeping.{find_pass}
 

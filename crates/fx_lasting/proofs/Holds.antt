@@ -1,13 +1,10 @@
 -- A node is that of one file while the file is held.
-use Rattle.fx_lasting.proofs.Words.{◌≡◌, ◌≢◌, ℕ, ◌+◌, Option, Some, None, ap, sym, ◌∙◌, subst, arith, File, node_of_number, sum_by, get_elem?, Agrees, Names, IsSeated}
-use Rattle.fx_lasting.proofs.Words.{NodeAgrees, WorkAgrees, HoldsAt, slots_of, word_of, state_after_all, taken_of, owed, count_in, full_name_in}
-use Rattle.fx_lasting.proofs.Words.{Phase, Shared, Start, Work, Counted, Guarded, Retiring, seated, leaving, retired, file_in}
-use Rattle.fx_table.specs.declared.values.Doing.TheVariants.{Holding, Retiring as Retires}
-use Rattle.fx_table.specs.declared.values.Hold.{Hold}
-use Rattle.fx_table.specs.declared.values.Retired.{Retired}
-use Rattle.fx_lasting.specs.Bounds.{slot_word_in, node_word_in}
+use Rattle.fx_lasting.proofs.Words.{◌≡◌, ◌≢◌, ℕ, ◌+◌, Option, Some, None, ap, sym, ◌∙◌, subst, arith, File, node_of_number, sum_by, get_elem?, Agrees}
+use Rattle.fx_lasting.proofs.Words.{Names, IsSeated, NodeAgrees, WorkAgrees, HoldsAt, slots_of, word_of, state_after_all, taken_of, owed, count_in}
+use Rattle.fx_lasting.proofs.Words.{full_name_in, Phase, Shared, Start, Work, Counted, Guarded, Retiring, seated, leaving, retired, file_in, Holding}
+use Rattle.fx_lasting.proofs.Words.{Hold, Retired, slot_word_in, node_word_in, doing_in}
+use Rattle.fx_table.specs.declared.values.Doing.TheVariants.{Retiring as Retires}
 use Rattle.fx_lasting.specs.Holds.{IsHeldBy, HoldsNameFiles, HoldKeepsNode}
-use Rattle.fx_lasting.specs.Tables.{doing_in}
 use Rattle.fx_lasting.proofs.Counts.{few_cold}
 use Rattle.fx_lasting.proofs.Keeping.{word_at, slot_word}
 use Rattle.fx_lasting.proofs.WordBounds.{few_takes}

@@ -1,15 +1,10 @@
 -- The files at the settled end of a table whose passes are all idle: they are in the places of
 -- their nodes.
-use Rattle.fx_lasting.proofs.Words.{◌≡◌, ◌≤◌, ℕ, ◌-◌, sym, refl, ap, ◌∙◌, arith, Option, Some, None, List, subst, Closed, State, slice_index}
-use Rattle.fx_lasting.proofs.Words.{some, get_elem?, file_node_in, slot_place, stands_at, some-injective, File, Names, full_name_in, Agrees, slots_of}
-use Rattle.fx_lasting.proofs.Words.{state_after_all, LastingTable, Start, View, HasNoFile, eq-eqb, ne_eqb}
-use Rattle.std.specs.Prelude.{option_map}
-use Rattle.atomic_table.specs.Table.{Final, Seen}
-use Rattle.fx_plain.specs.Table.{number_of, identity_of}
-use Rattle.fx_lasting.specs.Closing.{files_at_slots}
+use Rattle.fx_lasting.proofs.Words.{◌≡◌, ◌≤◌, ℕ, ◌-◌, sym, refl, ap, ◌∙◌, arith, Option, Some, None, List, subst, Closed, State, slice_index, some}
+use Rattle.fx_lasting.proofs.Words.{get_elem?, file_node_in, slot_place, stands_at, some-injective, File, Names, full_name_in, Agrees, slots_of}
+use Rattle.fx_lasting.proofs.Words.{state_after_all, LastingTable, Start, View, HasNoFile, eq-eqb, ne_eqb, option_map, Final, Seen, number_of}
+use Rattle.fx_lasting.proofs.Words.{identity_of, files_at_slots, AreAtHome, AreStored, at_home, file_at, files_are, AllAreIdle, Leaves}
 use Rattle.fx_lasting.proofs.Listed.{with_files, has_files, at_rest, same_list}
-use Rattle.fx_table.proofs.Shells.{AreAtHome, AreStored, at_home, file_at, files_are}
-use Rattle.fx_lasting.specs.Lives.{AllAreIdle, Leaves}
 use Rattle.fx_lasting.proofs.Ending.{home_file, file_home, one_slot, none_outside_end}
 use Rattle.fx_lasting.proofs.Histories.{same_shape}
 

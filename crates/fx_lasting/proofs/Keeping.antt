@@ -5,15 +5,13 @@ use Rattle.fx_lasting.proofs.Words.{Action, sum_by, sum_set, sum_at, sum_of, sum
 use Rattle.fx_lasting.proofs.Words.{IsSeenBy, at_set, Allows, stepped, Act, Valid, carried_after, SlotAgrees, NodeAgrees, OwnerAgrees, WorkAgrees}
 use Rattle.fx_lasting.proofs.Words.{LogAgrees, ViewAgrees, lengths, Agrees, RangeCounts, HoldAgrees, GuardAgrees, GlanceAgrees, Heats, IsAllowed}
 use Rattle.fx_lasting.proofs.Words.{count_in, slot_place, word_of, hold_word_of, Shared, slots_of, nodes_of, range_at_start, state_after_all}
-use Rattle.fx_lasting.proofs.Words.{IsHistory, held_in, held_of, taken_of, logs_of, owed, Sat, Stepped, IsInside, pass_event, HasPass, Phase}
-use Rattle.fx_lasting.proofs.Words.{free, removed_in, Change, Glance, Log, Start, View, Work, found_sum, found_by, at_index}
-use Rattle.fx_lasting.proofs.Words.{IsInStock, name_in, Whereabouts, in_stock, NamesItsNode, StockAgrees, as_stocked, ◌⊎◌, list_place, IsListedIn, Deed, untouched, Survey, as_asked}
-use Rattle.fx_lasting.proofs.Words.{Labels, Written, tag_word_of, number_word_of, written_in}
+use Rattle.fx_lasting.proofs.Words.{IsHistory, held_in, held_of, taken_of, logs_of, owed, Sat, Stepped, IsInside, pass_event, HasPass, Phase, free}
+use Rattle.fx_lasting.proofs.Words.{removed_in, Change, Glance, Log, Start, View, Work, found_sum, found_by, at_index, IsInStock, name_in}
+use Rattle.fx_lasting.proofs.Words.{Whereabouts, in_stock, NamesItsNode, StockAgrees, as_stocked, ◌⊎◌, list_place, IsListedIn, Deed, untouched}
+use Rattle.fx_lasting.proofs.Words.{Survey, as_asked, Labels, Written, tag_word_of, number_word_of, written_in, of_replaced, MOST_SLOTS}
 use Rattle.fx_lasting.proofs.Groups.{AskAlike}
 use Rattle.fx_lasting.proofs.Histories.{Grows, legal_before}
-use Rattle.fx_seen.proofs.Views.{of_replaced}
 use Rattle.fx_lasting.proofs.Lists.{ListGoesOn, stays_listed, was_listed}
-use Rattle.fx_lasting.specs.declared.layout.TheConstants.{MOST_SLOTS}
 use mathlib.Core.Option as maybe
 
 -- the history that the seat shows begins this one

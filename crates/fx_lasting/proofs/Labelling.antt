@@ -1,10 +1,11 @@
 -- A pass stores the label of the file that it places, and loads that of the file that it holds.
 use Rattle.fx_lasting.proofs.Words.{◌≡◌, ◌≢◌, ℕ, ◌+◌, ◌<◌, ◌≤◌, List, [], set, sym, refl, ap, ◌∙◌, subst, arith, Option, Some, None, inr, ⊎_elim}
-use Rattle.fx_lasting.proofs.Words.{none, keeps, step, length-set, get_or-set_other, get_or-set_same, Closed, File, Agrees, WorkAgrees, HoldsAt, Labels}
-use Rattle.fx_lasting.proofs.Words.{slots_of, nodes_of, slot_place, group_place, list_place, question_place, word_of, hold_word_of, tag_word_of}
-use Rattle.fx_lasting.proofs.Words.{number_word_of, held_in, if_file, taken_of, taking, HoldsOn, Phase, placed, owner, file_in, removed_in, written_in}
-use Rattle.fx_lasting.proofs.Words.{changed_here, sum_set, Work, Placing, Placement, Written, as_written, Unlabelled, Tag, Label, label_of, number_of_mark, Goes, Log, first_log}
-use Rattle.fx_lasting.proofs.Words.{Tags, Numbers, ReadsTag, ReadsNumber, TagsKeep, NumbersKeep, ReadsTagKeep, ReadsNumberKeep}
+use Rattle.fx_lasting.proofs.Words.{none, keeps, step, length-set, get_or-set_other, get_or-set_same, Closed, File, Agrees, WorkAgrees, HoldsAt}
+use Rattle.fx_lasting.proofs.Words.{Labels, slots_of, nodes_of, slot_place, group_place, list_place, question_place, word_of, hold_word_of}
+use Rattle.fx_lasting.proofs.Words.{tag_word_of, number_word_of, held_in, if_file, taken_of, taking, HoldsOn, Phase, placed, owner, file_in}
+use Rattle.fx_lasting.proofs.Words.{removed_in, written_in, changed_here, sum_set, Work, Placing, Placement, Written, as_written, Unlabelled, Tag}
+use Rattle.fx_lasting.proofs.Words.{Label, label_of, number_of_mark, Goes, Log, first_log, Tags, Numbers, ReadsTag, ReadsNumber, TagsKeep}
+use Rattle.fx_lasting.proofs.Words.{NumbersKeep, ReadsTagKeep, ReadsNumberKeep}
 use Rattle.fx_lasting.proofs.Histories.{grows_none, each_changed}
 use Rattle.fx_lasting.proofs.Frames.{busy, does_now, written_of}
 use Rattle.fx_lasting.proofs.Groups.{CountAlike}

@@ -2,9 +2,9 @@
 use Rattle.fx_lasting.proofs.Words.{◌≡◌, ◌≢◌, ℕ, ◌+◌, ◌-◌, ◌%◌, ◌^◌, ◌<◌, ◌≤◌, List, [], ◌∷◌, set, sym, refl, ap, ◌∙◌, subst, arith, Option, Some}
 use Rattle.fx_lasting.proofs.Words.{none, some, keeps, takes, Closed, ◌▷◌, File, Event, Release, Action, pass_event, NodeAgrees, OwnerAgrees}
 use Rattle.fx_lasting.proofs.Words.{MayBeUnmarked, HoldsAt, WorkAgrees, state_after_all, slots_of, nodes_of, word_of, hold_word_of, held_in, held_of}
-use Rattle.fx_lasting.proofs.Words.{taken_of, taking, if_file, owed, count_in, Phase, free, placed, seated, leaving, retired, emptied, kept, owner, file_in}
-use Rattle.fx_lasting.proofs.Words.{removed_in, changed_at, changed_here, changed_else, Work, Idle, Counted, Owing, Yielding, Goes, TakesOut, Sat}
-use Rattle.fx_lasting.proofs.Words.{LettingGo, LettingGoKeeps, step, inl, inr, ⊎_elim, ◌⊎◌, dite, ℕ_discrete, eqb, one_if, sum_by, sum_at}
+use Rattle.fx_lasting.proofs.Words.{taken_of, taking, if_file, owed, count_in, Phase, free, placed, seated, leaving, retired, emptied, kept, owner}
+use Rattle.fx_lasting.proofs.Words.{file_in, removed_in, changed_at, changed_here, changed_else, Work, Idle, Counted, Owing, Yielding, Goes, TakesOut}
+use Rattle.fx_lasting.proofs.Words.{Sat, LettingGo, LettingGoKeeps, step, inl, inr, ⊎_elim, ◌⊎◌, dite, ℕ_discrete, eqb, one_if, sum_by, sum_at}
 use Rattle.fx_lasting.proofs.Words.{one_less_at, get_elem?, bit_here, bit_else, Agrees}
 use Rattle.fx_lasting.proofs.Counts.{owed_changed, owed_at}
 use Rattle.fx_lasting.proofs.Histories.{grows_none, grows_one, legal_more, part_mine, held_mine}

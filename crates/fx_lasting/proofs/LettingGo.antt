@@ -2,10 +2,11 @@
 -- retires the file.
 use Rattle.fx_lasting.proofs.Words.{◌≡◌, ◌≢◌, ℕ, ◌+◌, ◌-◌, ◌%◌, ◌^◌, ◌<◌, ◌≤◌, List, ◌∷◌, ◌++◌, map, set, sym, refl, ap, ◌∙◌, arith, Option, Some}
 use Rattle.fx_lasting.proofs.Words.{None, none, some, set_here, set_else, Closed, ◌▷◌, File, Event, Close, Action, pass_event, held_by, part_of_pass}
-use Rattle.fx_lasting.proofs.Words.{NodeAgrees, OwnerAgrees, MayBeUnmarked, HoldsAt, state_after_all, slots_of, word_of, hold_word_of, held_of, taken_of}
-use Rattle.fx_lasting.proofs.Words.{taking, if_file, owed, count_in, IsHistory, Phase, free, seated, emptied, owner, file_in, removed_in, file_if_numbered}
-use Rattle.fx_lasting.proofs.Words.{changed_at, changed_here, changed_else, View, Work, Idle, Counted, Emptying, Goes, TakesOut, length-set, inr, ◌⊎◌}
-use Rattle.fx_lasting.proofs.Words.{dite, ℕ_discrete, eq-eqb, ne_eqb, one_if, sum_by, by_equality, sum_set, Agrees, get_elem?}
+use Rattle.fx_lasting.proofs.Words.{NodeAgrees, OwnerAgrees, MayBeUnmarked, HoldsAt, state_after_all, slots_of, word_of, hold_word_of, held_of}
+use Rattle.fx_lasting.proofs.Words.{taken_of, taking, if_file, owed, count_in, IsHistory, Phase, free, seated, emptied, owner, file_in, removed_in}
+use Rattle.fx_lasting.proofs.Words.{file_if_numbered, changed_at, changed_here, changed_else, View, Work, Idle, Counted, Emptying, Goes, TakesOut}
+use Rattle.fx_lasting.proofs.Words.{length-set, inr, ◌⊎◌, dite, ℕ_discrete, eq-eqb, ne_eqb, one_if, sum_by, by_equality, sum_set, Agrees, get_elem?}
+use Rattle.fx_lasting.proofs.Words.{Labels, written_in, subst}
 use Rattle.fx_lasting.proofs.Histories.{Grows, grows_more, legal_more, part_mine, held_mine, each_changed}
 use Rattle.fx_lasting.proofs.Frames.{busy, does_now, written_of}
 use Rattle.fx_lasting.proofs.Keeping.{Turn, After, Homes, word_at, slot_word, in_range, tells, w, end}
@@ -14,7 +15,6 @@ use Rattle.fx_lasting.proofs.NodeSteps.{after, node_kept}
 use Rattle.fx_lasting.proofs.Places.{node_words, node_here, node_else, node_slot, node_hold, node_alike, node_list, node_label}
 use Rattle.fx_lasting.proofs.Unheld.{held_alone, held_not, on_node}
 use Rattle.fx_lasting.proofs.Keeping.{labels_same}
-use Rattle.fx_lasting.proofs.Words.{Labels, written_in, subst}
 
 pub taking_few : (n : ℕ) (d : Work) → taking n d ≤ 1
 taking_few n (Counted f m) = by_equality m n (λ b. one_if b ≤ 1) (λ _. omega arith) (λ _. omega arith)

@@ -1,20 +1,12 @@
 -- The files of a closed table, listed with their slots, and a table of one thread that has them.
-use Rattle.fx_lasting.proofs.Words.{◌≡◌, ℕ, suc, ◌+◌, ◌<◌, ◌≤◌, List, [], ◌∷◌, ◌++◌, sym, refl, ap, ◌∙◌, arith, inl, Option, Some, None}
-use Rattle.fx_lasting.proofs.Words.{Closed, State, Contents, state_of, IsSettled, changed_at, numbered, some, get_elem?, set}
-use Rattle.fx_lasting.proofs.Words.{range_with_len, map, length-map-range_with_len, dite, dec_le}
-use Rattle.std.proofs.Common.{add-one}
-use Rattle.std.proofs.lemmas.List.{append-nil}
-use Rattle.std.proofs.Math.ListN.{get_or-eq_default}
-use Rattle.std.proofs.lemmas.List.FromFn.{get_or-map-range_with_len}
-use Rattle.fx_plain.specs.Contents.{slot_at, node_at, moved_node, removed_at, file_at as file_in, placed_at}
+use Rattle.fx_lasting.proofs.Words.{◌≡◌, ℕ, suc, ◌+◌, ◌<◌, ◌≤◌, List, [], ◌∷◌, ◌++◌, sym, refl, ap, ◌∙◌, arith, inl, Option, Some, None, Closed}
+use Rattle.fx_lasting.proofs.Words.{State, Contents, state_of, IsSettled, changed_at, numbered, some, get_elem?, set, range_with_len, map}
+use Rattle.fx_lasting.proofs.Words.{length-map-range_with_len, dite, dec_le, add-one, append-nil, get_or-eq_default, get_or-map-range_with_len}
+use Rattle.fx_lasting.proofs.Words.{slot_at, node_at, moved_node, removed_at, placed_at, vacant, identity_of, HasSameFiles, IsShell, AreAtHome}
+use Rattle.fx_lasting.proofs.Words.{AreComing, file_at, none_came, none_named, some_came, none_there, file_put, Becomes, with_slot, files_at_slots}
+use Rattle.fx_plain.specs.Contents.{file_at as file_in}
 use Rattle.fx_plain.specs.declared.node.Node.{Node}
 use Rattle.fx_plain.specs.declared.node.Node.TheVariants.{Gone}
-use Rattle.fx_plain.specs.State.{vacant}
-use Rattle.fx_plain.specs.Table.{identity_of}
-use Rattle.fx_table.specs.Opening.{HasSameFiles}
-use Rattle.fx_table.specs.Shells.{IsShell}
-use Rattle.fx_table.proofs.Shells.{AreAtHome, AreComing, file_at, none_came, none_named, some_came, none_there, file_put, Becomes}
-use Rattle.fx_lasting.specs.Closing.{with_slot, files_at_slots}
 
 -- one more slot's file
 pub listed_next : (file : ℕ → Option Closed) (n : ℕ) → files_at_slots file (n + 1) ≡ files_at_slots file n ++ with_slot n (file n)

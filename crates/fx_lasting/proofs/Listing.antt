@@ -1,16 +1,15 @@
 -- A step that sets a pass's bit in the list keeps the rule.
-use Rattle.fx_lasting.proofs.Words.{ℕ, ◌≤◌, ◌^◌, List, Option, Closed, refl, inl, inr, arith, none, keeps, Idle, Announced, Counted, Guarded, Owing, Yielding, Searching, Placing, Retiring, Emptying, Keeping, true, bit_or, bit_of, list_place}
-use Rattle.fx_lasting.proofs.Words.{step, length-set, dite, ℕ_discrete, Work, IsAllowed, Lists, ListsKeep, [], Bool}
+use Rattle.fx_lasting.proofs.Words.{ℕ, ◌≤◌, ◌^◌, List, Option, Closed, refl, inl, inr, arith, none, keeps, Idle, Announced, Counted, Guarded, Owing}
+use Rattle.fx_lasting.proofs.Words.{Yielding, Searching, Placing, Retiring, Emptying, Keeping, true, bit_or, bit_of, list_place, step, length-set}
+use Rattle.fx_lasting.proofs.Words.{dite, ℕ_discrete, Work, IsAllowed, Lists, ListsKeep, [], Bool, ◌≡◌, ◌+◌, ◌%◌, ◌<◌, ◌∙◌, sym, false, Agrees}
 use Rattle.fx_lasting.proofs.Histories.{grows_none}
 use Rattle.fx_lasting.proofs.Frames.{guards_same, covers_same, sees_same}
 use Rattle.fx_lasting.proofs.Keeping.{Turn, turn_of, After, word_at, Made, by_turn, its_log, its_work, in_range, logged, w, end, asks_alike, few_slots}
 use Rattle.fx_lasting.proofs.Calm.{calm_after, calm_kept}
-use Rattle.fx_lasting.proofs.Words.{◌≡◌, ◌+◌, ◌%◌, ◌<◌, ◌∙◌, sym, false}
 use Rattle.fx_lasting.proofs.Lists.{ListGoesOn, now_listed, bit_added}
 use Rattle.fx_lasting.proofs.GroupSteps.{its_inside}
 use Rattle.fx_lasting.proofs.Places.{list_words, list_here, list_apart, list_node, list_hold, list_slot, list_alike, list_label}
 use Rattle.fx_lasting.proofs.Groups.{counts_same}
-use Rattle.fx_lasting.specs.Agrees.{Agrees}
 
 -- a pass that is listed may do what it did
 allowed_more : (stock : List ℕ) (l : Bool) (d : Work) → IsAllowed stock l d → IsAllowed stock true d

@@ -1,8 +1,7 @@
 -- The bits of the list, before and after a step.
-use Rattle.fx_lasting.proofs.Words.{◌≡◌, ℕ, ◌<◌, ◌^◌, subst, sym, arith, ◌⊎◌, ⊎_elim, inl, inr, dite, ℕ_discrete, bit_or, bit_of}
-use Rattle.fx_lasting.proofs.Words.{IsListedIn, list_place, bit_at, ap, ◌∙◌, ◌+◌, ◌*◌, ◌%◌, Bool, true}
-use Rattle.std.proofs.lemmas.Nat.Bits.{bit_at_or, bit_at-lt, bit_at-pow_same, bit_at-pow_other, and_pow}
-use Rattle.std.proofs.lemmas.Nat.{pow_below}
+use Rattle.fx_lasting.proofs.Words.{◌≡◌, ℕ, ◌<◌, ◌^◌, subst, sym, arith, ◌⊎◌, ⊎_elim, inl, inr, dite, ℕ_discrete, bit_or, bit_of, IsListedIn}
+use Rattle.fx_lasting.proofs.Words.{list_place, bit_at, ap, ◌∙◌, ◌+◌, ◌*◌, ◌%◌, Bool, true, bit_at_or, bit_at-lt, bit_at-pow_same, bit_at-pow_other}
+use Rattle.fx_lasting.proofs.Words.{and_pow, pow_below}
 use lib.Bits.{bit_and, or_disjoint, or_lt}
 
 -- a word of the list, which has a pass's bit, after a step of the pass `own`, which is listed now

@@ -1,12 +1,11 @@
 -- A look-up loads the slot's word: at first, and again when it has announced a node.
-use Rattle.fx_lasting.proofs.Words.{IsOnList, Log, first_log}
-use Rattle.fx_lasting.proofs.Words.{◌≡◌, ◌≢◌, ℕ, ◌+◌, ◌-◌, ◌<◌, List, [], ◌∷◌, sym, refl, ap, ◌∙◌, subst, arith, Option, Some, None, none, keeps}
-use Rattle.fx_lasting.proofs.Words.{Closed, File, Event, Look, ◌▷◌, WorkAgrees, GuardAgrees, GlanceAgrees, Heats, NamesNode, Names, IsSeated}
-use Rattle.fx_lasting.proofs.Words.{state_after_all, slots_of, nodes_of, held_in, if_file, taking, pass_event, seated, file_in, Work, Glance, Idle}
-use Rattle.fx_lasting.proofs.Words.{Announced, Guarded, Hot, Cold, Heating, Nothing, Glances, Confirms, GlancesKeep, ConfirmsKeep, Goes, Shows, IsHot}
-use Rattle.fx_lasting.proofs.Words.{heat_in, Deed, untouched, over, heated, has_heated}
-use Rattle.fx_lasting.proofs.Words.{full_name_in, slot_place, step, inl, inr, ⊎_elim, ◌⊎◌, dite, ℕ_discrete, one_more_at, Bool, true, false}
-use Rattle.fx_lasting.proofs.Words.{hold_word_of, IsHistory, Start, IsInside, HasNoFile}
+use Rattle.fx_lasting.proofs.Words.{IsOnList, Log, first_log, ◌≡◌, ◌≢◌, ℕ, ◌+◌, ◌-◌, ◌<◌, List, [], ◌∷◌, sym, refl, ap, ◌∙◌, subst, arith, Option}
+use Rattle.fx_lasting.proofs.Words.{Some, None, none, keeps, Closed, File, Event, Look, ◌▷◌, WorkAgrees, GuardAgrees, GlanceAgrees, Heats, NamesNode}
+use Rattle.fx_lasting.proofs.Words.{Names, IsSeated, state_after_all, slots_of, nodes_of, held_in, if_file, taking, pass_event, seated, file_in, Work}
+use Rattle.fx_lasting.proofs.Words.{Glance, Idle, Announced, Guarded, Hot, Cold, Heating, Nothing, Glances, Confirms, GlancesKeep, ConfirmsKeep, Goes}
+use Rattle.fx_lasting.proofs.Words.{Shows, IsHot, heat_in, Deed, untouched, over, heated, has_heated, full_name_in, slot_place, step, inl, inr}
+use Rattle.fx_lasting.proofs.Words.{⊎_elim, ◌⊎◌, dite, ℕ_discrete, one_more_at, Bool, true, false, hold_word_of, IsHistory, Start, IsInside}
+use Rattle.fx_lasting.proofs.Words.{HasNoFile}
 use Rattle.fx_lasting.proofs.Histories.{grows_none, grows_one, legal_more, part_mine, held_mine, same_shape}
 use Rattle.fx_lasting.proofs.Frames.{busy}
 use Rattle.fx_lasting.proofs.Counts.{tally_at}

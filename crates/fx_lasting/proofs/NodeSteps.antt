@@ -1,17 +1,16 @@
 -- A step on one node, at which no slot changes: on its word and place, or on the hold word of a
 -- pass that names it.
 use Rattle.fx_lasting.proofs.Words.{◌≡◌, ◌≢◌, ℕ, ◌+◌, ◌<◌, ◌≤◌, List, [], set, length, sym, refl, ap, ◌∙◌, subst, arith, Option, Some, Bool, some}
-use Rattle.fx_lasting.proofs.Words.{get_elem?, held_by, changed_at, File, Event, NodeAgrees, OwnerAgrees, WorkAgrees, IsAllowed, Agrees}
-use Rattle.fx_lasting.proofs.Words.{slots_of, nodes_of, IsHistory, state_after_all, held_in, held_of, taken_of, taking, owed, Phase, free}
-use Rattle.fx_lasting.proofs.Words.{seated, owner, file_in, removed_in, View, Work, ⊎_elim, ◌⊎◌, inr, word_of, hold_word_of, count_in}
-use Rattle.fx_lasting.proofs.Words.{name_in, full_name_in, IsInStock, in_stock, sum_by, sum_set, HoldAgrees, GuardAgrees, MayBeUnmarked, Glance}
-use Rattle.fx_lasting.proofs.Words.{inl, list_place, IsSeenBy, part_of_pass}
+use Rattle.fx_lasting.proofs.Words.{get_elem?, held_by, changed_at, File, Event, NodeAgrees, OwnerAgrees, WorkAgrees, IsAllowed, Agrees, slots_of}
+use Rattle.fx_lasting.proofs.Words.{nodes_of, IsHistory, state_after_all, held_in, held_of, taken_of, taking, owed, Phase, free, seated, owner}
+use Rattle.fx_lasting.proofs.Words.{file_in, removed_in, View, Work, ⊎_elim, ◌⊎◌, inr, word_of, hold_word_of, count_in, name_in, full_name_in}
+use Rattle.fx_lasting.proofs.Words.{IsInStock, in_stock, sum_by, sum_set, HoldAgrees, GuardAgrees, MayBeUnmarked, Glance, inl, list_place, IsSeenBy}
+use Rattle.fx_lasting.proofs.Words.{part_of_pass, Labels, written_in}
 use Rattle.fx_lasting.proofs.Histories.{Grows, each_changed}
 use Rattle.fx_lasting.proofs.Frames.{busy, owner_stays, slot_same, node_same, Leaves, keeps_other}
 use Rattle.fx_lasting.proofs.Frames.{sees_same, covers_same, guards_same}
 use Rattle.fx_lasting.proofs.Keeping.{Turn, After, Keeps, Homes, word_at, slot_word, step_kept, w, end, its_log, its_stock, in_its_stock, names_on, asks_alike, few_slots}
 use Rattle.fx_lasting.proofs.Keeping.{LabelSame, labels_same}
-use Rattle.fx_lasting.proofs.Words.{Labels, written_in}
 use Rattle.fx_lasting.proofs.Groups.{CountAlike, counts_same}
 
 module _ (turn : Turn) (q : ℕ) (its : q < nodes_of turn.v.start) (ph : Phase) (h' front : List Event) (words' : List ℕ) (homes' : Homes)

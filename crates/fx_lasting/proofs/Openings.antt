@@ -1,29 +1,19 @@
 -- A table that is opened keeps the rule.
-use Rattle.fx_lasting.specs.Passes.{contents_of}
-use Rattle.fx_lasting.proofs.Words.{◌≡◌, ℕ, zero, suc, ◌+◌, ◌<◌, ◌≤◌, Bool, nat_lt, cond, List, [], ◌∷◌, map, sym, refl, ap, ◌∙◌, subst, arith}
-use Rattle.fx_lasting.proofs.Words.{lt-ltb, le-ltb, inr, Option, Some, None, slice_index, dite, some, some-injective, some-ne-none, dec_le, get_elem?}
-use Rattle.fx_lasting.proofs.Words.{Closed, state_of, State, File, birth_word, full_name_made, file_entry_made, file_takes_made, SlotAgrees, NodeAgrees, OwnerAgrees}
-use Rattle.fx_lasting.proofs.Words.{LogAgrees, ViewAgrees, Agrees, new_logs, word_of, slot_place, count_in, slots_of, range_at_start, nodes_of}
-use Rattle.fx_lasting.proofs.Words.{state_after_all, new_log, Phase, free, seated, Log, Start, View, Idle, Nothing, length-map, at_map, first_view}
-use Rattle.fx_lasting.proofs.Words.{contains_map, once_is, counted_once, range_with_len, one_if, removed_in, length-map-range_with_len, owed, ne_eqb}
-use Rattle.fx_lasting.proofs.Words.{false, Contains, eqb, sum_of, word_for, node_for, home_for, OpensWith, first_file, bit_here}
-use Rattle.fx_lasting.proofs.Words.{node_of_number, bit_of, IsListedIn, Labels, written_in}
-use Rattle.std.proofs.lemmas.Nat.Bits.{bit_at-zero}
-use Rattle.std.proofs.Common.{not}
-use Rattle.std.proofs.Math.Nat.{mod-eq_of_lt}
-use Rattle.atomic_table.specs.Table.{opening}
+use Rattle.fx_lasting.proofs.Words.{contents_of, ◌≡◌, ℕ, zero, suc, ◌+◌, ◌<◌, ◌≤◌, Bool, nat_lt, cond, List, [], ◌∷◌, map, sym, refl, ap, ◌∙◌, subst}
+use Rattle.fx_lasting.proofs.Words.{arith, lt-ltb, le-ltb, inr, Option, Some, None, slice_index, dite, some, some-injective, some-ne-none, dec_le}
+use Rattle.fx_lasting.proofs.Words.{get_elem?, Closed, state_of, State, File, birth_word, full_name_made, file_entry_made, file_takes_made}
+use Rattle.fx_lasting.proofs.Words.{SlotAgrees, NodeAgrees, OwnerAgrees, LogAgrees, ViewAgrees, Agrees, new_logs, word_of, slot_place, count_in}
+use Rattle.fx_lasting.proofs.Words.{slots_of, range_at_start, nodes_of, state_after_all, new_log, Phase, free, seated, Log, Start, View, Idle}
+use Rattle.fx_lasting.proofs.Words.{Nothing, length-map, at_map, first_view, contains_map, once_is, counted_once, range_with_len, one_if, removed_in}
+use Rattle.fx_lasting.proofs.Words.{length-map-range_with_len, owed, ne_eqb, false, Contains, eqb, sum_of, word_for, node_for, home_for, OpensWith}
+use Rattle.fx_lasting.proofs.Words.{first_file, bit_here, node_of_number, bit_of, IsListedIn, Labels, written_in, bit_at-zero, not, mod-eq_of_lt}
+use Rattle.fx_lasting.proofs.Words.{opening, untouched, list_place, group_start, group_len, HasQuestionOf, full_few, numbered_anew, of_one, ◌-◌, ◌*◌}
+use Rattle.fx_lasting.proofs.Words.{◌/◌, ◌%◌, Whereabouts, at_slot, in_stock, NamesItsNode, IsStockOf, StockAgrees, name_in, name_made}
+use Rattle.fx_lasting.proofs.Words.{empty_name_made, empty_file_made, empty_takes_made, file_heat_made, stock_start, stock_for, first_stock}
+use Rattle.fx_lasting.proofs.Words.{mul-le-mul_right, length-range_with_len, div-mul-add, mod-mul-add, suc-mul}
 use Rattle.fx_lasting.proofs.Counts.{tally_none, tally_same}
-use Rattle.fx_lasting.proofs.Words.{untouched, list_place, group_start, group_len, HasQuestionOf}
 use Rattle.fx_lasting.proofs.Groups.{few_slots}
-use Rattle.fx_table.proofs.FullSlots.{full_few}
-use Rattle.fx_plain.proofs.Prepared.{numbered_anew}
-use Rattle.fx_seen.proofs.Views.{of_one}
 use Rattle.fx_lasting.proofs.Keeping.{IsKnown}
-use Rattle.fx_lasting.proofs.Words.{◌-◌, ◌*◌, ◌/◌, ◌%◌, Whereabouts, at_slot, in_stock, NamesItsNode, IsStockOf, StockAgrees, name_in, name_made}
-use Rattle.fx_lasting.proofs.Words.{empty_name_made, empty_file_made, empty_takes_made, file_heat_made, stock_start, stock_for, first_stock, mul-le-mul_right}
-use Rattle.std.proofs.lemmas.List.FromFn.{length-range_with_len}
-use Rattle.std.proofs.lemmas.Nat.{div-mul-add, mod-mul-add}
-use Rattle.std.proofs.Common.{suc-mul}
 
 -- the phase of a slot's first node
 abbrev phase_for : ℕ → Option File → Phase

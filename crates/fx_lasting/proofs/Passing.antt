@@ -1,27 +1,20 @@
 -- A pass between two calls, and what a call adds to it.
-use Rattle.fx_lasting.proofs.Words.{as_listed, get_elem?, some}
-use Rattle.fx_lasting.proofs.Words.{◌≡◌, ℕ, ◌+◌, ◌-◌, ◌≤◌, ◌<◌, ◌^◌, ◌⊎◌, List, [], sym, refl, ap, ◌∙◌, subst, arith, Bool, true, false, Option, Some, None}
-use Rattle.fx_lasting.proofs.Words.{Start, Sat, Work, Glance, Change, Nothing, Outside, Runs, IsAtWork, as_swapped, nodes_of, set}
-use Rattle.fx_lasting.proofs.Words.{part_of_pass, TableId, Idle, Counted, Guarded, Retiring, Keeping, LastingPass, LastingTable, IsSeatOf, IsPassOf, IsPassOfTable, IsBetweenCalls, Knows, MayPlace}
-use Rattle.fx_lasting.proofs.Words.{opening_of, view_of, pass_of, pass_in, numbers_of_pass, doing_in, hold_at, retired_at, retiring_work, IsHistory}
-use Rattle.fx_lasting.proofs.Words.{Action, ◌▷◌, Put, Clear, Take, Release, Close, Look, File, Closed, numbered, full_name_in, count_in, LetsFileGo}
-use Rattle.std.specs.Prelude.{option_map, Result, Ok, Err, ok_or, is_err, is_some, not, ◌==◌, ◌≢◌}
-use Rattle.std.proofs.lemmas.Bool.{not-false, not-true}
-use Rattle.fx_table.specs.Calls.{Use, no_use, one_number, one_look, Adds, IsNewFile, Placed, Cleared, Taken, ReleasesFile, LookedAfter, LookedUp}
-use Rattle.fx_table.proofs.Calls.{adds_then, adds_nothing}
-use Rattle.fx_lasting.proofs.Words.{Owing, Yielding, Placing, Emptying, HoldsOn}
-use Rattle.fx_lasting.proofs.Words.{new_round, LooksByTake, LetsMarkGo, Announced, first_visit, heat_in, cond, inl, inr}
-use Rattle.fx_table.specs.Opening.{Opening}
-use Rattle.fx_table.specs.Pass.{PassView, IsIdle, IsFileRemoval}
-use Rattle.fx_table.specs.declared.values.Doing.{Doing}
-use Rattle.fx_table.specs.declared.values.Doing.TheVariants.{Idle as DoesNothing, Holding, Retiring as Retires}
+use Rattle.fx_lasting.proofs.Words.{as_listed, get_elem?, some, ◌≡◌, ℕ, ◌+◌, ◌-◌, ◌≤◌, ◌<◌, ◌^◌, ◌⊎◌, List, [], sym, refl, ap, ◌∙◌, subst, arith}
+use Rattle.fx_lasting.proofs.Words.{Bool, true, false, Option, Some, None, Start, Sat, Work, Glance, Change, Nothing, Outside, Runs, IsAtWork}
+use Rattle.fx_lasting.proofs.Words.{as_swapped, nodes_of, set, part_of_pass, TableId, Idle, Counted, Guarded, Retiring, Keeping, LastingPass}
+use Rattle.fx_lasting.proofs.Words.{LastingTable, IsSeatOf, IsPassOf, IsPassOfTable, IsBetweenCalls, Knows, MayPlace, opening_of, view_of, pass_of}
+use Rattle.fx_lasting.proofs.Words.{pass_in, numbers_of_pass, doing_in, hold_at, retired_at, retiring_work, IsHistory, Action, ◌▷◌, Put, Clear, Take}
+use Rattle.fx_lasting.proofs.Words.{Release, Close, Look, File, Closed, numbered, full_name_in, count_in, LetsFileGo, option_map, Result, Ok, Err}
+use Rattle.fx_lasting.proofs.Words.{ok_or, is_err, is_some, not, ◌==◌, ◌≢◌, not-false, not-true, Use, no_use, one_number, one_look, Adds, IsNewFile}
+use Rattle.fx_lasting.proofs.Words.{Placed, Cleared, Taken, ReleasesFile, LookedAfter, LookedUp, adds_then, adds_nothing, Owing, Yielding, Placing}
+use Rattle.fx_lasting.proofs.Words.{Emptying, HoldsOn, new_round, LooksByTake, LetsMarkGo, Announced, first_visit, heat_in, cond, inl, inr, Opening}
+use Rattle.fx_lasting.proofs.Words.{PassView, IsIdle, IsFileRemoval, Doing, DoesNothing, Holding, Hold, Retired, dite, dec_le, lt-ltb, IsIdleSeatOf}
+use Rattle.fx_lasting.proofs.Words.{HasNoFile, Searching, is_in, account, uncounted, group_of}
+use Rattle.fx_table.specs.declared.values.Doing.TheVariants.{Retiring as Retires}
 use Rattle.fx_table.specs.declared.values.Empty.{Empty}
-use Rattle.fx_table.specs.declared.values.Hold.{Hold}
 use Rattle.fx_table.specs.declared.values.LookFault.{LookFault}
 use Rattle.fx_table.specs.declared.values.LookFault.TheVariants.{Spent, Empty as EmptySlot}
-use Rattle.fx_table.specs.declared.values.Retired.{Retired}
 use Rattle.fx_lasting.proofs.Running.{does_then, still_at_work, number_is, at_listed, at_swapped}
-use Rattle.fx_lasting.proofs.Words.{dite, dec_le, lt-ltb, IsIdleSeatOf, HasNoFile, Searching, is_in, account, uncounted, group_of}
 
 -- the changes that a seat's steps make to its view
 pub adds_run : (m : Sat) {k : Start} → m.0.start ≡ k → {m' : Sat} {xs : List Action} {w : Work} {g : Glance} {c : Change} {n : ℕ} → Runs m xs w g c n m'

@@ -1,20 +1,14 @@
 -- Steps on the question word keep the rule.
-use Rattle.fx_lasting.proofs.Words.{◌≡◌, ℕ, ◌+◌, ◌%◌, ◌^◌, ◌<◌, ◌≤◌, List, [], set, sym, refl, ap, ◌∙◌, subst}
-use Rattle.fx_lasting.proofs.Words.{arith, Option, IsSome, dite, none, true}
-use Rattle.fx_lasting.proofs.Words.{ℕ_discrete, keeps, step, Closed, File, Full, ◌▷◌, Event}
-use Rattle.fx_lasting.proofs.Words.{range_at_start, AreFull, HasVisitedFull, HasQuestionOf}
-use Rattle.fx_lasting.proofs.Words.{owing, question_place, group_place, groups_in, ⊎_elim}
-use Rattle.fx_lasting.proofs.Words.{state_after_all, Change, Lowered, Inside, Log, View}
-use Rattle.fx_lasting.proofs.Words.{Turns, Goes, Checks, Breaks, Begins, Asks, Decides, as_asked}
-use Rattle.fx_lasting.proofs.Words.{ChecksKeep, BreaksKeep, BeginsKeep, AsksKeep, DecidesKeep}
-use Rattle.fx_lasting.proofs.Words.{inl, inr, Survey, NotAsked, Covered, bit_or, bit_of}
-use Rattle.fx_lasting.proofs.Words.{first_log, bit_at, ◌⊎◌}
+use Rattle.fx_lasting.proofs.Words.{◌≡◌, ℕ, ◌+◌, ◌%◌, ◌^◌, ◌<◌, ◌≤◌, List, [], set, sym, refl, ap, ◌∙◌, subst, arith, Option, IsSome, dite, none}
+use Rattle.fx_lasting.proofs.Words.{true, ℕ_discrete, keeps, step, Closed, File, Full, ◌▷◌, Event, range_at_start, AreFull, HasVisitedFull}
+use Rattle.fx_lasting.proofs.Words.{HasQuestionOf, owing, question_place, group_place, groups_in, ⊎_elim, state_after_all, Change, Lowered, Inside}
+use Rattle.fx_lasting.proofs.Words.{Log, View, Turns, Goes, Checks, Breaks, Begins, Asks, Decides, as_asked, ChecksKeep, BreaksKeep, BeginsKeep}
+use Rattle.fx_lasting.proofs.Words.{AsksKeep, DecidesKeep, inl, inr, Survey, NotAsked, Covered, bit_or, bit_of, first_log, bit_at, ◌⊎◌, bit_at-zero}
 use Rattle.fx_lasting.proofs.Histories.{part_mine}
 use Rattle.fx_lasting.proofs.Groups.{is_group, counts_after, full_same, group_same}
 use Rattle.fx_lasting.proofs.Lists.{bit_added, was_listed}
 use Rattle.fx_lasting.proofs.Keeping.{Turn, turn_of, word_at, Made, by_turn, in_range, its_range, not_there, tells}
 use Rattle.fx_lasting.proofs.Keeping.{has_x}
-use Rattle.std.proofs.lemmas.Nat.Bits.{bit_at-zero}
 use Rattle.fx_lasting.proofs.GroupSteps.{no_event, told_full, read_here, read_else, wrote, stepped_so, goes_asked, read_counts, read_same}
 use Rattle.fx_lasting.proofs.GroupSteps.{own_question, h₁, w', turn_after, Kept, its_inside}
 

@@ -1,14 +1,8 @@
 -- A pass that asks whether the range is full: what its steps leave, one after another.
-use Rattle.fx_lasting.proofs.Words.{◌≡◌, ℕ, ◌+◌, [], ◌▷◌, Full, subst, Bool, true, false, Sat, Work, Glance, Change, Runs, Survey, Covered, as_asked, sym, ◌∙◌, ap}
-use Rattle.fx_lasting.proofs.Words.{IsAtWork, Start, LastingTable, LastingPass, IsPassOfTable, Knows, groups_in, range_at_start, opening_of}
-use Rattle.fx_lasting.proofs.Words.{view_of, Option, Closed, View, List, Action, arith, HasQuestionOf, pass_in}
-use Rattle.atomic_table.specs.declared.shared.Seat.{Seat}
-use Rattle.fx_table.proofs.Calls.{adds_nothing}
-use Rattle.fx_table.specs.Calls.{Adds, no_use}
-use Rattle.fx_table.specs.Pass.{IsIdle}
-use Rattle.fx_table.specs.declared.values.Doing.{Doing}
-use Rattle.fx_table.specs.declared.values.Doing.TheVariants.{Idle as DoesNothing}
-use Rattle.fx_lasting.specs.Questions.{AsksSo, DecidesIf, HasAsked}
+use Rattle.fx_lasting.proofs.Words.{◌≡◌, ℕ, ◌+◌, [], ◌▷◌, Full, subst, Bool, true, false, Sat, Work, Glance, Change, Runs, Survey, Covered, as_asked}
+use Rattle.fx_lasting.proofs.Words.{sym, ◌∙◌, ap, IsAtWork, Start, LastingTable, LastingPass, IsPassOfTable, Knows, groups_in, range_at_start}
+use Rattle.fx_lasting.proofs.Words.{opening_of, view_of, Option, Closed, View, List, Action, arith, HasQuestionOf, pass_in, Seat, adds_nothing, Adds}
+use Rattle.fx_lasting.proofs.Words.{no_use, IsIdle, Doing, DoesNothing, AsksSo, DecidesIf, HasAsked}
 use Rattle.fx_lasting.proofs.Passing.{adds_run}
 use Rattle.fx_lasting.proofs.Running.{runs_then, runs_none, runs_asked, at_asked, still_at_work, number_is}
 

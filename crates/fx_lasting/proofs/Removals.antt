@@ -1,11 +1,9 @@
 -- A pass that emptied a slot: what the step leaves, and the pass with the stock that it has then.
-use Rattle.fx_lasting.proofs.Words.{◌≡◌, ◌≤◌, ◌<◌, ℕ, ◌+◌, ◌-◌, List, [], set, sym, refl, ap, ◌∙◌, subst, Option, Bool, get_elem?, some}
-use Rattle.fx_lasting.proofs.Words.{Action, ◌▷◌, ◌▷▷◌, Sat, Start, Work, Glance, Change, Runs, IsAtWork, IsStockOf, Log, first_log, TableId, File, At}
-use Rattle.fx_lasting.proofs.Words.{as_stocked, pass_in, name_in, nodes_of, empty_word_of, retiring_work, account, range_at_start}
-use Rattle.fx_lasting.proofs.Words.{slot_of, slot_place, Nothing, Outside, LastingPass, IsSeatOf, IsPassOf, Knows, opening_of, view_of, pass_of}
-use Rattle.fx_lasting.proofs.Words.{doing_in, IsHistory}
-use Rattle.fx_table.specs.Calls.{Use, no_use, Adds}
-use Rattle.fx_lasting.specs.SwapSteps.{SwapsOut, HasEmptied}
+use Rattle.fx_lasting.proofs.Words.{◌≡◌, ◌≤◌, ◌<◌, ℕ, ◌+◌, ◌-◌, List, [], set, sym, refl, ap, ◌∙◌, subst, Option, Bool, get_elem?, some, Action, ◌▷◌}
+use Rattle.fx_lasting.proofs.Words.{◌▷▷◌, Sat, Start, Work, Glance, Change, Runs, IsAtWork, IsStockOf, Log, first_log, TableId, File, At, as_stocked}
+use Rattle.fx_lasting.proofs.Words.{pass_in, name_in, nodes_of, empty_word_of, retiring_work, account, range_at_start, slot_of, slot_place, Nothing}
+use Rattle.fx_lasting.proofs.Words.{Outside, LastingPass, IsSeatOf, IsPassOf, Knows, opening_of, view_of, pass_of, doing_in, IsHistory, Use, no_use}
+use Rattle.fx_lasting.proofs.Words.{Adds, SwapsOut, HasEmptied}
 use Rattle.fx_lasting.proofs.Places.{slot_back}
 use Rattle.fx_lasting.proofs.Running.{runs_one, runs_then, runs_stocked, turns_then, number_is, stock_is, still_at_work, at_swapped}
 use Rattle.fx_lasting.proofs.Passing.{adds_run}

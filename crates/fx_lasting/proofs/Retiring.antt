@@ -1,9 +1,8 @@
 -- A retirement keeps the rule, when all hold words were visited.
-use Rattle.fx_lasting.proofs.Words.{Round, IsPassed, ⊎_elim, ◌≢◌}
-use Rattle.fx_lasting.proofs.Words.{◌≡◌, ℕ, ◌+◌, ◌-◌, ◌%◌, ◌^◌, ◌<◌, ◌≤◌, List, [], sym, refl, ap, ◌∙◌, subst, arith, Option, Some, none, keeps}
-use Rattle.fx_lasting.proofs.Words.{takes, Closed, File, WorkAgrees, MayBeUnmarked, state_after_all, nodes_of, word_of, held_in, if_file, taken_of}
-use Rattle.fx_lasting.proofs.Words.{taking, owed, leaving, retired, owner, file_in, removed_in, Work, Retiring, Retires, RetiresKeep}
-use Rattle.fx_lasting.proofs.Words.{retirement_amount, step, inr, dite, ℕ_discrete, eq-eqb, sum_by}
+use Rattle.fx_lasting.proofs.Words.{Round, IsPassed, ⊎_elim, ◌≢◌, ◌≡◌, ℕ, ◌+◌, ◌-◌, ◌%◌, ◌^◌, ◌<◌, ◌≤◌, List, [], sym, refl, ap, ◌∙◌, subst, arith}
+use Rattle.fx_lasting.proofs.Words.{Option, Some, none, keeps, takes, Closed, File, WorkAgrees, MayBeUnmarked, state_after_all, nodes_of, word_of}
+use Rattle.fx_lasting.proofs.Words.{held_in, if_file, taken_of, taking, owed, leaving, retired, owner, file_in, removed_in, Work, Retiring, Retires}
+use Rattle.fx_lasting.proofs.Words.{RetiresKeep, retirement_amount, step, inr, dite, ℕ_discrete, eq-eqb, sum_by}
 use Rattle.fx_lasting.proofs.Histories.{grows_none}
 use Rattle.fx_lasting.proofs.Frames.{busy}
 use Rattle.fx_lasting.proofs.Keeping.{Turn, turn_of, word_at, slot_word, Made, by_turn, its_log, its_work, w}

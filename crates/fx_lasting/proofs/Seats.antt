@@ -1,14 +1,11 @@
 -- A seat is split off, and one is joined back.
 use Rattle.fx_lasting.proofs.Words.{◌≡◌, ℕ, List, length, sym, refl, ap, ◌∙◌, subst, arith, ⊎_elim, length-append, sum_by, sum_by-append, eqb}
-use Rattle.fx_lasting.proofs.Words.{count_in, WorkAgrees, LogAgrees, NodeAgrees, Agrees, owing, Shared, Outside, Inside, Log, Start, AreFull, range_at_start}
-use Rattle.fx_lasting.proofs.Words.{View, Work, Idle, Nothing, Glance, Change, SplitsKeep, JoinsKeep, together, spent, one_if, held_in, if_file}
-use Rattle.fx_lasting.proofs.Words.{taking, owed, get_elem?, state_after_all, slots_of, word_of, some, set, set_here, set_else, at_set, stands_at, sum_set}
-use Rattle.fx_lasting.proofs.Words.{Contains, HasNoFile, ViewAgrees, taken_of, held_of, logs_of, lengths, zero, suc, [], ◌∷◌, ◌≢◌}
-use Rattle.std.proofs.lemmas.List.{set-set}
-use Rattle.fx_seen.proofs.Views.{OfEach, of_replaced, of_appended}
-use Rattle.fx_table.proofs.Calls.{seen_from_start}
-use Rattle.fx_lasting.specs.Cuts.{without_first, first_alone}
-use Rattle.fx_table.proofs.Seats.{AreReseated, split, joined}
+use Rattle.fx_lasting.proofs.Words.{count_in, WorkAgrees, LogAgrees, NodeAgrees, Agrees, owing, Shared, Outside, Inside, Log, Start, AreFull}
+use Rattle.fx_lasting.proofs.Words.{range_at_start, View, Work, Idle, Nothing, Glance, Change, SplitsKeep, JoinsKeep, together, spent, one_if}
+use Rattle.fx_lasting.proofs.Words.{held_in, if_file, taking, owed, get_elem?, state_after_all, slots_of, word_of, some, set, set_here, set_else}
+use Rattle.fx_lasting.proofs.Words.{at_set, stands_at, sum_set, Contains, HasNoFile, ViewAgrees, taken_of, held_of, logs_of, lengths, zero, suc, []}
+use Rattle.fx_lasting.proofs.Words.{◌∷◌, ◌≢◌, set-set, OfEach, of_replaced, of_appended, seen_from_start, without_first, first_alone, AreReseated}
+use Rattle.fx_lasting.proofs.Words.{split, joined}
 use Rattle.fx_lasting.proofs.Choosing.{no_file, no_take, not_busy, holds_none}
 use Rattle.fx_lasting.proofs.Frames.{busy, owner_map, owner_stays}
 use Rattle.fx_lasting.proofs.Groups.{counts_same, visited_map}

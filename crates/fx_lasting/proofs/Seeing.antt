@@ -1,12 +1,11 @@
 -- A load of a slot's word from which the pass learns what is there, and the exchanges of a word
 -- that it saw, keep the rule.
-use Rattle.fx_lasting.proofs.Words.{◌≡◌, ◌≢◌, ℕ, ◌+◌, ◌^◌, ◌<◌, ◌≤◌, List, [], ◌∷◌, sym, refl, ap, ◌∙◌, Option, Some, None, none}
-use Rattle.fx_lasting.proofs.Words.{keeps, gives, rest, eqb, Closed, File, Take, Names, slots_of, slot_place, file_word_of, state_after_all}
-use Rattle.fx_lasting.proofs.Words.{node_of_number, HasNoFile, IsOffCount, Placing, Outside, Sees, TakesIf, Replaces, SeesKeep, TakesIfKeep, ReplacesKeep}
-use Rattle.fx_lasting.proofs.Words.{step, exchanged, subst, without_file, some, label_of, as_written, pass_event}
+use Rattle.fx_lasting.proofs.Words.{◌≡◌, ◌≢◌, ℕ, ◌+◌, ◌^◌, ◌<◌, ◌≤◌, List, [], ◌∷◌, sym, refl, ap, ◌∙◌, Option, Some, None, none, keeps, gives, rest}
+use Rattle.fx_lasting.proofs.Words.{eqb, Closed, File, Take, Names, slots_of, slot_place, file_word_of, state_after_all, node_of_number, HasNoFile}
+use Rattle.fx_lasting.proofs.Words.{IsOffCount, Placing, Outside, Sees, TakesIf, Replaces, SeesKeep, TakesIfKeep, ReplacesKeep, step, exchanged}
+use Rattle.fx_lasting.proofs.Words.{subst, without_file, some, label_of, as_written, pass_event, either}
 use Rattle.fx_lasting.proofs.HeldFiles.{one_after}
 use Rattle.fx_lasting.proofs.StockMoves.{names_a_node}
-use prog.Atomic.{either}
 use Rattle.fx_lasting.proofs.Keeping.{Turn, turn_of, Made, by_turn, word_at, slot_word, w}
 use Rattle.fx_lasting.proofs.Calm.{read_after, read_kept}
 use Rattle.fx_lasting.proofs.Peeking.{goes_still, still}

@@ -1,26 +1,17 @@
 -- A pass shows what it has seen, and another pass learns it: the rule holds afterwards. Neither is
 -- an atomic step.
-use Rattle.fx_lasting.proofs.Words.{◌≡◌, ℕ, ◌+◌, ◌≤◌, List, [], ◌∷◌, ◌++◌, set, length, sym, refl, ap, ◌∙◌, subst, arith, inl, inr, eqb, some, get_elem?}
-use Rattle.fx_lasting.proofs.Words.{⊎_elim, at_set, sum_set, sum_by-append, one_if, contains_only, Contains, IsSeenBy, part_of_pass, Event}
-use Rattle.fx_lasting.proofs.Words.{NodeAgrees, LogAgrees, ViewAgrees, Agrees, AreFull, Outside, Inside, range_at_start, Shared, Log, Start, View, IsInside, Runs, IsHistory}
-use Rattle.fx_lasting.proofs.Words.{owed, state_after_all, slots_of, word_of, taken_of, held_of, logs_of, lengths, owing_of, first_log, count_in, view_of}
-use Rattle.fx_lasting.proofs.Words.{StockAgrees, TableId, LastingPass, IsPassOf, opening_of, doing_in}
-use Rattle.fx_table.proofs.SumLemmas.{contains_none, contains_alone}
-use Rattle.fx_table.proofs.Calls.{learned_so}
-use Rattle.fx_seen.proofs.Views.{of_appended, of_replaced}
-use Rattle.atomic_table.proofs.Lists.{at_snoc, at_longer, set_again}
-use Rattle.atomic_table.specs.Table.{Splits}
-use Rattle.atomic_table.specs.declared.shared.Seat.{Seat}
-use Rattle.fx_base.specs.declared.open_file.Closed.{Closed}
-use Rattle.std.proofs.Common.{Option}
-use Rattle.fx_lasting.specs.Cuts.{view_with}
+use Rattle.fx_lasting.proofs.Words.{◌≡◌, ℕ, ◌+◌, ◌≤◌, List, [], ◌∷◌, ◌++◌, set, length, sym, refl, ap, ◌∙◌, subst, arith, inl, inr, eqb, some}
+use Rattle.fx_lasting.proofs.Words.{get_elem?, ⊎_elim, at_set, sum_set, sum_by-append, one_if, contains_only, Contains, IsSeenBy, part_of_pass, Event}
+use Rattle.fx_lasting.proofs.Words.{NodeAgrees, LogAgrees, ViewAgrees, Agrees, AreFull, Outside, Inside, range_at_start, Shared, Log, Start, View}
+use Rattle.fx_lasting.proofs.Words.{IsInside, Runs, IsHistory, owed, state_after_all, slots_of, word_of, taken_of, held_of, logs_of, lengths}
+use Rattle.fx_lasting.proofs.Words.{owing_of, first_log, count_in, view_of, StockAgrees, TableId, LastingPass, IsPassOf, opening_of, doing_in}
+use Rattle.fx_lasting.proofs.Words.{contains_none, contains_alone, learned_so, of_appended, of_replaced, at_snoc, at_longer, set_again, Splits, Seat}
+use Rattle.fx_lasting.proofs.Words.{Closed, Option, view_with, Adds, no_use, Learns}
 use Rattle.fx_lasting.specs.Showing.{shown_view, HasLearned}
 use Rattle.fx_lasting.proofs.Frames.{owner_map, owner_same}
 use Rattle.fx_lasting.proofs.Groups.{counts_same, visited_map}
 use Rattle.fx_lasting.proofs.Keeping.{IsKnown, word_at, slot_word, total_same, few_in_range}
 use Rattle.fx_lasting.proofs.Passing.{adds_so, still_pass, at_rest}
-use Rattle.fx_table.specs.Calls.{Adds, no_use}
-use Rattle.fx_table.specs.Showing.{Learns}
 use Rattle.fx_seen.specs.Kept.{MayLearn}
 
 -- a seat without passes that shows a history joins the others

@@ -1,21 +1,17 @@
 -- An installation, a clear, a take and an exchange keep the rule.
 use Rattle.fx_lasting.proofs.Words.{◌≡◌, ◌≢◌, ℕ, ◌+◌, ◌^◌, ◌<◌, List, [], ◌∷◌, set, sym, refl, ap, ◌∙◌, subst, arith, Option, Some, None, none, some}
-use Rattle.fx_lasting.proofs.Words.{keeps, gives, rest, get_elem?, false, inl, inr, ◌⊎◌, eqb, Closed, File, numbered, Event, Action}
-use Rattle.fx_lasting.proofs.Words.{Put, Clear, Take, Allocate, ◌▷◌, State, with_removed, changed_at, changed_here, changed_else, pass_event, held_by}
-use Rattle.fx_lasting.proofs.Words.{Agrees, NodeAgrees, OwnerAgrees, WorkAgrees, IsHistory, state_after_all, slots_of, nodes_of, slot_place, word_of}
-use Rattle.fx_lasting.proofs.Words.{count_in, full_name_in, file_word_of, taken_of, taking, held_in, owed, sum_by, sum_set, Phase}
-use Rattle.fx_lasting.proofs.Words.{placed, seated, removed_in, Change, Idle, Placing, Removes, Installs, Exchanges, Stepped, IsOffCount}
-use Rattle.fx_lasting.proofs.Words.{IsInRange, ClearsKeep, TakesOutKeep, InstallsKeep, ExchangesKeep, account, uncounted, group_of, range_at_start, Outside, Bool, true, step, set_here, set_else}
-use Rattle.fx_lasting.proofs.Words.{length-set, exchanged, IsInside, retiring_work}
-use Rattle.fx_lasting.proofs.Words.{◌*◌, ◌-◌, ◌≤◌, HasNoFile, Whereabouts, IsInStock, as_stocked, as_swapped, first_log, Log, without_file, name_in, name_mask, bit_and}
-use Rattle.fx_lasting.proofs.Words.{name_left, no_file_left, no_takes_left, mask_leaves_name}
+use Rattle.fx_lasting.proofs.Words.{keeps, gives, rest, get_elem?, false, inl, inr, ◌⊎◌, eqb, Closed, File, numbered, Event, Action, Put, Clear, Take}
+use Rattle.fx_lasting.proofs.Words.{Allocate, ◌▷◌, State, with_removed, changed_at, changed_here, changed_else, pass_event, held_by, Agrees}
+use Rattle.fx_lasting.proofs.Words.{NodeAgrees, OwnerAgrees, WorkAgrees, IsHistory, state_after_all, slots_of, nodes_of, slot_place, word_of}
+use Rattle.fx_lasting.proofs.Words.{count_in, full_name_in, file_word_of, taken_of, taking, held_in, owed, sum_by, sum_set, Phase, placed, seated}
+use Rattle.fx_lasting.proofs.Words.{removed_in, Change, Idle, Placing, Removes, Installs, Exchanges, Stepped, IsOffCount, IsInRange, ClearsKeep}
+use Rattle.fx_lasting.proofs.Words.{TakesOutKeep, InstallsKeep, ExchangesKeep, account, uncounted, group_of, range_at_start, Outside, Bool, true}
+use Rattle.fx_lasting.proofs.Words.{step, set_here, set_else, length-set, exchanged, IsInside, retiring_work, ◌*◌, ◌-◌, ◌≤◌, HasNoFile, Whereabouts}
+use Rattle.fx_lasting.proofs.Words.{IsInStock, as_stocked, as_swapped, first_log, Log, without_file, name_in, name_mask, bit_and, name_left}
+use Rattle.fx_lasting.proofs.Words.{no_file_left, no_takes_left, mask_leaves_name, mod-mul-add, le-mul_of_pos_right, Labels, Placement, written_in}
+use Rattle.fx_lasting.proofs.Words.{label_of, as_written, most_carried, takes_are_few, name_carried, full_name_carried, entry_carried, takes_carried}
+use Rattle.fx_lasting.proofs.Words.{heat_carried, either, put_back}
 use Rattle.fx_lasting.proofs.StockMoves.{names_a_node, where_moved, stock_moved, moved_names, moved_slot, moved_stock, moved_stocks, one_entry}
-use Rattle.std.proofs.lemmas.Nat.{mod-mul-add}
-use Rattle.std.proofs.Math.Nat.{le-mul_of_pos_right}
-use Rattle.fx_lasting.proofs.Words.{Labels, Placement, written_in, label_of, as_written, most_carried, takes_are_few}
-use Rattle.fx_lasting.proofs.Words.{name_carried, full_name_carried, entry_carried, takes_carried, heat_carried}
-use prog.Atomic.{either}
-use Rattle.atomic_table.specs.Table.{put_back}
 use Rattle.fx_lasting.proofs.Histories.{grows_one, legal_more, part_mine, held_mine, each_changed, same_shape}
 use Rattle.fx_lasting.proofs.Frames.{busy, owner_stays, node_same}
 use Rattle.fx_lasting.proofs.Keeping.{Turn, turn_of, After, word_at, slot_word, Made, by_turn, its_log, its_work, its_stock, in_range, tells, tells_stocked, w, end, Homes, asks_alike, few_slots}

@@ -1,19 +1,10 @@
 -- A table that is opened with empty slots: its contents, and its first words and places.
-use Rattle.fx_lasting.proofs.Words.{◌≡◌, ℕ, zero, suc, ◌+◌, List, sym, refl, ap, ◌∙◌, arith, Option, Some, None, slice_index}
-use Rattle.fx_lasting.proofs.Words.{State, state_of, ◌≢◌, ◌<◌, subst}
-use Rattle.fx_lasting.specs.Firsts.{AreNamed}
+use Rattle.fx_lasting.proofs.Words.{◌≡◌, ℕ, zero, suc, ◌+◌, List, sym, refl, ap, ◌∙◌, arith, Option, Some, None, slice_index, State, state_of, ◌≢◌}
+use Rattle.fx_lasting.proofs.Words.{◌<◌, subst, AreNamed, [], false, File, word_for, node_for, file_numbered, identity_of, full_in, if_full, first_at}
+use Rattle.fx_lasting.proofs.Words.{AreFirstWords, AreFirstHomes, group_place, group_start, group_len, slot_place, words_for, empty_slots, vacant}
+use Rattle.fx_lasting.proofs.Words.{read_default, length-replicate, replicate}
 use Rattle.fx_lasting.proofs.Starting.{AreWordsSoFar, named_so_far}
-use Rattle.fx_lasting.proofs.Words.{[], false, File, word_for, node_for}
-use Rattle.fx_plain.specs.State.{file_numbered}
-use Rattle.fx_plain.specs.Table.{identity_of}
-use Rattle.fx_lasting.proofs.Words.{full_in, if_full, first_at, AreFirstWords, AreFirstHomes}
-use Rattle.fx_lasting.specs.Layout.{group_place, group_start, group_len, slot_place, words_for}
-use Rattle.fx_lasting.specs.Passes.{empty_slots}
 use Rattle.fx_plain.specs.Contents.{file_at}
-use Rattle.fx_plain.specs.State.{vacant}
-use Rattle.fx_plain.proofs.Cells.{read_default}
-use Rattle.std.proofs.lemmas.List.{length-replicate}
-use Rattle.std.proofs.Math.ListN.{replicate}
 
 module _ (size : ℕ) (range : ℕ × ℕ) where
   abbrev st : State

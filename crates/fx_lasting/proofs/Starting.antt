@@ -1,28 +1,14 @@
 -- The first words of a shared table, written one slot after the other, and the files of the slots,
 -- which move to its places.
-use Rattle.fx_lasting.proofs.Words.{◌≡◌, ℕ, ◌+◌, ◌<◌, ◌≤◌, List, length, refl, ap, arith, Option, Some, None, slice_index, State}
-use Rattle.fx_lasting.proofs.Words.{File, full_in, question_place, group_place, group_start, group_len, list_place, slot_place, hold_place, node_place, word_for}
-use Rattle.fx_lasting.specs.Passes.{contents_of}
-use Rattle.fx_lasting.specs.declared.layout.TheConstants.{MOST_SLOTS}
-use Rattle.fx_lasting.proofs.Words.{node_for, sym, ◌∙◌, dite, Closed, state_of, nodes_of, dec_le, home_for, OpensWith, Start}
-use Rattle.fx_lasting.proofs.Words.{[], zero, suc}
-use Rattle.fx_plain.specs.State.{file_numbered, files_in_order, files_of}
-use Rattle.fx_plain.specs.Table.{identity_of}
-use Rattle.fx_lasting.specs.Firsts.{AreFirstWords, AreNamed, AreLabelled}
-use Rattle.fx_lasting.proofs.Words.{empty_word_of}
-use Rattle.fx_plain.proofs.Cells.{read_default}
-use Rattle.std.proofs.lemmas.List.{length-replicate}
-use Rattle.std.proofs.Math.ListN.{replicate}
-use Rattle.fx_lasting.proofs.Words.{Labels, label_of, tag_place, number_place, HasWritten}
-use Rattle.fx_table.specs.FullSlots.{first_at}
-use Rattle.fx_table.specs.Shells.{AreFirstHomes, IsShell, file_in_place}
-use Rattle.fx_lasting.proofs.Words.{number_of_mark}
-use Rattle.fx_lasting.specs.Layout.{words_for}
-use Rattle.fx_table.proofs.Shells.{in_place, none_outside}
+use Rattle.fx_lasting.proofs.Words.{◌≡◌, ℕ, ◌+◌, ◌<◌, ◌≤◌, List, length, refl, ap, arith, Option, Some, None, slice_index, State, File, full_in}
+use Rattle.fx_lasting.proofs.Words.{question_place, group_place, group_start, group_len, list_place, slot_place, hold_place, node_place, word_for}
+use Rattle.fx_lasting.proofs.Words.{contents_of, MOST_SLOTS, node_for, sym, ◌∙◌, dite, Closed, state_of, nodes_of, dec_le, home_for, OpensWith, Start}
+use Rattle.fx_lasting.proofs.Words.{[], zero, suc, file_numbered, files_in_order, files_of, identity_of, AreFirstWords, AreNamed, AreLabelled}
+use Rattle.fx_lasting.proofs.Words.{empty_word_of, read_default, length-replicate, replicate, Labels, label_of, tag_place, number_place, HasWritten}
+use Rattle.fx_lasting.proofs.Words.{first_at, AreFirstHomes, IsShell, file_in_place, number_of_mark, words_for, in_place, none_outside, ◌≢◌, subst}
+use Rattle.fx_lasting.proofs.Words.{ℕ_discrete, length-set, get_or-set_other, get_or-set_same, file_word_of, birth_word, slice_set, option_map}
 use Rattle.fx_lasting.proofs.Groups.{few_groups}
 use Rattle.fx_lasting.proofs.Places.{labels_apart}
-use Rattle.fx_lasting.proofs.Words.{◌≢◌, subst, ℕ_discrete, length-set, get_or-set_other, get_or-set_same, file_word_of, birth_word}
-use Rattle.std.specs.Prelude.{slice_set, option_map}
 
 -- the words of the first groups and slots, this many, are written so
 pub record AreWordsSoFar (st : State) (passes nodes groups_done done : ℕ) (words : List ℕ) : Type 0 where

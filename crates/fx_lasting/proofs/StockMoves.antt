@@ -1,8 +1,8 @@
 -- Two nodes change where they are: one of a stock goes to a slot, and the one that the slot's word
 -- named takes its place in the stock.
-use Rattle.fx_lasting.proofs.Words.{◌≡◌, ◌≢◌, ℕ, ◌+◌, ◌-◌, ◌<◌, List, set, length-set, sym, refl, ap, ◌∙◌, subst, arith, some}
-use Rattle.fx_lasting.proofs.Words.{some-injective, get_elem?, dite, ℕ_discrete, set_here, set_else, stands_at, slots_of, nodes_of, name_in}
-use Rattle.fx_lasting.proofs.Words.{changed_at, changed_here, changed_else, Whereabouts, at_slot, in_stock, IsInStock, NamesItsNode, StockAgrees, NamesANode}
+use Rattle.fx_lasting.proofs.Words.{◌≡◌, ◌≢◌, ℕ, ◌+◌, ◌-◌, ◌<◌, List, set, length-set, sym, refl, ap, ◌∙◌, subst, arith, some, some-injective}
+use Rattle.fx_lasting.proofs.Words.{get_elem?, dite, ℕ_discrete, set_here, set_else, stands_at, slots_of, nodes_of, name_in, changed_at, changed_here}
+use Rattle.fx_lasting.proofs.Words.{changed_else, Whereabouts, at_slot, in_stock, IsInStock, NamesItsNode, StockAgrees, NamesANode}
 use Rattle.fx_lasting.proofs.Keeping.{Turn, slot_word, its_stock, in_its_stock}
 
 -- what the word of a slot names is a node of the table

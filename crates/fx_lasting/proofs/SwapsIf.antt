@@ -1,11 +1,10 @@
 -- A removal by an exchange of names, if the slot has still the word that the pass saw, keeps the
 -- rule.
 use Rattle.fx_lasting.proofs.Words.{◌≡◌, ◌≢◌, ℕ, ◌<◌, List, sym, refl, ap, ◌∙◌, arith, Option, some, none, keeps, eqb, Closed, Take, slots_of}
-use Rattle.fx_lasting.proofs.Words.{slot_place, HasNoFile, IsOffCount, IsInStock, SwapsIfKeep, step, exchanged, pass_event, empty_word_of}
-use Rattle.fx_lasting.specs.SwapSteps.{SwapsIf}
+use Rattle.fx_lasting.proofs.Words.{slot_place, HasNoFile, IsOffCount, IsInStock, SwapsIfKeep, step, exchanged, pass_event, empty_word_of, SwapsIf}
+use Rattle.fx_lasting.proofs.Words.{either}
 use Rattle.fx_lasting.proofs.HeldFiles.{one_after}
 use Rattle.fx_lasting.proofs.StockMoves.{names_a_node}
-use prog.Atomic.{either}
 use Rattle.fx_lasting.proofs.Keeping.{Turn, turn_of, Made, by_turn, word_at, slot_word, w}
 use Rattle.fx_lasting.proofs.Calm.{read_after, read_kept}
 use Rattle.fx_lasting.proofs.Peeking.{still}

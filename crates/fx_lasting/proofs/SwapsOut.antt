@@ -3,10 +3,8 @@
 use Rattle.fx_lasting.proofs.Words.{◌≡◌, ◌≢◌, ℕ, ◌-◌, ◌<◌, List, [], ◌∷◌, set, sym, refl, ap, ◌∙◌, subst, arith, Option, Some, None, none, some}
 use Rattle.fx_lasting.proofs.Words.{keeps, get_elem?, inl, Closed, File, Event, Action, Clear, Take, ◌▷◌, State, changed_else, pass_event, Log}
 use Rattle.fx_lasting.proofs.Words.{Agrees, slots_of, slot_place, state_after_all, count_in, taken_of, taking, sum_set, Change, Stepped, IsOffCount}
-use Rattle.fx_lasting.proofs.Words.{account, range_at_start, step, IsInside, retiring_work, HasNoFile, Whereabouts, IsInStock, as_stocked, as_swapped, first_log}
-use Rattle.fx_lasting.proofs.Words.{name_in, empty_word_of, empty_name_made, empty_file_made, empty_takes_made}
-use Rattle.fx_lasting.specs.SwapSteps.{SwapsOut}
-use Rattle.fx_lasting.specs.Laws.{SwapsOutKeep}
+use Rattle.fx_lasting.proofs.Words.{account, range_at_start, step, IsInside, retiring_work, HasNoFile, Whereabouts, IsInStock, as_stocked, as_swapped}
+use Rattle.fx_lasting.proofs.Words.{first_log, name_in, empty_word_of, empty_name_made, empty_file_made, empty_takes_made, SwapsOut, SwapsOutKeep}
 use Rattle.fx_lasting.proofs.StockMoves.{names_a_node, where_moved, stock_moved, moved_names, moved_slot, moved_stock, moved_stocks, one_entry}
 use Rattle.fx_lasting.proofs.Histories.{grows_one, part_mine}
 use Rattle.fx_lasting.proofs.Frames.{owner_stays, node_same}

@@ -1,13 +1,12 @@
 -- A take of what a slot names, and the heat of a slot that had its takes.
-use Rattle.fx_lasting.proofs.Words.{◌⊎◌}
-use Rattle.fx_lasting.proofs.Words.{◌≡◌, ◌≢◌, ℕ, ◌+◌, ◌%◌, ◌^◌, ◌<◌, ◌≤◌, List, [], ◌∷◌, sym, refl, ap, ◌∙◌, arith, Option, Some, None, none}
+use Rattle.fx_lasting.proofs.Words.{◌⊎◌, ◌≡◌, ◌≢◌, ℕ, ◌+◌, ◌%◌, ◌^◌, ◌<◌, ◌≤◌, List, [], ◌∷◌, sym, refl, ap, ◌∙◌, arith, Option, Some, None, none}
 use Rattle.fx_lasting.proofs.Words.{keeps, Closed, File, Event, Look, ◌▷◌, WorkAgrees, GlanceAgrees, Heats, state_after_all, slots_of, nodes_of}
-use Rattle.fx_lasting.proofs.Words.{held_in, if_file, taken_of, taking, pass_event, seated, file_in, Work, Glance, Idle, Counted, Cold, Heating}
-use Rattle.fx_lasting.proofs.Words.{Deed, untouched, over, heated, has_acted, has_heated}
-use Rattle.fx_lasting.proofs.Words.{Nothing, Takes, HeatsSlot, TakesOnceKeep, HeatsKeep, IsHot, heat_in, name_in, full_name_in, same_full_name, entry_in, count_in, cold_takes}
-use Rattle.fx_lasting.proofs.Words.{glance_after, heat_unit, slot_place, step, inl, inr, ⊎_elim, dite, ℕ_discrete, dec_le, one_more_at, Bool, true}
-use Rattle.fx_lasting.proofs.Words.{false, cond, lt-ltb, le-ltb, tally, sum_set, changed_at, changed_here, changed_else, one_if, bit_here, bit_else}
-use Rattle.fx_lasting.proofs.Words.{IsInside, Announced, Owing, Guarded, Yielding, Searching, Placing, Retiring, Emptying, Keeping}
+use Rattle.fx_lasting.proofs.Words.{held_in, if_file, taken_of, taking, pass_event, seated, file_in, Work, Glance, Idle, Counted, Cold, Heating, Deed}
+use Rattle.fx_lasting.proofs.Words.{untouched, over, heated, has_acted, has_heated, Nothing, Takes, HeatsSlot, TakesOnceKeep, HeatsKeep, IsHot}
+use Rattle.fx_lasting.proofs.Words.{heat_in, name_in, full_name_in, same_full_name, entry_in, count_in, cold_takes, glance_after, heat_unit}
+use Rattle.fx_lasting.proofs.Words.{slot_place, step, inl, inr, ⊎_elim, dite, ℕ_discrete, dec_le, one_more_at, Bool, true, false, cond, lt-ltb}
+use Rattle.fx_lasting.proofs.Words.{le-ltb, tally, sum_set, changed_at, changed_here, changed_else, one_if, bit_here, bit_else, IsInside, Announced}
+use Rattle.fx_lasting.proofs.Words.{Owing, Guarded, Yielding, Searching, Placing, Retiring, Emptying, Keeping}
 use Rattle.fx_lasting.proofs.Counts.{tally_few, tally_one, tally_room, bit_few, few_cold}
 use Rattle.fx_lasting.proofs.Histories.{grows_none, grows_one, legal_more, part_mine, held_mine}
 use Rattle.fx_lasting.proofs.Frames.{busy, guards_same}

@@ -1,11 +1,9 @@
 -- A pass that looks for an empty slot: what its steps leave, one after another.
-use Rattle.fx_lasting.proofs.Words.{◌≡◌, ℕ, ◌+◌, ◌*◌, ◌<◌, ◌≤◌, [], ◌∷◌, sym, ap, ◌∙◌, subst, arith, Some, none, step, rest, Closed, ◌▷◌}
-use Rattle.fx_lasting.proofs.Words.{numbered, Allocate, Sat, Work, Glance, Change, Placing, Idle, Outside, Inside, Runs, Goes, Exchanges, slot_of}
-use Rattle.fx_lasting.proofs.Words.{Stepped, LastingTable, IsInRange, List, Action, Start, group_of, range_at_start}
-use Rattle.fx_lasting.specs.Passes.{node_of_number}
-use Rattle.fx_lasting.proofs.Words.{◌▷▷◌, ◌-◌, IsAtWork, IsInStock, NamesANode, as_swapped, pass_in, name_in, nodes_of, get_elem?, some}
-use Rattle.fx_lasting.proofs.Words.{label_of, as_written, most_carried}
-use Rattle.fx_lasting.specs.Tries.{IsPlacing, HasAllocated, StillPlaces, group_steps}
+use Rattle.fx_lasting.proofs.Words.{◌≡◌, ℕ, ◌+◌, ◌*◌, ◌<◌, ◌≤◌, [], ◌∷◌, sym, ap, ◌∙◌, subst, arith, Some, none, step, rest, Closed, ◌▷◌, numbered}
+use Rattle.fx_lasting.proofs.Words.{Allocate, Sat, Work, Glance, Change, Placing, Idle, Outside, Inside, Runs, Goes, Exchanges, slot_of, Stepped}
+use Rattle.fx_lasting.proofs.Words.{LastingTable, IsInRange, List, Action, Start, group_of, range_at_start, node_of_number, ◌▷▷◌, ◌-◌, IsAtWork}
+use Rattle.fx_lasting.proofs.Words.{IsInStock, NamesANode, as_swapped, pass_in, name_in, nodes_of, get_elem?, some, label_of, as_written}
+use Rattle.fx_lasting.proofs.Words.{most_carried, IsPlacing, HasAllocated, StillPlaces, group_steps}
 use Rattle.fx_lasting.proofs.Groups.{by_size}
 use Rattle.fx_lasting.proofs.Running.{runs_one, runs_goes, runs_within, turns_then, does_then, swapped_then, at_swapped, still_at_work}
 

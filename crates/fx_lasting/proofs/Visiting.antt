@@ -1,20 +1,18 @@
 -- A pass that removed a hot file visits the hold words of the others: where one names the node, the
 -- pass marks it.
-use Rattle.fx_lasting.proofs.Words.{Round, round_at, IsToVisit, IsPassed, list_place}
-use Rattle.fx_lasting.proofs.Words.{◌≡◌, ◌≢◌, ℕ, ◌+◌, ◌^◌, ◌<◌, ◌≤◌, List, [], set, length, sym, refl, ap, ◌∙◌, subst, arith, Option, none, keeps}
-use Rattle.fx_lasting.proofs.Words.{Closed, File, WorkAgrees, HoldAgrees, GuardAgrees, MayBeUnmarked, slots_of, nodes_of, word_of, hold_word_of, held_in}
-use Rattle.fx_lasting.proofs.Words.{if_file, taken_of, taking, owed, Phase, leaving, owner, file_in, removed_in, changed_at, changed_here}
-use Rattle.fx_lasting.proofs.Words.{changed_else, Work, Idle, Announced, Counted, Guarded, Owing, Yielding, Searching, Placing, Retiring, Emptying, Keeping}
-use Rattle.fx_lasting.proofs.Words.{Visits, Marks, VisitsKeep, MarksKeep, step, inr, ⊎_elim, dite, ℕ_discrete, eqb, one_if, announced, mark}
-use Rattle.fx_lasting.proofs.Words.{set-get_or, exchanged, bit_here, bit_else, Goes, length-set, sum_set, Start, dec_le, Agrees}
-use prog.Atomic.{either}
+use Rattle.fx_lasting.proofs.Words.{Round, round_at, IsToVisit, IsPassed, list_place, ◌≡◌, ◌≢◌, ℕ, ◌+◌, ◌^◌, ◌<◌, ◌≤◌, List, [], set, length, sym}
+use Rattle.fx_lasting.proofs.Words.{refl, ap, ◌∙◌, subst, arith, Option, none, keeps, Closed, File, WorkAgrees, HoldAgrees, GuardAgrees}
+use Rattle.fx_lasting.proofs.Words.{MayBeUnmarked, slots_of, nodes_of, word_of, hold_word_of, held_in, if_file, taken_of, taking, owed, Phase}
+use Rattle.fx_lasting.proofs.Words.{leaving, owner, file_in, removed_in, changed_at, changed_here, changed_else, Work, Idle, Announced, Counted}
+use Rattle.fx_lasting.proofs.Words.{Guarded, Owing, Yielding, Searching, Placing, Retiring, Emptying, Keeping, Visits, Marks, VisitsKeep, MarksKeep}
+use Rattle.fx_lasting.proofs.Words.{step, inr, ⊎_elim, dite, ℕ_discrete, eqb, one_if, announced, mark, set-get_or, exchanged, bit_here, bit_else}
+use Rattle.fx_lasting.proofs.Words.{Goes, length-set, sum_set, Start, dec_le, Agrees, either, Labels, label_of, written_in}
 use Rattle.fx_lasting.proofs.Counts.{owed_changed}
 use Rattle.fx_lasting.proofs.Histories.{grows_none, each_changed}
 use Rattle.fx_lasting.proofs.Frames.{busy, does_now, covers_same}
 use Rattle.fx_lasting.proofs.Keeping.{Turn, turn_of, After, word_at, slot_word, Made, by_turn, its_log, its_work, tells, w, end, find_pass}
 use Rattle.fx_lasting.proofs.NodeSteps.{after, node_kept, own_keeps, guards_else}
 use Rattle.fx_lasting.proofs.Keeping.{LabelSame, labels_same}
-use Rattle.fx_lasting.proofs.Words.{Labels, label_of, written_in}
 use Rattle.fx_lasting.proofs.Groups.{CountAlike}
 use Rattle.fx_lasting.proofs.Places.{hold_words, hold_here, hold_node, hold_slot, hold_else, hold_alike, hold_list, hold_label, pass_back}
 use Rattle.fx_lasting.proofs.Unheld.{NodeNow, in_phase}

@@ -1,19 +1,14 @@
 -- One history has what all passes did, and each removed file that is open has a user.
-use Rattle.fx_lasting.specs.Passes.{contents_of}
-use Rattle.fx_lasting.proofs.Words.{Contains, contains_head, ◌≡◌, ℕ, suc, ◌+◌, ◌<◌, ◌≤◌, List, [], ◌∷◌, length, sym, refl, ap, ◌∙◌, subst, arith}
-use Rattle.fx_lasting.proofs.Words.{Some, None, some, get_elem?, ⊎_elim, dite, dec_le, eqb, Bool, true, false, cond, at_index, found_sum}
-use Rattle.fx_lasting.proofs.Words.{File, Agrees, NodeAgrees, WorkAgrees, HoldAgrees, HoldsAt, OwnerAgrees, Shared, Start, View, Work, Log, Phase}
-use Rattle.fx_lasting.proofs.Words.{Idle, Announced, Counted, Guarded, Owing, Yielding, Searching, Placing, Retiring, Emptying, Keeping}
-use Rattle.fx_lasting.proofs.Words.{free, placed, seated, leaving, retired, emptied, kept, file_in, removed_in, file_if_numbered, eq-eqb, taken_of, taking, owed, count_in, sum_by, bit_else}
-use Rattle.fx_lasting.proofs.Words.{slots_of, nodes_of, word_of, state_after_all, state_at_start, node_of_number}
-use Rattle.fx_lasting.proofs.Words.{state_of, lt-ltb, ℕ_discrete}
-use Rattle.std.proofs.Common.{not}
-use Rattle.std.proofs.lemmas.Bool.{eqb-true}
-use Rattle.fx_plain.proofs.Cells.{named, named_same}
+use Rattle.fx_lasting.proofs.Words.{contents_of, Contains, contains_head, ◌≡◌, ℕ, suc, ◌+◌, ◌<◌, ◌≤◌, List, [], ◌∷◌, length, sym, refl, ap, ◌∙◌}
+use Rattle.fx_lasting.proofs.Words.{subst, arith, Some, None, some, get_elem?, ⊎_elim, dite, dec_le, eqb, Bool, true, false, cond, at_index}
+use Rattle.fx_lasting.proofs.Words.{found_sum, File, Agrees, NodeAgrees, WorkAgrees, HoldAgrees, HoldsAt, OwnerAgrees, Shared, Start, View, Work, Log}
+use Rattle.fx_lasting.proofs.Words.{Phase, Idle, Announced, Counted, Guarded, Owing, Yielding, Searching, Placing, Retiring, Emptying, Keeping, free}
+use Rattle.fx_lasting.proofs.Words.{placed, seated, leaving, retired, emptied, kept, file_in, removed_in, file_if_numbered, eq-eqb, taken_of, taking}
+use Rattle.fx_lasting.proofs.Words.{owed, count_in, sum_by, bit_else, slots_of, nodes_of, word_of, state_after_all, state_at_start, node_of_number}
+use Rattle.fx_lasting.proofs.Words.{state_of, lt-ltb, ℕ_discrete, not, eqb-true, named_same, opening_is_start, numbered_anew, PassView}
+use Rattle.fx_plain.proofs.Cells.{named}
 use Rattle.fx_plain.proofs.LawHolds.{tally, tally_start, tally_all, placed_one, present, closed_at_most_once}
-use Rattle.fx_plain.proofs.Prepared.{opening_is_start, numbered_anew}
 use Rattle.fx_plain.specs.Laws.{IsStart, closes_of}
-use Rattle.fx_table.specs.Pass.{PassView}
 use Rattle.fx_lasting.proofs.Counts.{owed_found}
 use Rattle.fx_lasting.proofs.Histories.{same_shape}
 use Rattle.fx_lasting.proofs.Holds.{holds_at}

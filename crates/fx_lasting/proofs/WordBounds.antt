@@ -1,8 +1,8 @@
 -- The bounds of the words.
 use Rattle.fx_lasting.proofs.Words.{◌≡◌, ℕ, ◌+◌, ◌<◌, ◌≤◌, Option, Some, None, subst, arith, File, sum_by, get_elem?, Agrees, Names, IsSeated}
-use Rattle.fx_lasting.proofs.Words.{NodeAgrees, WorkAgrees, slots_of, word_of, state_after_all, taken_of, owed, count_in, full_name_in}
-use Rattle.fx_lasting.proofs.Words.{Phase, Shared, Start, range_at_start, group_start, group_len, full_few, cold_takes, has_acted, has_heated}
-use Rattle.fx_lasting.specs.Bounds.{AreBounded, slot_word_in, node_word_in}
+use Rattle.fx_lasting.proofs.Words.{NodeAgrees, WorkAgrees, slots_of, word_of, state_after_all, taken_of, owed, count_in, full_name_in, Phase, Shared}
+use Rattle.fx_lasting.proofs.Words.{Start, range_at_start, group_start, group_len, full_few, cold_takes, has_acted, has_heated, AreBounded}
+use Rattle.fx_lasting.proofs.Words.{slot_word_in, node_word_in}
 use Rattle.fx_lasting.proofs.Groups.{few_slots}
 use Rattle.fx_lasting.proofs.GroupSteps.{owing_most}
 use Rattle.fx_lasting.proofs.Counts.{tally_few, few_cold}

@@ -1,9 +1,6 @@
-use Rattle.fx_lasting.proofs.Words.{◌<◌, ◌+◌, ◌*◌, ◌∙◌, ap, sym, subst, arith, state_of, ℕ, group_size, group_len, full_in, first_at}
-use Rattle.std.specs.Prelude.{slice_set}
+use Rattle.fx_lasting.proofs.Words.{◌<◌, ◌+◌, ◌*◌, ◌∙◌, ap, sym, subst, arith, state_of, ℕ, group_size, group_len, full_in, first_at, slice_set}
+use Rattle.fx_lasting.proofs.Words.{AreNamed, words_for, replicate}
 use Rattle.fx_lasting.proofs.Groups.{few_groups}
-use Rattle.fx_lasting.specs.Firsts.{AreNamed}
-use Rattle.fx_lasting.specs.Layout.{words_for}
-use Rattle.std.proofs.Math.ListN.{replicate}
 use Rattle.fx_lasting.proofs.Starting.{AreWordsSoFar, named_so_far, group_written, entry_full, entry_none, slot_written, slot_empty}
 use Rattle.fx_lasting.proofs.open.first_words.Goals.{in-Some, in_default}
 use Rattle.fx_lasting.proofs.open.first_words.Goals as goal

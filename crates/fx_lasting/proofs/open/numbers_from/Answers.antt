@@ -1,5 +1,5 @@
 use Rattle.fx_lasting.proofs.Words.{◌≡◌, suc, ◌≤◌, ◌+◌, ◌-◌, ◌++◌, ◌∷◌, [], ℕ, List, length, ap, ◌∙◌, sym, arith, range_with_len}
-use Rattle.std.proofs.lemmas.List.FromFn.{length-range_with_len}
+use Rattle.fx_lasting.proofs.Words.{length-range_with_len}
 use Rattle.fx_lasting.proofs.FirstStocks.{row_more}
 use Rattle.fx_lasting.proofs.open.numbers_from.Goals as goal
 

@@ -1,7 +1,4 @@
-use Rattle.fx_lasting.proofs.Words.{◌≡◌, ◌∙◌, ◌<◌, ap, sym, arith, None}
-use Rattle.fx_table.specs.Shells.{file_in_place}
-use Rattle.std.proofs.lemmas.List.{get_or_default}
-use Rattle.fx_lasting.proofs.Words.{number_of_mark}
+use Rattle.fx_lasting.proofs.Words.{◌≡◌, ◌∙◌, ◌<◌, ap, sym, arith, None, file_in_place, get_or_default, number_of_mark}
 use Rattle.fx_lasting.proofs.Starting.{no_label, one_label}
 use Rattle.fx_lasting.proofs.open.write_labels.Goals.{in-Some, in_default, Joined-index}
 use Rattle.fx_lasting.proofs.open.write_labels.Goals as goal

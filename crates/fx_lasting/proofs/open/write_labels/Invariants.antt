@@ -1,4 +1,4 @@
-use Rattle.fx_lasting.specs.Firsts.{AreLabelled}
+use Rattle.fx_lasting.proofs.Words.{AreLabelled}
 use Rattle.fx_lasting.proofs.open.write_labels.Given as goal
 
 abbrev pub invariant-loop-slot : goal.invariant-loop-slot

@@ -1,5 +1,4 @@
-use Rattle.fx_lasting.proofs.Words.{◌≡◌, ℕ, ◌+◌, refl, ◌∙◌, subst, arith, Covered, groups_in}
-use Rattle.fx_lasting.specs.Questions.{DecidesIf}
+use Rattle.fx_lasting.proofs.Words.{◌≡◌, ℕ, ◌+◌, refl, ◌∙◌, subst, arith, Covered, groups_in, DecidesIf}
 use Rattle.fx_lasting.proofs.Questions.{learns_none, learns_at_work, learns_then, tells_then}
 use Rattle.fx_lasting.proofs.Running.{runs_within}
 use Rattle.fx_lasting.proofs.table.LastingTable.ask.Goals as goal

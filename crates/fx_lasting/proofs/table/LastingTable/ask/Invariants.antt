@@ -1,5 +1,4 @@
-use Rattle.fx_lasting.proofs.Words.{◌≡◌, Covered}
-use Rattle.fx_lasting.specs.Questions.{AsksSo}
+use Rattle.fx_lasting.proofs.Words.{◌≡◌, Covered, AsksSo}
 use Rattle.fx_lasting.proofs.table.LastingTable.ask.Given as goal
 
 -- the groups before this one are visited

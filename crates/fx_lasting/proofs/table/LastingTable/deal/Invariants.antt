@@ -1,5 +1,4 @@
-use Rattle.fx_lasting.proofs.Words.{◌≡◌, ◌≤◌, ◌-◌, ◌+◌, map, vec_capacity, stocks_back, [], dealt, IsPassOf}
-use Rattle.fx_table.proofs.Chains.{AreDealt}
+use Rattle.fx_lasting.proofs.Words.{◌≡◌, ◌≤◌, ◌-◌, ◌+◌, map, vec_capacity, stocks_back, [], dealt, IsPassOf, AreDealt}
 use Rattle.fx_lasting.proofs.Gathered.{shown}
 use Rattle.fx_lasting.proofs.table.LastingTable.deal.Given as goal
 

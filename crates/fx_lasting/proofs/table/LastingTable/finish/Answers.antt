@@ -1,10 +1,6 @@
-use Rattle.std.specs.Prelude.{vec_len, vec_capacity}
-use Rattle.fx_lasting.proofs.Words.{length, ◌+◌, ◌≤◌, ◌≡◌, ℕ, List, sym, refl, ap, ◌∙◌, arith, rules, Option, None, some, get_elem?, slots_items, Closed, file_node_in}
-use Rattle.fx_lasting.proofs.Words.{slot_place, false, get_or-set_other, slots_filled}
-use Rattle.fx_plain.proofs.Cells.{each_set}
-use Rattle.fx_table.proofs.SumLemmas.{read_at}
-use Rattle.fx_table.proofs.Shells.{none_left}
-use Rattle.fx_lasting.specs.Closing.{files_at_slots}
+use Rattle.fx_lasting.proofs.Words.{vec_len, vec_capacity, length, ◌+◌, ◌≤◌, ◌≡◌, ℕ, List, sym, refl, ap, ◌∙◌, arith, rules, Option, None, some}
+use Rattle.fx_lasting.proofs.Words.{get_elem?, slots_items, Closed, file_node_in, slot_place, false, get_or-set_other, slots_filled, each_set}
+use Rattle.fx_lasting.proofs.Words.{read_at, none_left, files_at_slots}
 use Rattle.fx_lasting.proofs.Listed.{none_listed, one_listed, none_is_there, none_named_here}
 use Rattle.fx_lasting.proofs.HomeComing.{node_at, home_at_end, leaves_at_end}
 use Rattle.fx_lasting.proofs.table.LastingTable.finish.Goals.{in-Some+in-Some-take_home, in-Some+in_default-take_home, in_default}

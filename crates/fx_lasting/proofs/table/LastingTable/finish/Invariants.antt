@@ -1,6 +1,4 @@
-use Rattle.fx_lasting.proofs.Words.{◌≡◌, ◌<◌, ℕ, false, get_or, slots_items, slots_len, IsFull, slots_filled, ◌≤◌, vec_capacity}
-use Rattle.std.specs.Prelude.{vec_len}
-use Rattle.std.specs.Mem.Slots.Ownership.{Filled}
+use Rattle.fx_lasting.proofs.Words.{◌≡◌, ◌<◌, ℕ, false, get_or, slots_items, slots_len, IsFull, slots_filled, ◌≤◌, vec_capacity, vec_len, Filled}
 use Rattle.fx_lasting.proofs.Listed.{AreListed}
 use Rattle.fx_lasting.proofs.HomeComing.{node_at}
 use Rattle.fx_lasting.proofs.table.LastingTable.finish.Given as goal

@@ -1,5 +1,4 @@
-use Rattle.fx_lasting.proofs.Words.{sym, subst, arith, IsIdleSeatOf, LastingPass}
-use Rattle.fx_table.proofs.Seats.{last_of}
+use Rattle.fx_lasting.proofs.Words.{sym, subst, arith, IsIdleSeatOf, LastingPass, last_of}
 use Rattle.fx_lasting.proofs.Seats.{joins_keep}
 use Rattle.fx_lasting.proofs.table.LastingTable.gather.Goals as goal
 

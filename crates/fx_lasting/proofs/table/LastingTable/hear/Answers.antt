@@ -1,5 +1,4 @@
-use Rattle.fx_lasting.proofs.Words.{ap, sym, subst, List, Event, Start, View, IsInside, pass_of, opening_of, view_of}
-use Rattle.fx_table.specs.Showing.{Learns}
+use Rattle.fx_lasting.proofs.Words.{ap, sym, subst, List, Event, Start, View, IsInside, pass_of, opening_of, view_of, Learns}
 use Rattle.fx_lasting.proofs.Showing.{may_show, may_learn, learned_pass}
 use Rattle.fx_lasting.proofs.table.LastingTable.hear.Goals as goal
 

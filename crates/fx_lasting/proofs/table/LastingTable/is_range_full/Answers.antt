@@ -1,5 +1,4 @@
-use Rattle.fx_lasting.proofs.Words.{arith, true, false}
-use Rattle.fx_lasting.specs.Questions.{HasAsked}
+use Rattle.fx_lasting.proofs.Words.{arith, true, false, HasAsked}
 use Rattle.fx_lasting.proofs.Questions.{asked_full, asked_nothing}
 use Rattle.fx_lasting.proofs.EmptySlots.{tells_so}
 use Rattle.fx_lasting.proofs.table.LastingTable.is_range_full.Goals as goal

@@ -1,4 +1,5 @@
-use Rattle.fx_lasting.proofs.Words.{◌≡◌, false, List, Log, first_log, ℕ, ◌^◌, ◌∙◌, ap, sym, refl, subst, arith, bit_of, list_place, view_of, pass_of, as_listed, Runs, Change, []}
+use Rattle.fx_lasting.proofs.Words.{◌≡◌, false, List, Log, first_log, ℕ, ◌^◌, ◌∙◌, ap, sym, refl, subst, arith, bit_of, list_place, view_of, pass_of}
+use Rattle.fx_lasting.proofs.Words.{as_listed, Runs, Change, []}
 use Rattle.fx_lasting.proofs.Calling.{list_inside}
 use Rattle.fx_lasting.proofs.Listing.{lists_keep}
 use Rattle.fx_lasting.proofs.Passing.{adds_listed, listed_seat, after_then}

@@ -1,8 +1,6 @@
-use Rattle.fx_lasting.proofs.Words.{refl, ◌∙◌, arith, sym, Some, ℕ, subst, opening_of, view_of, pass_of, Look, ◌▷◌, []}
+use Rattle.fx_lasting.proofs.Words.{refl, ◌∙◌, arith, sym, Some, ℕ, subst, opening_of, view_of, pass_of, Look, ◌▷◌, [], Adds, one_look, Holding}
 use Rattle.fx_lasting.proofs.Running.{still_at_work, does_then}
 use Rattle.fx_lasting.proofs.Passing.{adds_so, at_ease, still_pass, still_seat, marks_then, marks_run}
-use Rattle.fx_table.specs.Calls.{Adds, one_look}
-use Rattle.fx_table.specs.declared.values.Doing.TheVariants.{Holding}
 use Rattle.fx_lasting.proofs.table.LastingTable.look_hot.Goals as goal
 
 pub returns-in-Some : goal.returns-in-Some

@@ -1,8 +1,6 @@
-use Rattle.fx_lasting.proofs.Words.{IsOnList, TableId, Start, LastingPass, IsPassOf}
-use Rattle.fx_lasting.proofs.Words.{◌≡◌, ℕ, ◌<◌, refl, ap, ◌∙◌, subst, arith, sym, true, false, IsHot, Look, ◌▷◌, [], None, Hot, Cold, slot_of, opening_of, view_of, pass_of}
-use Rattle.fx_table.specs.Calls.{Adds, LookedAfter, LookedUp, no_use, one_look}
-use Rattle.fx_table.specs.Pass.{PassView}
-use Rattle.fx_table.specs.declared.values.Doing.TheVariants.{Idle as DoesNothing}
+use Rattle.fx_lasting.proofs.Words.{IsOnList, TableId, Start, LastingPass, IsPassOf, ◌≡◌, ℕ, ◌<◌, refl, ap, ◌∙◌, subst, arith, sym, true, false}
+use Rattle.fx_lasting.proofs.Words.{IsHot, Look, ◌▷◌, [], None, Hot, Cold, slot_of, opening_of, view_of, pass_of, Adds, LookedAfter, LookedUp, no_use}
+use Rattle.fx_lasting.proofs.Words.{one_look, PassView, DoesNothing}
 use Rattle.fx_lasting.proofs.Calling.{slot_inside, slot_low}
 use Rattle.fx_lasting.proofs.Looking.{glances_keep}
 use Rattle.fx_lasting.proofs.Places.{slot_back}

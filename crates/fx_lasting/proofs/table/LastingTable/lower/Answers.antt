@@ -1,4 +1,5 @@
-use Rattle.fx_lasting.proofs.Words.{◌≡◌, refl, ap, ◌∙◌, sym, subst, arith, uncounted, Inside, Change, group_of, group_at, range_at_start, true, Runs, []}
+use Rattle.fx_lasting.proofs.Words.{◌≡◌, refl, ap, ◌∙◌, sym, subst, arith, uncounted, Inside, Change, group_of, group_at, range_at_start, true, Runs}
+use Rattle.fx_lasting.proofs.Words.{[]}
 use Rattle.fx_lasting.proofs.Calling.{group_word, its_group}
 use Rattle.fx_lasting.proofs.Groups.{was_in}
 use Rattle.fx_lasting.proofs.GroupSteps.{lowers_keep}

@@ -1,8 +1,6 @@
-use Rattle.fx_lasting.proofs.Words.{Round, round_at}
+use Rattle.fx_lasting.proofs.Words.{Round, round_at, ◌≡◌, ◌≢◌, ℕ, ◌+◌, ◌≤◌, sym, refl, ap, ◌∙◌, subst, arith, rules, Bool, cond, nat_eq, dite}
+use Rattle.fx_lasting.proofs.Words.{ℕ_discrete, eq-eqb, ne_eqb, [], Sat, Start, pass_at, Retiring, Runs, File, announced}
 use Rattle.fx_lasting.proofs.Rounds.{passed_by}
-use Rattle.fx_lasting.proofs.Words.{◌≡◌, ◌≢◌, ℕ, ◌+◌, ◌≤◌, sym, refl, ap, ◌∙◌, subst, arith, rules, Bool, cond, nat_eq, dite, ℕ_discrete, eq-eqb, ne_eqb}
-use Rattle.fx_lasting.proofs.Words.{[], Sat, Start, pass_at, Retiring, Runs, File}
-use Rattle.fx_lasting.specs.Parts.{announced}
 use Rattle.fx_lasting.proofs.Calling.{hold_inside, hold_word}
 use Rattle.fx_lasting.proofs.Places.{pass_back}
 use Rattle.fx_lasting.proofs.Running.{still_at_work, runs_goes, does_then}

@@ -1,7 +1,6 @@
-use Rattle.fx_lasting.proofs.Words.{◌≡◌, ◌∙◌, ◌∷◌, ℕ, List, ap, sym, subst, arith, Bool, true, None, Option, Closed, some, get_or}
-use Rattle.fx_lasting.proofs.Words.{Keeping, MayPlace, Placing, as_written, label_of, ◌-◌, ◌+◌, []}
+use Rattle.fx_lasting.proofs.Words.{◌≡◌, ◌∙◌, ◌∷◌, ℕ, List, ap, sym, subst, arith, Bool, true, None, Option, Closed, some, get_or, Keeping, MayPlace}
+use Rattle.fx_lasting.proofs.Words.{Placing, as_written, label_of, ◌-◌, ◌+◌, [], read_at}
 use Rattle.fx_lasting.specs.Ends.{Does}
-use Rattle.fx_table.proofs.SumLemmas.{read_at}
 use Rattle.fx_lasting.proofs.Births.{births_keep}
 use Rattle.fx_lasting.proofs.Calling.{node_inside, node_word, few_nodes}
 use Rattle.fx_lasting.proofs.KeptNodes.{resumes_keep}

@@ -1,7 +1,4 @@
-use Rattle.fx_lasting.proofs.Words.{refl, ◌∙◌, [], ◌▷◌, opening_of, view_of, Allocate, Full}
-use Rattle.fx_table.proofs.Calls.{adds_then}
-use Rattle.fx_table.specs.Calls.{no_use, one_number}
-use Rattle.fx_table.specs.declared.values.Doing.TheVariants.{Idle as DoesNothing}
+use Rattle.fx_lasting.proofs.Words.{refl, ◌∙◌, [], ◌▷◌, opening_of, view_of, Allocate, Full, adds_then, no_use, one_number, DoesNothing}
 use Rattle.fx_lasting.proofs.Passing.{nothing_yet, new_file_so}
 use Rattle.fx_lasting.proofs.table.LastingTable.put_any.Goals as goal
 

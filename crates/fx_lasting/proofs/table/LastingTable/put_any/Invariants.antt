@@ -1,6 +1,4 @@
-use Rattle.fx_lasting.proofs.Words.{◌≡◌, [], IsPassOfTable, view_of, opening_of_table}
-use Rattle.fx_table.specs.Calls.{Adds, no_use}
-use Rattle.fx_table.specs.declared.values.Doing.TheVariants.{Idle as DoesNothing}
+use Rattle.fx_lasting.proofs.Words.{◌≡◌, [], IsPassOfTable, view_of, opening_of_table, Adds, no_use, DoesNothing}
 use Rattle.fx_lasting.proofs.table.LastingTable.put_any.Given as goal
 
 -- the pass has done nothing yet, and has the file

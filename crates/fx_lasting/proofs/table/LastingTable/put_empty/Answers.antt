@@ -1,10 +1,6 @@
+use Rattle.fx_lasting.proofs.Words.{◌<◌, nodes_of, ◌∷◌, inr, refl, sym, ap, ◌∙◌, subst, arith, [], Some, Closed, HasPlace, numbered, Start, Work}
+use Rattle.fx_lasting.proofs.Words.{Runs, rested, pass_in, true, false, no_use, one_number, SeesFile, Placing, label_of, as_written}
 use Rattle.fx_lasting.proofs.Calling.{begins_at}
-use Rattle.fx_lasting.proofs.Words.{◌<◌, nodes_of}
-use Rattle.fx_lasting.proofs.Words.{◌∷◌, inr, refl, sym, ap, ◌∙◌, subst, arith, [], Some, Closed, HasPlace, numbered}
-use Rattle.fx_lasting.proofs.Words.{Start, Work, Runs, rested, pass_in, true, false}
-use Rattle.fx_table.specs.Calls.{no_use, one_number}
-use Rattle.fx_lasting.specs.Vacant.{SeesFile}
-use Rattle.fx_lasting.proofs.Words.{Placing, label_of, as_written}
 use Rattle.fx_lasting.proofs.ByNode.{adds_none, was_further}
 use Rattle.fx_lasting.proofs.Passing.{adds_swapped, swapped_pass, swapped_rest, adds_so, at_rest, still_pass, its_place, its_flag, may_install}
 use Rattle.fx_lasting.proofs.Running.{still_at_work, does_then}

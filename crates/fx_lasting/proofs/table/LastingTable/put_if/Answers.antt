@@ -1,9 +1,7 @@
-use Rattle.fx_lasting.proofs.Words.{◌-◌, ◌∷◌, inr, refl, sym, ap, ◌∙◌, subst, arith, [], ◌▷◌, Put, numbered, Some, Closed, HasPlace, false}
-use Rattle.fx_lasting.proofs.Words.{Start, Work, Runs, rested, full_name_in, count_in, retired_at, opening_of, view_of, pass_of}
-use Rattle.fx_table.specs.Calls.{Adds, no_use, one_number}
+use Rattle.fx_lasting.proofs.Words.{◌-◌, ◌∷◌, inr, refl, sym, ap, ◌∙◌, subst, arith, [], ◌▷◌, Put, numbered, Some, Closed, HasPlace, false, Start}
+use Rattle.fx_lasting.proofs.Words.{Work, Runs, rested, full_name_in, count_in, retired_at, opening_of, view_of, pass_of, Adds, no_use, one_number}
+use Rattle.fx_lasting.proofs.Words.{Retired, Placing, label_of, as_written, set}
 use Rattle.fx_table.specs.declared.values.Doing.TheVariants.{Retiring as Retires}
-use Rattle.fx_table.specs.declared.values.Retired.{Retired}
-use Rattle.fx_lasting.proofs.Words.{Placing, label_of, as_written, set}
 use Rattle.fx_lasting.proofs.ByNode.{swapped_acts, stands_then, missed_so, tried_none, tried_so, value_so, removal_so, is_on, adds_none}
 use Rattle.fx_lasting.proofs.Passing.{adds_swapped, swapped_pass, swapped_looking, adds_so, at_rest, still_pass, its_place, its_flag, may_install, knows_removed, first_by}
 use Rattle.fx_lasting.proofs.Running.{still_at_work, does_then}

@@ -1,11 +1,5 @@
-use Rattle.fx_lasting.proofs.Words.{sym, subst, Start, opening_of, view_of}
-use Rattle.std.specs.Prelude.{Result}
-use Rattle.fx_table.specs.Pass.{PassView}
-use Rattle.fx_table.specs.Showing.{Learns}
-use Rattle.fx_table.specs.declared.values.Hold.{Hold}
+use Rattle.fx_lasting.proofs.Words.{sym, subst, Start, opening_of, view_of, Result, PassView, Learns, Hold, LookedByKey, PutsOverKey, KeyFault}
 use Rattle.fx_lasting.specs.declared.key_answers.PutOverKey.{PutOverKey}
-use Rattle.fx_lasting.specs.Keys.{LookedByKey, PutsOverKey}
-use Rattle.fx_lasting.specs.declared.key_answers.KeyFault.{KeyFault}
 use Rattle.fx_lasting.proofs.ByKey.{puts_so}
 use Rattle.fx_lasting.proofs.table.LastingTable.put_over_key.Goals as goal
 

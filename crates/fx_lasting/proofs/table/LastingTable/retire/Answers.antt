@@ -1,11 +1,8 @@
-use Rattle.fx_lasting.proofs.Words.{Round, new_round, IsPassed, ◌/◌}
+use Rattle.fx_lasting.proofs.Words.{Round, new_round, IsPassed, ◌/◌, ◌≡◌, ◌≢◌, ℕ, ◌+◌, ◌-◌, ◌*◌, ◌≤◌, refl, ◌∙◌, subst, arith, sym, inl, inr, ⊎_elim}
+use Rattle.fx_lasting.proofs.Words.{[], Some, File, Start, IsAtWork, Runs, Retiring, Sat, state_after_all, pass_in, TakesOut, HasPlace, At, Retires}
+use Rattle.fx_lasting.proofs.Words.{retirement_amount, Work, Goes, ap, Finishes, List, ◌▷◌, Close, TakenOut, opening_of, view_of, pass_of, Adds}
+use Rattle.fx_lasting.proofs.Words.{no_use, Doing}
 use Rattle.fx_lasting.proofs.Rounds.{passed_by}
-use Rattle.fx_lasting.proofs.Words.{◌≡◌, ◌≢◌, ℕ, ◌+◌, ◌-◌, ◌*◌, ◌≤◌, refl, ◌∙◌, subst, arith, sym, inl, inr, ⊎_elim, [], Some, File, Start}
-use Rattle.fx_lasting.proofs.Words.{IsAtWork, Runs, Retiring, Sat, state_after_all, pass_in, TakesOut, HasPlace, At, Retires, retirement_amount, Work, Goes, ap}
-use Rattle.fx_lasting.specs.FinishSteps.{Finishes}
-use Rattle.fx_lasting.proofs.Words.{List, ◌▷◌, Close, TakenOut, opening_of, view_of, pass_of}
-use Rattle.fx_table.specs.Calls.{Adds, no_use}
-use Rattle.fx_table.specs.declared.values.Doing.{Doing}
 use Rattle.fx_lasting.proofs.Calling.{node_inside, node_word}
 use Rattle.fx_lasting.proofs.Finishing.{finishes_keep}
 use Rattle.fx_lasting.proofs.Retiring.{retires_keep}

@@ -1,5 +1,4 @@
-use Rattle.fx_lasting.proofs.Words.{◌∙◌, arith, refl, ◌+◌, groups_in}
-use Rattle.fx_lasting.specs.Tries.{group_steps}
+use Rattle.fx_lasting.proofs.Words.{◌∙◌, arith, refl, ◌+◌, groups_in, group_steps}
 use Rattle.fx_lasting.proofs.Running.{still_at_work, placed_none}
 use Rattle.fx_lasting.proofs.Trying.{still_then, allocated_then, still_within, allocated_within, group_more, groups_most}
 use Rattle.fx_lasting.proofs.table.LastingTable.scan.Goals as goal

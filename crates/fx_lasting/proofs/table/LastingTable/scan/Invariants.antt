@@ -1,5 +1,4 @@
-use Rattle.fx_lasting.proofs.Words.{◌≡◌, ℕ, ◌*◌, ◌<◌, ◌≤◌, groups_in}
-use Rattle.fx_lasting.specs.Tries.{StillPlaces, group_steps}
+use Rattle.fx_lasting.proofs.Words.{◌≡◌, ℕ, ◌*◌, ◌<◌, ◌≤◌, groups_in, StillPlaces, group_steps}
 use Rattle.fx_lasting.proofs.table.LastingTable.scan.Given as goal
 
 abbrev pub invariant-loop : goal.invariant-loop

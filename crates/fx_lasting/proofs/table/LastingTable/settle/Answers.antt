@@ -1,5 +1,4 @@
-use Rattle.fx_lasting.proofs.Words.{◌≡◌, ◌<◌, ◌∙◌, ℕ, sym, ap, refl, arith, nodes_of, Keeping, stands_at}
-use Rattle.fx_table.proofs.SumLemmas.{read_at}
+use Rattle.fx_lasting.proofs.Words.{◌≡◌, ◌<◌, ◌∙◌, ℕ, sym, ap, refl, arith, nodes_of, Keeping, stands_at, read_at}
 use Rattle.fx_lasting.proofs.Calling.{node_inside, node_word, few_nodes}
 use Rattle.fx_lasting.proofs.KeptNodes.{settles_keep}
 use Rattle.fx_lasting.proofs.Passing.{at_rest, still_pass, its_kept}

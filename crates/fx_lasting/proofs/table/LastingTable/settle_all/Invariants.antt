@@ -1,6 +1,4 @@
-use Rattle.fx_lasting.proofs.Words.{◌≡◌, All, false, length, map, view_of, IsPassOfTable}
-use Rattle.std.specs.List.{AllWithin}
-use Rattle.fx_table.specs.Pass.{IsIdle}
+use Rattle.fx_lasting.proofs.Words.{◌≡◌, All, false, length, map, view_of, IsPassOfTable, AllWithin, IsIdle}
 use Rattle.fx_lasting.proofs.table.LastingTable.settle_all.Given as goal
 
 -- the passes so far keep no node

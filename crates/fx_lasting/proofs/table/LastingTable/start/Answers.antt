@@ -1,6 +1,4 @@
-use Rattle.fx_lasting.proofs.Words.{◌≡◌, ℕ, ap, ◌∙◌, subst, arith, Some, Start, state_of, AreFirstWords, AreFirstHomes}
-use Rattle.fx_lasting.specs.Firsts.{AreLabelled}
-use Rattle.fx_lasting.specs.Layout.{nodes_for}
+use Rattle.fx_lasting.proofs.Words.{◌≡◌, ℕ, ap, ◌∙◌, subst, arith, Some, Start, state_of, AreFirstWords, AreFirstHomes, AreLabelled, nodes_for}
 use Rattle.fx_lasting.proofs.Openings.{opening_keeps}
 use Rattle.fx_lasting.proofs.Starting.{opens_with, no_files, labelled_first, labels_so}
 use Rattle.fx_lasting.proofs.table.LastingTable.start.Goals as goal

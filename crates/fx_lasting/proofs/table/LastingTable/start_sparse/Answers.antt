@@ -1,8 +1,5 @@
-use Rattle.fx_lasting.proofs.Words.{◌≡◌, ℕ, List, sym, ap, ◌∙◌, subst, arith, None, Some, Start, state_of, slots_of, nodes_of}
-use Rattle.fx_lasting.proofs.Words.{AreFirstWords, AreFirstHomes}
-use Rattle.std.proofs.Math.ListN.{replicate}
-use Rattle.fx_lasting.specs.Layout.{nodes_for, words_for}
-use Rattle.fx_lasting.specs.Passes.{contents_of}
+use Rattle.fx_lasting.proofs.Words.{◌≡◌, ℕ, List, sym, ap, ◌∙◌, subst, arith, None, Some, Start, state_of, slots_of, nodes_of, AreFirstWords}
+use Rattle.fx_lasting.proofs.Words.{AreFirstHomes, replicate, nodes_for, words_for, contents_of}
 use Rattle.fx_lasting.proofs.Openings.{opening_keeps}
 use Rattle.fx_lasting.proofs.Sparse.{same_size, none_first, first_words, first_homes}
 use Rattle.fx_lasting.proofs.Starting.{opens_with}

@@ -1,8 +1,7 @@
-use Rattle.fx_lasting.proofs.Words.{◌≢◌, rules, inl}
+use Rattle.fx_lasting.proofs.Words.{◌≢◌, rules, inl, announced}
 use Rattle.fx_lasting.proofs.Calling.{hold_inside, hold_word}
 use Rattle.fx_lasting.proofs.HoldWords.{steps_down_keep}
 use Rattle.fx_lasting.proofs.Running.{still_at_work, runs_goes, file_then}
-use Rattle.fx_lasting.specs.Parts.{announced}
 use Rattle.fx_lasting.proofs.table.LastingTable.step_down.Goals as goal
 
 pub swap-found-requires : goal.swap-found-requires

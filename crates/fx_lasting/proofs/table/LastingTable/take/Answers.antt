@@ -1,7 +1,5 @@
-use Rattle.fx_lasting.proofs.Words.{◌∙◌, ap, arith, Start, Bool, true, uncounted, group_of, range_at_start, IsAtWork, opening_of, view_of, pass_of, Runs, Glance, Outside}
-use Rattle.fx_lasting.proofs.Words.{as_stocked, retiring_work, ◌▷◌, [], Take, subst, sym, refl}
-use Rattle.fx_table.specs.Calls.{Taken, no_use}
-use Rattle.fx_table.specs.Pass.{PassView}
+use Rattle.fx_lasting.proofs.Words.{◌∙◌, ap, arith, Start, Bool, true, uncounted, group_of, range_at_start, IsAtWork, opening_of, view_of, pass_of}
+use Rattle.fx_lasting.proofs.Words.{Runs, Glance, Outside, as_stocked, retiring_work, ◌▷◌, [], Take, subst, sym, refl, Taken, no_use, PassView}
 use Rattle.fx_lasting.proofs.Removals.{adds_stocked, emptied_around, emptied_at_work, emptied_stock, stocked_pass}
 use Rattle.fx_lasting.proofs.Running.{still_at_work}
 use Rattle.fx_lasting.proofs.Passing.{its_idle, account_so, knows_removed, taken_so, first_by}

@@ -1,6 +1,4 @@
-use Rattle.fx_lasting.proofs.Words.{◌≡◌, ◌<◌, ◌≤◌, ℕ, List, ap, sym, ◌∙◌, arith, length, get_elem?, some, nodes_of, Take}
-use Rattle.fx_words.specs.Words.{last_node}
-use Rattle.std.proofs.lemmas.List.{get_or_default}
+use Rattle.fx_lasting.proofs.Words.{◌≡◌, ◌<◌, ◌≤◌, ℕ, List, ap, sym, ◌∙◌, arith, length, get_elem?, some, nodes_of, Take, last_node, get_or_default}
 use Rattle.fx_lasting.proofs.Calling.{slot_inside, slot_low, few_nodes, stock_inside}
 use Rattle.fx_lasting.proofs.Removals.{by_swap}
 use Rattle.fx_lasting.proofs.FreeNodes.{entry_is}

@@ -1,5 +1,4 @@
-use Rattle.fx_lasting.proofs.Words.{◌∙◌, arith, refl, ◌+◌}
-use Rattle.fx_lasting.specs.Tries.{StillPlaces}
+use Rattle.fx_lasting.proofs.Words.{◌∙◌, arith, refl, ◌+◌, StillPlaces}
 use Rattle.fx_lasting.proofs.Calling.{group_word}
 use Rattle.fx_lasting.proofs.Groups.{group_short}
 use Rattle.fx_lasting.proofs.Peeking.{peeks_keep}

@@ -1,5 +1,4 @@
-use Rattle.fx_lasting.proofs.Words.{◌≡◌, ℕ, ◌-◌, ◌*◌, ◌≤◌}
-use Rattle.fx_lasting.specs.Tries.{StillPlaces}
+use Rattle.fx_lasting.proofs.Words.{◌≡◌, ℕ, ◌-◌, ◌*◌, ◌≤◌, StillPlaces}
 use Rattle.fx_lasting.proofs.table.LastingTable.try_group.Given as goal
 
 abbrev pub invariant-loop-slot : goal.invariant-loop-slot

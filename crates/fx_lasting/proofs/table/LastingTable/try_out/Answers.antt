@@ -1,5 +1,4 @@
-use Rattle.fx_lasting.proofs.Words.{◌≡◌, ◌<◌, ◌∙◌, ℕ, List, ap, sym, arith, length, get_elem?, some}
-use Rattle.std.proofs.lemmas.List.{get_or_default}
+use Rattle.fx_lasting.proofs.Words.{◌≡◌, ◌<◌, ◌∙◌, ℕ, List, ap, sym, arith, length, get_elem?, some, get_or_default}
 use Rattle.fx_lasting.proofs.ByNode.{moved_name}
 use Rattle.fx_lasting.proofs.FreeNodes.{entry_is}
 use Rattle.fx_lasting.proofs.table.LastingTable.try_out.Goals.{After-index}

@@ -1,8 +1,5 @@
-use Rattle.fx_lasting.proofs.Words.{refl, arith, [], ◌▷◌, Allocate, Full, opening_of, view_of, true, false}
-use Rattle.fx_lasting.specs.Questions.{HasAsked}
-use Rattle.fx_table.proofs.Calls.{adds_then}
-use Rattle.fx_table.specs.Calls.{no_use, one_number}
-use Rattle.fx_table.specs.declared.values.Doing.TheVariants.{Idle as DoesNothing}
+use Rattle.fx_lasting.proofs.Words.{refl, arith, [], ◌▷◌, Allocate, Full, opening_of, view_of, true, false, HasAsked, adds_then, no_use, one_number}
+use Rattle.fx_lasting.proofs.Words.{DoesNothing}
 use Rattle.fx_lasting.proofs.Passing.{new_file_so}
 use Rattle.fx_lasting.proofs.Questions.{asked_full, asked_nothing}
 use Rattle.fx_lasting.proofs.table.LastingTable.try_put_any.Goals as goal
