@@ -1,6 +1,7 @@
 //! The calls of a pass that never wait, allocate or retry: each makes at most as many atomic steps
 //! as its clause says. They are inlined into their caller, except for a withdrawal, for the visits
-//! of a retirement and for taking a file out. These hints change no proof.
+//! of a retirement, and for taking a file out of a node that isn't kept. These hints change no
+//! proof.
 ghost use Rattle.std.specs.Prelude.{◌≡◌, ◌≢◌, ◌+◌, ◌*◌, ◌-◌, ◌/◌, ◌<◌, ◌≤◌, false, Option, option_map, Err};
 ghost use Rattle.fx_plain.specs.declared.event.File.{File};
 ghost use Rattle.fx_table.specs.Calls.{Looked, LookedUp, Released, Placed, Cleared, Taken, HasRetired};
@@ -14,7 +15,7 @@ ghost use Rattle.fx_lasting.specs.declared.view.Glance.TheVariants.{Hot, Cold};
 ghost use Rattle.fx_lasting.specs.declared.view.Work.TheVariants.{Idle};
 
 use crate::kinds::{Finishing, Glancing, Installing, Listing, Retire};
-use crate::layout::{list_place, node_place, slot_place};
+use crate::layout::{list_place, slot_place};
 use crate::parts::{
     count_of, file_node_of, file_word, is_hot, list_bit, node_named, retire_amount,
 };
@@ -270,7 +271,7 @@ impl LastingTable {
             takes,
         } = retired;
         let marks = self.mark_all(&mut pass.seat, pass.number, node, pass.next_visit);
-        let place = node_place(self.size, self.passes, node);
+        let place = self.node_place(node);
         let amount = retire_amount(takes, marks);
         let shared = &self.table.shared;
         pass.idle = true;
@@ -278,7 +279,7 @@ impl LastingTable {
         if left == amount + 1 {
             let stock = pass.stock.as_slice();
             let entry = pass.next_entry;
-            let (freed, keeps) = self.take_out_or_keep(&mut pass.seat, node, stock, entry);
+            let (freed, keeps) = self.take_out_or_keep(&mut pass.seat, node, place, stock, entry);
             pass.keeps = keeps;
             return Some(freed);
         }

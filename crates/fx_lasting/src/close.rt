@@ -97,6 +97,7 @@ impl LastingTable {
             size,
             range_start: _,
             range_len: _,
+            first_node: _,
         } = self;
         let count = table.slot_count();
         let mut closed = table.close_with(seat);
@@ -126,6 +127,7 @@ impl LastingTable {
             size: _,
             range_start: _,
             range_len: _,
+            first_node: _,
         } = self;
         let count = table.slot_count();
         let mut closed = table.close();

@@ -12,6 +12,7 @@ ghost use Rattle.fx_base.specs.declared.open_file.Closed.{Closed};
 ghost use Rattle.fx_lasting.specs.AtWork.{IsAtWork, HasPlace, MayPlace};
 ghost use Rattle.fx_lasting.specs.Ends.{Does, Parked, TakenOut};
 ghost use Rattle.fx_lasting.specs.Labels.{label_of, as_written};
+ghost use Rattle.fx_lasting.specs.Layout.{node_place};
 ghost use Rattle.fx_lasting.specs.Parts.{most_carried};
 ghost use Rattle.fx_lasting.specs.Passes.{nodes_of};
 ghost use Rattle.fx_lasting.specs.Tables.{view_of, steps_taken, IsPassOfTable};
@@ -19,7 +20,6 @@ ghost use Rattle.fx_lasting.specs.Effects.{pass_in};
 ghost use Rattle.fx_lasting.specs.declared.view.Work.TheVariants.{Emptying, Placing};
 
 use crate::kinds::{Birth, Parking, Resting, Resuming, Settling};
-use crate::layout::node_place;
 use crate::parts::{BORN, may_carry};
 use crate::pass::LastingPass;
 use crate::table::LastingTable;
@@ -60,24 +60,27 @@ impl LastingTable {
         let shared = &self.table.shared;
         if keeps {
             let node = stock[start as usize];
-            let place = node_place(self.size, self.passes, node);
+            let place = self.node_place(node);
             let word = shared.load::<Resuming>(seat, place);
-            self.put_in(seat, node, file);
+            self.put_in(seat, node, place, file);
             return (start, node, BORN - word);
         }
         let (entry, node) = self.seek(seat, number, stock, start);
-        shared.store::<Birth>(seat, node_place(self.size, self.passes, node), BORN);
-        self.put_in(seat, node, file);
+        let place = self.node_place(node);
+        shared.store::<Birth>(seat, place, BORN);
+        self.put_in(seat, node, place, file);
         (entry, node, 0)
     }
 
-    // Takes the closed file out of the place of its node, in at most two steps. Returns the file,
-    // and whether the pass keeps the node, which is at the entry of its stock then.
-    #[inline(never)]
+    // Takes the closed file out of the place of its node, in at most two steps. The node's word is
+    // at `place`. Returns the file, and whether the pass keeps the node, which is at the entry of
+    // its stock then.
+    #[inline(always)]
     pub(crate) fn take_out_or_keep(
         &self,
         seat: &mut Seat<Option<OpenFile>, View>,
         node: u32,
+        place: usize,
         stock: &[u32],
         entry: u32,
     ) -> (OpenFile, bool)
@@ -85,6 +88,7 @@ impl LastingTable {
         requires at { (number : ℕ) × IsAtWork self.now.table.shared.key number seat.old.me }
         requires emptying { seat.old.me.0.work ≡ Emptying node }
         requires place { (file : Closed) × HasPlace node (Some file) seat.old.me }
+        requires word { place ≡ node_place self.now.size self.now.passes node }
         requires stock { stock.now ≡ (pass_in seat.old.me).stock }
         ensures table { seat.new.table_id ≡ seat.old.table_id }
         ensures file { (file : Closed) → HasPlace node (Some file) seat.old.me → result.0 ≡ file }
@@ -94,10 +98,10 @@ impl LastingTable {
         let Some(file) = shared.exchange(seat, node as usize, None) else {
             unreachable!()
         };
-        if self.park(seat, node, stock, entry) {
+        if self.park(seat, node, place, stock, entry) {
             return (file, true);
         }
-        shared.store::<Resting>(seat, node_place(self.size, self.passes, node), 0);
+        shared.store::<Resting>(seat, place, 0);
         (file, false)
     }
 
@@ -108,6 +112,7 @@ impl LastingTable {
         &self,
         seat: &mut Seat<Option<OpenFile>, View>,
         node: u32,
+        place: usize,
         stock: &[u32],
         entry: u32,
     ) -> bool
@@ -115,6 +120,7 @@ impl LastingTable {
         requires at { (number : ℕ) × IsAtWork self.now.table.shared.key number seat.old.me }
         requires emptying { seat.old.me.0.work ≡ Emptying node }
         requires place { seat.old.me.1 ≡ (node, None) ∷ [] }
+        requires word { place ≡ node_place self.now.size self.now.passes node }
         requires stock { stock.now ≡ (pass_in seat.old.me).stock }
         ensures table { seat.new.table_id ≡ seat.old.table_id }
         ensures parked { Parked node stock.now entry seat.old.me result seat.new.me }
@@ -126,7 +132,6 @@ impl LastingTable {
         if stock[at] != node {
             return false;
         }
-        let place = node_place(self.size, self.passes, node);
         may_carry(self.table.shared.load::<Parking>(seat, place))
     }
 
@@ -142,7 +147,7 @@ impl LastingTable {
     {
         if pass.keeps {
             let node = pass.stock[pass.next_entry as usize];
-            let place = node_place(self.size, self.passes, node);
+            let place = self.node_place(node);
             self.table
                 .shared
                 .store::<Settling>(&mut pass.seat, place, 0);

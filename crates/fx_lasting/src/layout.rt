@@ -119,7 +119,7 @@ fn slot_lines(n: u32) -> u32
 
 // Returns the number of words that the first `n` nodes take.
 #[inline(always)]
-fn node_words(n: u32) -> u32
+pub(crate) fn node_words(n: u32) -> u32
     requires { n ≤ MOST_NODES }
     ensures { result ≡ node_words n }
 {
@@ -145,6 +145,15 @@ pub(crate) fn hold_place(size: u32, pass: u32) -> usize
     ensures { result ≡ hold_place size pass }
 {
     (526 + 8 * slot_lines(size) + 8 * pass) as usize
+}
+
+// Returns the place of the first node's word.
+pub(crate) fn first_node(size: u32, passes: u32) -> u32
+    requires size { size ≤ MOST_SLOTS }
+    requires passes { passes ≤ MOST_PASSES }
+    ensures { result ≡ node_place size passes 0 }
+{
+    534 + 8 * slot_lines(size) + 8 * passes
 }
 
 // Returns the place of a node's word.

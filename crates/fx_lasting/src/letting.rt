@@ -7,7 +7,7 @@ ghost use Rattle.fx_lasting.specs.Laws.{HasToLetGo};
 ghost use Rattle.fx_lasting.specs.declared.view.Work.TheVariants.{Announced, Guarded, Owing, Counted};
 
 use crate::kinds::{Letting, SteppingDown, Withdrawing};
-use crate::layout::{hold_place, node_place};
+use crate::layout::hold_place;
 use crate::parts::announced;
 use crate::table::LastingTable;
 use crate::view::View;
@@ -34,7 +34,7 @@ impl LastingTable {
             → LetsFileGo seat.old.me f 2 result seat.new.me }
         ensures places { seat.new.me.1 ≡ [] }
     {
-        let place = node_place(self.size, self.passes, node);
+        let place = self.node_place(node);
         let found = self.table.shared.fetch_sub::<Letting>(seat, place, 1);
         if found != 2 {
             return None;

@@ -5,13 +5,13 @@ ghost use Rattle.fx_base.specs.declared.open_file.Closed.{Closed};
 ghost use Rattle.fx_lasting.specs.AtWork.{IsAtWork, HasPlace};
 ghost use Rattle.fx_lasting.specs.Ends.{Does};
 ghost use Rattle.fx_lasting.specs.Labels.{label_of, as_written};
+ghost use Rattle.fx_lasting.specs.Layout.{node_place};
 ghost use Rattle.fx_lasting.specs.Effects.{rested};
 ghost use Rattle.fx_lasting.specs.declared.view.Work.TheVariants.{Placing};
 ghost use Rattle.fx_lasting.specs.declared.view.Written.TheVariants.{Nothing};
 
-use crate::kinds::Resting;
+use crate::kinds::{Numbering, Resting, Tagging};
 use crate::labels::number_of_mark;
-use crate::layout::node_place;
 use crate::table::LastingTable;
 use crate::view::View;
 use atomic_table::Seat;
@@ -19,20 +19,29 @@ use fx_base::OpenFile;
 
 impl LastingTable {
     // Stores the file's label, and puts the file into the place of the node, which is with the
-    // pass, in two steps.
-    pub(crate) fn put_in(&self, seat: &mut Seat<Option<OpenFile>, View>, node: u32, file: OpenFile)
+    // pass, in two steps. The node's words begin at `place`.
+    pub(crate) fn put_in(
+        &self,
+        seat: &mut Seat<Option<OpenFile>, View>,
+        node: u32,
+        place: usize,
+        file: OpenFile,
+    )
         requires table { seat.old.table_id ≡ self.now.table.shared.table_id }
         requires at { (number : ℕ) × IsAtWork self.now.table.shared.key number seat.old.me }
         requires placing { (lost : ℕ) × (seat.old.me.0.work ≡ Placing node
             (as_written lost Nothing)) }
         requires place { seat.old.me.1 ≡ (node, None) ∷ [] }
+        requires word { place ≡ node_place self.now.size self.now.passes node }
         ensures table { seat.new.table_id ≡ seat.old.table_id }
         ensures stored { (lost : ℕ) → seat.old.me.0.work ≡ Placing node (as_written lost Nothing)
             → Does seat.old.me [] (Placing node (as_written lost (label_of file))) 2 seat.new.me }
         ensures place { seat.new.me.1 ≡ (node, Some file) ∷ [] }
     {
         let shared = &self.table.shared;
-        self.store_label(seat, node, file.tag(), number_of_mark(file.mark()));
+        let number = number_of_mark(file.mark());
+        shared.store::<Tagging>(seat, place + 1, file.tag());
+        shared.store::<Numbering>(seat, place + 2, number);
         let before = shared.exchange(seat, node as usize, Some(file));
         let None = before else { unreachable!() };
     }
@@ -52,7 +61,7 @@ impl LastingTable {
         let Some(file) = shared.exchange(seat, node as usize, None) else {
             unreachable!()
         };
-        shared.store::<Resting>(seat, node_place(self.size, self.passes, node), 0);
+        shared.store::<Resting>(seat, self.node_place(node), 0);
         file
     }
 }

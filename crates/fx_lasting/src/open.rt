@@ -17,8 +17,8 @@ ghost use Rattle.fx_lasting.specs.declared.layout.TheConstants.{MOST_SLOTS, MOST
 use crate::kinds::Deal;
 use crate::labels::number_of_mark;
 use crate::layout::{
-    MOST_INSTALLING, MOST_PASSES, MOST_SLOTS, group_len, group_place, group_size, groups_in,
-    node_place, nodes_for, number_place, slot_place, stock_start, tag_place, words_for,
+    MOST_INSTALLING, MOST_PASSES, MOST_SLOTS, first_node, group_len, group_place, group_size,
+    groups_in, node_place, nodes_for, number_place, slot_place, stock_start, tag_place, words_for,
 };
 use crate::parts::{BORN, empty_word, file_word};
 use crate::pass::LastingPass;
@@ -159,6 +159,7 @@ impl LastingTable {
             size,
             range_start,
             range_len,
+            first_node: first_node(size, passes),
         };
         Ok((table, seat))
     }
@@ -209,6 +210,7 @@ impl LastingTable {
                         size,
                         range_start,
                         range_len,
+                        first_node: first_node(size, passes),
                     },
                     seat,
                 ))

@@ -11,7 +11,6 @@ ghost use Rattle.fx_lasting.specs.Effects.{pass_in};
 ghost use Rattle.fx_lasting.specs.declared.view.Work.TheVariants.{Searching};
 
 use crate::kinds::Seeking;
-use crate::layout::node_place;
 use crate::table::LastingTable;
 use crate::view::View;
 use atomic_table::Seat;
@@ -44,7 +43,7 @@ impl LastingTable {
         let mut entry = start;
         for _ in 0..len {
             let node = stock[entry as usize];
-            let place = node_place(self.size, self.passes, node);
+            let place = self.node_place(node);
             let word = self.table.shared.load::<Seeking>(seat, place);
             if word == 0 {
                 return (entry, node);

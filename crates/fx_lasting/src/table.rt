@@ -1,10 +1,11 @@
 //! The table.
-ghost use Rattle.std.specs.Prelude.{◌≡◌, ◌≤◌, ◌+◌};
-ghost use Rattle.fx_lasting.specs.declared.layout.TheConstants.{MOST_SLOTS, MOST_PASSES, MOST_INSTALLING};
-ghost use Rattle.fx_lasting.specs.Layout.{words_for};
+ghost use Rattle.std.specs.Prelude.{◌≡◌, ◌≤◌, ◌<◌, ◌+◌};
+ghost use Rattle.fx_lasting.specs.declared.layout.TheConstants.{MOST_SLOTS, MOST_PASSES, MOST_INSTALLING, MOST_NODES};
+ghost use Rattle.fx_lasting.specs.Layout.{words_for, node_place, tag_place, number_place};
 ghost use Rattle.fx_lasting.specs.Passes.{slots_of, range_at_start, nodes_of};
 
 use crate::kinds::OneHistory;
+use crate::layout::node_words;
 use crate::view::{Start, View};
 use atomic_table::Table;
 use fx_base::OpenFile;
@@ -23,6 +24,8 @@ pub struct LastingTable {
     pub(crate) size: u32,
     pub(crate) range_start: u32,
     pub(crate) range_len: u32,
+    // The place of the first node's word.
+    pub(crate) first_node: u32,
     pub ghost words: { table.shared.table_id.words
         ≡ words_for size passes (nodes_of table.shared.key) },
     pub ghost homes: { table.shared.table_id.slots ≡ nodes_of table.shared.key },
@@ -30,8 +33,40 @@ pub struct LastingTable {
         × (installing ≡ table.shared.key.installing) },
     pub ghost same_size: { size ≡ slots_of table.shared.key },
     pub ghost same_range: { (range_start, range_len) ≡ range_at_start table.shared.key },
+    pub ghost places: { first_node ≡ node_place size passes 0 },
     pub ghost few_slots: { size ≤ MOST_SLOTS },
     pub ghost range_inside: { range_start + range_len ≤ size },
     pub ghost bounds: { (1 ≤ passes) × (passes ≤ MOST_PASSES) × (1 ≤ installing)
         × (installing ≤ MOST_INSTALLING) × (installing ≤ passes) },
+}
+
+// These find a place by the first node's: after an atomic step, which may change any word, it is
+// loaded again, and the rest of the sum would be added up again.
+impl LastingTable {
+    // Returns the place of a node's word.
+    #[inline(always)]
+    pub(crate) fn node_place(&self, node: u32) -> usize
+        requires { node < MOST_NODES }
+        ensures { result ≡ node_place self.now.size self.now.passes node }
+    {
+        (self.first_node + node_words(node)) as usize
+    }
+
+    // Returns the place of the tag of a node's file.
+    #[inline(always)]
+    pub(crate) fn tag_place(&self, node: u32) -> usize
+        requires { node < MOST_NODES }
+        ensures { result ≡ tag_place self.now.size self.now.passes node }
+    {
+        self.node_place(node) + 1
+    }
+
+    // Returns the place of the number of a node's file.
+    #[inline(always)]
+    pub(crate) fn number_place(&self, node: u32) -> usize
+        requires { node < MOST_NODES }
+        ensures { result ≡ number_place self.now.size self.now.passes node }
+    {
+        self.node_place(node) + 2
+    }
 }

@@ -22,7 +22,7 @@ use fx_base::OpenFile;
 impl LastingTable {
     // Marks the announcements of the node by other passes, from `first` on, in at most two steps
     // for each, and one for each 64 passes. Returns the number of marks.
-    #[inline(never)]
+    #[inline(always)]
     pub(crate) fn mark_all(
         &self,
         seat: &mut Seat<Option<OpenFile>, View>,
@@ -53,6 +53,7 @@ impl LastingTable {
 
     // Visits the listed ones of the 64 passes from `first` on, in at most two steps for each, and
     // one. Returns the number of marks that it made.
+    #[inline(never)]
     fn mark_listed(
         &self,
         seat: &mut Seat<Option<OpenFile>, View>,

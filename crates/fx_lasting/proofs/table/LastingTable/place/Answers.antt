@@ -22,9 +22,9 @@ module _ (c : Then-keeps) where
   works : c.args.seat.now.me.0.work ≡ Keeping node kept.1
   works = kept.2 ∙ ap (λ (n : ℕ). Keeping n kept.1) (sym same)
 
-pub node_place-place-requires-clause-node : goal.node_place-place-requires-clause-node
-node_place-place-requires-clause-node c =
-    let a = (goal.at.node_place-place-requires-clause-node c).Then-keeps in
+pub node_place-place-requires : goal.node_place-place-requires
+node_place-place-requires c =
+    let a = (goal.at.node_place-place-requires c).Then-keeps in
     omega (arith, its_inside c.requires.at (works a), few_nodes c.args.self.now)
 
 pub load-word-requires : goal.load-word-requires
@@ -86,8 +86,8 @@ store-requires c =
     let found = c.seek-entry.ensures.found in
     let at = still_at_work c.requires.at found in (
       c.seek-entry.ensures.table ∙ c.requires.table,
-      node_inside t (its_inside at found.work) c.node_place.ensures,
-      births_keep _ _ _ _ n c.seek-entry.new.seat.me _ at.pass found.work (node_word t n c.node_place.ensures),
+      node_inside t (its_inside at found.work) c.node_place-place-2.ensures,
+      births_keep _ _ _ _ n c.seek-entry.new.seat.me _ at.pass found.work (node_word t n c.node_place-place-2.ensures),
     )
 
 pub returns-clause-placed : goal.returns-clause-placed

@@ -79,6 +79,7 @@ take_out_or_keep-freed-requires c =
       at = (c.args.pass.now.number, still_at_work (at a) (runs_one went.stepped));
       emptying = went.stepped.work;
       place = ((file a).identity, place a refl went);
+      word = c.node_place-place.ensures;
       stock = c.as_slice-stock.ensures.value ∙ (c.requires.fits.seated.stock ∙ sym (went.stepped.stock ∙ (visited a).stock));
     }
 

@@ -16,8 +16,8 @@ module _ (t : LastingTable) (p : ℕ) (m : Sat) (stock : List ℕ) (at : IsAtWor
   inside : get_or stock entry 0 < nodes_of t.table.shared.key
   inside = stock_inside t.table.shared.key p entry (get_or stock entry 0) m at (ap (λ (l : List ℕ). get_elem? l entry) (sym its) ∙ there)
 
-pub node_place-place-requires-clause-node : goal.node_place-place-requires-clause-node
-node_place-place-requires-clause-node c = let r = c.requires in
+pub node_place-place-requires : goal.node_place-place-requires
+node_place-place-requires c = let r = c.requires in
     omega (
       arith,
       inside c.args.self.now c.args.number c.args.seat.now.me c.args.stock.now r.at r.installs r.stock c.loop.entry c.loop.invariant.sought.inside,

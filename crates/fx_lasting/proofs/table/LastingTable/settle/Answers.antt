@@ -21,9 +21,9 @@ pub index-node-requires : goal.index-node-requires
 index-node-requires c = let p = c.args.pass.now in let kept = its_kept c.requires.fits c.if-pass.true in
     omega (arith, (stands_at p.stock.items p.next_entry kept.0 kept.4).0)
 
-pub node_place-place-requires-clause-node : goal.node_place-place-requires-clause-node
-node_place-place-requires-clause-node c =
-    let a = (goal.at.node_place-place-requires-clause-node c).After-index-node in
+pub node_place-place-requires : goal.node_place-place-requires
+node_place-place-requires c =
+    let a = (goal.at.node_place-place-requires c).After-index-node in
     omega (arith, inside a, few_nodes c.args.self.now)
 
 pub store-requires : goal.store-requires

@@ -36,9 +36,9 @@ store-requires c =
     let still = still a c.if-park.false in
     let there = still_at_work (at a c.if-park.false) still.0 in (
       c.park.ensures.table ∙ (c.exchange.ensures.0 ∙ c.requires.table),
-      node_inside t (its_inside there still.0.work) c.node_place.ensures,
+      node_inside t (its_inside there still.0.work) c.requires.word,
       rests_keep _ _ _ _ c.args.node c.park.new.seat.me _ there.pass (inl still.0.work) (still.1 ∙ place a c.if-park.false)
-          (node_word t c.args.node c.node_place.ensures),
+          (node_word t c.args.node c.requires.word),
     )
 
 pub returns-clause-out : goal.returns-clause-out
