@@ -9,7 +9,7 @@ use Rattle.fx_lasting.proofs.Words.{ok_or, is_err, is_some, not, ◌==◌, ◌�
 use Rattle.fx_lasting.proofs.Words.{Placed, Cleared, Taken, ReleasesFile, LookedAfter, LookedUp, adds_then, adds_nothing, Owing, Yielding, Placing}
 use Rattle.fx_lasting.proofs.Words.{Emptying, HoldsOn, new_round, LooksByTake, LetsMarkGo, Announced, first_visit, heat_in, cond, inl, inr, Opening}
 use Rattle.fx_lasting.proofs.Words.{PassView, IsIdle, IsFileRemoval, Doing, DoesNothing, Holding, Hold, Retired, dite, dec_le, lt-ltb, IsIdleSeatOf}
-use Rattle.fx_lasting.proofs.Words.{HasNoFile, Searching, is_in, account, uncounted, group_of}
+use Rattle.fx_lasting.proofs.Words.{HasNoFile, Searching, is_in, account, uncounted, group_of, Allocate, Full, Allocated}
 use Rattle.fx_table.specs.declared.values.Doing.TheVariants.{Retiring as Retires}
 use Rattle.fx_table.specs.declared.values.Empty.{Empty}
 use Rattle.fx_table.specs.declared.values.LookFault.{LookFault}
@@ -444,3 +444,13 @@ nothing_yet {k = k} {p = p} fits idle = subst (λ (d : Doing). Adds (opening_of 
 pub new_file_so : (k : Start) {v u : PassView} {file back : Closed} {new : File} → IsNewFile (opening_of k) v back new → back ≡ file
     → IsNewFile (opening_of k) u file new
 new_file_so k its same = record { identity = its.identity ∙ same; same = λ e. absurd (cc e) }
+
+-- a pass that found nothing tries again
+pub allocated_again : (k : Start) {v u : PassView} (w : PassView) {file back : Closed} (found : Result ℕ Closed) → back ≡ file
+    → Adds (opening_of k) v [] DoesNothing no_use u → Allocated (opening_of k) u back found w → Allocated (opening_of k) v file found w
+allocated_again k {v} {u} w (Ok slot) same before found = (
+  found.0,
+  (found.1.0, new_file_so k found.1.1 same, adds_then (opening_of k) v u w [] ([] ▷ Allocate slot found.1.0) DoesNothing DoesNothing no_use one_number before found.1.2),
+)
+allocated_again k {v} {u} w (Err left) same before found =
+    (found.0 ∙ same, adds_then (opening_of k) v u w [] ([] ▷ Full) DoesNothing DoesNothing no_use no_use before found.1)

@@ -3,7 +3,7 @@ use Rattle.fx_lasting.proofs.Words.{◌≡◌, ℕ, ◌+◌, ◌*◌, ◌<◌, �
 use Rattle.fx_lasting.proofs.Words.{Allocate, Sat, Work, Glance, Change, Placing, Idle, Outside, Inside, Runs, Goes, Exchanges, slot_of, Stepped}
 use Rattle.fx_lasting.proofs.Words.{LastingTable, IsInRange, List, Action, Start, group_of, range_at_start, node_of_number, ◌▷▷◌, ◌-◌, IsAtWork}
 use Rattle.fx_lasting.proofs.Words.{IsInStock, NamesANode, as_swapped, pass_in, name_in, nodes_of, get_elem?, some, label_of, as_written}
-use Rattle.fx_lasting.proofs.Words.{most_carried, IsPlacing, HasAllocated, StillPlaces, group_steps}
+use Rattle.fx_lasting.proofs.Words.{Option, None, IfSome, most_carried, IsPlacing, HasAllocated, StillPlaces, group_steps}
 use Rattle.fx_lasting.proofs.Groups.{by_size}
 use Rattle.fx_lasting.proofs.Running.{runs_one, runs_goes, runs_within, turns_then, does_then, swapped_then, at_swapped, still_at_work}
 
@@ -102,6 +102,11 @@ still_within file few one = (runs_within few one.0, one.1)
 pub allocated_within : (m m' : Sat) (n slot named : ℕ) (file : Closed) {a b : ℕ} → a ≤ b → HasAllocated n file slot named a m m'
     → HasAllocated n file slot named b m m'
 allocated_within m m' n slot named file few one = (one.0, one.1, λ e at. let z = one.2 e at in (z.0, z.1, runs_within few z.2))
+
+pub found_then : {m m' : Sat} (m'' : Sat) {n lost : ℕ} (b : ℕ) (file : Closed) (found : Option (ℕ × ℕ)) → StillPlaces n lost file 3 m m'
+    → IfSome found (λ (slot, named). HasAllocated n file slot named b m' m'') → IfSome found (λ (slot, named). HasAllocated n file slot named (b + 3) m m'')
+found_then {m} m'' {n} b file (Some (slot, named)) one two = allocated_within m m'' n slot named file (omega arith) (allocated_then named one two)
+found_then m'' b file None one two = tt
 
 pub still_placing : {m m' : Sat} {n lost a : ℕ} {file : Closed} → IsPlacing n lost file m → StillPlaces n lost file a m m' → IsPlacing n lost file m'
 still_placing {n = n} p s = record { work = s.0.work; few_lost = p.few_lost; place = s.1 ∙ p.place; stocked = subst (λ (l : List ℕ). IsInStock l n) (sym s.0.stock) p.stocked }

@@ -84,7 +84,7 @@ pub use Rattle.fx_table.proofs.SumLemmas.{sum_only, contains_tail, contains_none
 pub use Rattle.fx_table.proofs.SumLemmas.{sum_map, contains_alone, each_all, read_at}
 pub use Rattle.fx_words.specs.Words.{name_in, entry_in, last_node}
 pub use Rattle.std.proofs.Common.{IsTrue, ◌↔◌, bit_or, eq-eqb, ne_eqb, length-append, true, map, get_or, IsSome, ◌*◌, get_or-set_other}
-pub use Rattle.std.proofs.Common.{get_or-set_same, ◌/◌, lt-ltb, le-ltb, Option, Some, None, slice_index, ◌+◌, ◌-◌, ◌%◌, ◌^◌, false, eqb, inl, ◌++◌}
+pub use Rattle.std.proofs.Common.{get_or-set_same, ◌/◌, lt-ltb, le-ltb, Option, Some, None, IfSome, slice_index, ◌+◌, ◌-◌, ◌%◌, ◌^◌, false, eqb, inl, ◌++◌}
 pub use Rattle.std.proofs.Common.{◌⊎◌, inr, ⊎_elim, length-set, ◌≡◌, ◌≢◌, ℕ, zero, suc, ◌<◌, ◌≤◌, Bool, cond, nat_lt, List, [], ◌∷◌, length, set, sym}
 pub use Rattle.std.proofs.Common.{refl, ap, ◌∙◌, subst, arith, rules, All, take, drop, reverse, vec_capacity, nat_eq, suc-mul, add-one, append_assoc}
 pub use Rattle.std.proofs.Math.Nat.{mul-le-mul_right, mod-eq_of_lt, le-mul_of_pos_right}
@@ -105,7 +105,7 @@ pub use mathlib.Core.Option.{some, none, some-injective, some-ne-none}
 pub use native.Mathlib.Decide.{ℕ_discrete, dec_le}
 pub use Rattle.std.proofs.lemmas.List.Elements.{filter-append, All-contains, Contains-append_left, All-set, AllWithin-more_set}
 pub use Rattle.fx_table.proofs.Calls.{seen_further, adds_then, adds_nothing, seen_from_start, learned_so}
-pub use Rattle.fx_table.specs.Calls.{Adds, LookedUp, ReleasesFile, Released, Use, no_use, one_number, one_look, IsNewFile, Placed, Cleared, Taken}
+pub use Rattle.fx_table.specs.Calls.{Adds, LookedUp, ReleasesFile, Released, Use, no_use, one_number, one_look, IsNewFile, Placed, Allocated, Cleared, Taken}
 pub use Rattle.fx_table.specs.Calls.{LookedAfter}
 pub use Rattle.fx_table.specs.Opening.{Opening, HasSameFiles}
 pub use Rattle.fx_table.specs.Pass.{PassView, IsFront, IsIdle, IsFileRemoval, event_of, new_pass, new_passes}

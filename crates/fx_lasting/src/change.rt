@@ -26,7 +26,7 @@ impl LastingTable {
     pub(crate) fn is_in_range(&self, slot: u32) -> bool
         ensures { result ≡ is_in (range_at_start self.now.table.shared.key) slot }
     {
-        self.range_start <= slot && slot < self.range_start + self.range_len
+        self.range_start <= slot && slot - self.range_start < self.range_len
     }
 
     // Returns the group of a slot of the allocation range.
@@ -36,16 +36,7 @@ impl LastingTable {
         ensures group { result ≡ group_of (range_at_start self.now.table.shared.key) slot }
         ensures few { result < groups_in self.now.range_len }
     {
-        let index = slot - self.range_start;
-        if self.range_len > 65_536 {
-            index / 16_384
-        } else if self.range_len > 4096 {
-            index / 1024
-        } else if self.range_len > 256 {
-            index / 64
-        } else {
-            index / 4
-        }
+        (slot - self.range_start) >> self.group_bits
     }
 
     // Takes a slot that is about to be emptied off its group's count, if it is in the range, and

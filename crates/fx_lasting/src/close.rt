@@ -98,6 +98,7 @@ impl LastingTable {
             range_start: _,
             range_len: _,
             first_node: _,
+            group_bits: _,
         } = self;
         let count = table.slot_count();
         let mut closed = table.close_with(seat);
@@ -128,6 +129,7 @@ impl LastingTable {
             range_start: _,
             range_len: _,
             first_node: _,
+            group_bits: _,
         } = self;
         let count = table.slot_count();
         let mut closed = table.close();

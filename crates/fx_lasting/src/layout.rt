@@ -7,7 +7,7 @@
 //! line. The table's memory begins with the third word of a line. The malloc of glibc returns a
 //! large block 16 bytes after the beginning of a page, so that a line is a cache line there. It
 //! aligns a small block to 16 bytes alone, and then the words of a node may be in two cache lines.
-ghost use Rattle.std.specs.Prelude.{◌≡◌, ◌<◌, ◌≤◌};
+ghost use Rattle.std.specs.Prelude.{◌≡◌, ◌<◌, ◌≤◌, ◌^◌};
 ghost use Rattle.fx_lasting.specs.Layout.{question_place, group_place, group_size, groups_in, group_len, list_place, slot_place, hold_place, node_place, tag_place, number_place, words_for, slot_words, slot_lines, node_words, stock_start, nodes_for};
 
 /// The greatest number of slots of a table.
@@ -43,6 +43,22 @@ pub(crate) fn group_size(len: u32) -> u32
         64
     } else {
         4
+    }
+}
+
+// Returns the exponent of the size of a group, of which it is the power of 2.
+pub(crate) fn group_bits(len: u32) -> u32
+    ensures size { group_size len ≡ 2 ^ result }
+    ensures few { result < 32 }
+{
+    if len > 65_536 {
+        14
+    } else if len > 4096 {
+        10
+    } else if len > 256 {
+        6
+    } else {
+        2
     }
 }
 

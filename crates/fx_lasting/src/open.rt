@@ -17,8 +17,9 @@ ghost use Rattle.fx_lasting.specs.declared.layout.TheConstants.{MOST_SLOTS, MOST
 use crate::kinds::Deal;
 use crate::labels::number_of_mark;
 use crate::layout::{
-    MOST_INSTALLING, MOST_PASSES, MOST_SLOTS, first_node, group_len, group_place, group_size,
-    groups_in, node_place, nodes_for, number_place, slot_place, stock_start, tag_place, words_for,
+    MOST_INSTALLING, MOST_PASSES, MOST_SLOTS, first_node, group_bits, group_len, group_place,
+    group_size, groups_in, node_place, nodes_for, number_place, slot_place, stock_start, tag_place,
+    words_for,
 };
 use crate::parts::{BORN, empty_word, file_word};
 use crate::pass::LastingPass;
@@ -160,6 +161,7 @@ impl LastingTable {
             range_start,
             range_len,
             first_node: first_node(size, passes),
+            group_bits: group_bits(range_len),
         };
         Ok((table, seat))
     }
@@ -211,6 +213,7 @@ impl LastingTable {
                         range_start,
                         range_len,
                         first_node: first_node(size, passes),
+                        group_bits: group_bits(range_len),
                     },
                     seat,
                 ))

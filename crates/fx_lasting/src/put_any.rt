@@ -13,7 +13,7 @@ ghost use Rattle.fx_lasting.specs.declared.view.Change.TheVariants.{Outside};
 
 use crate::kinds::{Exchanging, Peeking};
 use crate::layout::{group_len, group_place, group_size, groups_in, slot_place};
-use crate::parts::{file_node_of, file_word, node_named};
+use crate::parts::{file_word, is_full, node_named};
 use crate::pass::LastingPass;
 use crate::table::LastingTable;
 use crate::tried::TriedPut;
@@ -49,14 +49,36 @@ impl LastingTable {
         ensures allocated { Allocated (opening_of_table self.now) (view_of pass.old) file result
             (view_of pass.new) }
     {
+        match self.try_put_any(pass, file) {
+            TriedPut::At(slot) => Ok(slot),
+            TriedPut::Full(back) => Err(back),
+            TriedPut::Again(back) => self.put_any_again(rt, pass, back),
+        }
+    }
+
+    // Installs the file as `put_any` does, after a try that found no empty slot.
+    #[inline(never)]
+    fn put_any_again<R: Wait>(
+        &self,
+        rt: &R,
+        pass: &mut LastingPass,
+        file: OpenFile,
+    ) -> Result<u32, OpenFile>
+        requires fits { IsPassOfTable self.now pass.old }
+        requires idle { IsIdle (view_of pass.old) }
+        requires numbers { 0 < (view_of pass.old).numbers_left }
+        ensures fits { IsPassOfTable self.now pass.new }
+        ensures allocated { Allocated (opening_of_table self.now) (view_of pass.old) file result
+            (view_of pass.new) }
+    {
         let mut left = file;
         for _ in rt.forever() {
+            thread::yield_now();
             match self.try_put_any(pass, left) {
                 TriedPut::At(slot) => return Ok(slot),
                 TriedPut::Full(back) => return Err(back),
                 TriedPut::Again(back) => left = back,
             }
-            thread::yield_now();
         }
         unreachable!()
     }
@@ -68,6 +90,7 @@ impl LastingTable {
     /// else the one after the slot that it filled last, and then goes once over the groups that
     /// aren't full. Returns the slot, or the file if every slot of the range had a file at one
     /// moment (ENFILE), or if neither was found; then nothing has changed.
+    #[inline(always)]
     pub fn try_put_any(&self, pass: &mut LastingPass, file: OpenFile) -> TriedPut
         requires fits { IsPassOfTable self.now pass.old }
         requires idle { IsIdle (view_of pass.old) }
@@ -154,6 +177,7 @@ impl LastingTable {
     // Installs the file at a slot of the range that is empty when the scan reaches it. Returns that
     // slot, and the node that it named while it was empty. The scan begins at `from`, if that is in
     // the range, and goes once over the groups that aren't full, by the step of its pass.
+    #[inline(always)]
     fn scan(
         &self,
         seat: &mut Seat<Option<OpenFile>, View>,
@@ -182,9 +206,37 @@ impl LastingTable {
         if let Some(named) = self.try_slot(seat, node, lost, file, first) {
             return Some((first, named));
         }
+        self.scan_groups(seat, number, node, lost, file, self.group_of(first))
+    }
+
+    // Does so from a group on, after a try at the slot where the scan begins.
+    #[inline(never)]
+    fn scan_groups(
+        &self,
+        seat: &mut Seat<Option<OpenFile>, View>,
+        number: u32,
+        node: u32,
+        lost: u64,
+        file: Closed,
+        first: u32,
+    ) -> Option<(u32, u32)>
+        requires table { seat.old.table_id ≡ self.now.table.shared.table_id }
+        requires at { IsAtWork self.now.table.shared.key number seat.old.me }
+        requires placing { IsPlacing node lost file seat.old.me }
+        requires change { seat.old.me.0.change ≡ Outside }
+        requires group { first < groups_in self.now.range_len }
+        ensures table { seat.new.table_id ≡ seat.old.table_id }
+        ensures slot { IfSome result (λ (slot, _). slot < self.now.size) }
+        ensures found { let len = self.now.range_len in IfSome result (λ (slot, named).
+            HasAllocated node file slot named (groups_in len * group_steps len) seat.old.me
+            seat.new.me) }
+        ensures none { let len = self.now.range_len in result ≡ None
+            → StillPlaces node lost file (groups_in len * group_steps len) seat.old.me
+            seat.new.me }
+    {
         let groups = groups_in(self.range_len);
         let step = step_of(number, groups);
-        let mut group = self.group_of(first);
+        let mut group = first;
         for _ in 0..groups {
             match self.try_group(seat, node, lost, file, group) {
                 Some(found) => return Some(found),
@@ -238,7 +290,7 @@ impl LastingTable {
         requires number { number ≤ MOST_PASSES }
         ensures { IsInRange self.now.table.shared.key result }
     {
-        if self.range_start <= from && from < self.range_start + self.range_len {
+        if self.range_start <= from && from - self.range_start < self.range_len {
             from
         } else {
             let groups = groups_in(self.range_len);
@@ -268,7 +320,7 @@ impl LastingTable {
         let shared = &self.table.shared;
         let place = slot_place(slot);
         let old = shared.load::<Peeking>(seat, place);
-        if file_node_of(old).is_some() {
+        if is_full(old) {
             return None;
         }
         let new = file_word(node, file.entry) + lost;

@@ -1,7 +1,7 @@
 //! The table.
-ghost use Rattle.std.specs.Prelude.{◌≡◌, ◌≤◌, ◌<◌, ◌+◌};
+ghost use Rattle.std.specs.Prelude.{◌≡◌, ◌≤◌, ◌<◌, ◌+◌, ◌^◌};
 ghost use Rattle.fx_lasting.specs.declared.layout.TheConstants.{MOST_SLOTS, MOST_PASSES, MOST_INSTALLING, MOST_NODES};
-ghost use Rattle.fx_lasting.specs.Layout.{words_for, node_place, tag_place, number_place};
+ghost use Rattle.fx_lasting.specs.Layout.{words_for, group_size, node_place, tag_place, number_place};
 ghost use Rattle.fx_lasting.specs.Passes.{slots_of, range_at_start, nodes_of};
 
 use crate::kinds::OneHistory;
@@ -26,6 +26,8 @@ pub struct LastingTable {
     pub(crate) range_len: u32,
     // The place of the first node's word.
     pub(crate) first_node: u32,
+    // The exponent of the size of a group, which is a power of 2.
+    pub(crate) group_bits: u32,
     pub ghost words: { table.shared.table_id.words
         ≡ words_for size passes (nodes_of table.shared.key) },
     pub ghost homes: { table.shared.table_id.slots ≡ nodes_of table.shared.key },
@@ -34,6 +36,7 @@ pub struct LastingTable {
     pub ghost same_size: { size ≡ slots_of table.shared.key },
     pub ghost same_range: { (range_start, range_len) ≡ range_at_start table.shared.key },
     pub ghost places: { first_node ≡ node_place size passes 0 },
+    pub ghost groups: { (group_size range_len ≡ 2 ^ group_bits) × (group_bits < 32) },
     pub ghost few_slots: { size ≤ MOST_SLOTS },
     pub ghost range_inside: { range_start + range_len ≤ size },
     pub ghost bounds: { (1 ≤ passes) × (passes ≤ MOST_PASSES) × (1 ≤ installing)

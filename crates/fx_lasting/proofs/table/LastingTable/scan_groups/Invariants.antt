@@ -1,5 +1,5 @@
 use Rattle.fx_lasting.proofs.Words.{◌≡◌, ℕ, ◌*◌, ◌<◌, ◌≤◌, groups_in, StillPlaces, group_steps}
-use Rattle.fx_lasting.proofs.table.LastingTable.scan.Given as goal
+use Rattle.fx_lasting.proofs.table.LastingTable.scan_groups.Given as goal
 
 abbrev pub invariant-loop : goal.invariant-loop
 invariant-loop l = record {

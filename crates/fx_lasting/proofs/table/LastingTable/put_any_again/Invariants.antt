@@ -1,5 +1,5 @@
 use Rattle.fx_lasting.proofs.Words.{◌≡◌, [], IsPassOfTable, view_of, opening_of_table, Adds, no_use, DoesNothing}
-use Rattle.fx_lasting.proofs.table.LastingTable.put_any.Given as goal
+use Rattle.fx_lasting.proofs.table.LastingTable.put_any_again.Given as goal
 
 -- the pass has done nothing yet, and has the file
 abbrev pub invariant-loop : goal.invariant-loop
