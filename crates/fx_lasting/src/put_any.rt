@@ -57,7 +57,7 @@ impl LastingTable {
     }
 
     // Installs the file as `put_any` does, after a try that found no empty slot.
-    #[inline(never)]
+    #[inline(always)]
     fn put_any_again<R: Wait>(
         &self,
         rt: &R,
@@ -210,7 +210,7 @@ impl LastingTable {
     }
 
     // Does so from a group on, after a try at the slot where the scan begins.
-    #[inline(never)]
+    #[inline(always)]
     fn scan_groups(
         &self,
         seat: &mut Seat<Option<OpenFile>, View>,
