@@ -99,9 +99,6 @@ rises_append {m} (x ∷ xs) ys left right below above =
       rises_append xs ys left.1 right (All-tail (λ c. place_key c < m) x xs below) above,
     )
 
-abbrev pub IsShort : List Asked → Type 0
-IsShort run = length run ≤ MOST_MEMBERS
-
 -- the chains that a worker drew are of the submission
 pub drawn_inside : {catalogue : List FileEntry} {size submission : ℕ} {runs : List (List Asked)} {w : WorkerState}
     → HasWorked catalogue size submission runs w → {c : ℕ} → Contains w.pass.drawn c → (1 ≤ c) × (c ≤ length runs)
@@ -123,7 +120,7 @@ module _ (catalogue : List FileEntry) (size submission : ℕ) (history : List Ev
     above : All (λ c. chain * 32 + 1 ≤ place_key c) (parts chain runs)
     rises : Rises place_key (parts chain runs)
 
-  in_order : (chain : ℕ) (runs : List (List Asked)) → All IsShort runs
+  in_order : (chain : ℕ) (runs : List (List Asked)) → All IsShortRun runs
       → ((i : ℕ) → i < length runs → IsExplainedPart (chain + i) (slice_index_or runs i [])) → AreInOrder chain runs
   in_order chain [] few explained = record { explains = refl; count = refl; above = All-nil (λ c. chain * 32 + 1 ≤ place_key c); rises = tt }
   in_order chain (run ∷ runs) few explained =
@@ -131,10 +128,10 @@ module _ (catalogue : List FileEntry) (size submission : ℕ) (history : List Ev
       let same : chain + 0 ≡ chain = omega arith in
       let own = subst (λ c. IsExplainedPart c run) same (explained 0 (omega arith)) in
       let are = explained_of_members catalogue size (first_member submission chain) run (map action_of (part_of_chain chain history)) own in
-      let rest = in_order (chain + 1) runs (All-tail IsShort run runs few)
+      let rest = in_order (chain + 1) runs (All-tail IsShortRun run runs few)
       (λ i lt. let on : chain + suc i ≡ chain + 1 + i = omega arith in
       subst (λ c. IsExplainedPart c (slice_index_or runs i [])) on (explained (suc i) (omega arith))) in
-      let short : length run ≤ MOST_MEMBERS = All-head IsShort run runs few in
+      let short : length run ≤ MOST_MEMBERS = (All-head IsShortRun run runs few).members in
       let whole = length-append mine (parts (chain + 1) runs) in
       let sum = sum_by-cons (λ (r : List Asked). length r) run runs in
       record {
@@ -147,7 +144,7 @@ module _ (catalogue : List FileEntry) (size submission : ℕ) (history : List Ev
             (λ k d lt. let high = (are.within k d lt).2 in omega arith) rest.above;
       }
 
-  module _ (runs : List (List Asked)) (few : All IsShort runs) (inside : All (λ c. (1 ≤ c.place.chain) × (c.place.chain ≤ length runs)) all)
+  module _ (runs : List (List Asked)) (few : All IsShortRun runs) (inside : All (λ c. (1 ≤ c.place.chain) × (c.place.chain ≤ length runs)) all)
       (explained : (c : ℕ) → 1 ≤ c → c ≤ length runs → IsExplainedPart c (run_of_chain runs c)) where
     whole : AreInOrder 1 runs
     whole = in_order 1 runs few (λ i lt. let same : 1 + i - 1 ≡ i = omega arith in

@@ -5,7 +5,8 @@ use Rattle.fx_ring.proofs.Words.{PassView, new_pass, new_passes, Event, Complete
 use Rattle.fx_ring.proofs.Words.{HasRoomFor, HasWorked, HasRoom, worker_state, Outcome, Worker, Contains, contains_none, contains_map}
 use Rattle.fx_ring.proofs.Words.{contains_mapped, each_all, PASS_LOOKS, range_with_len, map-id, length-map-range_with_len, ◌*◌, sum_by-le, All-weaker}
 use Rattle.fx_ring.proofs.Words.{IsShortRun, Chain, AreCutInto, MOST_MEMBERS, map-append, Closed, completed_of, state_of_worker, WorkerState}
-use Rattle.fx_ring.proofs.Words.{flat_map-map}
+use Rattle.fx_ring.proofs.Words.{flat_map-map, ◌+◌, ◌<◌, take, slice_index_or, sum_by_more_le, IsAccepted, all_asked, asked_of, operation_of, Request}
+use Rattle.fx_ring.proofs.Words.{sum_map, accepted-each, accepted-length, all_weights-small}
 use Rattle.fx_ring.proofs.CompletionPlaces.{as_many, runs_within}
 use Rattle.fx_chain.proofs.Runs.{are_runs}
 use Rattle.fx_ring.proofs.Parts.{made_of_parts}
@@ -54,6 +55,18 @@ few_of_chains {requests} cut =
     let few = sum_by-le (λ (run : List Asked). length run) MOST_MEMBERS (runs_of requests)
     (All-weaker IsShortRun (λ run. length run ≤ MOST_MEMBERS) (λ run is. is.members) (runs_of requests) (runs_within cut)) in
     omega (arith, rw (runs_have_all requests) at few, as_many cut)
+
+abbrev weight_of_one : Request → ℕ
+weight_of_one r = weight_of (operation_of r.op)
+
+-- the weights of a part of the requests and of one more fit
+pub weight_fits : (requests : List Request) (i : ℕ) (x : Request) → i < length requests → x ≡ slice_index_or requests i x
+    → IsAccepted (all_asked requests) → sum_by weight_of_one (take i requests) + weight_of_one x ≤ 261888
+weight_fits requests i x inside is accepted =
+    let small = all_weights-small (all_asked requests) (accepted-each (all_asked requests) accepted) in
+    let all = sum_map (λ a. weight_of a.operation) asked_of requests in
+    let few = accepted-length (all_asked requests) accepted in
+    omega (arith, sum_by_more_le weight_of_one requests i x inside, ap weight_of_one is, all, few, small)
 
 pub runs_weigh_all : (requests : List Asked) → sum_by all_weights (runs_of requests) ≡ all_weights requests
 runs_weigh_all requests = sym (weights_joined (runs_of requests)) ∙ ap all_weights (are_runs requests).whole
@@ -116,12 +129,8 @@ module _ {P : Type 0} (V : P → PassView) where
 
     pub as_many_completions : sum_by (λ outcome. length outcome.completions.items) outcomes ≡ length (flat_map completed_by (states ws))
     as_many_completions =
-        omega (
-          arith,
-          length-flat_map completions_of outcomes,
-          length-map (flat_map completions_of outcomes) completed_of,
-          ap length completions_joined,
-        )
+        let all = length-map (flat_map completions_of outcomes) completed_of in
+        omega (arith, all, length-flat_map completions_of outcomes, ap length completions_joined)
 
     pub as_many_files : sum_by (λ outcome. length outcome.closes.files) outcomes ≡ length (flat_map closed_by_worker (states ws))
     as_many_files = omega (arith, length-flat_map files_of outcomes, ap length files_joined)

@@ -1,21 +1,21 @@
 -- A pass alone plays the chains of a submission, one after another.
 use Rattle.fx_ring.proofs.Words.{◌≡◌, ◌≢◌, ℕ, ◌+◌, ◌-◌, ◌*◌, ◌<◌, ◌≤◌, ◌==◌, true, false, cond, List, [], ◌∷◌, ◌++◌, map, length, refl, sym, ap}
-use Rattle.fx_ring.proofs.Words.{subst, ◌∙◌, arith, Option, None, All, All-head, All-tail, All-weaker, Contains, by_equality, IsPermutation}
-use Rattle.fx_ring.proofs.Words.{IsNonDecreasingBy, FileEntry, CloseListView, Closed, State, opening, IsLegal, action_of, closes_in, closed_by}
-use Rattle.fx_ring.proofs.Words.{part_of_chain, File, Event, Action, Opening, size_of, state_at, PassView, numbers_for, Completed, Explains}
-use Rattle.fx_ring.proofs.Words.{first_member, Asked, runs_of, IsShortRun, HasClosed, ring_of, ring_with, with_table, installed_by, sum_by}
+use Rattle.fx_ring.proofs.Words.{nat_tests, subst, ◌∙◌, arith, Option, None, All, All-head, All-tail, All-weaker, Contains, by_equality}
+use Rattle.fx_ring.proofs.Words.{IsPermutation, IsNonDecreasingBy, FileEntry, CloseListView, Closed, State, opening, IsLegal, action_of, closes_in}
+use Rattle.fx_ring.proofs.Words.{closed_by, part_of_chain, File, Event, Action, Opening, size_of, state_at, PassView, numbers_for, Completed}
+use Rattle.fx_ring.proofs.Words.{Explains, first_member, Asked, runs_of, IsShortRun, HasClosed, ring_of, ring_with, with_table, installed_by, sum_by}
 use Rattle.fx_ring.proofs.Words.{sum_by-cons, IsOneHistory, HasWorked, worker_state, completions_of_chain, run_of_chain, MOST_SLOTS, same_size}
 use Rattle.fx_ring.proofs.Words.{start_of, IsSettledSoFar, contains_map, contains_mapped, each_all, table_with_files, chain_less, begun_after}
 use Rattle.fx_ring.proofs.Words.{sum_by-le, map-map, Some, map-append, append_assoc, ◌▷◌, IsIdle, event_of, HasRoom, vec_capacity, all_completed}
 use Rattle.fx_ring.proofs.Words.{HasRoomFor, MOST_MEMBERS, Outcome, add-one, Draws, PlaysChainExactly, player, chains_to, zero, suc, part_of_pass}
-use Rattle.fx_ring.proofs.Words.{eqb-true, filter_passes, contains_head, contains_tail, stays_at_rest, begins_at_rest, legal_behind, IsFront}
-use Rattle.fx_plain.specs.History.{held_by, ◌▷▷◌}
+use Rattle.fx_ring.proofs.Words.{eqb-true, filter_passes, contains_head, contains_tail, stays_at_rest, begins_at_rest, legal_behind, IsFront, ◌▷▷◌}
+use Rattle.fx_plain.specs.History.{held_by}
 use Rattle.fx_plain.specs.Reopening.{Renaming, renamed, renamed_event, numbers_given, with_number_of, IsTableAtRest, HasOtherNumbers}
 use Rattle.fx_plain.proofs.OpenedAnew.{opened_anew}
 use Rattle.fx_chain.proofs.OtherNumbers.{explains, few_given, given_one}
 use Rattle.fx_ring.proofs.Rings.{opened_so, ring_so, size_there}
 use Rattle.fx_ring.proofs.Parts.{few_by_key}
-use Rattle.fx_ring.proofs.CompletionPlaces.{IsShort, drawn_inside, in_order_explained}
+use Rattle.fx_ring.proofs.CompletionPlaces.{drawn_inside, in_order_explained}
 use Rattle.fx_ring.proofs.Crews.{IsNew, new_has_worked, new_has_room}
 use Rattle.fx_ring.proofs.ChainPlayed.{GoesOn, drawing, worked_on, room_left}
 use Rattle.fx_table.proofs.Calls.{looks_least}
@@ -59,14 +59,7 @@ module _ (r : Renaming) (base : ℕ) where
       → map action_of (part_of_chain c (map (renamed_event anew) since))
       ≡ map (renamed anew) (map action_of (part_of_chain c (map (chain_less base) since)))
   parts_same c [] = refl
-  parts_same c (e ∷ since) =
-      let others = part_of_chain c (map (renamed_event anew) since) in
-      let less = part_of_chain c (map (chain_less base) since) in
-      elim (e.chain - base == c) as (λ b.
-      map action_of (cond b (renamed_event anew e ∷ others) others) ≡ map (renamed anew) (map action_of (cond b (chain_less base e ∷ less) less))) [
-        | true ↦ ap (λ (l : List Action). renamed anew e.action ∷ l) (parts_same c since)
-        | false ↦ parts_same c since
-      ]
+  parts_same c (e ∷ since) = let rest = parts_same c since in grind (arith, nat_tests)
 
   closed_same : (a : Action) → closed_by (renamed anew a) ≡ closed_by a
   closed_same (Rattle.fx_plain.specs.declared.event.Action.TheVariants.Close f) = refl
@@ -150,7 +143,7 @@ module _ {catalogue : List FileEntry} {o : Opening} {before after : PassView} {d
     explained = subst (λ (size : ℕ). Rattle.fx_ring.specs.Submission.ExplainsParts catalogue size (submissions + 1) 1 runs history sorted)
         (sym (size_there st ∙ same_size (start_of o) st (map action_of before.own) first.legal.leads))
         (in_order_explained catalogue (size_of o) (submissions + 1) history completions runs
-        (All-weaker IsShortRun IsShort (λ run is. is.members) runs short) (λ k d l. drawn_inside worked (worked.completed k d l))
+        short (λ k d l. drawn_inside worked (worked.completed k d l))
         (λ c low high. subst (λ (l : List Action). Explains catalogue (size_of o) (first_member (submissions + 1) c) (run_of_chain runs c) l
         (completions_of_chain c completions)) (sym (parts_same opened.0 base c since))
         (explains r catalogue (size_of o) (run_of_chain runs c) (first_member (submissions + 1) c) (map action_of (part_of_chain c less))
@@ -165,8 +158,6 @@ module _ {catalogue : List FileEntry} {o : Opening} {before after : PassView} {d
           submissions = submissions + 1;
         });
   }
-
--- A pass alone plays the chains of a submission, one after another.
 
 -- a pass alone, which was so at first, has played so many chains of a submission, and there is room
 -- for the others

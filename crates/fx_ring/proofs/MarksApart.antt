@@ -1,8 +1,8 @@
 -- Tables and histories whose files have different marks.
 use Rattle.fx_ring.proofs.Words.{◌≡◌, ◌≢◌, ◌⊎◌, List, [], ◌∷◌, sym, subst, ⊎_elim, inl, inr, Option, Some, None, ◌▷◌, ◌▷▷◌, installed_by, File}
-use Rattle.fx_ring.proofs.Words.{Action, Close, MayClose, ℕ, if◌then◌else◌, refl, ◌∙◌, State, after, changed_at, state_after, Look, Put, Clear, Take}
-use Rattle.fx_ring.proofs.Words.{Allocate, by_equality, suc, ◌==◌, Bool, true, false, cond, map, Contains, ap, arith, eq-eqb, Submitted}
-use Rattle.fx_ring.proofs.Words.{part_of_chain, action_of, IsInstalled, Event}
+use Rattle.fx_ring.proofs.Words.{Action, Close, MayClose, ℕ, refl, ◌∙◌, State, after, changed_at, state_after, Look, Put, Clear, Take, Allocate, suc}
+use Rattle.fx_ring.proofs.Words.{◌==◌, Bool, true, false, cond, map, Contains, ap, arith, eq-eqb, Submitted, part_of_chain, action_of, IsInstalled}
+use Rattle.fx_ring.proofs.Words.{Event}
 
 -- one of the steps installs the file
 abbrev pub IsPut : List Action → File → Type 0
@@ -34,10 +34,7 @@ new_then h (action ∷ more) first behind apart = (
 -- steps behind others whose marks are other ones
 pub puts_then : (P Q R : File → Type 0) (h more : List Action) → ((f : File) → P f → R f) → ((f : File) → Q f → R f)
     → ((f g : File) → Q f → P g → f.identity.mark ≢ g.identity.mark) → Puts P h → Puts Q more → Puts R (h ▷▷ more)
-puts_then P Q R h more left right apart first behind = (
-  λ f is. ⊎_elim (λ before. left f (first.0 f before)) (λ since. right f (behind.0 f since)) (put_either h more f is),
-  new_then h more first.1 behind.1 (λ f g since before. apart f g (behind.0 f since) (first.0 g before)),
-)
+puts_then P Q R h more left right apart first behind = grind (arith, put_either, new_then)
 
 pub puts_so : (P Q : File → Type 0) (h : List Action) → ((f : File) → P f → Q f) → Puts P h → Puts Q h
 puts_so P Q h so puts = (λ f is. so f (puts.0 f is), puts.1)
@@ -55,19 +52,13 @@ pub puts_one : (P : File → Type 0) (action : Action) → ((f : File) → insta
 puts_one P action one = (λ f is. ⊎_elim (λ before. absurd before) (λ now. one f now) is, (tt, λ f g now before. absurd before))
 
 puts_and_closes : (P : File → Type 0) (steps : List Action) (removed : File) → Puts P steps → Puts P (steps ▷ Close removed)
-puts_and_closes P steps removed puts = (
-  λ f is. ⊎_elim (λ before. puts.0 f before) (λ now. let e : None ≡ Some f = now in cc) is,
-  (puts.1, λ f g now before. let e : None ≡ Some f = now in cc),
-)
+puts_and_closes P steps removed puts = grind arith
 
 -- a close behind them installs nothing
 pub puts_may_close : (P : File → Type 0) (steps : List Action) (removed : Option File) (events : List Action) → MayClose steps removed events
     → Puts P steps → Puts P events
 puts_may_close P steps None events is puts = subst (Puts P) (sym is) puts
-puts_may_close P steps (Some removed) events may puts = ⊎_elim
-    (λ is. subst (Puts P) (sym is) puts)
-    (λ is. subst (Puts P) (sym is) (puts_and_closes P steps removed puts))
-    may
+puts_may_close P steps (Some removed) events may puts = grind (arith, puts_and_closes)
 
 -- A table whose files have marks apart keeps them apart, as long as each mark that is installed is
 -- a new one.
@@ -92,10 +83,7 @@ module _ (P : File → Type 0) where
   IsUnlike h = (f g : File) → IsPut h f → P g → f.identity.mark ≢ g.identity.mark
 
   kept_apart : {h : List Action} (a : Action) (at : ℕ → Option File) → IsApart h at → IsApart (a ∷ h) at
-  kept_apart a at apart = record {
-    from = λ slot f is. ⊎_elim (λ was. inl was) (λ put. inr (inl put)) (apart.from slot f is);
-    distinct = apart.distinct;
-  }
+  kept_apart a at apart = grind arith
 
   module _ (h : List Action) (a : Action) (at : ℕ → Option File) (place : ℕ) (fresh : HasNewMarks (a ∷ h)) (unlike : IsUnlike (a ∷ h))
       (apart : IsApart h at) where
@@ -106,19 +94,10 @@ module _ (P : File → Type 0) where
     -- a file is where the step put it, or was there
     cases : {slot : ℕ} {f : File} → changed_at at place (installed_by a) slot ≡ Some f
         → ((slot ≡ place) × (installed_by a ≡ Some f)) ⊎ (at slot ≡ Some f)
-    cases {slot} {f} = by_equality slot place
-        (λ b. ◌≡◌ {A = Option File} (if b then installed_by a else at slot) (Some f)
-        → ((slot ≡ place) × (installed_by a ≡ Some f)) ⊎ (at slot ≡ Some f))
-        (λ here now. inl (here, now)) (λ _ is. inr is)
+    cases {slot} {f} = grind arith
 
     changed_apart : IsApart (a ∷ h) (changed_at at place (installed_by a))
-    changed_apart = record {
-      from = λ slot f is. ⊎_elim (λ new. inr (inr new.1)) (λ was. (kept_apart a at apart).from slot f was) (cases is);
-      distinct = λ slot other f g is are marks. ⊎_elim
-          (λ new. ⊎_elim (λ newer. new.0 ∙ sym newer.0) (λ were. absurd (no_other new.1 were marks)) (cases are))
-          (λ was. ⊎_elim (λ newer. absurd (no_other newer.1 was (sym marks))) (λ were. apart.distinct slot other f g was were marks) (cases are))
-          (cases is);
-    }
+    changed_apart = grind (arith, cases, no_other)
 
   pub apart_after : (start : State) (h : List Action) → IsApart [] start.at → HasNewMarks h → IsUnlike h → IsApart h (state_after start h).at
   apart_after start [] begins fresh unlike = begins

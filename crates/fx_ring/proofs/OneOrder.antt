@@ -1,7 +1,9 @@
 -- A list in strict order is the only one of its elements that is in order.
-use Rattle.fx_ring.proofs.Words.{◌≡◌, ℕ, suc, ◌<◌, ◌≤◌, cond, List, [], ◌∷◌, All, Contains, sum_by, IsPermutation, refl, sym, ap, subst, ◌==◌, arith}
-use Rattle.fx_ring.proofs.Words.{⊎_elim, slice_index_or, eq-eqb, ne_eqb, IsNonDecreasingBy, All-head, All-tail, All-contains, sum_by-cons, sum_of}
-use Rattle.fx_ring.proofs.Words.{Contains-permutation, IsPermutation-sym, sum_by-IsPermutation, contains_cases}
+use Rattle.fx_ring.proofs.Words.{Bool, false, ◌∙◌, ◌≢◌, length, contains_head, contains_none, contains_tail, ◌≡◌, ℕ, suc, ◌<◌, List, [], ◌∷◌, All}
+use Rattle.fx_ring.proofs.Words.{Contains, IsPermutation, refl, sym, ap, ◌==◌, arith, ⊎_elim, slice_index_or, eq-eqb, ne_eqb, IsNonDecreasingBy}
+use Rattle.fx_ring.proofs.Words.{All-contains, Contains-permutation, IsPermutation-sym, contains_cases, IsDistinct-IsPermutation, IsDistinct-cons}
+use Rattle.fx_ring.proofs.Words.{apart_from_distinct, false≢true, nat_tests, recursion_from_All}
+use Rattle.std.specs.List.{IsDistinct}
 
 module _ {X : Type 0} (key : X → ℕ) where
   -- each element's key is below those behind it
@@ -9,69 +11,47 @@ module _ {X : Type 0} (key : X → ℕ) where
   Rises [] = Unit {0}
   Rises (x ∷ xs) = All (λ y. key x < key y) xs × Rises xs
 
-  -- how many elements have the key
-  abbrev keyed : ℕ → List X → ℕ
-  keyed k xs = sum_by (λ x. cond (key x == k) 1 0) xs
+  abbrev is_alike : X → X → Bool
+  is_alike x y = key x == key y
 
-  keyed_above : (k : ℕ) (xs : List X) → All (λ y. k < key y) xs → keyed k xs ≡ 0
-  keyed_above k [] above = refl
-  keyed_above k (x ∷ xs) above =
-      let more : k < key x = All-head (λ y. k < key y) x xs above in
-      let first = sum_by-cons (λ y. cond (key y == k) 1 0) x xs in
-      let other : cond {A = ℕ} (key x == k) 1 0 ≡ 0 = ap (λ b. cond {A = ℕ} b 1 0) (ne_eqb (key x) k (λ same. omega arith)) in
-      let rest = keyed_above k xs (All-tail (λ y. k < key y) x xs above) in
-      omega arith
+  are_distinct : (xs : List X) → Rises xs → IsDistinct is_alike xs
+  unfolding IsDistinct
+  are_distinct [] rises = tt
+  are_distinct (x ∷ xs) rises = IsDistinct-cons is_alike x xs (recursion_from_All (λ y. is_alike x y ≡ false) xs
+      (λ k d lt. let above = rises.0 k d lt in ne_eqb (key x) (key (slice_index_or xs k d)) (λ same. omega arith))) (are_distinct xs rises.1)
 
-  keyed_once : (x : X) (xs : List X) → Contains xs x → 1 ≤ keyed (key x) xs
-  keyed_once x xs there =
-      let one : cond {A = ℕ} (key x == key x) 1 0 ≡ 1 = ap (λ b. cond {A = ℕ} b 1 0) (eq-eqb (key x) (key x) refl) in
-      omega (arith, sum_of (λ y. cond (key y == key x) 1 0) xs x there, one)
+  rises_strictly : (ys : List X) → ((i j : ℕ) (d : X) → i < j → j < length ys → key (slice_index_or ys i d) < key (slice_index_or ys j d)) → Rises ys
+  rises_strictly [] less = tt
+  rises_strictly (y ∷ ys) less = (
+    λ k d lt. less 0 (suc k) d (omega arith) (omega arith),
+    rises_strictly ys (λ i j d low high. less (suc i) (suc j) d (omega arith) (omega arith)),
+  )
 
-  keyed_behind : (k : ℕ) (x : X) (xs ys : List X) → keyed k (x ∷ xs) ≡ keyed k (x ∷ ys) → keyed k xs ≡ keyed k ys
-  keyed_behind k x xs ys same =
-      omega (arith, same, sum_by-cons (λ y. cond (key y == k) 1 0) x xs, sum_by-cons (λ y. cond (key y == k) 1 0) x ys)
+  -- without the first element, which both have, each element of one list is one of the other
+  behind : {x y : X} (xs ys : List X) → x ≡ y → Rises (x ∷ xs) → ((z : X) → Contains (x ∷ xs) z → Contains (y ∷ ys) z)
+      → (z : X) → Contains xs z → Contains ys z
+  behind {x} {y} xs ys is rises has z there = ⊎_elim
+      (λ first. absurd (let less : key x < key z = All-contains (λ w. key x < key w) xs z rises.0 there in
+      let same = ap key (is ∙ sym first) in omega arith))
+      (λ later. later) (contains_cases y ys z (has z (contains_tail x xs z there)))
 
-  -- each element of the second list is one of the first, and both have each key as often
-  record HasSame (xs ys : List X) : Type 0 where
-    right : (y : X) → Contains ys y → Contains xs y
-    often : (k : ℕ) → keyed k xs ≡ keyed k ys
-
-  same_behind : {x : X} {xs ys : List X} → Rises (x ∷ xs) → HasSame (x ∷ xs) (x ∷ ys) → HasSame xs ys
-  same_behind {x} {xs} {ys} rises same = record {
-    right = λ z there. ⊎_elim
-        (λ is. absurd (let once = keyed_once x ys (subst (Contains ys) is there) in let none = keyed_above (key x) xs rises.0 in
-        let counts = keyed_behind (key x) x xs ys (same.often (key x)) in omega arith))
-        (λ behind. behind)
-        (contains_cases x xs z (same.right z (suc there.0, let lt = there.1 in omega arith, there.2)));
-    often = λ k. keyed_behind k x xs ys (same.often k);
-  }
-
-  least : (x y : X) (xs ys : List X) → Rises (x ∷ xs) → IsNonDecreasingBy key (y ∷ ys) → HasSame (x ∷ xs) (y ∷ ys) → x ≡ y
-  least x y xs ys rises up same = ⊎_elim
-      (λ is. sym is)
-      (λ behind. absurd
-      (let above : key x < key y = All-contains (λ z. key x < key z) xs y rises.0 behind in
-      let none = keyed_above (key x) (y ∷ ys) (λ k d lt.
-      let low : key y ≤ key (slice_index_or (y ∷ ys) k d) = up 0 k d (omega arith) lt in omega arith) in
-      let once = keyed_once x (x ∷ xs) (0, omega arith, refl) in
-      let counts = same.often (key x) in
-      omega arith))
-      (contains_cases x xs y (same.right y (0, omega arith, refl)))
-
-  one_order : (xs ys : List X) → Rises xs → IsNonDecreasingBy key ys → HasSame xs ys → xs ≡ ys
-  one_order [] [] rises up same = refl
-  one_order [] (y ∷ ys) rises up same = let there = same.right y (0, omega arith, refl) in let lt = there.1 in absurd (omega arith)
-  one_order (x ∷ xs) [] rises up same =
-      let once = keyed_once x (x ∷ xs) (0, omega arith, refl) in let counts = same.often (key x) in absurd (omega arith)
-  one_order (x ∷ xs) (y ∷ ys) rises up same =
-      let is = least x y xs ys rises up same in
-      let same_x : HasSame (x ∷ xs) (x ∷ ys) = subst (λ z. HasSame (x ∷ xs) (z ∷ ys)) (sym is) same in
-      let behind = one_order xs ys rises.1 (λ i j d le lt. up (suc i) (suc j) d (omega arith) (omega arith)) (same_behind rises same_x) in
-      λ i. is i ∷ behind i
+  one_order : (xs ys : List X) → Rises xs → Rises ys → ((z : X) → Contains xs z → Contains ys z) → ((z : X) → Contains ys z → Contains xs z) → xs ≡ ys
+  one_order [] [] left right has had = refl
+  one_order [] (y ∷ ys) left right has had = absurd (contains_none y (had y (contains_head y ys)))
+  one_order (x ∷ xs) [] left right has had = absurd (contains_none x (has x (contains_head x xs)))
+  one_order (x ∷ xs) (y ∷ ys) left right has had =
+      let is : x ≡ y = ⊎_elim (λ first. first) (λ later. ⊎_elim (λ same. sym same)
+      (λ too. absurd (let less : key y < key x = All-contains (λ w. key y < key w) ys x right.0 later in
+      let more : key x < key y = All-contains (λ w. key x < key w) xs y left.0 too in omega arith))
+      (contains_cases x xs y (had y (contains_head y ys)))) (contains_cases y ys x (has x (contains_head x xs))) in
+      λ i. is i ∷ one_order xs ys left.1 right.1 (behind xs ys is left has) (behind ys xs (sym is) right had) i
 
   -- two lists of the same elements, one in strict order of key and one in order: they are equal
   pub one_list_in_order : {xs ys : List X} → IsPermutation xs ys → Rises xs → IsNonDecreasingBy key ys → xs ≡ ys
-  one_list_in_order {xs} {ys} same rises up = one_order xs ys rises up record {
-    right = λ y. Contains-permutation ys xs y (IsPermutation-sym xs ys same);
-    often = λ k. sym (sum_by-IsPermutation (λ x. cond (key x == k) 1 0) xs ys same);
-  }
+  one_list_in_order {xs} {ys} same rises up =
+      let distinct = IsDistinct-IsPermutation is_alike (λ x y. grind (arith, nat_tests)) xs ys same (are_distinct xs rises) in
+      one_order xs ys rises (rises_strictly ys (λ i j d low high.
+      let le = up i j d (omega arith) high in
+      let apart = apart_from_distinct is_alike ys i j d distinct low high in
+      let other : key (slice_index_or ys i d) ≢ key (slice_index_or ys j d) = λ is. false≢true (sym apart ∙ eq-eqb _ _ is) in omega arith))
+      (λ z. Contains-permutation xs ys z same) (λ z. Contains-permutation ys xs z (IsPermutation-sym xs ys same))

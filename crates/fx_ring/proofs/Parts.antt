@@ -2,9 +2,9 @@
 use Rattle.fx_ring.proofs.Words.{◌≡◌, ℕ, ◌+◌, ◌<◌, ◌≤◌, List, [], ◌∷◌, ◌++◌, flat_map, All, sum_by, refl, sym, ap, ◌∙◌, arith, append-nil, ⊎_elim}
 use Rattle.fx_ring.proofs.Words.{All-nil, All-append, sum_by-cons, sum_of, Contains, range_with_len, length-range_with_len, get_or-range_with_len}
 use Rattle.fx_ring.proofs.Words.{contains_none, contains_head, contains_tail, contains_cases, ◌≢◌, zero, suc, Bool, not, cond, filter, length}
-use Rattle.fx_ring.proofs.Words.{IsPermutation, slice_index_or, sum_by-append, sum_by-IsPermutation, subst, ◌==◌, ne_eqb, All-head, All-tail}
-use Rattle.fx_ring.proofs.Words.{All-cons, IsPermutation-refl, IsPermutation-trans, IsPermutation-append_right, IsPermutation-filter_both}
-use Rattle.fx_ring.proofs.Words.{by_equality, eq-eqb, filter-append, true, false, map, append_assoc, length-append, IsPermutation-append_left}
+use Rattle.fx_ring.proofs.Words.{All-filter, filter_passes, nat_tests, sum_by-filter_both, IsPermutation, slice_index_or, subst, ◌==◌, ne_eqb}
+use Rattle.fx_ring.proofs.Words.{All-head, All-tail, IsPermutation-refl, IsPermutation-trans, IsPermutation-append_right, IsPermutation-filter_both}
+use Rattle.fx_ring.proofs.Words.{eq-eqb, filter-append, true, false, map, append_assoc, length-append, IsPermutation-append_left}
 use Rattle.fx_ring.proofs.Words.{IsPermutation-append_comm, Closed, action_of, closed_by, closes_in, Event}
 
 pub number_within : {first : ℕ} (n : ℕ) {k : ℕ} → Contains (range_with_len first n) k → (first ≤ k) × (k < first + n)
@@ -63,26 +63,15 @@ module _ {X : Type 0} (key : X → ℕ) where
   -- those that lack a key have another one as often as all have it
   pub kept_lacking : (first other : ℕ) (xs : List X) → other ≢ first → filter (has other) (filter (lacks first) xs) ≡ filter (has other) xs
   kept_lacking first other [] apart = refl
-  kept_lacking first other (x ∷ xs) apart =
-      by_equality (key x) first
-      (λ b. filter (has other) (cond (not b) (x ∷ filter (lacks first) xs) (filter (lacks first) xs))
-      ≡ cond (key x == other) (x ∷ filter (has other) xs) (filter (has other) xs))
-      (λ same. kept_lacking first other xs apart
-      ∙ ap (λ b. cond b (x ∷ filter (has other) xs) (filter (has other) xs)) (sym (ne_eqb (key x) other (λ is. apart (sym is ∙ same)))))
-      (λ _. ap (λ l. cond (key x == other) (x ∷ l) l) (kept_lacking first other xs apart))
+  kept_lacking first other (x ∷ xs) apart = let rest = kept_lacking first other xs apart in grind (arith, nat_tests)
 
   abbrev Within : ℕ → ℕ → X → Type 0
   Within first n x = (first ≤ key x) × (key x < first + n)
 
   pub within_lacking : (first n : ℕ) (xs : List X) → All (Within first (suc n)) xs → All (Within (first + 1) n) (filter (lacks first) xs)
-  within_lacking first n [] all = All-nil (Within (first + 1) n)
-  within_lacking first n (x ∷ xs) all =
-      let rest = within_lacking first n xs (All-tail (Within first (suc n)) x xs all) in
-      let one = All-head (Within first (suc n)) x xs all in
-      by_equality (key x) first (λ b. All (Within (first + 1) n) (cond (not b) (x ∷ filter (lacks first) xs) (filter (lacks first) xs)))
-      (λ _. rest)
-      (λ apart. All-cons (Within (first + 1) n) x (filter (lacks first) xs)
-      (let low = one.0 in let high = one.1 in (omega arith, omega arith)) rest)
+  within_lacking first n xs all = λ k d lt.
+      let was = All-filter (lacks first) (Within first (suc n)) xs all k d lt in
+      let other = filter_passes (lacks first) xs k d lt in grind (arith, nat_tests)
 
   pub none_within : (first : ℕ) (xs : List X) → All (Within first 0) xs → xs ≡ []
   none_within first [] all = refl
@@ -115,8 +104,7 @@ module _ {X : Type 0} (key : X → ℕ) where
   few_by_key f g d first (y ∷ ys) xs all few =
       let mine = filter (has first) xs in
       let others = filter (lacks first) xs in
-      let split = sum_by-IsPermutation f xs (mine ++ others) (split_by_key first xs) in
-      let both = sum_by-append f mine others in
+      let both = sum_by-filter_both (has first) (lacks first) (λ _. refl) f xs in
       let sum = sum_by-cons g y ys in
       let place = ap (λ (k : ℕ). sum_by f (filter (has k) xs)) (let e : first + 0 ≡ first = omega arith in e) in
       let here = few 0 (omega arith) in

@@ -100,9 +100,6 @@ none_in_order (suc n) = ap (λ (l : List Closed). l ++ []) (none_in_order n)
 pub vacant_empty : {st : State} {n : ℕ} → st ≡ vacant n → files_of_state st ≡ []
 vacant_empty {n} is = ap files_of_state is ∙ none_in_order n
 
-pub vacant_files : {st : State} {n : ℕ} → st ≡ vacant n → files_at st ≡ (λ _. None)
-vacant_files is = ap files_at is
-
 -- a ring whose table has the files of a state, their numbers aside
 pub ring_as : (c : RingContents) {st : State} (t : Contents) → HasSameFiles st (state_of t)
     → ring_of (record c { table = t }) ≡ with_table (ring_of c) st

@@ -70,17 +70,20 @@ pub use Rattle.std.proofs.Common.{length-append, map, nat_lt, ne_eqb, negsuc, no
 pub use Rattle.std.proofs.Common.{suc, sum_by, sym, take, true, vec_capacity, vec_len, zero, ℕ, ℤ, ⊎_elim, ◌*◌, ◌++◌, ◌+◌, ◌-◌, ◌<◌, ◌==◌, ◌||◌, ◌∙◌}
 pub use Rattle.std.proofs.Common.{◌∷◌, ◌≡◌, ◌≢◌, ◌≤◌, ◌⊎◌}
 pub use Rattle.std.proofs.Math.Seq.{drop-cons, drop-length}
-pub use Rattle.std.proofs.lemmas.Bool.{cases_lt, le-ltb, leb-false, lt-ltb, ltb-false, or_from, or_parts}
+pub use Rattle.std.proofs.lemmas.Bool.{cases_lt, false≢true, le-ltb, leb-false, lt-ltb, ltb-false, or_from, or_parts}
+pub use Rattle.std.proofs.lemmas.Bool.Decides.{nat_tests}
 pub use Rattle.std.proofs.lemmas.List.{drop-drop, get_or-map, get_or_past, length-map, map-append, map-id, take_all}
 pub use Rattle.std.proofs.lemmas.List.Concat.{length-flat_map}
 pub use Rattle.std.proofs.lemmas.List.Elements.{All-append, All-cons, All-contains, All-head, All-map, All-more, All-nil, All-tail, All-weaker}
-pub use Rattle.std.proofs.lemmas.List.Elements.{Contains-append_cases, filter-append, filter_passes}
+pub use Rattle.std.proofs.lemmas.List.Elements.{All-filter, Contains-append_cases, filter-append, filter_passes, recursion_from_All}
 pub use Rattle.std.proofs.lemmas.List.Folds.{flat_map-map}
+pub use Rattle.std.proofs.lemmas.List.Filters.{sum_by-filter_both}
 pub use Rattle.std.proofs.lemmas.List.FromFn.{get_or-map-range_with_len, get_or-range_with_len, length-map-range_with_len, length-range_with_len}
 pub use Rattle.std.proofs.lemmas.List.Sorted.{All-permutation, Contains-permutation, IsNonDecreasingBy-from_sort_by_key, IsPermutation-append_comm}
 pub use Rattle.std.proofs.lemmas.List.Sorted.{IsPermutation-append_left, IsPermutation-append_right, IsPermutation-filter_both, IsPermutation-map}
 pub use Rattle.std.proofs.lemmas.List.Sorted.{IsPermutation-refl, IsPermutation-sym, IsPermutation-trans, length_permutation, sum_by-IsPermutation}
 pub use Rattle.std.proofs.lemmas.List.Sums.{sum_by-append, sum_by-cons, sum_by-drop_more, sum_by-le, sum_by-take-drop, sum_by_more_le}
+pub use Rattle.std.proofs.lemmas.Map.Keys.{IsDistinct-IsPermutation, IsDistinct-cons, apart_from_distinct}
 pub use Rattle.std.proofs.lemmas.Option.{slice_get_past, slice_get-get_or}
 pub use Rattle.std.proofs.lemmas.Simd.{map-map}
 pub use Rattle.std.specs.List.{list_any, range_with_len, zip}

@@ -4,12 +4,13 @@ use Rattle.fx_ring.proofs.Words.{closed_by, filter, filter-append, refl, sym, ap
 use Rattle.fx_ring.proofs.Words.{IsPermutation-trans, length_permutation, FileEntry, IsInOrderOfMark, CloseListView, Closed, opening, Contents}
 use Rattle.fx_ring.proofs.Words.{state_of, IsLegal, action_of, part_of_chain, Event, ClosesTable, times_drawn, numbers_for, Opening, size_of}
 use Rattle.fx_ring.proofs.Words.{state_at, PassView, IsOfDrawnChains, some_times, part_of_drawn, sum_map, Completed, Explains, first_member, Asked}
-use Rattle.fx_ring.proofs.Words.{runs_of, all_weights, ring_with, IsOneHistory, WorkerState, HasWorked, run_of_chain, completions_of_chain, Contains}
-use Rattle.fx_ring.proofs.Words.{IsPermutation, contains_map, contains_mapped, each_all, range_with_len, flat_map-map, State, false, start_is}
+use Rattle.fx_ring.proofs.Words.{IsShortRun, runs_of, all_weights, ring_with, IsOneHistory, WorkerState, HasWorked, run_of_chain}
+use Rattle.fx_ring.proofs.Words.{completions_of_chain, Contains, IsPermutation, contains_map, contains_mapped, each_all, range_with_len, flat_map-map}
+use Rattle.fx_ring.proofs.Words.{State, false, start_is}
 use Rattle.fx_ring.proofs.Parts.{closes_of, closes_by_key, closes_sum, number_within, one_part, all_parts, made_of_parts, same_parts, few_by_key}
 use Rattle.fx_ring.proofs.Parts.{none_kept}
 use Rattle.fx_table.proofs.Chains.{in_part}
-use Rattle.fx_ring.proofs.CompletionPlaces.{place_key, IsShort, drawn_inside, one_of_each_request, in_order_explained}
+use Rattle.fx_ring.proofs.CompletionPlaces.{place_key, drawn_inside, one_of_each_request, in_order_explained}
 use Rattle.fx_ring.proofs.Rings.{ring_as}
 
 abbrev pub pass_of : WorkerState → PassView
@@ -37,7 +38,7 @@ pub record HavePlayed (catalogue : List FileEntry) (submission : ℕ) (runs : Li
   pub told : All (λ w. w.pass.no_chains_left ≡ true) crew
   pub chains : o.chains ≡ length runs
   pub ends : o.lasts ≡ false
-  pub short : All IsShort runs
+  pub short : All IsShortRun runs
   pub numbers : map number_of crew ≡ range_with_len 1 o.passes
   pub closing : ClosesTable o (map pass_of crew) left
 

@@ -38,18 +38,6 @@ impl<P> Room<P> {
             all,
         })
     }
-
-    /// Releases the room, which has no worker in it.
-    pub(crate) fn give_up(self)
-        requires { self.crew.items ≡ [] }
-    {
-        let Room {
-            crew,
-            outcomes: _,
-            all: _,
-        } = self;
-        crew.destroy_empty();
-    }
 }
 
 /// Makes a worker of each pass, with an outcome of its own.

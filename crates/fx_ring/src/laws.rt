@@ -40,6 +40,7 @@ pub fn what_a_pass_alone_does_is_one_history()
 
 /// States that a submission can have the same results on two rings that contracts see as equal: the
 /// numbers of their files make no difference.
+#[tactic(auto, using(crate::proofs::Rings::same_history))]
 pub fn rings_that_show_the_same_may_do_the_same()
     ensures { SameRingsDoTheSame }
 {}

@@ -29,12 +29,7 @@ fn is_bad_file(entries: u32, number: i32) -> bool
 pub fn has_bad_file(entries: u32, list: &[i32]) -> bool
     ensures { result ≡ list_any (is_bad_file entries) list.now }
 {
-    for number in list {
-        if is_bad_file(entries, *number) {
-            return true;
-        }
-    }
-    false
+    list.iter().any(|number| is_bad_file(entries, *number))
 }
 
 // Checks whether a number below 0, which opens no file, has a tag.

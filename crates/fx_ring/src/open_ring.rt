@@ -88,8 +88,7 @@ impl Ring {
         } = self;
         let size = plain.size();
         match T::open_for(alloc, plain, chains, most, 1) {
-            Ok((table, passes)) => {
-                let mut list = passes;
+            Ok((table, mut list)) => {
                 let Some(pass) = list.pop() else {
                     unreachable!()
                 };

@@ -29,6 +29,7 @@ fn rank(place: Place) -> u64
 }
 
 // Returns the number of files that the requests may close together.
+#[tactic(auto, using(crate::proofs::Crews::weight_fits))]
 fn weight_of_all(requests: &[Request]) -> u32
     requires { IsAccepted (all_asked requests.now) }
     ensures { result ≡ all_weights (all_asked requests.now) }

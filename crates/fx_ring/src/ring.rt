@@ -29,23 +29,15 @@ pub struct Ring {
 }
 
 impl Model for Ring {
-    ghost use Rattle.fx_ring.specs.Ring.{RingContents, IsAtRest};
+    ghost use Rattle.fx_ring.specs.Ring.{RingContents, IsAtRest, ring_with};
 
     ghost Value = { RingContents };
 
-    ghost view = { λ ring. record {
-      catalogue = ring.catalogue;
-      table = ring.table;
-      submissions = ring.submissions;
-      registrations = ring.registrations;
-    } };
+    ghost view = { λ ring. ring_with ring.catalogue ring.table ring.submissions
+        ring.registrations };
 
-    ghost invariant = { λ ring. IsAtRest (record {
-      catalogue = ring.catalogue;
-      table = ring.table;
-      submissions = ring.submissions;
-      registrations = ring.registrations;
-    }) };
+    ghost invariant = { λ ring. IsAtRest (ring_with ring.catalogue ring.table ring.submissions
+        ring.registrations) };
 }
 
 impl Ring {

@@ -87,7 +87,12 @@ fn play<T: FileTable, R: Threads + Wait + Sync, G: Gate>(
     };
     match T::open_for(alloc, plain, chains, submission.most_installs(), passes) {
         Err(refused) => {
-            room.give_up();
+            let Room {
+                crew,
+                outcomes: _,
+                all: _,
+            } = room;
+            crew.destroy_empty();
             Err(refused)
         }
         Ok((table, passes)) => Ok(play_open(submission, table, passes, room)),

@@ -1,11 +1,10 @@
 use Rattle.fx_ring.proofs.Words.{◌+◌, List, length, sym, ap, subst, ◌∙◌, arith, PassView, IsIdle, all_asked, runs_of, Completed, all_completed}
 use Rattle.fx_ring.proofs.Words.{HasRoomFor, ring_with, IsOneHistory, Reported, Worker, Completion, CloseListView, Closed, IsPermutation}
-use Rattle.fx_ring.proofs.Words.{accepted-length, ClosesTable, PASS_LOOKS, ◌≡◌, true, All, All-map, All-weaker, HasWorked, IsShortRun, map-map}
-use Rattle.fx_ring.proofs.Words.{size_of, state_of_worker}
+use Rattle.fx_ring.proofs.Words.{accepted-length, ClosesTable, PASS_LOOKS, ◌≡◌, true, All, All-map, HasWorked, map-map, size_of, state_of_worker}
 use Rattle.fx_ring.proofs.Crews.{IsNew, all_gathered, all_new, numbers_are, as_many_passes, new_has_worked, new_has_room, runs_have_all}
 use Rattle.fx_ring.proofs.Crews.{runs_weigh_all, states, scattered_views, completions_joined, files_joined, as_many_completions, as_many_files}
 use Rattle.fx_ring.proofs.WorkersTogether.{HavePlayed, number_of, one_of_each, closes_weigh, one_history}
-use Rattle.fx_ring.proofs.CompletionPlaces.{IsShort, as_many, runs_within}
+use Rattle.fx_ring.proofs.CompletionPlaces.{as_many, runs_within}
 use Rattle.fx_ring.proofs.submission.play_open.Given.{Over}
 use Rattle.fx_ring.proofs.submission.play_open.Goals.{After-close-left}
 use Rattle.fx_ring.proofs.submission.play_open.Goals as goal
@@ -15,9 +14,7 @@ gather-requires-clause-count g c = c.requires.room.count ∙ sym (as_many_passes
 
 pub gather-requires-clause-room : goal.gather-requires-clause-room
 gather-requires-clause-room g c =
-    let count = as_many_passes g.T.SharedTable.view c.args.passes.items _ c.requires.new in
-    let room = c.requires.room.crew in
-    omega arith
+    omega (arith, as_many_passes g.T.SharedTable.view c.args.passes.items _ c.requires.new, c.requires.room.crew)
 
 pub work_crew-requires-clause-ready : goal.work_crew-requires-clause-ready
 work_crew-requires-clause-ready g c κs within =
@@ -61,7 +58,7 @@ module _ (g : Over) (c : After-close-left g) where
         told = All-map (λ w. w.pass.no_chains_left ≡ true) (state_of_worker V) ws (λ k d l. (c.work_crew.ensures.done k d l).all_drawn);
         chains = c.requires.chains ∙ sym (as_many s.cut);
         ends = (g.met.T.FileTable g.world.𝓛 g.world.𝓜 g.world.𝓡 ((λ s x. x), (λ x. x), (λ x. x), λ x. x)).ends c.args.table;
-        short = All-weaker IsShortRun IsShort (λ run is. is.members) runs (runs_within s.cut);
+        short = runs_within s.cut;
         numbers = map-map number_of (state_of_worker V) ws ∙ (c.work_crew.ensures.numbers
             ∙ numbers_are V c.args.passes.items o.passes c.requires.new c.gather.new.crew.items c.gather.ensures.passes);
         closing = subst (λ (l : List PassView). ClosesTable o l c.close-left.result) (scattered_views V ws c.scatter.ensures.passes)
@@ -70,17 +67,11 @@ module _ (g : Over) (c : After-close-left g) where
 
 pub joined-all-requires-clause-completions : goal.joined-all-requires-clause-completions
 joined-all-requires-clause-completions g c =
+    let each = one_of_each (played g c) in
     let sum = as_many_completions (V g c) (ws g c) c.scatter.ensures.outcomes in
+    let all = runs_have_all (all_asked c.args.submission.now.requests.now) in
     let none = ap (λ (l : List Completion). length l) c.requires.room.all.no_completions in
-    omega (
-      arith,
-      one_of_each (played g c),
-      sum,
-      runs_have_all (all_asked c.args.submission.now.requests.now),
-      c.requires.room.all.room,
-      none,
-      c.args.room.all.completions.ok.0,
-    )
+    omega (arith, each, sum, all, none, c.requires.room.all.room, c.args.room.all.completions.ok.0)
 
 pub joined-all-requires-clause-closes : goal.joined-all-requires-clause-closes
 joined-all-requires-clause-closes g c =

@@ -23,9 +23,5 @@ returns-clause-room g c =
 
 pub returns-then-most_installs-self-clause-no_room : goal.returns-then-most_installs-self-clause-no_room
 returns-then-most_installs-self-clause-no_room g c room =
-    absurd (omega (
-      arith,
-      ap (λ (opened : OpenRingContents). opened.most) c.self.view_is,
-      c.most_installs.ensures.least c.args.self.now.most room.installs,
-      c.if-most_installs-self.true,
-    ))
+    let most = ap (λ (opened : OpenRingContents). opened.most) c.self.view_is in
+    absurd (omega (arith, most, c.most_installs.ensures.least c.args.self.now.most room.installs, c.if-most_installs-self.true))

@@ -31,12 +31,8 @@ loop-chain-preserved g c =
           (All-weaker (λ x. all_installs (members_of asked x) ≤ c.loop-chain.most) (λ x. all_installs (members_of asked x) ≤ c.max-most.result)
           (λ x l. omega (arith, l, low)) (take i chains) so_far.each) (omega (arith, its, high));
       least = λ most all.
-          let here : all_installs (members_of asked chain) ≤ most =
-          omega (
-            arith,
-            ap all_installs (run_at c.args.self.now.cut i none inside),
-            all i [] (omega (arith, inside, as_many c.args.self.now.cut)),
-          ) in
+          let run = all i [] (omega (arith, inside, as_many c.args.self.now.cut)) in
+          let here : all_installs (members_of asked chain) ≤ most = omega (arith, run, ap all_installs (run_at c.args.self.now.cut i none inside)) in
           let earlier = so_far.least most all in
           let new : c.installs_of_chain.result ≤ most = omega (arith, its, here) in grind (arith, common_steps);
     }

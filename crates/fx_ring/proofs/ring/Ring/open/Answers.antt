@@ -12,11 +12,10 @@ invariant_of-result g c =
     (only.0, search rules) only.2
 
 pub returns-in-Some-clause-opened : goal.returns-in-Some-clause-opened
-returns-in-Some-clause-opened g c =
-    let Fits : g.row.T-Pass.Denot → Type 0 = λ p. g.T.SharedTable.fits c.in-Ok.table p in
-    let V : g.row.T-Pass.Denot → PassView = λ p. g.T.SharedTable.view p in
-    let only = only_pass V (λ p. Fits p × IsIdle (V p)) c.pop.new.self.items c.in-Some.ensures.items c.in-Ok.ensures.new c.in-Ok.ensures.ready in
-    opened_ring c.in-Ok.ensures.opened only.1 ∙ ap ring_of c.self.view_is
+returns-in-Some-clause-opened g c = opened_ring c.in-Ok.ensures.opened
+    (only_pass g.T.SharedTable.view (λ p. g.T.SharedTable.fits c.in-Ok.table p × IsIdle (g.T.SharedTable.view p)) c.pop.new.self.items
+    c.in-Some.ensures.items c.in-Ok.ensures.new c.in-Ok.ensures.ready).1
+    ∙ ap ring_of c.self.view_is
 
 pub invariant_of-result-in-Err : goal.invariant_of-result-in-Err
 invariant_of-result-in-Err g c = given_back_at_rest c.self.invariant c.in-Err.ensures.refused

@@ -1,9 +1,9 @@
 use Rattle.fx_ring.proofs.Words.{◌≡◌, ◌+◌, ap, sym, subst, ◌∙◌, false, length, arith, rules, list_any, IsSettled, Contents, State, state_of, Closed}
 use Rattle.fx_ring.proofs.Words.{Option, ℕ, RingContents, IsRing, ring_of, ring_with, registered, updated, is_bad_entry, removed_from, tags_for}
-use Rattle.fx_ring.proofs.Words.{with_table}
+use Rattle.fx_ring.proofs.Words.{with_table, files_at}
 use Rattle.fx_ring.proofs.ListSteps.{good_files}
 use Rattle.fx_ring.proofs.Origins.{none_removed, is_updated, ring_updated}
-use Rattle.fx_ring.proofs.Rings.{contents_of, none_rings, vacant_empty, vacant_files}
+use Rattle.fx_ring.proofs.Rings.{contents_of, none_rings, vacant_empty}
 use Rattle.fx_ring.proofs.ring.Ring.register_list.Goals.{After-replace}
 use Rattle.fx_ring.proofs.ring.Ring.register_list.Goals as goal
 
@@ -13,7 +13,7 @@ invariant_of-numbers-clause-good c =
 
 pub apply_list-requires-clause-room : goal.apply_list-requires-clause-room
 apply_list-requires-clause-room c =
-    let none = ap (λ (a : ℕ → Option Closed). length (removed_from a 0 c.args.list.now)) (vacant_files c.in-Ok-sparse.ensures.state)
+    let none = ap (λ (a : ℕ → Option Closed). length (removed_from a 0 c.args.list.now)) (ap files_at c.in-Ok-sparse.ensures.state)
     ∙ ap length (none_removed 0 c.args.list.now) in
     omega (arith, none)
 
@@ -41,7 +41,7 @@ module _ (c : After-replace) where
       rw (sym (ap (λ (r : RingContents). r.catalogue) c.self.view_is)) at (good_files (length c.args.self.now.catalogue) c.args.list.now c.in_default.ensures.good) in
       subst (λ (t : Contents). IsRing (ring_of (ring_with c.self.inside.catalogue t c.self.inside.submissions (c.self.inside.registrations + 1))))
       (sym c.replace.ensures.after) (ring_updated sparse 0 c.args.list.now (tags_for c.args.list.now c.args.tags) c.in-Ok-apply_list.ensures.ok
-      (none_rings (ring_of sparse) (vacant_files c.in-Ok-sparse.ensures.state)) good)
+      (none_rings (ring_of sparse) (ap files_at c.in-Ok-sparse.ensures.state)) good)
 
 pub invariant_of-self : goal.invariant_of-self
 invariant_of-self c = record {
