@@ -1,10 +1,10 @@
 -- Files that are equal, the same, and apart.
-use Rattle.fx_order.proofs.Words.{◌≡◌, Bool, refl, ap, Decides, Closed, Mark, ◌≢◌, ℕ, suc, ◌+◌, ◌<◌, ◌≤◌, ◌==◌, cond, List, [], ◌∷◌, ◌++◌, length}
-use Rattle.fx_order.proofs.Words.{take, drop, IsTrue, not-true, Decides-not, nil_from_length, ◌↔◌, subst, sym, ◌∙◌, arith, slice_index_or}
-use Rattle.fx_order.proofs.Words.{IsPermutation, sum_by, remove, Decides-eqb, append-nil, length-append, take_all, take_more, split_at}
-use Rattle.fx_order.proofs.Words.{sum_by-IsPermutation, length_permutation, IsPermutation-more, sum_by-append, sum_by-cons, ◌⊎◌, inl, inr, ⊎_elim}
-use Rattle.fx_order.proofs.Words.{Table, Puts, Allocates, Permits, Contains-get_or, recursion_from_All, IsDistinct-cons, PermitsAll, table_with}
-use Rattle.fx_order.proofs.Words.{table_after, file_removed_by, Access, files_removed_in, false, option_to_list, rules, Option, Some, None, option_eq}
+use Rattle.fx_order.proofs.Words.{sum_by-le, ◌≡◌, Bool, refl, ap, Decides, Closed, Mark, ◌≢◌, ℕ, suc, ◌+◌, ◌<◌, ◌≤◌, ◌==◌, cond, List, [], ◌∷◌, ◌++◌}
+use Rattle.fx_order.proofs.Words.{length, take, drop, IsTrue, not-true, Decides-not, nil_from_length, ◌↔◌, subst, sym, ◌∙◌, arith, slice_index_or}
+use Rattle.fx_order.proofs.Words.{IsPermutation, remove, Decides-eqb, append-nil, length-append, take_all, take_more, split_at, sum_by-IsPermutation}
+use Rattle.fx_order.proofs.Words.{length_permutation, IsPermutation-more, sum_by-append, sum_by-cons, ◌⊎◌, inl, inr, ⊎_elim, Table, Puts, Allocates}
+use Rattle.fx_order.proofs.Words.{Permits, Contains-get_or, recursion_from_All, IsDistinct-cons, PermitsAll, table_with, table_after, file_removed_by}
+use Rattle.fx_order.proofs.Words.{Access, files_removed_in, false, option_to_list, rules, Option, Some, None, option_eq}
 use Rattle.fx_base.specs.contracts.mark.MarkPartialEq.TheImpl.{eq-value as eq_of_mark}
 use Rattle.fx_base.specs.contracts.open_file.ClosedPartialEq.TheImpl.{eq-value as eq_of_file}
 use Rattle.std.specs.List.{IsDistinct}
@@ -35,15 +35,6 @@ option_Decides each (Some a) (Some b) = (λ is. ap Some ((each a b).0 is), λ is
 abbrev one_if_same : Closed → Closed → ℕ
 one_if_same file x = cond (same_file file x) 1 0
 
-times-none : {file : Closed} (files : List Closed) → ((i : ℕ) (d : Closed) → i < length files → slice_index_or files i d ≢ file)
-    → sum_by (one_if_same file) files ≡ 0
-times-none [] none = refl
-times-none {file} (x ∷ files) none =
-    let head : one_if_same file x ≡ 0 =
-    ap (λ (b : Bool). cond b 1 0) (not-true _ ((Decides-not _ (file_Decides file x)).1 (λ is. none 0 x (omega arith) (sym is)))) in
-    let rest = times-none files (λ i d lt. none (suc i) d (omega arith)) in
-    sum_by-cons (one_if_same file) x files ∙ omega arith
-
 -- if the file is next, it is one of those that are left
 is_left : {files : List Closed} (done rest left : List Closed) {file : Closed} → IsPermutation files (done ++ left)
     → IsPermutation files (done ++ file ∷ rest) → ((i : ℕ) (d : Closed) → i < length left → slice_index_or left i d ≢ file) → ⊥
@@ -54,7 +45,8 @@ is_left {files} done rest left {file} one other none =
     let parts = sum_by-append (one_if_same file) done left in
     let others = sum_by-append (one_if_same file) done (file ∷ rest) in
     let head = sum_by-cons (one_if_same file) file rest in
-    let nothing = times-none left none in
+    let nothing = sum_by-le (one_if_same file) 0 left (λ k d lt.
+    rw (not-true _ ((Decides-not _ (file_Decides file (slice_index_or left k d))).1 (λ is. none k d lt (sym is)))) (omega arith)) in
     omega arith
 
 -- the loop over the other list: a file that isn't left, one that is, and the end

@@ -1,26 +1,21 @@
 -- The history of an order: its accesses, each done at once.
-use Rattle.fx_order.proofs.Words.{◌≡◌, ℕ, ◌+◌, ◌<◌, ◌≤◌, ◌==◌, true, List, [], ◌∷◌, ◌++◌, map, filter, cond, refl, sym, ap, subst, ◌∙◌, append_assoc}
-use Rattle.fx_order.proofs.Words.{All-contains, arith, All, Contains, append-nil, map-append, All-head, All-tail, Contains-append_cases}
-use Rattle.fx_order.proofs.Words.{filter-append, Event, Action, State, IsSettled, action_of, part_of_chain, AllowsAll, Leads, AllReleaseTheirOwn}
-use Rattle.fx_order.proofs.Words.{state_after, closes_in, by_equality, Table, PermitsAll, access_of, accesses_of, accesses_of_chain, files_removed_in}
-use Rattle.fx_order.proofs.Words.{table_after, Access, ChainAccess, leads_then, closes_in-then, ⊎_elim, All-map, ◌*◌, either_case, length}
-use Rattle.fx_order.proofs.Words.{length-append, sum_by, sum_by-cons, FileEntry, IsAccepted, members_of, Completed, next_member, severs, first_member}
-use Rattle.fx_order.proofs.Words.{Asked, runs_of, Place, IsChainDone, AreChainsDone, chains_of, installs_of, all_installs, accepted-chains}
-use Rattle.fx_order.proofs.Words.{members-are-runs, lt-ltb, le-ltb, Closed, opening, state_of, numbers_for, RingContents, RingState, HasClosed}
-use Rattle.fx_order.proofs.Words.{ring_of, IsOneHistory, Reported, IsOneOrder, table_of, sum_by-le}
+use Rattle.fx_order.proofs.Words.{EachOrderIsAHistory, ◌≡◌, ℕ, ◌+◌, ◌<◌, ◌≤◌, ◌==◌, true, List, [], ◌∷◌, ◌++◌, map, filter, cond, refl, sym, ap}
+use Rattle.fx_order.proofs.Words.{subst, ◌∙◌, append_assoc, All-contains, arith, All, Contains, append-nil, map-append, All-head, All-tail}
+use Rattle.fx_order.proofs.Words.{Contains-append_cases, filter-append, Event, Action, State, IsSettled, action_of, part_of_chain, AllowsAll, Leads}
+use Rattle.fx_order.proofs.Words.{AllReleaseTheirOwn, state_after, closes_in, by_equality, Table, PermitsAll, access_of, accesses_of}
+use Rattle.fx_order.proofs.Words.{accesses_of_chain, files_removed_in, table_after, Access, ChainAccess, leads_then, closes_in-then, ⊎_elim, All-map}
+use Rattle.fx_order.proofs.Words.{◌*◌, either_case, length, length-append, sum_by, sum_by-cons, FileEntry, IsAccepted, members_of, Completed}
+use Rattle.fx_order.proofs.Words.{next_member, severs, first_member, Asked, runs_of, Place, IsChainDone, AreChainsDone, chains_of, installs_of}
+use Rattle.fx_order.proofs.Words.{all_installs, accepted-chains, members-are-runs, lt-ltb, le-ltb, Closed, opening, state_of, numbers_for}
+use Rattle.fx_order.proofs.Words.{RingContents, RingState, HasClosed, ring_of, IsOneHistory, Reported, IsOneOrder, table_of, sum_by-le}
 use Rattle.fx_order.proofs.Accesses.{of_all, of_author, shown, shown-opening}
 use Rattle.fx_order.proofs.RequestSteps.{AllDo, Done, by, done, installs, all_chains_explained}
 use Rattle.fx_order.proofs.Ordered.{IsWithin, ring_after, same_outline}
 use Rattle.fx_ring.proofs.Parts.{few_by_key}
 use Rattle.fx_order.proofs.ChainsFront.{chain_at}
-use Rattle.fx_order.proofs.Placed.{placed, placed_by}
+use Rattle.fx_order.proofs.Placed.{placed, placed-append, placed_by}
 use Rattle.fx_order.proofs.RequestCases.{few_placed}
 use Rattle.fx_order.proofs.OneRing.{NonePast, none_past_accesses, none_past_table, ring_with_files, shows_ring}
-
--- the number of files that the accesses install
-abbrev pub installs_in : List Access → ℕ
-installs_in [] = 0
-installs_in (access ∷ accesses) = installs access + installs_in accesses
 
 -- a legal history of the order's accesses, from one settled state to another
 pub record Made (chains : ℕ) (st : State) (order : List ChainAccess) : Type 0 where
@@ -80,10 +75,11 @@ module _ (chains : ℕ) (st : State) (number : ℕ) (x : ChainAccess) (order : L
 
 -- each order that the table permits is a history, where enough numbers are fresh
 pub made : (chains : ℕ) (order : List ChainAccess) (st : State) (number : ℕ) → IsSettled st
-    → ((n : ℕ) → number ≤ n → n < number + installs_in (accesses_of order) → st.fresh n ≡ true)
+    → ((n : ℕ) → number ≤ n → n < number + length (placed (accesses_of order)) → st.fresh n ≡ true)
     → All (λ x. IsWithin chains x.chain) order → PermitsAll (shown st) (accesses_of order) → Made chains st order
 made chains [] st number settled fresh within may = grind arith
 made chains (x ∷ order) st number settled fresh within may =
+    let both = length-append (placed_by x.access) (placed (accesses_of order)) in
     let one : Done st number x.access = done st number settled x.access (λ some. fresh number (omega arith) (omega arith)) may.0 in
     one_more chains st number x order (All-head (λ y. IsWithin chains y.chain) x order within) one
     (made chains order (state_after st one.own) (number + installs x.access) one.settled
@@ -93,32 +89,23 @@ made chains (x ∷ order) st number settled fresh within may =
 
 -- An order of a submission without a fault installs no more files than its chains have numbers.
 
-installs_in-append : (xs ys : List Access) → installs_in (xs ++ ys) ≡ installs_in xs + installs_in ys
-installs_in-append [] ys = omega arith
-installs_in-append (x ∷ xs) ys = let rest = installs_in-append xs ys in omega arith
-
--- as many as files that they place
-installs_placed : (xs : List Access) → installs_in xs ≡ length (placed xs)
-installs_placed [] = refl
-installs_placed (x ∷ xs) = let rest = installs_placed xs in sym (length-append (placed_by x) (placed xs) ∙ omega arith)
-
 module _ (catalogue : List FileEntry) (size : ℕ) where
   chain_few : (place : Place) (requests : List Asked) (accesses : List Access) (cs : List Completed)
-      → IsChainDone catalogue size place requests accesses cs → installs_in accesses ≤ all_installs requests
+      → IsChainDone catalogue size place requests accesses cs → length (placed accesses) ≤ all_installs requests
   chain_few place [] accesses cs x = rw x.0 (omega arith)
   chain_few place (request ∷ requests) accesses cs x =
       let one = few_placed catalogue size place request.operation x.0 x.2 x.6 in
-      let own = installs_placed x.0 in
-      let more = either_case {R = installs_in x.1 ≤ all_installs requests} (severs request x.2) (λ y. rw y.0 (omega arith))
+      let more = either_case {R = length (placed x.1) ≤ all_installs requests} (severs request x.2) (λ y. rw y.0 (omega arith))
       (chain_few (next_member place) requests x.1 x.3) x.7 in
-      let both = installs_in-append x.0 x.1 in
+      let both = ap length (placed-append x.0 x.1) ∙ length-append (placed x.0) (placed x.1) in
       let all = sum_by-cons (λ (r : Asked). installs_of r.operation) request requests in
       rw x.4 (omega arith)
 
 -- an order's, access by access
-order_installs : (order : List ChainAccess) → sum_by (λ x. installs x.access) order ≡ installs_in (accesses_of order)
+order_installs : (order : List ChainAccess) → sum_by (λ x. installs x.access) order ≡ length (placed (accesses_of order))
 order_installs [] = refl
-order_installs (x ∷ order) = let rest = order_installs order in sum_by-cons (λ (y : ChainAccess). installs y.access) x order ∙ omega arith
+order_installs (x ∷ order) = let rest = order_installs order in sum_by-cons (λ (y : ChainAccess). installs y.access) x order
+    ∙ omega (arith, length-append (placed_by x.access) (placed (accesses_of order)))
 
 -- no chain of a submission without a fault installs more files than it has numbers
 few_a_chain : (requests : List Asked) → IsAccepted requests → All (λ run. all_installs run ≤ 64) (runs_of requests)
@@ -129,7 +116,7 @@ few_a_chain requests accepted =
 
 pub few_installs : (catalogue : List FileEntry) (size submission : ℕ) (requests : List Asked) (order : List ChainAccess) (cs : List Completed)
     → IsAccepted requests → All (λ x. (1 ≤ x.chain) × (x.chain ≤ length (runs_of requests))) order
-    → AreChainsDone catalogue size submission 1 (runs_of requests) order cs → installs_in (accesses_of order) ≤ 64 * length (runs_of requests)
+    → AreChainsDone catalogue size submission 1 (runs_of requests) order cs → length (placed (accesses_of order)) ≤ 64 * length (runs_of requests)
 few_installs catalogue size submission requests order cs accepted within chains =
     let few = few_by_key (λ x. x.chain) (λ x. installs x.access) (λ _. 64) [] 1 (runs_of requests) order
     (λ k d lt. let low = (within k d lt).0 in let high = (within k d lt).1 in (omega arith, omega arith)) (λ i lt.
@@ -174,9 +161,7 @@ history_of_order {old} {requests} {report} few accepted o =
     }
 
 -- and there is a table that has the files which the order leaves
-pub each_order_is_a_history : (old : RingContents) (requests : List Asked) (report : Reported) (left : RingState) → (ring_of old).size ≤ 256
-    → IsAccepted requests → IsOneOrder (ring_of old) requests report left
-    → (new : RingContents) × (ring_of new ≡ left) × IsOneHistory old requests report new
+pub each_order_is_a_history : EachOrderIsAHistory
 each_order_is_a_history old requests report left few accepted o =
     let same = shows_ring left (subst (λ (r : RingState). NonePast r.size r.at) (sym o.after)
     (none_past_accesses (accesses_of o.order) (table_of (ring_of old)) o.is.permitted (none_past_table old))) in

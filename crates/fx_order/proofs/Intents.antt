@@ -1,16 +1,14 @@
 -- A request's accesses are those that it intends, and its completion is the answer by what they
 -- found.
-use Rattle.fx_order.proofs.Words.{◌≡◌, ◌↔◌, ℕ, zero, suc, ◌+◌, ◌-◌, ◌≤◌, ℤ, pos, negsuc, List, [], ◌∷◌, ◌++◌, refl, sym, ap, ◌∙◌, Some}
-use Rattle.fx_order.proofs.Words.{None, inl, inr, ⊎_elim, FileEntry, Completed, Operation, Opens, Reads, Closes, Updates, Place, Slot, Any, Access}
-use Rattle.fx_order.proofs.Words.{IsCatalogue, arith, false, int_le, length, nat_tests, positions_from, positions_of, slice_get, Bool, IsTrue}
-use Rattle.fx_order.proofs.Words.{completed, drop, refusal_of, slice_index_or, subst, take, IsRequestDone}
-use Rattle.fx_chain.specs.Intents.{IsOpened, allocated, answer_at_table, intents_of, list_intents}
+use Rattle.fx_order.proofs.Words.{◌≡◌, ◌↔◌, ℕ, zero, suc, ◌+◌, ◌-◌, ◌≤◌, ℤ, pos, negsuc, List, [], ◌∷◌, ◌++◌, refl, sym, ap, ◌∙◌, Some, None, inl}
+use Rattle.fx_order.proofs.Words.{inr, ⊎_elim, FileEntry, Completed, Operation, Opens, Reads, Closes, Updates, Place, Slot, Any, Access, IsCatalogue}
+use Rattle.fx_order.proofs.Words.{arith, false, int_le, length, nat_tests, positions_from, positions_of, slice_get, Bool, IsTrue, completed, drop}
+use Rattle.fx_order.proofs.Words.{refusal_of, slice_index_or, take, IsRequestDone, Allocates, Closed, FindsFull, Looks, Puts, Takes, installed}
+use Rattle.fx_order.proofs.Words.{name_at, IsOpened, allocated, answer_at_table, intents_of, list_intents, Intent, AllZip, IsOf, last_finding, Option}
 use Rattle.fx_chain.specs.declared.intent.Finding.TheVariants.{At, Free}
-use Rattle.fx_chain.specs.declared.intent.Intent.{Intent}
-use Rattle.fx_order.specs.Access.{IsOf, entry_installed, last_finding}
+use Rattle.fx_chain.specs.declared.intent.Intent.TheVariants.{Allocate, Look, Put, Take}
 use Rattle.fx_order.specs.Requests.{AreIntended, IsOwnEntry, LacksMemory}
 use Rattle.fx_order.proofs.ChainsFront.{first_and_rest}
-use Rattle.std.specs.List.{AllZip}
 
 pub zip_append : (xs ys : List Intent) (us vs : List Access) → AllZip IsOf xs us → AllZip IsOf ys vs → AllZip IsOf (xs ++ ys) (us ++ vs)
 zip_append [] ys [] vs first second = second
@@ -84,21 +82,39 @@ pub next_fits : (xs : List Intent) (made : ℕ) (x : Intent) (accesses : List Ac
 next_fits xs made x accesses d got some b e fits met rest =
     rw (first_and_rest accesses d some, drop_got xs made x got) (λ t. (fits.0 met, rest.0 t), λ z. rest.1 z.1)
 
+-- a property of the accesses that a request intends, by its operation and what they find
+module _ (catalogue : List FileEntry) (place : Place) (P : Operation → List Access → Type 0)
+    (puts : (name : List ℕ) (slot entry : ℕ) (removed : Option Closed) → name_at catalogue entry ≡ Some name
+    → P (Opens name (Slot slot)) (Puts slot (installed place 0 entry) removed ∷ []))
+    (allocates : (name : List ℕ) (slot entry : ℕ) → name_at catalogue entry ≡ Some name
+    → P (Opens name Any) (Allocates slot (installed place 0 entry) ∷ []))
+    (full : (name : List ℕ) (entry : ℕ) → name_at catalogue entry ≡ Some name → P (Opens name Any) (FindsFull ∷ []))
+    (looks : (slot off len : ℕ) (found : Option Closed) → P (Reads slot off len) (Looks slot found ∷ []))
+    (takes : (slot : ℕ) (found : Option Closed) → P (Closes slot) (Takes slot found ∷ []))
+    (updates : (off : ℕ) (list : List ℤ) (own : List Access) → AllZip IsOf (list_intents place 0 off list) own → P (Updates off list) own) where
+  found_free : (name : List ℕ) (entry : ℕ) → name_at catalogue entry ≡ Some name → (a : Access) → IsOf (Allocate (installed place 0 entry)) a
+      → P (Opens name Any) (a ∷ [])
+  found_free name entry named a (inl x) = rw x.1 (allocates name x.0 entry named)
+  found_free name entry named a (inr x) = rw x (full name entry named)
+
+  pub by_intents : (operation : Operation) (own : List Access) → AreIntended catalogue place operation own → P operation own
+  by_intents (Opens name (Slot slot)) own x =
+      single (Put slot (installed place 0 x.0)) (P (Opens name (Slot slot))) own x.2 (λ a is. rw is.1 (puts name slot x.0 is.0 x.1))
+  by_intents (Opens name Any) own x = single (Allocate (installed place 0 x.0)) (P (Opens name Any)) own x.2 (found_free name x.0 x.1)
+  by_intents (Reads slot off len) own x = single (Look slot) (P (Reads slot off len)) own x.2 (λ a is. rw is.1 (looks slot off len is.0))
+  by_intents (Closes slot) own x = single (Take slot) (P (Closes slot)) own x.2 (λ a is. rw is.1 (takes slot is.0))
+  by_intents (Updates off list) own x = updates off list own x.2
+
 module _ (catalogue : List FileEntry) (place : Place) where
   -- the accesses are intended by the entry that was chosen
   pub chosen : (operation : Operation) (own : List Access) (entry : ℕ) → IsOpened catalogue operation entry
       → IsOwnEntry catalogue operation own entry → AreIntended catalogue place operation own → AllZip IsOf (intents_of place entry operation) own
-  chosen (Opens name target) [] entry opened mine x = absurd x.2
-  chosen (Opens name target) (a ∷ b ∷ own) entry opened mine x = absurd x.2.1
-  chosen (Opens name (Slot slot)) (a ∷ []) entry opened mine x =
-      let same : x.0 ≡ entry = mine x.0 (ap (λ b. entry_installed (b ∷ [])) x.2.0.1) x.1 in rw same at x.2
-  chosen (Opens name Any) (a ∷ []) entry opened mine (e, named, (inl y, none)) =
-      let same : e ≡ entry = mine e (ap (λ b. entry_installed (b ∷ [])) y.1) named in
-      let fits : AllZip IsOf (intents_of place e (Opens name Any)) (a ∷ []) = (inl y, none) in
-      rw same at fits
-  chosen (Opens name Any) (a ∷ []) entry opened mine (e, named, (inr y, none)) = (inr y, none)
-  chosen operation own entry opened mine x =
-      let same : x.0 ≡ entry = x.1 ∙ sym opened in subst (λ (e : ℕ). AllZip IsOf (intents_of place e operation) own) same x.2
+  chosen operation own entry opened mine x = by_intents catalogue place
+      (λ o l. IsOwnEntry catalogue o l entry → AllZip IsOf (intents_of place entry o) l)
+      (λ name slot e removed named mine. ((removed, ap (λ (k : ℕ). Puts slot (installed place 0 k) removed) (mine e refl named)), tt))
+      (λ name slot e named mine. (inl (slot, ap (λ (k : ℕ). Allocates slot (installed place 0 k)) (mine e refl named)), tt))
+      (λ name e named mine. (inr refl, tt)) (λ slot off len found mine. ((found, refl), tt)) (λ slot found mine. ((found, refl), tt))
+      (λ off list l fits mine. fits) operation own x mine
 
   list_found : (in_list slot free : ℕ) (list : List ℤ) (own : List Access) → AllZip IsOf (list_intents place in_list slot list) own
       → last_finding own ≡ Some (Free free) → ⊥
@@ -117,18 +133,10 @@ module _ (catalogue : List FileEntry) (place : Place) where
   -- only an open at any slot finds a free slot, and answers it
   pub free_answer : (operation : Operation) (own : List Access) (free : ℕ) → AreIntended catalogue place operation own
       → last_finding own ≡ Some (Free free) → answer_at_table catalogue place operation (last_finding own) ≡ completed place (pos free) []
-  free_answer (Opens name target) [] free x is = absurd x.2
-  free_answer (Opens name target) (a ∷ b ∷ own) free x is = absurd x.2.1
-  free_answer (Opens name Any) (a ∷ []) free x is = ap (allocated place) is
-  free_answer (Opens name (Slot slot)) (a ∷ []) free x is =
-      let e : Some (At x.2.0.0) ≡ Some (Free free) = rw x.2.0.1 at is in absurd (cc)
-  free_answer (Reads slot off len) [] free x is = absurd x.2
-  free_answer (Reads slot off len) (a ∷ b ∷ own) free x is = absurd x.2.1
-  free_answer (Reads slot off len) (a ∷ []) free x is = let e : Some (At x.2.0.0) ≡ Some (Free free) = rw x.2.0.1 at is in absurd (cc)
-  free_answer (Closes slot) [] free x is = absurd x.2
-  free_answer (Closes slot) (a ∷ b ∷ own) free x is = absurd x.2.1
-  free_answer (Closes slot) (a ∷ []) free x is = let e : Some (At x.2.0.0) ≡ Some (Free free) = rw x.2.0.1 at is in absurd (cc)
-  free_answer (Updates off list) own free x is = absurd (list_found 0 off free list own x.2 is)
+  free_answer operation own free = by_intents catalogue place
+      (λ o l. last_finding l ≡ Some (Free free) → answer_at_table catalogue place o (last_finding l) ≡ completed place (pos free) [])
+      (λ name slot entry removed named is. cc) (λ name slot entry named is. ap (allocated place) is) (λ name entry named is. cc)
+      (λ slot off len found is. cc) (λ slot found is. cc) (λ off list l fits is. absurd (list_found 0 off free list l fits is)) operation own
 
   -- a request that isn't refused, and doesn't lack memory
   module _ (size : ℕ) (operation : Operation) (own : List Access) (c : Completed) (accepted : refusal_of catalogue size operation ≡ None) where

@@ -1,12 +1,13 @@
 -- The ring that a report of a submission leads to, and the tables that show a ring.
-use Rattle.fx_order.proofs.Words.{◌≡◌, ℕ, ◌<◌, ◌≤◌, List, [], ◌∷◌, refl, ap, ◌∙◌, arith, Option, Some, None, FileEntry, Closed, State, vacant}
-use Rattle.fx_order.proofs.Words.{numbered, ring_with, ring_with_slots, file_at, changed_at, identity_of, RingContents, RingState, ring_of, Table}
-use Rattle.fx_order.proofs.Words.{Puts, Clears, Takes, Allocates, PermitsAll, table_after, Access, get_or-eq_default, inl, inr, ⊎_elim, ◌+◌, length}
-use Rattle.fx_order.proofs.Words.{sym, subst, All, not_yet, same_from_decides, IsDistinct-IsPermutation, apart_from_distinct, get_or_from_slice_get}
-use Rattle.fx_order.proofs.Words.{slice_get_within, IsDistinct, Contains, slice_get, slice_index_or, All-map, Contains-permutation, IsPermutation-sym}
-use Rattle.fx_order.proofs.Words.{IsCatalogue, Submitted, IsAccepted, members_of, chains_of, first_member, Asked, runs_of, accepted-chains}
-use Rattle.fx_order.proofs.Words.{members-are-runs, IsRing, Reported, files_removed_in, accesses_of, accesses_of_chain, AreKnown, IsOfNext}
-use Rattle.fx_order.proofs.Words.{IsOneOrder, IsOrderOf, table_of, ChainAccess, cases_lt, false≢true, Decides-like, ring_so}
+use Rattle.fx_order.proofs.Words.{NoFileThatStaysIsClosed, EachClosedFileIsKnown, EachReportLeadsToOneRing, ◌≡◌, ℕ, ◌<◌, ◌≤◌, List, [], ◌∷◌, refl, ap}
+use Rattle.fx_order.proofs.Words.{◌∙◌, arith, Option, Some, None, FileEntry, Closed, State, vacant, numbered, ring_with, ring_with_slots, file_at}
+use Rattle.fx_order.proofs.Words.{changed_at, identity_of, RingContents, RingState, ring_of, Table, Puts, Clears, Takes, Allocates, PermitsAll}
+use Rattle.fx_order.proofs.Words.{table_after, Access, get_or-eq_default, inl, inr, ⊎_elim, ◌+◌, length, sym, subst, All, not_yet, same_from_decides}
+use Rattle.fx_order.proofs.Words.{IsDistinct-IsPermutation, apart_from_distinct, get_or_from_slice_get, slice_get_within, IsDistinct, Contains}
+use Rattle.fx_order.proofs.Words.{slice_get, slice_index_or, All-map, Contains-permutation, IsPermutation-sym, IsCatalogue, Submitted, IsAccepted}
+use Rattle.fx_order.proofs.Words.{members_of, chains_of, first_member, Asked, runs_of, accepted-chains, members-are-runs, IsRing, Reported}
+use Rattle.fx_order.proofs.Words.{files_removed_in, accesses_of, accesses_of_chain, IsOfNext, IsOrderOf, table_of, ChainAccess, cases_lt, false≢true}
+use Rattle.fx_order.proofs.Words.{Decides-like, ring_so}
 use Rattle.fx_ring.specs.OpenRings.{table_with_files}
 use Rattle.std.specs.Prelude.{option_map}
 use Rattle.fx_order.specs.declared.ring_slots.RingSlots.{RingSlots}
@@ -121,8 +122,7 @@ same_option None None to back = refl
 same_option None (Some f) to back = back f refl
 same_option (Some f) b to back = sym (to f refl)
 
-pub each_report_leads_to_one_ring : (old : RingState) (requests : List Asked) (report : Reported) (left other : RingState)
-    → IsCatalogue old.catalogue → IsRing old → IsOneOrder old requests report left → IsOneOrder old requests report other → left ≡ other
+pub each_report_leads_to_one_ring : EachReportLeadsToOneRing
 each_report_leads_to_one_ring old requests report left other catalogue is o p =
     o.after ∙ ((λ i. record old {
       at = λ s. same_option ((table_after (table_of old) (accesses_of o.order)).at s) ((table_after (table_of old) (accesses_of p.order)).at s)
@@ -172,8 +172,7 @@ of_next old {requests} report is {order} o accepted s {f} has =
       untagged = n.untagged;
     }
 
-pub each_closed_file_is_known : (old : RingState) (requests : List Asked) (report : Reported) (left : RingState) → IsRing old
-    → IsAccepted requests → IsOneOrder old requests report left → AreKnown old requests report.closes.files
+pub each_closed_file_is_known : EachClosedFileIsKnown
 each_closed_file_is_known old requests report left is accepted o =
     let xs : List Access = accesses_of o.order in
     record {
@@ -186,6 +185,5 @@ each_closed_file_is_known old requests report left is accepted o =
           (removes_once (table_of old) xs (apart old requests report is o.order o.is) o.is.permitted));
     }
 
-pub no_file_that_stays_is_closed : (old : RingState) (requests : List Asked) (report : Reported) (left : RingState) → IsRing old
-    → IsOneOrder old requests report left → (slot : ℕ) (file : Closed) → left.at slot ≡ Some file → Contains report.closes.files file → ⊥
+pub no_file_that_stays_is_closed : NoFileThatStaysIsClosed
 no_file_that_stays_is_closed old requests report left is o slot file at = grind (arith, left_stays)

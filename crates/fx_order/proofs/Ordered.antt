@@ -1,43 +1,13 @@
 -- The order of a history: its accesses, one after another.
-use Rattle.fx_order.proofs.Words.{◌≡◌, ℕ, ◌+◌, ◌<◌, List, [], ◌∷◌, ◌++◌, length, take, sym, ap, ◌∙◌, slice_index_or, Option, zero, suc, arith}
-use Rattle.fx_order.proofs.Words.{map-append, take_more, option_to_list, Closed, Table, Permits, PermitsAll, table_with, table_after, file_removed_by}
-use Rattle.fx_order.proofs.Words.{files_removed_in, access_of, accesses_of, ChainAccess, Access, ◌≤◌, map, refl, subst, All, Contains, IsPermutation}
-use Rattle.fx_order.proofs.Words.{opening_is_start, All-nil, All-append, IsPermutation-trans, Event, Action, State, opening, state_of, action_of}
-use Rattle.fx_order.proofs.Words.{closes_in, numbers_for, Asked, runs_of, RingContents, RingState, ring_of, IsOneHistory, Reported, Looks, IsOneOrder}
-use Rattle.fx_order.proofs.Words.{table_of, contains_head, contains_tail, All-map, length-map, FileEntry, members_of, Chain, ring_left, ring_of_slots}
-use Rattle.fx_order.proofs.Words.{table_of_slots, Slots, IsTrue, false, ◌↔◌, false≢true}
-use Rattle.fx_order.proofs.Accesses.{PermitsAll-append, table_after-append, shown, accesses_by, accesses_in, order_in, by_chain, accesses_of-order_in}
-use Rattle.fx_order.proofs.Accesses.{permitted_along, shown-opening, files_removed_in-append, removed_is_closed}
+use Rattle.fx_order.proofs.Words.{EachHistoryIsAnOrder, ◌≡◌, ℕ, ◌+◌, List, [], ◌∷◌, length, sym, ap, ◌∙◌, Option, arith, Closed, Table, PermitsAll}
+use Rattle.fx_order.proofs.Words.{table_with, table_after, files_removed_in, accesses_of, ChainAccess, Access, ◌≤◌, map, refl, subst, All, Contains}
+use Rattle.fx_order.proofs.Words.{IsPermutation, opening_is_start, All-nil, All-append, IsPermutation-trans, Event, Action, State, opening, state_of}
+use Rattle.fx_order.proofs.Words.{action_of, closes_in, numbers_for, Asked, runs_of, RingState, ring_of, Looks, table_of, contains_head}
+use Rattle.fx_order.proofs.Words.{contains_tail, All-map, length-map, FileEntry, members_of, Chain, ring_left, ring_of_slots, table_of_slots, Slots}
+use Rattle.fx_order.proofs.Words.{IsTrue, false, ◌↔◌, false≢true}
+use Rattle.fx_order.proofs.Accesses.{shown, accesses_by, accesses_in, order_in, by_chain, accesses_of-order_in}
+use Rattle.fx_order.proofs.Accesses.{permitted_along, shown-opening, removed_is_closed}
 use Rattle.fx_order.proofs.RequestSteps.{all_explained}
-
-module _ (order : List ChainAccess) (i : ℕ) (d : ChainAccess) (within : i < length order) where
-  abbrev x : Access
-  x = (slice_index_or order i d).access
-
-  accesses_more : accesses_of (take (i + 1) order) ≡ accesses_of (take i order) ++ x ∷ []
-  accesses_more = ap accesses_of (take_more order i d within) ∙ map-append access_of (take i order) (slice_index_or order i d ∷ [])
-
-  pub make_one : (start at next : Table) → PermitsAll start (accesses_of (take i order)) → at ≡ table_after start (accesses_of (take i order))
-      → Permits at x → next ≡ table_with at x
-      → PermitsAll start (accesses_of (take (i + 1) order)) × (next ≡ table_after start (accesses_of (take (i + 1) order)))
-  make_one start at next before is may made = grind (arith, accesses_more, PermitsAll-append, table_after-append)
-
-  pub more_removed : {before now : List Closed} {found : Option Closed} → before ≡ files_removed_in (accesses_of (take i order))
-      → found ≡ file_removed_by x → now ≡ before ++ option_to_list found → now ≡ files_removed_in (accesses_of (take (i + 1) order))
-  more_removed so_far is grown = grind (arith, accesses_more, files_removed_in-append)
-
--- each access of an order is permitted at its place
-permitted_at : (start : Table) (order : List ChainAccess) (i : ℕ) (d : ChainAccess) → i < length order → PermitsAll start (accesses_of order)
-    → Permits (table_after start (accesses_of (take i order))) (slice_index_or order i d).access
-permitted_at start [] i d within all = absurd (omega arith)
-permitted_at start (x ∷ order) zero d within all = all.0
-permitted_at start (x ∷ order) (suc i) d within all = permitted_at (table_with start x.access) order i d (omega arith) all.1
-
-pub permitted_here : (order : List ChainAccess) {i : ℕ} (d : ChainAccess) → i < length order → (start at : Table)
-    → at ≡ table_after start (accesses_of (take i order)) → PermitsAll start (accesses_of order) → Permits at (slice_index_or order i d).access
-permitted_here order {i} d within start at is all = rw is (permitted_at start order i d within all)
-
--- The order of a history's accesses leads to what the history leads to.
 
 abbrev pub IsWithin : ℕ → ℕ → Type 0
 IsWithin chains chain = (1 ≤ chain) × (chain ≤ chains)
@@ -63,8 +33,7 @@ same_outline table (access ∷ accesses) = same_outline (table_with table access
 abbrev pub ring_after : RingState → ℕ → Table → RingState
 ring_after ring submissions table = record ring { size = table.size; range = table.range; at = table.at; submissions = submissions }
 
-pub each_history_is_an_order : (old new : RingContents) (requests : List Asked) (report : Reported) → IsOneHistory old requests report new
-    → IsOneOrder (ring_of old) requests report (ring_of new)
+pub each_history_is_an_order : EachHistoryIsAnOrder
 each_history_is_an_order old new requests report h =
     let numbers : ℕ = numbers_for (length (runs_of requests)) in
     let start : State = opening (state_of old.table) numbers in

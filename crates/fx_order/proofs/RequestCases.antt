@@ -5,19 +5,16 @@ use Rattle.fx_order.proofs.Words.{◌∙◌, arith, inl, inr, Option, Some, slic
 use Rattle.fx_order.proofs.Words.{int_eq, Submitted, Closed, Place, installed, is_bad_entry, list_installs, list_installs-cons, Access, FileEntry}
 use Rattle.fx_order.proofs.Words.{IsCatalogue, name_at, Errno, EBADF, ENFILE, ENOMEM, refusal_of, Operation, Opens, Reads, Closes, Updates, Target}
 use Rattle.fx_order.proofs.Words.{Completed, completed, refusal, Any, Slot, Allocates, completion_of_read, IsDoneAtTable, IsRequestDone, InstallsAt}
-use Rattle.fx_order.proofs.Words.{installs_of, is_long_update, LONGEST_UPDATE, positions_of, applied, None, either_option}
+use Rattle.fx_order.proofs.Words.{installs_of, is_long_update, LONGEST_UPDATE, positions_of, applied, None, either_option, IsOf, last_finding}
+use Rattle.fx_order.proofs.Words.{IsOpened, answer_at_table, close_answer, count_of, intents_of, list_intents, read_answer, Intent, AllZip}
 use Rattle.fx_order.proofs.Apart.{Own, own_both, own_none, own_one, own_weaker}
-use Rattle.fx_order.proofs.Intents.{as_many, same_opened, single}
+use Rattle.fx_order.proofs.Intents.{as_many, by_intents, same_opened}
 use Rattle.fx_order.proofs.Placed.{placed}
-use Rattle.fx_order.specs.Access.{IsOf, finding_of, last_finding}
 use Rattle.fx_base.proofs.Entries.{entry_named}
 use Rattle.fx_chain.proofs.Cases.{both_options}
-use Rattle.fx_chain.specs.Intents.{IsOpened, allocated, answer_at_table, close_answer, count_of, intents_of, list_intents, read_answer}
 use Rattle.fx_chain.specs.declared.intent.Finding.{Finding}
 use Rattle.fx_chain.specs.declared.intent.Finding.TheVariants.{At, Free}
-use Rattle.fx_chain.specs.declared.intent.Intent.{Intent}
-use Rattle.fx_chain.specs.declared.intent.Intent.TheVariants.{Allocate, Look, Put, Take}
-use Rattle.std.specs.List.{AllZip}
+use Rattle.fx_chain.specs.declared.intent.Intent.TheVariants.{Allocate, Put}
 
 -- a file of the catalogue without a tag, of a position in a request's list
 pub record IsMarked (entries : ℕ) (place : Place) (in_list : ℕ) (f : Closed) : Type 0 where
@@ -109,19 +106,13 @@ module _ (catalogue : List FileEntry) (place : Place) (Q : Completed → Type 0)
   close_so (Some (At (Some file))) missed taken = taken
   close_so found missed taken = missed
 
-  open_so : (found : Option Finding) → Q (refusal place ENFILE) → ((slot : ℕ) → Q (completed place (pos slot) [])) → Q (allocated place found)
-  open_so (Some (Free slot)) full free = free slot
-  open_so found full free = full
-
 -- no answer is that of a request without memory
 pub has_memory : (catalogue : List FileEntry) (place : Place) (operation : Operation) (found : Option Finding)
     → int_eq (answer_at_table catalogue place operation found).res (negsuc 11) ≡ false
-has_memory catalogue place (Opens name (Slot slot)) found = refl
-has_memory catalogue place (Opens name Any) found = open_so catalogue place (λ d. int_eq d.res (negsuc 11) ≡ false) found refl (λ _. refl)
-has_memory catalogue place (Reads slot off len) found =
-    read_so catalogue place (λ d. int_eq d.res (negsuc 11) ≡ false) off len found refl (λ _. refl)
-has_memory catalogue place (Closes slot) found = close_so catalogue place (λ d. int_eq d.res (negsuc 11) ≡ false) found refl refl
-has_memory catalogue place (Updates off list) found = refl
+has_memory catalogue place (Opens name Any) (Some (Free slot)) = refl
+has_memory catalogue place (Reads slot off len) (Some (At (Some file))) = refl
+has_memory catalogue place (Closes slot) (Some (At (Some file))) = refl
+has_memory catalogue place operation found = refl
 
 module _ (catalogue : List FileEntry) (place : Place) where
   -- the accesses of a request are all of its operation's, but none if it lacks memory
@@ -148,21 +139,16 @@ module _ (catalogue : List FileEntry) (place : Place) where
       (given : (file : Closed) (off len : ℕ) → Q (completion_of_read catalogue place file off len))
       (number : (n : ℕ) → n ≤ size → Q (completed place (pos n) []))
       (free : (slot : ℕ) (file : Closed) → own ≡ Allocates slot file ∷ [] → Q (completed place (pos slot) [])) where
-    free_so : {file : Closed} (a : Access) → IsOf (Allocate file) a → own ≡ a ∷ [] → c ≡ allocated place (Some (finding_of a)) → Q c
-    free_so {file} a (inl x) is answer = rw (rw x.1 at answer) (free x.0 file (rw x.1 at is))
-    free_so a (inr x) is answer = rw (rw x at answer) (failed ENFILE)
-
     at_table_so : (operation : Operation) → refusal_of catalogue size operation ≡ None → IsDoneAtTable catalogue place operation own c → Q c
     at_table_so operation accepted (inl x) = rw x.1.1 (failed ENOMEM)
-    at_table_so (Opens name (Slot slot)) accepted (inr x) = rw x.1 (number 0 (omega arith))
-    at_table_so (Opens name Any) accepted (inr x) =
-        single (Allocate (installed place 0 x.0.0)) (λ l. own ≡ l → c ≡ allocated place (last_finding l) → Q c) own x.0.2
-        (λ a is same said. free_so a is same said) refl x.1
-    at_table_so (Reads slot off len) accepted (inr x) =
-        rw x.1 (read_so catalogue place Q off len (last_finding own) (failed EBADF) (λ file. given file off len))
-    at_table_so (Closes slot) accepted (inr x) = rw x.1 (close_so catalogue place Q (last_finding own) (failed EBADF) (number 0 (omega arith)))
-    at_table_so (Updates off list) accepted (inr x) =
-        let fits = (applied (length catalogue) size off list accepted).fits in rw x.1 (number (length list) (omega arith))
+    at_table_so operation accepted (inr x) = rw x.1 (by_intents catalogue place
+        (λ o l. refusal_of catalogue size o ≡ None → own ≡ l → Q (answer_at_table catalogue place o (last_finding l)))
+        (λ name slot entry removed named _ is. number 0 (omega arith))
+        (λ name slot entry named _ is. free slot (installed place 0 entry) is) (λ name entry named _ is. failed ENFILE)
+        (λ slot off len found _ is. read_so catalogue place Q off len (Some (At found)) (failed EBADF) (λ file. given file off len))
+        (λ slot found _ is. close_so catalogue place Q (Some (At found)) (failed EBADF) (number 0 (omega arith)))
+        (λ off list l fits good is. let long = (applied (length catalogue) size off list good).fits in number (length list) (omega arith))
+        operation own x.0 accepted refl)
 
     -- the completion is an error, the bytes of a file, or a number
     pub completion_so : (operation : Operation) → IsRequestDone catalogue size place operation own c → Q c
@@ -180,29 +166,14 @@ module _ (catalogue : List FileEntry) (size : ℕ) (place : Place) where
   ArePlanned operation own c =
       (entry : ℕ) × IsOpened catalogue operation entry × (placed own ≡ planned (intents_of place entry operation) c.res)
 
-  free_planned : {file : Closed} (a : Access) (c : Completed) → IsOf (Allocate file) a → c ≡ allocated place (Some (finding_of a))
-      → placed (a ∷ []) ≡ planned (Allocate file ∷ []) c.res
-  free_planned a c (inl x) answer = rw (rw x.1 at answer, x.1) refl
-  free_planned a c (inr x) answer = rw (rw x at answer, x) refl
-
   are_planned : (operation : Operation) (own : List Access) (c : Completed) → IsDoneAtTable catalogue place operation own c → ArePlanned operation own c
-  are_planned (Opens name (Slot slot)) own c (inr x) = (
-    x.0.0,
-    x.0.1,
-    single (Put slot (installed place 0 x.0.0)) (λ l. placed l ≡ (slot, installed place 0 x.0.0) ∷ []) own x.0.2 (λ a is. rw is.1 refl),
-  )
-  are_planned (Opens name Any) own c (inr x) = (
-    x.0.0,
-    x.0.1,
-    single (Allocate (installed place 0 x.0.0))
-        (λ l. c ≡ allocated place (last_finding l) → placed l ≡ planned (Allocate (installed place 0 x.0.0) ∷ []) c.res) own x.0.2
-        (λ a is said. free_planned a c is said) x.1,
-  )
-  are_planned (Reads slot off len) own c (inr x) = (x.0.0, x.0.1, single (Look slot) (λ l. placed l ≡ []) own x.0.2 (λ a is. rw is.1 refl))
-  are_planned (Closes slot) own c (inr x) = (x.0.0, x.0.1, single (Take slot) (λ l. placed l ≡ []) own x.0.2 (λ a is. rw is.1 refl))
-  are_planned (Updates off list) own c (inr x) = (x.0.0, x.0.1, list_placed place c.res 0 off list own x.0.2)
   are_planned (Reads slot off len) own c (inl x) = (0, refl, ap placed x.1.0)
   are_planned operation own c (inl x) = absurd (omega (arith, x.0))
+  are_planned operation own c (inr x) = rw x.1 (by_intents catalogue place
+      (λ o l. ArePlanned o l (answer_at_table catalogue place o (last_finding l)))
+      (λ name slot entry removed named. (entry, named, refl)) (λ name slot entry named. (entry, named, refl)) (λ name entry named. (entry, named, refl))
+      (λ slot off len found. (0, refl, refl)) (λ slot found. (0, refl, refl))
+      (λ off list l fits. (0, refl, list_placed place (pos (length list)) 0 off list l fits)) operation own x.0)
 
   -- by the completion alone, if no name is twice in the catalogue
   pub placed_same : IsCatalogue catalogue → (operation : Operation) (one other : List Access) (c : Completed)
@@ -236,47 +207,30 @@ module _ (catalogue : List FileEntry) (size : ℕ) (place : Place) where
     pub res : ℕ
     pub accepted : c.res ≡ pos res
 
-  open_own : (name : List ℕ) (target : Target) (entry slot n : ℕ) {c : Completed} → name_at catalogue entry ≡ Some name
-      → c ≡ completed place (pos n) [] → Own (IsInstalled (Opens name target) c) ((slot, installed place 0 entry) ∷ [])
-  open_own name target entry slot n {c} named answer = own_one {P = IsInstalled (Opens name target) c} (record {
+  open_own : (name : List ℕ) (target : Target) (entry slot n : ℕ) → name_at catalogue entry ≡ Some name
+      → Own (IsInstalled (Opens name target) (completed place (pos n) [])) ((slot, installed place 0 entry) ∷ [])
+  open_own name target entry slot n named = own_one {P = IsInstalled (Opens name target) (completed place (pos n) [])} (record {
     at = 0;
     listed = refl;
     is = record { mark = refl; inside = entry_named catalogue entry name named; untagged = refl };
-    here = ap (λ (d : Completed). d.place) answer;
+    here = refl;
     res = n;
-    accepted = ap (λ (d : Completed). d.res) answer;
+    accepted = refl;
   })
-
-  free_own : (name : List ℕ) (entry : ℕ) (a : Access) {c : Completed} → name_at catalogue entry ≡ Some name
-      → IsOf (Allocate (installed place 0 entry)) a → c ≡ allocated place (Some (finding_of a))
-      → Own (IsInstalled (Opens name Any) c) (placed (a ∷ []))
-  free_own name entry a named (inl x) answer = rw x.1 (open_own name Any entry x.0 x.0 named (rw x.1 at answer))
-  free_own name entry a named (inr x) answer = rw x own_none
 
   each_at_table : (operation : Operation) (own : List Access) (c : Completed) → refusal_of catalogue size operation ≡ None
       → IsDoneAtTable catalogue place operation own c → Own (IsInstalled operation c) (placed own)
   each_at_table operation own c accepted (inl x) = rw x.1.0 own_none
-  each_at_table (Opens name (Slot slot)) own c accepted (inr x) =
-      single (Put slot (installed place 0 x.0.0)) (λ l. Own (IsInstalled (Opens name (Slot slot)) c) (placed l)) own x.0.2
-      (λ a is. rw is.1 (open_own name (Slot slot) x.0.0 slot 0 x.0.1 x.1))
-  each_at_table (Opens name Any) own c accepted (inr x) =
-      single (Allocate (installed place 0 x.0.0)) (λ l. c ≡ allocated place (last_finding l) → Own (IsInstalled (Opens name Any) c) (placed l))
-      own x.0.2 (λ a is said. free_own name x.0.0 a x.0.1 is said) x.1
-  each_at_table (Reads slot off len) own c accepted (inr x) =
-      single (Look slot) (λ l. Own (IsInstalled (Reads slot off len) c) (placed l)) own x.0.2 (λ a is. rw is.1 own_none)
-  each_at_table (Closes slot) own c accepted (inr x) =
-      single (Take slot) (λ l. Own (IsInstalled (Closes slot) c) (placed l)) own x.0.2 (λ a is. rw is.1 own_none)
-  each_at_table (Updates off list) own c accepted (inr x) =
-      rw (list_placed place c.res 0 off list own x.0.2) (own_weaker (planned (list_intents place 0 off list) c.res)
-      (λ f l. record {
-        at = l.at;
-        listed = (l.file, l.number);
-        is = rw zero-add at l.is;
-        here = ap (λ (d : Completed). d.place) x.1;
-        res = length list;
-        accepted = ap (λ (d : Completed). d.res) x.1;
-      })
-      (list_own place (length catalogue) c.res 0 off list (applied (length catalogue) size off list accepted).good))
+  each_at_table operation own c accepted (inr x) = rw x.1 (by_intents catalogue place
+      (λ o l. refusal_of catalogue size o ≡ None → Own (IsInstalled o (answer_at_table catalogue place o (last_finding l))) (placed l))
+      (λ name slot entry removed named _. open_own name (Slot slot) entry slot 0 named)
+      (λ name slot entry named _. open_own name Any entry slot slot named)
+      (λ name entry named _. own_none) (λ slot off len found _. own_none) (λ slot found _. own_none)
+      (λ off list l fits good. rw (list_placed place (pos (length list)) 0 off list l fits)
+      (own_weaker (planned (list_intents place 0 off list) (pos (length list)))
+      (λ f e. record { at = e.at; listed = (e.file, e.number); is = rw zero-add at e.is; here = refl; res = length list; accepted = refl })
+      (list_own place (length catalogue) (pos (length list)) 0 off list (applied (length catalogue) size off list good).good)))
+      operation own x.0 accepted)
 
   -- each file that a request places is one of its own
   pub each_placed : (operation : Operation) (own : List Access) (c : Completed) → IsRequestDone catalogue size place operation own c

@@ -6,15 +6,13 @@ use Rattle.fx_order.proofs.Words.{Clear, Take, Allocate, Full, State, IsSettled,
 use Rattle.fx_order.proofs.Words.{close_of, closes_in, identity_of, by_equality, Looks, Puts, Clears, Takes, Allocates, FindsFull, Permits}
 use Rattle.fx_order.proofs.Words.{table_with, file_removed_by, Access, table_after, closed_by, Allows, after, with_removed, ap, inl, inr, zero, suc}
 use Rattle.fx_order.proofs.Words.{ℤ, pos, negsuc, same_options, refusal_of, IsDoneAtTable, AnswersAtTable, TakesAt, file_told, append_assoc}
-use Rattle.fx_order.proofs.Words.{append-nil, FileEntry, Errno, ENOMEM, Refuses, MayClose, OpensAt, ReadsAt, AppliesEntry, AppliesList, Answers}
-use Rattle.fx_order.proofs.Words.{Completed, Operation, Opens, Reads, Closes, Updates, Place, Slot, Any, IsRefused, IsRequestDone, installed}
-use Rattle.fx_order.proofs.Words.{same_cases, action_of, part_of_chain, next_member, Explains, severs, first_member, Asked, ExplainsParts}
-use Rattle.fx_order.proofs.Words.{accesses_of_chain, ChainAccess, IsChainDone, AreChainsDone}
-use Rattle.fx_chain.specs.Intents.{IsOpened, allocated, answer_at_table, close_answer, entry_intents, intents_of, list_intents, open_intent, read_answer}
-use Rattle.fx_chain.specs.declared.intent.Intent.TheVariants.{Allocate as AllocateAt, Look as LookAt, Take as TakeAt}
-use Rattle.fx_order.specs.Access.{IsOf, finding_of, last_finding}
-use Rattle.fx_order.proofs.Intents.{single, zip_append}
-use Rattle.std.specs.List.{AllZip}
+use Rattle.fx_order.proofs.Words.{append-nil, FileEntry, Errno, ENOMEM, Refuses, MayClose, ReadsAt, AppliesEntry, AppliesList, Answers, Completed}
+use Rattle.fx_order.proofs.Words.{Operation, Opens, Reads, Closes, Updates, Place, Slot, Any, IsRefused, IsRequestDone, installed, same_cases}
+use Rattle.fx_order.proofs.Words.{action_of, part_of_chain, next_member, Explains, severs, first_member, Asked, ExplainsParts, accesses_of_chain}
+use Rattle.fx_order.proofs.Words.{ChainAccess, IsChainDone, AreChainsDone, IsOpened, answer_at_table, close_answer, entry_intents, intents_of}
+use Rattle.fx_order.proofs.Words.{list_intents, read_answer, IsOf, finding_of, last_finding, AllZip}
+use Rattle.fx_chain.specs.declared.intent.Finding.TheVariants.{At}
+use Rattle.fx_order.proofs.Intents.{by_intents, zip_append}
 use Rattle.fx_order.proofs.Accesses.{accesses_by, at_itself, shown, accesses_in, accesses_in-then, order_in, accesses_of_chain-order_in}
 use Rattle.fx_order.proofs.Placed.{placed_by}
 
@@ -115,9 +113,6 @@ module _ (st : State) (number : ℕ) (settled : IsSettled st) where
       refl refl refl fresh_after (λ _. tt) refl refl
   done FindsFull fresh may = grind arith
 
--- A request's accesses, and the steps that they are: each explains the answers that the other does.
--- A new kind of request adds its cases here.
-
 -- the actions of accesses in two parts
 pub record Parted (xs ys : List Access) (actions : List Action) : Type 0 where
   pub first : List Action
@@ -174,34 +169,19 @@ list_applied place in_list slot (negsuc zero ∷ list) (a ∷ own) events all x 
 list_applied place in_list slot (negsuc (suc n) ∷ list) own events all x =
     ([], events, sym (append-nil events), refl, list_applied place (in_list + 1) (slot + 1) list own events all x)
 
-module _ (catalogue : List FileEntry) (place : Place) (events : List Action) (c : Completed) where
-  free_steps : (entry : ℕ) (a : Access) → IsOf (AllocateAt (installed place 0 entry)) a → Does a events → c ≡ allocated place (Some (finding_of a))
-      → OpensAt place entry Any events c
-  free_steps entry a (inl x) does answer =
-      let d : Does (Allocates x.0 (installed place 0 entry)) events = rw x.1 at does in inl (x.0, d.0, d.1, d.2, rw x.1 at answer)
-  free_steps entry a (inr x) does answer = inr (rw x at does, rw x at answer)
+module _ (catalogue : List FileEntry) (place : Place) (events : List Action) where
+  read_steps : (slot off len : ℕ) (found : Option Closed) → Does (Looks slot found) events
+      → ReadsAt catalogue place slot off len events (read_answer catalogue place off len (Some (At found)))
+  read_steps slot off len None does =
+      inr (inl (does.2 ∙ ap (λ (o : Option File). [] ▷ Look slot o ▷▷ release_of o) (no_file does.0 (sym does.1)), refl))
+  read_steps slot off len (Some file) does = let (f, there, same) = file_told does.0 file does.1 in
+      inr (inr (f, inl (does.2 ∙ ap (λ (o : Option File). [] ▷ Look slot o ▷▷ release_of o) there), rw same refl))
 
-  read_steps : (slot off len : ℕ) (a : Access) (found : Option Closed) → a ≡ Looks slot found → Does a events
-      → c ≡ read_answer catalogue place off len (Some (finding_of a)) → ReadsAt catalogue place slot off len events c
-  read_steps slot off len a None is does answer =
-      let d : Does (Looks slot None) events = rw is at does in
-      let none = no_file d.0 (sym d.1) in
-      inr (inl (d.2 ∙ ap (λ (o : Option File). [] ▷ Look slot o ▷▷ release_of o) none, rw is at answer))
-  read_steps slot off len a (Some file) is does answer =
-      let d : Does (Looks slot (Some file)) events = rw is at does in
-      let (f, there, same) = file_told d.0 file d.1 in
-      inr (inr (f, inl (d.2 ∙ ap (λ (o : Option File). [] ▷ Look slot o ▷▷ release_of o) there), rw same (rw is at answer)))
-
-  take_steps : (slot : ℕ) (a : Access) (found : Option Closed) → a ≡ Takes slot found → Does a events
-      → c ≡ close_answer place (Some (finding_of a)) → TakesAt place slot events c
-  take_steps slot a None is does answer =
-      let d : Does (Takes slot None) events = rw is at does in
-      let none = no_file d.0 (sym d.1) in
-      inl (d.2 ∙ ap (λ (o : Option File). [] ▷ Take slot o ▷▷ close_of o) none, rw is at answer)
-  take_steps slot a (Some file) is does answer =
-      let d : Does (Takes slot (Some file)) events = rw is at does in
-      let (f, there, same) = file_told d.0 file d.1 in
-      inr (f, inr (d.2 ∙ ap (λ (o : Option File). [] ▷ Take slot o ▷▷ close_of o) there), rw is at answer)
+  take_steps : (slot : ℕ) (found : Option Closed) → Does (Takes slot found) events
+      → TakesAt place slot events (close_answer place (Some (At found)))
+  take_steps slot None does = inl (does.2 ∙ ap (λ (o : Option File). [] ▷ Take slot o ▷▷ close_of o) (no_file does.0 (sym does.1)), refl)
+  take_steps slot (Some file) does = let (f, there, same) = file_told does.0 file does.1 in
+      inr (f, inr (does.2 ∙ ap (λ (o : Option File). [] ▷ Take slot o ▷▷ close_of o) there), refl)
 
 module _ (catalogue : List FileEntry) (size : ℕ) (place : Place) (accesses : List Access) (events : List Action) (all : AllDo accesses events)
     (c : Completed) where
@@ -209,28 +189,19 @@ module _ (catalogue : List FileEntry) (size : ℕ) (place : Place) (accesses : L
   refused errno x = (none_done x.0 all, x.1)
 
   at_table : (operation : Operation) → IsDoneAtTable catalogue place operation accesses c → AnswersAtTable catalogue place operation events c
-  at_table (Opens name (Slot slot)) (inr x) = (
-    x.0.0,
-    x.0.1,
-    single (open_intent (Slot slot) (installed place 0 x.0.0)) (λ l. AllDo l events → OpensAt place x.0.0 (Slot slot) events c) accesses x.0.2
-        (λ a is does. let p = put_steps events is (one_done a events does) in (p.0, p.1, p.2, p.3, x.1)) all,
-  )
-  at_table (Opens name Any) (inr x) = (
-    x.0.0,
-    x.0.1,
-    single (AllocateAt (installed place 0 x.0.0)) (λ l. AllDo l events → c ≡ allocated place (last_finding l) → OpensAt place x.0.0 Any events c)
-        accesses x.0.2 (λ a is does said. free_steps catalogue place events c x.0.0 a is (one_done a events does) said) all x.1,
-  )
-  at_table (Reads slot off len) (inr x) =
-      single (LookAt slot)
-      (λ l. AllDo l events → c ≡ read_answer catalogue place off len (last_finding l) → ReadsAt catalogue place slot off len events c) accesses x.0.2
-      (λ a is does said. read_steps catalogue place events c slot off len a is.0 is.1 (one_done a events does) said) all x.1
-  at_table (Closes slot) (inr x) =
-      single (TakeAt slot) (λ l. AllDo l events → c ≡ close_answer place (last_finding l) → TakesAt place slot events c) accesses x.0.2
-      (λ a is does said. take_steps catalogue place events c slot a is.0 is.1 (one_done a events does) said) all x.1
-  at_table (Updates off list) (inr x) = (list_applied place 0 off list accesses events all x.0.2, x.1)
   at_table (Reads slot off len) (inl x) = inl (x.0, refused ENOMEM x.1)
   at_table operation (inl x) = absurd (omega (arith, x.0))
+  at_table operation (inr x) = rw x.1 (by_intents catalogue place
+      (λ o l. AllDo l events → AnswersAtTable catalogue place o events (answer_at_table catalogue place o (last_finding l)))
+      (λ name slot entry removed named does.
+      let p = put_steps events (removed, refl) (one_done (Puts slot (installed place 0 entry) removed) events does) in
+      (entry, named, (p.0, p.1, p.2, p.3, refl)))
+      (λ name slot entry named does. let d = one_done (Allocates slot (installed place 0 entry)) events does in
+      (entry, named, inl (slot, d.0, d.1, d.2, refl)))
+      (λ name entry named does. (entry, named, inr (one_done FindsFull events does, refl)))
+      (λ slot off len found does. read_steps catalogue place events slot off len found (one_done (Looks slot found) events does))
+      (λ slot found does. take_steps catalogue place events slot found (one_done (Takes slot found) events does))
+      (λ off list l fits does. (list_applied place 0 off list l events does fits, refl)) operation accesses x.0 all)
 
   -- the steps of accesses that explain an answer explain it
   pub answered : (operation : Operation) → IsRequestDone catalogue size place operation accesses c → Answers catalogue size place operation events c

@@ -18,7 +18,8 @@ pub use Rattle.fx_chain.specs.Chains.{chains_of}
 pub use Rattle.fx_chain.specs.Completed.{Completed, all_completed, completed, completed_of, next_member, refusal}
 pub use Rattle.fx_chain.specs.Explains.{Explains, canceled, first_member, severs}
 pub use Rattle.fx_chain.specs.Faults.{is_long_update}
-pub use Rattle.fx_chain.specs.Intents.{InstallsAt, completion_of_read, positions_from, positions_of}
+pub use Rattle.fx_chain.specs.Intents.{InstallsAt, IsOpened, allocated, answer_at_table, close_answer, completion_of_read, count_of, entry_intents}
+pub use Rattle.fx_chain.specs.Intents.{intents_of, list_intents, positions_from, positions_of, read_answer}
 pub use Rattle.fx_chain.specs.Operation.{Asked, Closes, Opens, Operation, Reads, Updates, all_asked, asked_of, operation_of}
 pub use Rattle.fx_chain.specs.Runs.{runs_of}
 pub use Rattle.fx_chain.specs.Weights.{all_installs, installs_of, list_installs}
@@ -26,13 +27,16 @@ pub use Rattle.fx_chain.specs.declared.chain.Chain.{Chain}
 pub use Rattle.fx_chain.specs.declared.completion.Completion.{Completion}
 pub use Rattle.fx_chain.specs.declared.completion.Place.{Place}
 pub use Rattle.fx_chain.specs.declared.fault.TheConstants.{MOST_MEMBERS}
+pub use Rattle.fx_chain.specs.declared.intent.Intent.{Intent}
 pub use Rattle.fx_chain.specs.declared.request.Request.{Request}
 pub use Rattle.fx_chain.specs.declared.request.Target.{Target}
 pub use Rattle.fx_chain.specs.declared.request.Target.TheVariants.{Any, Slot}
 pub use Rattle.fx_chain.specs.declared.request.TheConstants.{LONGEST_UPDATE}
 pub use Rattle.fx_order.specs.Access.{Allocates, Clears, FindsFull, Looks, Permits, PermitsAll, Puts, Table, Takes, access_of, accesses_of}
 pub use Rattle.fx_order.specs.Access.{accesses_of_chain, file_removed_by, files_removed_in, table_after, table_with, IsAt, with_file}
-pub use Rattle.fx_order.specs.Laws.{AreKnown, IsOfNext}
+pub use Rattle.fx_order.specs.Access.{IsOf, finding_of, last_finding}
+pub use Rattle.fx_order.specs.Laws.{AreKnown, EachClosedFileIsKnown, EachHistoryIsAnOrder, EachOrderIsAHistory, EachReportLeadsToOneRing, IsOfNext}
+pub use Rattle.fx_order.specs.Laws.{NoFileThatStaysIsClosed}
 pub use Rattle.fx_order.specs.Order.{IsOneOrder, IsOrderOf, ring_left, table_of}
 pub use Rattle.fx_order.specs.Requests.{AreChainsDone, IsChainDone, IsDoneAtTable, IsRefused, IsRequestDone}
 pub use Rattle.fx_order.specs.Slots.{ring_of_slots, table_of_slots, ring_with_slots}
@@ -81,7 +85,7 @@ pub use Rattle.std.proofs.lemmas.Result.{IfOk-weaker}
 pub use Rattle.std.specs.Bool.{MatchBool}
 pub use Rattle.std.specs.Cmp.Lexicographic.{bytes_decides}
 pub use Rattle.std.specs.Global.{Vec}
-pub use Rattle.std.specs.List.{list_any, remove, sum_by, AllByRecursion, IsDistinct}
+pub use Rattle.std.specs.List.{list_any, remove, sum_by, AllByRecursion, AllZip, IsDistinct}
 pub use Rattle.std.specs.Option.{option_to_list, option_eq}
 pub use Rattle.std.specs.Ordering.{is_lt, int_eq}
 pub use Rattle.std.specs.Str.{bytes_eq}

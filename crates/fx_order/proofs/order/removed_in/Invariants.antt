@@ -1,5 +1,5 @@
-use Rattle.fx_order.proofs.Words.{◌≡◌, take, accesses_of, files_removed_in}
+use Rattle.fx_order.proofs.Words.{◌≡◌, ◌++◌, drop, accesses_of, files_removed_in}
 use Rattle.fx_order.proofs.order.removed_in.Given as goal
 
 abbrev pub invariant-loop-x : goal.invariant-loop-x
-invariant-loop-x l = l.files.items ≡ files_removed_in (accesses_of (take l.x-index l.order))
+invariant-loop-x l = l.files.items ++ files_removed_in (accesses_of (drop l.x-index l.order)) ≡ files_removed_in (accesses_of l.order)
