@@ -53,28 +53,14 @@ impl Performed<'_> {
 fn is_of(intent: Intent, access: &Access) -> bool
     ensures { IsTrue result ↔ IsOf intent access.now }
 {
-    match intent {
-        Intent::Look(slot) => match access {
-            Access::Looks(at, _) => *at == slot,
-            _ => false,
-        },
-        Intent::Put(slot, file) => match access {
-            Access::Puts(at, own, _) => *at == slot && *own == file,
-            _ => false,
-        },
-        Intent::Clear(slot) => match access {
-            Access::Clears(at, _) => *at == slot,
-            _ => false,
-        },
-        Intent::Take(slot) => match access {
-            Access::Takes(at, _) => *at == slot,
-            _ => false,
-        },
-        Intent::Allocate(file) => match access {
-            Access::Allocates(_, own) => *own == file,
-            Access::FindsFull => true,
-            _ => false,
-        },
+    match (intent, access) {
+        (Intent::Look(slot), Access::Looks(at, _)) => *at == slot,
+        (Intent::Put(slot, file), Access::Puts(at, own, _)) => *at == slot && *own == file,
+        (Intent::Clear(slot), Access::Clears(at, _)) => *at == slot,
+        (Intent::Take(slot), Access::Takes(at, _)) => *at == slot,
+        (Intent::Allocate(file), Access::Allocates(_, own)) => *own == file,
+        (Intent::Allocate(_), Access::FindsFull) => true,
+        _ => false,
     }
 }
 
