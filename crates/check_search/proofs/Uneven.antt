@@ -1,18 +1,16 @@
 -- States from which no end is reached, since the files of a slot differ in number.
-use Rattle.check_search.proofs.Words.{◌≡◌, ℕ, ◌==◌, ◌||◌, Bool, List, [], ◌∷◌, Option, Some, None, refl, if◌then◌else◌, by_equality, list_any}
-use Rattle.check_search.proofs.Words.{cells_after, with_cell, has_slot, Cell, Claim, At, Empty, File, Resident, ◌⊎◌, inl, inr, zero, suc, ◌+◌, ◌≤◌}
-use Rattle.check_search.proofs.Words.{◌&&◌, not, true, false, sym, ap, count_by, IsUneven, LastStays, TooFewLeave, TwoStay, changes, is_change}
-use Rattle.check_search.proofs.Words.{is_something, leaving_files, staying, to_come, ne_eqb, and_parts, not-true, drop_all, get_or_from_slice_get}
-use Rattle.check_search.proofs.Words.{slice_get_within, ◌∙◌, arith, cond, drop, length, length-set, slice_get, slice_index, slice_set, is_some}
-use Rattle.check_search.proofs.Words.{eq-eqb, list_all, Standing, allows, cell_at, claim_at, IsEndOfClaims, is_staying, may_leave, may_stay, suits}
-use Rattle.check_search.proofs.Words.{Full, Same, Condition, Something, Strand, next, Leaves, drop-cons, ⊎_elim, ◌≢◌, cases_lt}
+use Rattle.check_search.proofs.Words.{At, Bool, Cell, Claim, Condition, Empty, File, Full, IsEndOfClaims, IsUneven, List, None, Option, Resident}
+use Rattle.check_search.proofs.Words.{Same, Some, Something, Standing, Strand, [], allows, and_parts, ap, arith, by_equality, cases_lt, cell_at}
+use Rattle.check_search.proofs.Words.{cells_after, changes, claim_at, cond, count_by, drop, drop-cons, drop_all, eq-eqb, false, get_or_from_slice_get}
+use Rattle.check_search.proofs.Words.{has_slot, if◌then◌else◌, inl, inr, is_change, is_something, is_staying, leaving_files, length, length-set, list_all}
+use Rattle.check_search.proofs.Words.{list_any, may_leave, may_stay, ne_eqb, not, refl, slice_get, slice_get_within, slice_index, slice_set, subst}
+use Rattle.check_search.proofs.Words.{suc, suits, sym, to_come, true, with_cell, zero, ℕ, ⊎_elim, ◌&&◌, ◌+◌, ◌==◌, ◌||◌, ◌∙◌, ◌∷◌, ◌≡◌, ◌≤◌}
 use Rattle.check_search.specs.Machine.{HasNoEnd}
 use Rattle.std.proofs.lemmas.List.Sums.{sum_by-cons}
 use Rattle.check_search.specs.declared.dead.SlotChange.{SlotChange}
 use Rattle.check_search.specs.declared.dead.SlotChange.TheVariants.{Takes, Empties, Leaving, Staying}
 use Rattle.check_search.proofs.Hopeless.{written}
 use Rattle.check_search.proofs.Reaching.{after, none_ends}
-use Rattle.std.proofs.Math.Bool.{and-false, and-true}
 
 -- writing a file leaves what a test finds that looks at no file
 any_stays : (test : Cell → Bool) → ((cell : Cell) (file : Option Resident) → test (record cell { file = file }) ≡ test cell)
@@ -32,8 +30,6 @@ slots_after cells (At slot condition Empty) o = slots_stay cells slot None o
 slots_after cells (At slot condition (File resident)) o = slots_stay cells slot (Some resident) o
 slots_after cells claim o = refl
 
--- From a state where the files of a slot don't come out even, no end is reached.
-
 -- what was written to a slot is there
 written_here : (cells : List Cell) (slot : ℕ) (x : Option Resident) → has_slot cells (Some slot) ≡ true → cell_at (with_cell cells slot x) slot ≡ x
 written_here [] slot x has = absurd (cc)
@@ -44,93 +40,77 @@ written_here (cell ∷ cells) slot x has =
     (λ other rest. ap (λ (b : Bool). if b then cell.file else cell_at (with_cell cells slot x) slot) (ne_eqb cell.slot slot other)
     ∙ written_here cells slot x rest) has
 
--- how many such changes of a slot a claim makes: 0 or 1
-abbrev one : SlotChange → ℕ → Claim → ℕ
-one change slot step = cond (changes change slot step) 1 0
+abbrev number : Bool → ℕ
+number b = cond b 1 0
 
--- what a claim does to a slot, counted
-record Does (slot : ℕ) (step : Claim) (now after : Option Resident) : Type 0 where
-  stays : staying after ≡ staying now + one Staying slot step
-  leaves : leaving_files after + one Takes slot step ≤ leaving_files now + one Leaving slot step
-  some : 1 ≤ leaving_files now + one Leaving slot step → 1 ≤ leaving_files after + one Empties slot step + one Staying slot step
+-- the file at a slot counts as one that stays, or as one that leaves
+abbrev stay : Option Resident → ℕ
+stay x = number (not (may_leave x))
 
-keeps : (slot : ℕ) (step : Claim) {now after : Option Resident} → after ≡ now → ((change : SlotChange) → one change slot step ≡ 0)
-    → Does slot step now after
-keeps slot step same none =
-    let stay = ap staying same in
-    let leave = ap leaving_files same in
-    let no_staying = none Staying in
-    let no_takes = none Takes in
-    let no_leaving = none Leaving in
+abbrev leave : Option Resident → ℕ
+leave x = number (not (may_stay x))
+
+-- what a claim that makes these changes does to a slot, counted
+record Does (makes : SlotChange → Bool) (now after : Option Resident) : Type 0 where
+  stays : stay after ≡ stay now + number (makes Staying)
+  leaves : leave after + number (makes Takes) ≤ leave now + number (makes Leaving)
+  some : 1 ≤ leave now + number (makes Leaving) → 1 ≤ leave after + number (makes Empties) + number (makes Staying)
+
+keeps : {now after : Option Resident} → after ≡ now → Does (λ _. false) now after
+keeps same =
+    let stays = ap stay same in
+    let leaves = ap leave same in
     record { stays = omega arith; leaves = omega arith; some = λ has. omega arith }
 
--- a change of another slot
-elsewhere : (cells : List Cell) (slot s : ℕ) (condition : Condition) (leaves : Leaves) (x : Option Resident) → s ≢ slot
-    → Does slot (At s condition leaves) (cell_at cells slot) (cell_at (with_cell cells s x) slot)
-elsewhere cells slot s condition leaves x other =
-    keeps slot (At s condition leaves) (⊎_elim (λ same. same) (λ hit. absurd (other hit.0)) (written cells s x slot))
-    (λ change. ap (λ (b : Bool). cond (is_change leaves condition change && b) 1 0) (ne_eqb s slot other)
-    ∙ ap (λ (b : Bool). cond b 1 0) (and-false (is_change leaves condition change)))
-
-something : (condition : Condition) (now : Option Resident) → is_something condition ≡ true → suits condition now ≡ true → is_some now ≡ true
-something Something now is suited = suited
-something condition now is suited = absurd (cc)
-
--- a file that may leave
-none_stays : (x : Option Resident) → may_leave x ≡ true → staying x ≡ 0
-none_stays None may = refl
-none_stays (Some r) may = ap (λ (b : Bool). cond (not b) 1 0) may
-
-it_leaves : (x : Option Resident) → may_leave x ≡ true → is_some x ≡ true → leaving_files x ≡ 1
-it_leaves None may is = absurd (cc)
-it_leaves (Some r) may is = ap (λ (b : Bool). cond b 1 0) may
-
 -- where a claim that takes is made, the file leaves
-one_taken : (b : Bool) (x : Option Resident) → may_leave x ≡ true → (b ≡ true → is_some x ≡ true) → cond b 1 0 ≤ leaving_files x
-one_taken true x may is = let one = it_leaves x may (is refl) in omega arith
-one_taken false x may is = omega arith
+taken : (condition : Condition) (now : Option Resident) → suits condition now ≡ true → may_leave now ≡ true → number (is_something condition) ≤ leave now
+taken Something None suited may = absurd (cc)
+taken Something (Some r) suited may = let one : leave (Some r) ≡ 1 = ap (λ (b : Bool). number (not (not b))) may in omega arith
+taken condition now suited may = omega arith
 
-one_or_other : (b : Bool) → ◌≡◌ {A = ℕ} (cond b 1 0 + cond (not b) 1 0) 1
-one_or_other true = omega arith
-one_or_other false = omega arith
+-- a claim that empties the slot
+emptied : (condition : Condition) (now : Option Resident) → (suits condition now && may_leave now) ≡ true → Does (is_change Empty condition) now None
+emptied condition now may =
+    let parts = and_parts (suits condition now) (may_leave now) may in
+    let none : stay now ≡ 0 = ap (λ (b : Bool). number (not b)) parts.1 in
+    let one = taken condition now parts.0 parts.1 in
+    record { stays = omega arith; leaves = omega arith; some = λ _. omega arith }
 
-module _ (cells : List Cell) (slot : ℕ) (condition : Condition) (has : has_slot cells (Some slot) ≡ true) where
-  abbrev here : Option Resident → Option Resident
-  here x = cell_at (with_cell cells slot x) slot
+one_or_other : (b : Bool) → (number (not (not b)) ≡ number b) × (number (not (not b)) + number (not b) ≡ 1)
+one_or_other true = (omega arith, omega arith)
+one_or_other false = (omega arith, omega arith)
 
-  emptied : allows cells (At slot condition Empty) ≡ true → Does slot (At slot condition Empty) (cell_at cells slot) (here None)
-  emptied may =
-      let parts = and_parts (suits condition (cell_at cells slot)) (may_leave (cell_at cells slot)) may in
-      let stay : staying (here None) ≡ 0 = ap staying (written_here cells slot None has) in
-      let leave : leaving_files (here None) ≡ 0 = ap leaving_files (written_here cells slot None has) in
-      let none = none_stays (cell_at cells slot) parts.1 in
-      let taken = one_taken (is_something condition && (slot == slot)) (cell_at cells slot) parts.1
-      (λ is. something condition (cell_at cells slot) (and_parts (is_something condition) (slot == slot) is).0 parts.0) in
-      let empties : one Empties slot (At slot condition Empty) ≡ 1 = ap (λ (b : Bool). cond b 1 0) (eq-eqb slot slot refl) in
-      record { stays = omega arith; leaves = omega arith; some = λ _. omega arith }
+-- a claim that installs a file
+brought : (r : Resident) (condition : Condition) (now : Option Resident) → (suits condition now && may_leave now) ≡ true
+    → Does (is_change (File r) condition) now (Some r)
+brought r condition now may =
+    let none : stay now ≡ 0 = ap (λ (b : Bool). number (not b)) (and_parts (suits condition now) (may_leave now) may).1 in
+    let leaves = (one_or_other r.leaves).0 in
+    let one = (one_or_other r.leaves).1 in
+    record { stays = omega arith; leaves = omega arith; some = λ _. omega arith }
 
-  brought : (r : Resident) → allows cells (At slot condition (File r)) ≡ true → Does slot (At slot condition (File r)) (cell_at cells slot) (here (Some r))
-  brought r may =
-      let parts = and_parts (suits condition (cell_at cells slot)) (may_leave (cell_at cells slot)) may in
-      let stay : staying (here (Some r)) ≡ cond (not r.leaves) 1 0 = ap staying (written_here cells slot (Some r) has) in
-      let leave : leaving_files (here (Some r)) ≡ cond r.leaves 1 0 = ap leaving_files (written_here cells slot (Some r) has) in
-      let none = none_stays (cell_at cells slot) parts.1 in
-      let hit : (b : Bool) → (b && (slot == slot)) ≡ b = λ b. ap (λ (c : Bool). b && c) (eq-eqb slot slot refl) ∙ and-true b in
-      let leaves : one Leaving slot (At slot condition (File r)) ≡ cond r.leaves 1 0 = ap (λ (b : Bool). cond b 1 0) (hit r.leaves) in
-      let stays : one Staying slot (At slot condition (File r)) ≡ cond (not r.leaves) 1 0 = ap (λ (b : Bool). cond b 1 0) (hit (not r.leaves)) in
-      let all = one_or_other r.leaves in
-      record { stays = omega arith; leaves = omega arith; some = λ _. omega arith }
+-- a claim of a slot changes this slot as it does that one, or not at all
+at_slot : (cells : List Cell) (slot s : ℕ) (x : Option Resident) (makes : SlotChange → Bool) → has_slot cells (Some slot) ≡ true
+    → Does makes (cell_at cells s) x → Does (λ change. (s == slot) && makes change) (cell_at cells slot) (cell_at (with_cell cells s x) slot)
+at_slot cells slot s x makes has did =
+    by_equality s slot (λ b. Does (λ change. b && makes change) (cell_at cells slot) (cell_at (with_cell cells s x) slot))
+    (λ same. subst (λ (o : Option Resident). Does makes (cell_at cells slot) o)
+    (sym (ap (λ (k : ℕ). cell_at (with_cell cells k x) slot) same ∙ written_here cells slot x has))
+    (subst (λ (k : ℕ). Does makes (cell_at cells k) x) same did))
+    (λ other. keeps (⊎_elim (λ same. same) (λ hit. absurd (other hit.0)) (written cells s x slot)))
 
 does : (cells : List Cell) (slot : ℕ) (step : Claim) → has_slot cells (Some slot) ≡ true → allows cells step ≡ true
-    → Does slot step (cell_at cells slot) (cell_at (cells_after cells step) slot)
-does cells slot Full has may = keeps slot Full refl (λ _. refl)
-does cells slot (At s condition Same) has may = keeps slot (At s condition Same) refl (λ _. refl)
-does cells slot (At s condition Empty) has may =
-    by_equality slot s (λ _. Does slot (At s condition Empty) (cell_at cells slot) (cell_at (with_cell cells s None) slot))
-    (λ same. rw same (emptied cells s condition (rw same at has) may)) (λ other. elsewhere cells slot s condition Empty None (λ e. other (sym e)))
+    → Does (λ change. changes change slot step) (cell_at cells slot) (cell_at (cells_after cells step) slot)
+does cells slot Full has may = keeps refl
+does cells slot (At s condition Same) has may =
+    by_equality s slot (λ b. Does (λ _. b && false) (cell_at cells slot) (cell_at cells slot)) (λ _. keeps refl) (λ _. keeps refl)
+does cells slot (At s condition Empty) has may = at_slot cells slot s None (is_change Empty condition) has (emptied condition (cell_at cells s) may)
 does cells slot (At s condition (File r)) has may =
-    by_equality slot s (λ _. Does slot (At s condition (File r)) (cell_at cells slot) (cell_at (with_cell cells s (Some r)) slot))
-    (λ same. rw same (brought cells s condition (rw same at has) r may)) (λ other. elsewhere cells slot s condition (File r) (Some r) (λ e. other (sym e)))
+    at_slot cells slot s (Some r) (is_change (File r) condition) has (brought r condition (cell_at cells s) may)
+
+-- how many such changes of a slot a claim makes: 0 or 1
+abbrev one : SlotChange → ℕ → Claim → ℕ
+one change slot step = number (changes change slot step)
 
 -- a claim that is made is one less to come
 one_less : (change : SlotChange) (slot : ℕ) (strands : List Strand) (places : List ℕ) (d : ℕ) (step : Claim) → length places ≡ length strands
@@ -165,14 +145,19 @@ none_to_come change slot (strand ∷ strands) (p ∷ places) over long =
     let rest = none_to_come change slot strands places (λ c. over (suc c)) (omega arith) in
     omega arith
 
+-- a state whose files of a slot don't balance
+record Uneven (strands : List Strand) (slot : ℕ) (at : Standing) : Type 0 where
+  here : has_slot at.cells (Some slot) ≡ true
+  long : length at.places ≡ length strands
+  why : IsUneven strands at slot
+
 module _ (strands : List Strand) (slot : ℕ) (at : Standing) (d : ℕ) (step : Claim) (is_next : claim_at strands at.places d ≡ Some step)
-    (may : allows at.cells step ≡ true) (uneven : IsUneven strands at slot) where
+    (may : allows at.cells step ≡ true) (uneven : Uneven strands slot at) where
   less : (change : SlotChange) → to_come change slot strands at.places ≡ one change slot step + to_come change slot strands (after at d step).places
   less change = one_less change slot strands at.places d step uneven.long is_next
 
-  still : Does slot step (cell_at at.cells slot) (cell_at (after at d step).cells slot)
-      → TwoStay strands at slot ⊎ (TooFewLeave strands at slot ⊎ LastStays strands at slot)
-      → TwoStay strands (after at d step) slot ⊎ (TooFewLeave strands (after at d step) slot ⊎ LastStays strands (after at d step) slot)
+  still : Does (λ change. changes change slot step) (cell_at at.cells slot) (cell_at (after at d step).cells slot)
+      → IsUneven strands at slot → IsUneven strands (after at d step) slot
   still did (inl two) = let stays = did.stays in let s = less Staying in inl (omega arith)
   still did (inr (inl few)) = let leaves = did.leaves in let l = less Leaving in let t = less Takes in inr (inl (omega arith))
   still did (inr (inr last)) =
@@ -180,48 +165,44 @@ module _ (strands : List Strand) (slot : ℕ) (at : Standing) (d : ℕ) (step : 
       let e = less Empties in
       let s = less Staying in
       let l = less Leaving in
-      let some : 1 ≤ leaving_files (cell_at (after at d step).cells slot) + to_come Leaving slot strands (after at d step).places =
+      let some : 1 ≤ leaving_files strands (after at d step) slot =
       ⊎_elim (λ has. let here = did.some has in omega arith) (λ none. let all = last.some in omega arith)
-      (cases_lt 0 (leaving_files (cell_at at.cells slot) + one Leaving slot step)) in
-      inr (inr (record { none_empties = omega arith; none_comes_to_stay = omega arith; none_stays = omega arith; some = some }))
+      (cases_lt 0 (leave (cell_at at.cells slot) + one Leaving slot step)) in
+      inr (inr (record { none_empties = omega arith; none_stays = omega arith; some = some }))
 
-  uneven_then : IsUneven strands (after at d step) slot
+  uneven_then : Uneven strands slot (after at d step)
   uneven_then = record {
     here = slots_after at.cells step (Some slot) ∙ uneven.here;
     long = length-set at.places d (slice_index at.places d + 1) ∙ uneven.long;
     why = still (does at.cells slot step uneven.here may) uneven.why;
   }
 
-at_most_one : (x : Option Resident) → staying x ≤ 1
-at_most_one None = omega arith
-at_most_one (Some r) = let all = one_or_other r.leaves in omega arith
+at_most_one : (b : Bool) → number b ≤ 1
+at_most_one true = omega arith
+at_most_one false = omega arith
 
--- a file that may not leave, or none
-stays_there : (cells : List Cell) (slot : ℕ) → list_all is_staying cells ≡ true → leaving_files (cell_at cells slot) ≡ 0
+-- a file that may stay, or none
+stays_there : (cells : List Cell) (slot : ℕ) → list_all is_staying cells ≡ true → may_stay (cell_at cells slot) ≡ true
 stays_there [] slot all = refl
 stays_there (cell ∷ cells) slot all =
     let parts = and_parts (is_staying cell) (list_all is_staying cells) all in
-    by_equality cell.slot slot (λ b. leaving_files (if b then cell.file else cell_at cells slot) ≡ 0)
-    (λ _. stays cell.file parts.0) (λ _. stays_there cells slot parts.1)
-  where
-    stays : (x : Option Resident) → may_stay x ≡ true → leaving_files x ≡ 0
-    stays None may = refl
-    stays (Some r) may = ap (λ (b : Bool). cond b 1 0) (not-true r.leaves may)
+    by_equality cell.slot slot (λ b. may_stay (if b then cell.file else cell_at cells slot) ≡ true) (λ _. parts.0) (λ _. stays_there cells slot parts.1)
 
-ended : (strands : List Strand) (at : Standing) (slot : ℕ) → IsEndOfClaims strands at → length at.places ≡ length strands
-    → TwoStay strands at slot ⊎ (TooFewLeave strands at slot ⊎ LastStays strands at slot) → ⊥
+ended : (strands : List Strand) (at : Standing) (slot : ℕ) → IsEndOfClaims strands at → length at.places ≡ length strands → IsUneven strands at slot → ⊥
 ended strands at slot end long (inl two) =
     let s = none_to_come Staying slot strands at.places end.over long in
-    let one = at_most_one (cell_at at.cells slot) in
+    let few = at_most_one (not (may_leave (cell_at at.cells slot))) in
     omega arith
 ended strands at slot end long (inr (inl few)) = let t = none_to_come Takes slot strands at.places end.over long in omega arith
 ended strands at slot end long (inr (inr last)) =
     let l = none_to_come Leaving slot strands at.places end.over long in
-    let gone = stays_there at.cells slot end.stay in
+    let gone : leave (cell_at at.cells slot) ≡ 0 = ap (λ (b : Bool). number (not b)) (stays_there at.cells slot end.stay) in
     let some = last.some in
     omega arith
 
-pub uneven_ends : (strands : List Strand) (at : Standing) (slot : ℕ) → IsUneven strands at slot → HasNoEnd strands at
+pub uneven_ends : (strands : List Strand) (at : Standing) (slot : ℕ) → has_slot at.cells (Some slot) ≡ true → length at.places ≡ length strands
+    → IsUneven strands at slot → HasNoEnd strands at
 unfolding HasNoEnd
-uneven_ends strands at slot = none_ends strands (λ x. IsUneven strands x slot) (λ x uneven end. ended strands x slot end uneven.long uneven.why)
-    (λ x d step is_next may uneven. uneven_then strands slot x d step is_next may uneven) at
+uneven_ends strands at slot here long why = none_ends strands (Uneven strands slot)
+    (λ x uneven end. ended strands x slot end uneven.long uneven.why)
+    (λ x d step is_next may uneven. uneven_then strands slot x d step is_next may uneven) at (record { here = here; long = long; why = why })

@@ -1,11 +1,10 @@
 -- The names that most proofs of this crate use.
 pub use Rattle.fx_plain.proofs.Cells.{by_equality}
 pub use Rattle.check_search.specs.AtSlots.{has_slot, slot_claimed}
-pub use Rattle.check_search.specs.Counted.{IsUneven, LastStays, TooFewLeave, TwoStay, changes, is_change, is_something, leaving_files, staying}
-pub use Rattle.check_search.specs.Counted.{to_come}
+pub use Rattle.check_search.specs.Counted.{IsUneven, changes, is_change, is_something, leaving_files, to_come}
 pub use Rattle.check_search.specs.Dead.{IsHopeless, NoneHelps, no_help}
 pub use Rattle.check_search.specs.Machine.{Ends, HasNoEnd, IsEndOfClaims, IsLookedThrough, Standing, StepLeadsInside, allows, cell_at, cell_with}
-pub use Rattle.check_search.specs.Machine.{cells_after, claim_at, is_staying, is_taken, is_test, made, may_find, may_leave, may_stay, next, suits}
+pub use Rattle.check_search.specs.Machine.{cells_after, claim_at, is_staying, is_test, made, may_find, may_leave, may_stay, next, suits}
 pub use Rattle.check_search.specs.Machine.{view, with_cell}
 pub use Rattle.check_search.specs.Packed.{all_unpacked, numbered_cells, unpacked}
 pub use Rattle.check_search.specs.Starts.{starting}

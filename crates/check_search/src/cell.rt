@@ -6,7 +6,7 @@ ghost use Rattle.check_search.specs.Machine.{allows, cell_at, cells_after, is_st
 use crate::claim::{Claim, Condition, Leaves, Resident};
 
 /// A slot, and what is there.
-#[derive(Clone, Copy, PartialEq, Eq)]
+#[derive(Clone, Copy, PartialEq)]
 pub struct Cell {
     /// The slot.
     pub slot: u32,
@@ -79,24 +79,16 @@ pub(crate) fn may_find(claim: &Claim, found: Option<Resident>) -> bool
 fn are_taken(cells: &[Cell]) -> bool
     ensures { result ≡ list_all is_taken cells.now }
 {
-    for cell in cells {
-        if cell.in_range && cell.file.is_none() {
-            return false;
-        }
-    }
-    true
+    cells
+        .iter()
+        .all(|cell| !cell.in_range || cell.file.is_some())
 }
 
 /// Checks whether no slot has a file that the closes have.
 pub(crate) fn are_staying(cells: &[Cell]) -> bool
     ensures { result ≡ list_all is_staying cells.now }
 {
-    for cell in cells {
-        if !may_stay(cell.file) {
-            return false;
-        }
-    }
-    true
+    cells.iter().all(|cell| may_stay(cell.file))
 }
 
 /// Checks whether the access of a claim may be made if the slots have these files.

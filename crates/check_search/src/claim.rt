@@ -7,7 +7,7 @@ use crate::cell::Cell;
 use fx_base::Closed;
 
 /// A file at a slot, and whether it is in the list of closes.
-#[derive(Clone, Copy, PartialEq, Eq)]
+#[derive(Clone, Copy, PartialEq)]
 pub struct Resident {
     /// The file.
     pub file: Closed,
@@ -92,10 +92,5 @@ pub struct Strand {
 pub fn has_slot(cells: &[Cell], slot: u32) -> bool
     ensures { result ≡ list_any (λ cell. cell.slot == slot) cells.now }
 {
-    for cell in cells {
-        if cell.slot == slot {
-            return true;
-        }
-    }
-    false
+    cells.iter().any(|cell| cell.slot == slot)
 }

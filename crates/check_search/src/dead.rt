@@ -1,13 +1,13 @@
 //! States from which no end is reached: the files that are installed at a slot and leave it don't
 //! balance, or a claim waits for a file that is never installed.
-ghost use Rattle.std.specs.Prelude.{◌≡◌, ◌⊎◌, ◌≤◌, IfSome, IsTrue, cond, count_by, drop, ℕ, Some, true, slice_get};
-ghost use Rattle.check_search.specs.Counted.{LastStays, TooFewLeave, TwoStay, changes, is_change, leaving_files, staying, to_come};
+ghost use Rattle.std.specs.Prelude.{◌≡◌, ◌≤◌, IfSome, IsTrue, cond, count_by, drop, ℕ, Some, true, slice_get};
+ghost use Rattle.check_search.specs.Counted.{IsUneven, changes, is_change, leaving_files, staying_files, to_come};
 ghost use Rattle.check_search.specs.Machine.{HasNoEnd, view};
 ghost use Rattle.check_search.specs.Dead.{IsHopeless, NoneHelps, no_help};
 ghost use Rattle.check_search.specs.declared.claim.Claim.{Claim as OneClaim};
 
-use crate::cell::{cell_at, may_find, may_leave};
-use crate::claim::{Claim, Condition, Leaves, Resident, Strand, has_slot};
+use crate::cell::{cell_at, may_find, may_leave, may_stay};
+use crate::claim::{Claim, Condition, Leaves, Strand, has_slot};
 use crate::node::{SearchNode, place_of};
 
 /// A change that a claim makes to its slot.
@@ -41,7 +41,7 @@ pub(crate) fn is_changing(change: SlotChange, slot: u32, claim: &Claim) -> bool
     ensures { result ≡ changes change slot claim.now }
 {
     match claim {
-        Claim::At(at, condition, leaves) => is_change(leaves, condition, change) && *at == slot,
+        Claim::At(at, condition, leaves) => *at == slot && is_change(leaves, condition, change),
         Claim::Full => false,
     }
 }
@@ -78,77 +78,31 @@ fn to_come(change: SlotChange, slot: u32, strands: &[Strand], places: &[usize]) 
     Some(count)
 }
 
-// Returns the number of files at a slot that leave it: 0 or 1.
-fn leaving(found: Option<Resident>) -> usize
-    ensures { result ≡ leaving_files found }
+// Returns the number of files that leave a slot: the one that is there, and those to come.
+fn leaving(strands: &[Strand], node: &SearchNode, slot: u32) -> Option<usize>
+    ensures { IfSome result (λ count. count ≡ leaving_files strands.now (view node.now) slot) }
 {
-    match found {
-        Some(resident) => one_if(resident.leaves),
-        None => 0,
-    }
+    let here = one_if(!may_stay(cell_at(&node.cells, slot)));
+    here.checked_add(to_come(SlotChange::Leaving, slot, strands, &node.places)?)
 }
 
-// Returns the number of files at a slot that stay there: 0 or 1.
-fn staying(found: Option<Resident>) -> usize
-    ensures { result ≡ staying found }
+// Returns the number of files that stay at a slot: the one that is there, and those to come.
+fn staying(strands: &[Strand], node: &SearchNode, slot: u32) -> Option<usize>
+    ensures { IfSome result (λ count. count ≡ staying_files strands.now (view node.now) slot) }
 {
-    match found {
-        Some(resident) => one_if(!resident.leaves),
-        None => 0,
-    }
+    let here = one_if(!may_leave(cell_at(&node.cells, slot)));
+    here.checked_add(to_come(SlotChange::Staying, slot, strands, &node.places)?)
 }
 
-// Checks whether two files stay at a slot.
-fn two_stay(strands: &[Strand], node: &SearchNode, slot: u32) -> bool
-    ensures { IsTrue result → TwoStay strands.now (view node.now) slot }
+// Checks whether the files of a slot don't balance: two of them stay there, or more are taken than
+// leave, or each must leave and no claim is left that removes the last one.
+fn shows_uneven(strands: &[Strand], node: &SearchNode, slot: u32) -> Option<bool>
+    ensures { IfSome result (λ yes. IsTrue yes → IsUneven strands.now (view node.now) slot) }
 {
-    let here = staying(cell_at(&node.cells, slot));
-    let Some(count) = to_come(SlotChange::Staying, slot, strands, &node.places) else {
-        return false;
-    };
-    here.saturating_add(count) >= 2
-}
-
-// Checks whether more files are taken from a slot than leave it.
-fn too_few_leave(strands: &[Strand], node: &SearchNode, slot: u32) -> bool
-    ensures { IsTrue result → TooFewLeave strands.now (view node.now) slot }
-{
-    let here = leaving(cell_at(&node.cells, slot));
-    let Some(takes) = to_come(SlotChange::Takes, slot, strands, &node.places) else {
-        return false;
-    };
-    let Some(count) = to_come(SlotChange::Leaving, slot, strands, &node.places) else {
-        return false;
-    };
-    here.saturating_add(count) < takes
-}
-
-// Checks whether each file must leave a slot, and no claim is left that removes the last one.
-fn last_stays(strands: &[Strand], node: &SearchNode, slot: u32) -> bool
-    ensures { IsTrue result → LastStays strands.now (view node.now) slot }
-{
-    let found = cell_at(&node.cells, slot);
-    let Some(empties) = to_come(SlotChange::Empties, slot, strands, &node.places) else {
-        return false;
-    };
-    let Some(stays) = to_come(SlotChange::Staying, slot, strands, &node.places) else {
-        return false;
-    };
-    let Some(leaves) = to_come(SlotChange::Leaving, slot, strands, &node.places) else {
-        return false;
-    };
-    let none_stays = empties == 0 && stays == 0 && staying(found) == 0;
-    none_stays && leaving(found).saturating_add(leaves) >= 1
-}
-
-// Checks whether the counts of a slot's files show that they don't balance.
-fn shows_uneven(strands: &[Strand], node: &SearchNode, slot: u32) -> bool
-    ensures { IsTrue result → TwoStay strands.now (view node.now) slot
-        ⊎ (TooFewLeave strands.now (view node.now) slot ⊎ LastStays strands.now (view node.now) slot) }
-{
-    two_stay(strands, node, slot)
-        || too_few_leave(strands, node, slot)
-        || last_stays(strands, node, slot)
+    let (stay, leave) = (staying(strands, node, slot)?, leaving(strands, node, slot)?);
+    let takes = to_come(SlotChange::Takes, slot, strands, &node.places)?;
+    let empties = to_come(SlotChange::Empties, slot, strands, &node.places)?;
+    Some(stay >= 2 || leave < takes || (empties == 0 && stay == 0 && leave >= 1))
 }
 
 /// Checks whether the files of `slot` don't balance, so that no order leads to an end.
@@ -158,7 +112,10 @@ pub fn is_uneven(strands: &[Strand], node: &SearchNode, slot: u32) -> bool
     if node.places.len() != strands.len() || !has_slot(&node.cells, slot) {
         return false;
     }
-    shows_uneven(strands, node, slot)
+    let Some(yes) = shows_uneven(strands, node, slot) else {
+        return false;
+    };
+    yes
 }
 
 /// Checks whether another claim changes nothing at a slot, or leaves there what the claim may not

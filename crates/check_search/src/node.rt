@@ -6,6 +6,7 @@ ghost use Rattle.check_search.specs.Packed.{packed_file, numbered_cells, unpacke
 
 use crate::cell::{Cell, apply, are_staying, is_allowed};
 use crate::claim::{Claim, Leaves, Resident, Strand};
+use crate::steps::number_at;
 use fx_base::NoMemory;
 use std::alloc::Global;
 
@@ -146,23 +147,18 @@ impl Packing {
 
     /// Returns the place of a slot.
     pub(crate) fn place_of(&self, slot: u32) -> Option<usize> {
-        for i in 0..self.cells.len() {
-            if self.cells[i].slot == slot {
-                return Some(i);
-            }
-        }
-        None
+        self.cells.iter().position(|cell| cell.slot == slot)
     }
 
     // Returns the slots with the files of these numbers.
-    fn cells_with(&self, alloc: Global, numbers: &[usize]) -> Result<Vec<Cell>, NoMemory>
+    fn cells_with(&self, alloc: Global, numbers: &[u16]) -> Result<Vec<Cell>, NoMemory>
         ensures { IfOk result (λ cells. cells.items
             ≡ numbered_cells self.now.files.items numbers.now 0 self.now.cells.items) }
     {
         let mut cells = Vec::with_capacity(alloc, self.cells.len())?;
         for i in 0..self.cells.len() {
             cells.push(Cell {
-                file: self.file_at(i, place_of(numbers, i)),
+                file: self.file_at(i, number_at(numbers, i) as usize),
                 ..self.cells[i]
             })?;
         }
@@ -175,8 +171,7 @@ impl Packing {
     {
         let chains = self.chains.min(row.len());
         let places = numbers_of(alloc, &row[..chains])?;
-        let numbers = numbers_of(alloc, &row[chains..])?;
-        let cells = self.cells_with(alloc, &numbers)?;
+        let cells = self.cells_with(alloc, &row[chains..])?;
         Ok(SearchNode { places, cells })
     }
 }

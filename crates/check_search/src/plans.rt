@@ -55,22 +55,14 @@ const PLANS: &[(usize, usize)] = &[
     (5_000_000, 80_000),
 ];
 
-// Takes states for a search from those that are left, if these suffice.
-fn taken(
-    left: &mut usize,
-    steps: &Steps<'_>,
-    states: usize,
-    room: SearchRoom,
-) -> Option<SearchRoom> {
+// Takes states for a search from the room that is left, if this suffices.
+fn taken(left: &mut SearchRoom, steps: &Steps<'_>, states: usize) -> Option<SearchRoom> {
     let states = steps.count.saturating_add(states);
-    if states > *left {
-        return None;
-    }
-    *left = left.saturating_sub(states);
+    left.states = left.states.checked_sub(states)?;
     Some(SearchRoom {
         states,
         keeps: false,
-        ..room
+        ..*left
     })
 }
 
@@ -81,12 +73,11 @@ fn along(
     steps: &Steps<'_>,
     tracks: &mut Tracks,
     open: usize,
-    room: SearchRoom,
-    left: &mut usize,
+    left: &mut SearchRoom,
     met: &mut Visited,
 ) -> Result<Option<Vec<usize>>, NoMemory> {
     for _ in 0..ROUNDS {
-        let Some(room) = taken(left, steps, NEAR_STATES, room) else {
+        let Some(room) = taken(left, steps, NEAR_STATES) else {
             return Ok(None);
         };
         let plan = Plan { open, seed: 0 };
@@ -106,8 +97,7 @@ fn near(
     alloc: Global,
     steps: &Steps<'_>,
     plan: (usize, usize),
-    room: SearchRoom,
-    left: &mut usize,
+    left: &mut SearchRoom,
     met: &mut Visited,
 ) -> Result<Option<Vec<usize>>, NoMemory> {
     let (open, near) = plan;
@@ -115,26 +105,25 @@ fn near(
     if tracks.are_none() {
         return Ok(None);
     }
-    along(alloc, steps, &mut tracks, open, room, left, met)
+    along(alloc, steps, &mut tracks, open, left, met)
 }
 
-/// Looks for an end by plans that leave chains and orders out, through at most `room.states` states
+/// Looks for an end by plans that leave chains and orders out, through at most `left.states` states
 /// in all.
 pub(crate) fn played(
     alloc: Global,
     steps: &Steps<'_>,
-    room: SearchRoom,
+    mut left: SearchRoom,
     met: &mut Visited,
 ) -> Result<Option<Vec<usize>>, NoMemory> {
-    let mut left = room.states;
     for plan in NEAR {
-        if let Some(order) = near(alloc, steps, *plan, room, &mut left, met)? {
+        if let Some(order) = near(alloc, steps, *plan, &mut left, met)? {
             return Ok(Some(order));
         }
     }
     for (seed, states) in PLANS {
         for open in OPEN {
-            let Some(room) = taken(&mut left, steps, *states, room) else {
+            let Some(room) = taken(&mut left, steps, *states) else {
                 return Ok(None);
             };
             let plan = Plan {

@@ -106,12 +106,9 @@ impl<'a> SearchState<'a> {
         };
         self.draw(chain, step.cell, false);
         set_number(&mut self.row, chain, place);
-        if let (Some(cell), Some(_)) = (step.cell, step.left) {
-            set_number(
-                &mut self.row,
-                self.steps.packing.chains.saturating_add(cell),
-                before,
-            );
+        if let Some(cell) = step.cell {
+            let at = self.steps.packing.chains.saturating_add(cell);
+            set_number(&mut self.row, at, before);
         }
         self.draw(chain, step.cell, true);
         self.count_step(&step, true);

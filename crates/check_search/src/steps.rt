@@ -1,5 +1,6 @@
 //! The claims of a part by numbers, and the state of a search that goes through them. Nothing is
 //! promised of it.
+ghost use Rattle.std.specs.Prelude.{◌≡◌, slice_index};
 
 use crate::cell::{Cell, may_find, may_leave, may_stay};
 use crate::claim::{Claim, Leaves, Resident, Strand};
@@ -29,7 +30,9 @@ pub struct ClaimStep<'a> {
 pub type ClaimAt = (usize, usize);
 
 /// Returns the number at a place of a packed state.
-pub(crate) fn number_at(row: &[u16], place: usize) -> u16 {
+pub(crate) fn number_at(row: &[u16], place: usize) -> u16
+    ensures { result ≡ slice_index row.now place }
+{
     row.get(place).copied().unwrap_or(0)
 }
 
@@ -40,20 +43,17 @@ pub(crate) fn set_number(row: &mut [u16], place: usize, number: u16) {
     }
 }
 
-// The claims of a slot.
-#[derive(Drop)]
-struct SlotClaims<'a> {
-    places: Vec<ClaimAt>,
-    classes: Tally<'a>,
-}
-
-impl<'a> SlotClaims<'a> {
-    // Adds a claim, and returns its class and its bit.
-    fn add(&mut self, claim: &'a Claim, at: ClaimAt) -> Result<(usize, u64), NoMemory> {
-        let class = self.classes.class_of(claim)?;
-        let before = self.places.len();
-        self.places.push(at)?;
-        Ok((class, if before < MOST_CLAIMS { 1 << before } else { 0 }))
+// Returns the number of the file that a claim leaves at a slot with these files, or `None` if it
+// leaves what is there. A file that is installed gets the next number.
+fn left_by(leaves: &Leaves, files: &mut Vec<Option<Resident>>) -> Result<Option<u16>, NoMemory> {
+    match leaves {
+        Leaves::Same => Ok(None),
+        Leaves::Empty => Ok(Some(0)),
+        Leaves::File(file) => {
+            let number = files.len();
+            files.push(Some(*file))?;
+            Ok(Some(u16::try_from(number).unwrap_or(u16::MAX)))
+        }
     }
 }
 
@@ -63,8 +63,8 @@ pub struct Steps<'a> {
     pub packing: Packing,
     // The claims of each chain.
     chains: Vec<Vec<ClaimStep<'a>>>,
-    // Those of each slot.
-    slots: Vec<SlotClaims<'a>>,
+    // Those of each slot, none of them counted.
+    slots: Vec<Tally<'a>>,
     /// The number of claims.
     pub(crate) count: usize,
 }
@@ -93,17 +93,12 @@ impl<'a> Steps<'a> {
         Ok(steps)
     }
 
-    // Adds slots and chains.
-    fn fill(
-        &mut self,
-        alloc: Global,
-        strands: &'a [Strand],
-        cells: &[Cell],
-    ) -> Result<(), NoMemory> {
+    // Adds slots, and the chains of these strands.
+    fn fill(&mut self, alloc: Global, from: &'a [Strand], cells: &[Cell]) -> Result<(), NoMemory> {
         for cell in cells {
             self.push_slot(alloc, cell.file)?;
         }
-        for strand in strands {
+        for strand in from {
             self.push_chain(alloc, &strand.claims)?;
         }
         Ok(())
@@ -116,10 +111,7 @@ impl<'a> Steps<'a> {
             None => Vec::from_slice(alloc, &[None])?,
         };
         self.packing.files.push(files)?;
-        self.slots.push(SlotClaims {
-            places: Vec::new(alloc),
-            classes: Tally::new(alloc),
-        })?;
+        self.slots.push(Tally::new(alloc))?;
         Ok(())
     }
 
@@ -135,48 +127,23 @@ impl<'a> Steps<'a> {
     }
 
     fn step_of(&mut self, claim: &'a Claim, at: ClaimAt) -> Result<ClaimStep<'a>, NoMemory> {
-        let cell = match claim {
-            Claim::At(slot, _, _) => self.packing.place_of(*slot),
-            Claim::Full => None,
-        };
-        let Some(cell) = cell else {
-            return Ok(ClaimStep {
-                claim,
-                cell,
-                left: None,
-                class: 0,
-                bit: 0,
-            });
-        };
-        let left = self.left_by(claim, cell)?;
-        let (class, bit) = match self.slots.get_mut(cell) {
-            Some(own) => own.add(claim, at)?,
-            None => (0, 0),
-        };
-        Ok(ClaimStep {
+        let mut step = ClaimStep {
             claim,
-            cell: Some(cell),
-            left,
-            class,
-            bit,
-        })
-    }
-
-    // Returns the number of the file that a claim leaves at its slot, or `None` if it leaves what
-    // is there. A file that is installed gets the next number of the slot.
-    fn left_by(&mut self, claim: &Claim, cell: usize) -> Result<Option<u16>, NoMemory> {
-        match claim {
-            Claim::At(_, _, Leaves::File(file)) => {
-                let Some(own) = self.packing.files.get_mut(cell) else {
-                    return Ok(Some(0));
-                };
-                let number = own.len();
-                own.push(Some(*file))?;
-                Ok(Some(u16::try_from(number).unwrap_or(u16::MAX)))
-            }
-            Claim::At(_, _, Leaves::Empty) => Ok(Some(0)),
-            Claim::At(_, _, Leaves::Same) | Claim::Full => Ok(None),
+            cell: None,
+            left: None,
+            class: 0,
+            bit: 0,
+        };
+        if let Claim::At(slot, _, leaves) = claim
+            && let Some(cell) = self.packing.place_of(*slot)
+            && let Some(files) = self.packing.files.get_mut(cell)
+            && let Some(own) = self.slots.get_mut(cell)
+        {
+            step.cell = Some(cell);
+            step.left = left_by(leaves, files)?;
+            own.add(&mut step, at)?;
         }
+        Ok(step)
     }
 
     /// Returns the state before the first claim.
@@ -193,6 +160,11 @@ impl<'a> Steps<'a> {
         self.step_at(chain, number_at(row, chain) as usize)
     }
 
+    /// Returns the place of the slot of the claim that a chain makes next, if it has one.
+    pub(crate) fn cell_of(&self, row: &[u16], chain: usize) -> Option<usize> {
+        self.next_of(row, chain)?.cell
+    }
+
     /// Returns the claim of a chain at a place.
     pub(crate) fn step_at(&self, chain: usize, place: usize) -> Option<ClaimStep<'a>> {
         self.chains.get(chain)?.get(place).copied()
@@ -204,20 +176,16 @@ impl<'a> Steps<'a> {
         alloc: Global,
         cell: usize,
     ) -> Result<Vec<(usize, ClaimStep<'a>)>, NoMemory> {
+        let Some(own) = self.slots.get(cell) else {
+            return Ok(Vec::new(alloc));
+        };
         let mut claims = Vec::new(alloc);
-        for (chain, k) in self.places_at(cell) {
+        for (chain, k) in &own.places {
             if let Some(step) = self.step_at(*chain, *k) {
                 claims.push((*chain, step))?;
             }
         }
         Ok(claims)
-    }
-
-    fn places_at(&self, cell: usize) -> &[ClaimAt] {
-        match self.slots.get(cell) {
-            Some(own) => &own.places,
-            None => &[],
-        }
     }
 
     // Returns the claim of a chain at a place, if it is still to be made.
@@ -268,7 +236,7 @@ impl<'a> Steps<'a> {
     pub fn tallies(&self, alloc: Global) -> Result<Vec<Tally<'a>>, NoMemory> {
         let mut tallies = Vec::with_capacity(alloc, self.slots.len())?;
         for slot in &self.slots {
-            let mut tally = slot.classes.copy(alloc)?;
+            let mut tally = slot.copy(alloc)?;
             for (chain, k) in &slot.places {
                 if let Some(step) = self.step_at(*chain, *k) {
                     tally.count_claim(&step, true);
@@ -354,21 +322,9 @@ impl<'a> Steps<'a> {
         Ok(after)
     }
 
-    /// Returns a claim that waits for a file which is never installed, in the state `after` the
-    /// next claim of a chain.
-    pub(crate) fn hopeless_after(
-        &self,
-        row: &[u16],
-        after: &[u16],
-        chain: usize,
-    ) -> Option<ClaimAt> {
-        let step = self.next_of(row, chain)?;
-        self.hopeless(after, step.cell?)
-    }
-
     /// Returns a claim of a slot, still to be made, that waits for a file which is never installed.
     pub fn hopeless(&self, row: &[u16], cell: usize) -> Option<ClaimAt> {
-        let claims = self.places_at(cell);
+        let claims = &self.slots.get(cell)?.places;
         let slot = self.packing.cells.get(cell)?.slot;
         let found = self.file(row, cell);
         for (i, at) in claims.iter().enumerate() {

@@ -1,10 +1,10 @@
 //! The claims of a slot that are still to be made, counted as a search goes. Nothing is promised of
 //! it.
 
-use crate::cell::{may_find, may_leave};
+use crate::cell::{may_find, may_leave, may_stay};
 use crate::claim::{Claim, Condition, Leaves, Resident};
 use crate::node::is_test;
-use crate::steps::ClaimStep;
+use crate::steps::{ClaimAt, ClaimStep, MOST_CLAIMS};
 use fx_base::NoMemory;
 use std::alloc::Global;
 
@@ -23,6 +23,8 @@ struct Class<'a> {
 /// The claims of a slot that are still to be made.
 #[derive(Drop)]
 pub struct Tally<'a> {
+    /// All claims of the slot, those of the first chain first.
+    pub(crate) places: Vec<ClaimAt>,
     classes: Vec<Class<'a>>,
     // The number of claims that take a file.
     takes: usize,
@@ -59,6 +61,7 @@ impl<'a> Tally<'a> {
     /// Returns a tally without claims.
     pub fn new(alloc: Global) -> Tally<'a> {
         Tally {
+            places: Vec::new(alloc),
             classes: Vec::new(alloc),
             takes: 0,
             empties: 0,
@@ -68,16 +71,17 @@ impl<'a> Tally<'a> {
         }
     }
 
-    /// Returns a copy.
+    /// Returns a copy, without the places of the claims.
     pub fn copy(&self, alloc: Global) -> Result<Tally<'a>, NoMemory> {
         Ok(Tally {
             classes: Vec::from_slice(alloc, &self.classes)?,
+            places: Vec::new(alloc),
             ..*self
         })
     }
 
-    /// Returns the number of the class of a claim, which it doesn't count.
-    pub(crate) fn class_of(&mut self, claim: &'a Claim) -> Result<usize, NoMemory> {
+    // Returns the number of the class of a claim.
+    fn class_of(&mut self, claim: &'a Claim) -> Result<usize, NoMemory> {
         let count = self.classes.len();
         for class in 0..count {
             if is_alike(self.classes[class].claim, claim) {
@@ -90,6 +94,15 @@ impl<'a> Tally<'a> {
             helpers: 0,
         })?;
         Ok(count)
+    }
+
+    /// Adds the claim of a step, which it doesn't count, and sets the step's class and bit.
+    pub(crate) fn add(&mut self, step: &mut ClaimStep<'a>, at: ClaimAt) -> Result<(), NoMemory> {
+        let before = self.places.len();
+        step.bit = if before < MOST_CLAIMS { 1 << before } else { 0 };
+        step.class = self.class_of(step.claim)?;
+        self.places.push(at)?;
+        Ok(())
     }
 
     /// Counts the claim of a step as still to be made, or as made.
@@ -140,12 +153,8 @@ impl<'a> Tally<'a> {
     /// Checks whether these counts show that no order of the claims leads to an end, if `found` is
     /// at the slot: the files don't balance ([`crate::dead`]), or a claim waits.
     pub fn is_dead(&self, found: Option<Resident>) -> bool {
-        let (mut leaving, mut staying) = (self.leaving, self.staying);
-        match found {
-            Some(file) if file.leaves => leaving = leaving.saturating_add(1),
-            Some(_) => staying = staying.saturating_add(1),
-            None => {}
-        }
+        let leaving = self.leaving.saturating_add(usize::from(!may_stay(found)));
+        let staying = self.staying.saturating_add(usize::from(!may_leave(found)));
         staying > 1
             || leaving < self.takes
             || (self.empties == 0 && staying == 0 && leaving > 0)

@@ -74,10 +74,7 @@ impl Slot<'_> {
 
     // Checks whether the claim of a chain before the one at a place was made.
     fn is_first(&self, made: u64, chain: usize, at: usize) -> bool {
-        if at == 0 {
-            return true;
-        }
-        match self.claims.get(at - 1) {
+        match self.claims.get(at.wrapping_sub(1)) {
             Some((other, before)) => *other != chain || made & before.bit != 0,
             None => true,
         }
@@ -101,12 +98,7 @@ impl Slot<'_> {
     // moment.
     fn near_count(&self, moment: u64) -> usize {
         let far = self.first(moment & MADE).saturating_add(self.near);
-        for (at, (chain, _)) in self.claims.iter().enumerate() {
-            if *chain >= far {
-                return at;
-            }
-        }
-        self.claims.len()
+        self.claims.partition_point(|claim| claim.0 < far)
     }
 
     // Adds the moments that are reached from those in the set. Returns false if they are too many.

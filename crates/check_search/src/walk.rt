@@ -88,12 +88,7 @@ impl Walk<'_> {
         if self.room.states == 0 {
             return Ok(Found::Stopped(self.room.doubt));
         }
-        self.enter(Stage {
-            by: 0,
-            before: 0,
-            last: 0,
-            tried: 0,
-        })?;
+        self.enter(0, 0, 0)?;
         for _ in 0..usize::MAX {
             if let Some(found) = self.advance()? {
                 return Ok(found);
@@ -102,14 +97,19 @@ impl Walk<'_> {
         Ok(Found::Stopped(self.room.doubt))
     }
 
-    // Records the current state, and that this stage led there.
-    fn enter(&mut self, stage: Stage) -> Result<(), NoMemory> {
+    // Records the current state, and the stage that led there.
+    fn enter(&mut self, by: usize, before: u16, last: usize) -> Result<(), NoMemory> {
         if self.room.keeps {
             let row = Vec::from_slice(self.alloc, &self.here.row)?;
             self.met.rows.insert(row)?;
         }
         self.sums.insert(self.here.sum)?;
-        self.way.push(stage)?;
+        self.way.push(Stage {
+            by,
+            before,
+            last,
+            tried: 0,
+        })?;
         Ok(())
     }
 
@@ -120,10 +120,10 @@ impl Walk<'_> {
         if stage.tried == ALL {
             return None;
         }
-        if stage.tried == 0 {
-            if let Some(chain) = self.test() {
-                return Some((chain, ALL));
-            }
+        if stage.tried == 0
+            && let Some(chain) = self.test()
+        {
+            return Some((chain, ALL));
         }
         let (low, high) = self.window();
         if self.plan.seed > 0 {
@@ -196,23 +196,18 @@ impl Walk<'_> {
     // Returns the next step of a chain, if it may be made and leads to a moment of its track.
     fn step_of(&self, chain: usize) -> Option<ClaimStep<'_>> {
         let step = self.steps.next_of(&self.here.row, chain)?;
-        let here = &self.here;
-        if self.steps.allows(&here.row, &step, here.empty) && self.keeps_track(&step) {
-            Some(step)
-        } else {
-            None
-        }
+        let may = self.steps.allows(&self.here.row, &step, self.here.empty);
+        (may && self.keeps_track(&step)).then_some(step)
     }
 
     // Checks whether a step leads to a moment of the track of its slot.
     fn keeps_track(&self, step: &ClaimStep<'_>) -> bool {
-        let Some(tracks) = self.tracks else {
-            return true;
-        };
-        match self.here.moment_after(step) {
-            Some((cell, moment)) => tracks.allows(cell, moment),
-            None => true,
+        if let Some(tracks) = self.tracks
+            && let Some((cell, moment)) = self.here.moment_after(step)
+        {
+            return tracks.allows(cell, moment);
         }
+        true
     }
 
     // Records the slots that block the chains that may be continued, if no step leads on and the
@@ -239,46 +234,34 @@ impl Walk<'_> {
     // Records the slot of a chain's next step, if its track blocks the step (`by_order`), or if the
     // step waits for a file.
     fn note_chain(&mut self, chain: usize, by_order: bool) -> Result<(), NoMemory> {
-        let Some(step) = self.steps.next_of(&self.here.row, chain) else {
-            return Ok(());
-        };
-        let Some(cell) = step.cell else {
-            return Ok(());
-        };
-        let may = self.steps.allows(&self.here.row, &step, self.here.empty);
-        let is_one = if by_order {
-            may && !self.keeps_track(&step)
-        } else {
-            !may
-        };
-        if is_one && !self.met.blocked.contains(&cell) {
+        if let Some(step) = self.steps.next_of(&self.here.row, chain)
+            && let Some(cell) = step.cell
+            && self.steps.allows(&self.here.row, &step, self.here.empty) == by_order
+            && !(by_order && self.keeps_track(&step))
+            && !self.met.blocked.contains(&cell)
+        {
             self.met.blocked.push(cell)?;
         }
         Ok(())
     }
 
     // Makes a step, unless it leads to a state that was met, or to one from which no end is
-    // reached. Returns false if there is no room for the state.
-    fn go(&mut self, chain: usize, last: usize) -> Result<bool, NoMemory> {
+    // reached. Returns the result if there is no room for the state.
+    fn go(&mut self, chain: usize, last: usize) -> Result<Option<Found>, NoMemory> {
         let Some(step) = self.steps.next_of(&self.here.row, chain) else {
-            return Ok(true);
+            return Ok(None);
         };
         let before = self.here.make(chain, &step);
         if self.here.is_dead(&step) || self.sums.contains(&self.here.sum) {
             self.here.take_back(chain, before);
-            return Ok(true);
+            return Ok(None);
         }
         if self.sums.len() >= self.room.states {
-            return Ok(false);
+            return Ok(Some(Found::Stopped(self.room.doubt)));
         }
         let last = if is_test(step.claim) { last } else { chain };
-        self.enter(Stage {
-            by: chain,
-            before,
-            last,
-            tried: 0,
-        })?;
-        Ok(true)
+        self.enter(chain, before, last)?;
+        Ok(None)
     }
 
     // Returns the steps of the way.
@@ -308,10 +291,6 @@ impl Walk<'_> {
         if let Some(stage) = self.way.last_mut() {
             stage.tried = tried;
         }
-        if self.go(chain, stage.last)? {
-            Ok(None)
-        } else {
-            Ok(Some(Found::Stopped(self.room.doubt)))
-        }
+        self.go(chain, stage.last)
     }
 }
