@@ -65,6 +65,10 @@ module _ (catalogue : List FileEntry) (size : ℕ) (rules : Rules) (right : AreR
     rest_is = goes.rest_is;
   }
 
+  nothing_yet : (rest : Rest) {accesses : List Access} {cs : List Completed} → AllByRecursion HasMemory cs
+      → IsReady rest.place rest.requests rest.made → IsRest rest accesses cs → Goes ([], rest) accesses cs
+  nothing_yet rest {cs = cs} memory ready is = record { later = cs; whole = refl; memory = memory; ready = ready; rest_is = is }
+
   over_now : {recorded cs : List Completed} {accesses : List Access} → accesses ≡ [] → cs ≡ recorded → Goes (recorded, over) accesses cs
   over_now {recorded} none is = record {
     later = [];
@@ -98,13 +102,7 @@ module _ (catalogue : List FileEntry) (size : ℕ) (rules : Rules) (right : AreR
       let none : own ≡ [] = nil_from_length own (so.0 ∙ zero) in
       let answer = rw none at so.1 in
       rw (whole, are, none, ← answer) (goes_behind place request requests (settles (next_member place) requests mem.1) on))
-      (λ some. record {
-        later = cs;
-        whole = refl;
-        memory = memory;
-        ready = omega arith;
-        rest_is = record { front = []; made = refl; done = x };
-      })
+      (λ some. nothing_yet (rest_at place (request ∷ requests) 0) memory (omega arith) (record { front = []; made = refl; done = x }))
 
   -- no access is left: the chain is over, and all of it is recorded
   pub ends : {place : Place} (requests : List Asked) {made : ℕ} {cs : List Completed} → AllByRecursion HasMemory cs → IsReady place requests made
@@ -137,13 +135,8 @@ module _ (catalogue : List FileEntry) (size : ℕ) (rules : Rules) (right : AreR
             let none : mid ≡ [] = nil_from_length mid (omega (arith, ap length own_is, length-append front mid)) in
             let answer = rw (own_is, none, append-nil, last_of-end) at so.1 in
             rw (whole, accesses_are, none, ← answer) (goes_behind place request requests (settles (next_member place) requests mem.1) on))
-            (λ more. record {
-              later = cs;
-              whole = refl;
-              memory = memory;
-              ready = omega arith;
-              rest_is = record { front = front; made = long; done = rw append_assoc is.done };
-            }),
+            (λ more. nothing_yet (rest_at place (request ∷ requests) (made + 1)) memory (omega arith)
+            (record { front = front; made = long; done = rw append_assoc is.done })),
       )
 
 -- The accesses by which a request may do what it is to do at a table.

@@ -59,5 +59,3 @@ pub use Rattle.std.proofs.lemmas.List.Sorted.{All-permutation, IsPermutation-app
 pub use borrow.Author.Count.{below_more}
 pub use Rattle.std.proofs.lemmas.Slice.Eq.{slice_eq-Decides}
 pub use Rattle.fx_order.proofs.Apart.{file_Decides}
-
--- The names that most proofs of this crate use.

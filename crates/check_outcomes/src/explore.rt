@@ -5,10 +5,10 @@ use crate::found::{FoundStates, FoundStep, key_of};
 use crate::parts::part_numbers;
 use crate::state::{PlayState, accesses_of, next_state, start};
 use crate::submission::{PlayedSubmission, Progress};
-use crate::turns::{ChainTurn, turn_at, waits};
+use crate::turns::{turn_at, waits};
 use check_search::Limits;
 use fx_base::{Closed, NoMemory};
-use fx_chain::{Completion, Place, Request};
+use fx_chain::Completion;
 use fx_order::Slots;
 
 // Returns the bytes that a state keeps of the answers and removed files on the way to it: of each
@@ -54,13 +54,14 @@ fn room_for(submission: &PlayedSubmission<'_>, limits: Limits) -> usize {
 /// A search: what it found, the numbers of the states that it has still to look at, and how many
 /// states it may meet.
 #[derive(Drop)]
-struct Search {
+struct Search<'a> {
+    submission: &'a PlayedSubmission<'a>,
     found: FoundStates,
     open: Vec<usize>,
     most: usize,
 }
 
-impl Search {
+impl Search<'_> {
     // Notes a state, unless it is known, and the step that led to it. Returns false if there is no
     // room for it.
     fn add(&mut self, state: PlayState, from: Option<FoundStep>) -> Result<bool, NoMemory> {
@@ -76,14 +77,9 @@ impl Search {
     }
 
     // Notes the answers at the place that aren't known, and the step that gave them.
-    fn note(
-        &mut self,
-        place: Option<Place>,
-        recorded: Vec<Completion>,
-        by: Option<FoundStep>,
-    ) -> Result<(), NoMemory> {
+    fn note(&mut self, recorded: Vec<Completion>, by: Option<FoundStep>) -> Result<(), NoMemory> {
         for c in recorded {
-            if place == Some(c.place) && !self.found.answers.contains(&c) {
+            if self.submission.asked == Some(c.place) && !self.found.answers.contains(&c) {
                 self.found.answers.push(c)?;
                 self.found.by.push(by)?;
             }
@@ -93,35 +89,30 @@ impl Search {
 
     // Follows an access of a chain in a state, if it may be made. Returns false if there is no room
     // for the state to which it leads.
-    fn follow_step(
-        &mut self,
-        submission: &PlayedSubmission<'_>,
-        step: FoundStep,
-    ) -> Result<bool, NoMemory> {
+    fn follow_step(&mut self, step: FoundStep) -> Result<bool, NoMemory> {
         let Some(here) = self.found.states.get(step.state) else {
             return Ok(true);
         };
+        let submission = self.submission;
         let mut recorded = Vec::new(submission.alloc);
         let next = next_state(submission, here, step.chain, &step.access, &mut recorded)?;
         let Some(next) = next else {
             return Ok(true);
         };
-        self.note(submission.asked, recorded, Some(step))?;
+        self.note(recorded, Some(step))?;
         self.add(next, Some(step))
     }
 
-    // Follows each access that a chain may make next in a state. Returns false if there is no room
-    // for the states.
-    fn follow(
-        &mut self,
-        submission: &PlayedSubmission<'_>,
-        state: usize,
-        chain: usize,
-    ) -> Result<bool, NoMemory> {
+    // Follows each access that a chain may make next in a state, unless it is idle. Returns false
+    // if there is no room for the states.
+    fn follow(&mut self, state: usize, chain: usize) -> Result<bool, NoMemory> {
         let Some(here) = self.found.states.get(state) else {
             return Ok(true);
         };
-        let Some(accesses) = accesses_of(submission, here, chain)? else {
+        if chain >= self.submission.chains.len() || here.is_idle(self.submission, chain) {
+            return Ok(true);
+        }
+        let Some(accesses) = accesses_of(self.submission, here, chain)? else {
             return Ok(true);
         };
         for access in accesses {
@@ -130,7 +121,7 @@ impl Search {
                 chain,
                 access,
             };
-            if !self.follow_step(submission, step)? {
+            if !self.follow_step(step)? {
                 return Ok(false);
             }
         }
@@ -139,68 +130,42 @@ impl Search {
 
     // Follows each chain whose turn it is in a state. Returns false if there is no room for the
     // states.
-    fn follow_turn(
-        &mut self,
-        submission: &PlayedSubmission<'_>,
-        state: usize,
-    ) -> Result<bool, NoMemory> {
+    fn follow_turn(&mut self, state: usize) -> Result<bool, NoMemory> {
         let Some(here) = self.found.states.get(state) else {
             return Ok(true);
         };
-        let turn = turn_at(submission, &self.found.numbers, here);
-        for chain in 0..submission.chains.len() {
-            if self.is_next(submission, state, turn, chain)
-                && !self.follow(submission, state, chain)?
-            {
+        let turn = turn_at(self.submission, &self.found.numbers, here);
+        for chain in 0..self.submission.chains.len() {
+            if !waits(&self.found.numbers, turn, chain) && !self.follow(state, chain)? {
                 return Ok(false);
             }
         }
         Ok(true)
     }
 
-    // Checks whether it is a chain's turn in a state, and the chain isn't idle there.
-    fn is_next(
-        &self,
-        submission: &PlayedSubmission<'_>,
-        state: usize,
-        turn: Option<ChainTurn>,
-        chain: usize,
-    ) -> bool {
-        let Some(here) = self.found.states.get(state) else {
-            return false;
-        };
-        chain < submission.chains.len()
-            && !waits(&self.found.numbers, turn, chain)
-            && !here.is_idle(submission, chain)
-    }
-
     // Looks at the states that were met last first, so that ends are met early. Returns false if
     // there is no room for all.
-    fn run(&mut self, submission: &PlayedSubmission<'_>) -> Result<bool, NoMemory> {
+    fn run(&mut self) -> Result<bool, NoMemory> {
         for _ in 0..self.most {
             let Some(state) = self.open.pop() else {
                 return Ok(true);
             };
-            if !self.follow_turn(submission, state)? {
+            if !self.follow_turn(state)? {
                 return Ok(false);
             }
         }
         Ok(self.open.is_empty())
     }
 
-    // Looks for all states, beginning with the first one of a submission at these slots.
-    fn run_from(
-        &mut self,
-        submission: &PlayedSubmission<'_>,
-        slots: &Slots,
-    ) -> Result<(), NoMemory> {
-        let mut recorded = Vec::new(submission.alloc);
-        let first = start(submission, slots, &mut recorded)?;
+    // Looks for all states, beginning with the first one of the submission at these slots.
+    fn run_from(&mut self, slots: &Slots) -> Result<(), NoMemory> {
+        let mut recorded = Vec::new(self.submission.alloc);
+        let first = start(self.submission, slots, &mut recorded)?;
         let has_room = self.add(first, None)?;
         for own in recorded {
-            self.note(submission.asked, own, None)?;
+            self.note(own, None)?;
         }
-        self.found.is_whole = has_room && self.run(submission)?;
+        self.found.is_whole = has_room && self.run()?;
         Ok(())
     }
 }
@@ -214,10 +179,11 @@ pub(crate) fn explore(
 ) -> Result<FoundStates, NoMemory> {
     let alloc = submission.alloc;
     let mut search = Search {
+        submission,
         found: FoundStates::new(alloc, part_numbers(submission, slots)?),
         open: Vec::new(alloc),
         most: room_for(submission, limits),
     };
-    search.run_from(submission, slots)?;
+    search.run_from(slots)?;
     Ok(search.found)
 }

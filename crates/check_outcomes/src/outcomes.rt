@@ -116,9 +116,10 @@ fn all_confirmed(
     let mut reports = Vec::new(submission.alloc);
     let steps = found.last_steps(submission)?;
     for by in &steps {
-        if let Some(report) = confirmed(submission, slots, found, *by)? {
-            reports.push(report)?;
-        }
+        let Some(report) = confirmed(submission, slots, found, *by)? else {
+            continue;
+        };
+        reports.push(report)?;
     }
     Ok(reports)
 }
@@ -219,24 +220,6 @@ fn reports_in(
     })
 }
 
-// Returns the reports of a submission at these slots.
-fn reports_of(
-    submission: &PlayedSubmission<'_>,
-    slots: &Slots,
-    limits: Limits,
-) -> Result<PossibleReports, NoMemory>
-    ensures each { IfOk result (λ found.
-        All (IsPossibleIn submission.now slots.now) found.reports.items) }
-    ensures ends { IfOk result (λ found. IsTrue found.are_all → OfEach submission.now slots.now
-        (λ old requests. HasEachEnd old requests found.reports.items)) }
-    ensures all { IfOk result (λ found. IsTrue found.are_all → IsTrue submission.now.with_reports
-        → OfEach submission.now slots.now
-        (λ old requests. HasEachReport old requests found.reports.items)) }
-{
-    let found = explore(submission, slots, limits)?;
-    reports_in(submission, slots, &found)
-}
-
 /// Returns reports that the submission can produce if no allocation fails, starting from `slots`
 /// after `submissions` accepted submissions. Each has an order of accesses that yields it. If
 /// `are_all` is true, the submission can leave no other slots than those of the reports. If
@@ -281,7 +264,8 @@ pub fn may_report(
         with_reports,
         asked: None,
     };
-    reports_of(&submission, slots, limits)
+    let found = explore(&submission, slots, limits)?;
+    reports_in(&submission, slots, &found)
 }
 
 /// An answer of a request, an order of the submission's accesses that yields it, and the slots that
@@ -370,23 +354,6 @@ fn answers_in(
     Ok(PossibleAnswers { answers, are_all })
 }
 
-// Returns the answers at the place that the submission asks for.
-fn answers_of(
-    submission: &PlayedSubmission<'_>,
-    slots: &Slots,
-    place: Place,
-    limits: Limits,
-) -> Result<PossibleAnswers, NoMemory>
-    requires { submission.now.asked ≡ Some place }
-    ensures each { IfOk result (λ found.
-        All (IsAnswerIn submission.now slots.now place) found.answers.items) }
-    ensures all { IfOk result (λ found. IsTrue found.are_all → OfEach submission.now slots.now
-        (λ old requests. HasEachAnswer old requests place found.answers.items)) }
-{
-    let found = explore(submission, slots, limits)?;
-    answers_in(submission, slots, place, &found)
-}
-
 /// Returns answers that the request at a place of the submission can give if no allocation fails,
 /// starting from `slots` after `submissions` accepted submissions. Each has an order of accesses
 /// that yields it. If `are_all` is true, the request can give no other answer. If it is false, that
@@ -426,5 +393,6 @@ pub fn may_answer(
         with_reports: false,
         asked: Some(place),
     };
-    answers_of(&submission, slots, place, limits)
+    let found = explore(&submission, slots, limits)?;
+    answers_in(&submission, slots, place, &found)
 }

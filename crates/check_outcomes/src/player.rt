@@ -27,66 +27,55 @@ pub(crate) struct OrderPlay {
     pub(crate) closes: Vec<Closed>,
 }
 
-// Returns the steps that led to a state, and the last one.
+// Returns the steps that led to a state, and the last one, if there is one.
 fn steps_to(
     submission: &PlayedSubmission<'_>,
     found: &FoundStates,
-    last: FoundStep,
+    mut last: Option<FoundStep>,
 ) -> Result<Vec<FoundStep>, NoMemory> {
     let mut steps = Vec::new(submission.alloc);
-    let mut step = last;
     for _ in 0..found.states.len() {
+        let Some(step) = last else {
+            break;
+        };
         steps.push(step)?;
-        match found.from.get(step.state) {
-            Some(Some(earlier)) => step = *earlier,
-            _ => break,
-        }
+        last = found.from.get(step.state).copied().flatten();
     }
     steps.reverse();
     Ok(steps)
 }
 
-/// The state of a play of a submission, access by access, and the answers of each chain.
+/// A play of a submission, access by access: its state, and the answers of each chain.
 #[derive(Drop)]
-struct Player {
+struct Player<'a> {
+    submission: &'a PlayedSubmission<'a>,
     state: PlayState,
     recorded: Vec<Vec<Completion>>,
+    play: &'a mut OrderPlay,
 }
 
-impl Player {
+impl Player<'_> {
     // Makes an access, if it may be made.
-    fn play(
-        &mut self,
-        submission: &PlayedSubmission<'_>,
-        chain: usize,
-        access: Access,
-        play: &mut OrderPlay,
-    ) -> Result<bool, NoMemory> {
-        let mut recorded = Vec::new(submission.alloc);
-        let next = next_state(submission, &self.state, chain, &access, &mut recorded)?;
+    fn make(&mut self, chain: usize, access: Access) -> Result<bool, NoMemory> {
+        let mut recorded = Vec::new(self.submission.alloc);
+        let next = next_state(self.submission, &self.state, chain, &access, &mut recorded)?;
         let Some(next) = next else {
             return Ok(false);
         };
         self.state = next;
-        self.note(chain, access, &mut recorded, play)?;
+        if let Some(own) = self.recorded.get_mut(chain) {
+            own.append(&mut recorded)?;
+        }
+        self.note(chain, access)?;
         Ok(true)
     }
 
-    // Notes an access of a chain, its answers, and the file that it removed.
-    fn note(
-        &mut self,
-        chain: usize,
-        access: Access,
-        recorded: &mut Vec<Completion>,
-        play: &mut OrderPlay,
-    ) -> Result<(), NoMemory> {
-        if let Some(own) = self.recorded.get_mut(chain) {
-            own.append(recorded)?;
-        }
+    // Notes an access of a chain, and the file that it removed.
+    fn note(&mut self, chain: usize, access: Access) -> Result<(), NoMemory> {
         if let Some(file) = access.removed() {
-            play.closes.push(file)?;
+            self.play.closes.push(file)?;
         }
-        play.order.push(ChainAccess {
+        self.play.order.push(ChainAccess {
             chain: (chain.min(u32::MAX as usize - 1) + 1) as u32,
             access,
         })?;
@@ -94,48 +83,37 @@ impl Player {
     }
 
     // Makes the first access that a chain may make next.
-    fn play_first(
-        &mut self,
-        submission: &PlayedSubmission<'_>,
-        chain: usize,
-        play: &mut OrderPlay,
-    ) -> Result<bool, NoMemory> {
-        let Some(accesses) = accesses_of(submission, &self.state, chain)? else {
+    fn make_first(&mut self, chain: usize) -> Result<bool, NoMemory> {
+        let Some(accesses) = accesses_of(self.submission, &self.state, chain)? else {
             return Ok(false);
         };
         for access in accesses {
-            if self.play(submission, chain, access, play)? {
+            if self.make(chain, access)? {
                 return Ok(true);
             }
         }
         Ok(false)
     }
 
-    // Makes the accesses of the steps up to this one, and goes on to the end of each chain, one
-    // chain after another.
-    fn play_all(
-        &mut self,
-        submission: &PlayedSubmission<'_>,
-        found: &FoundStates,
-        last: Option<FoundStep>,
-        play: &mut OrderPlay,
-    ) -> Result<(), NoMemory> {
-        if let Some(last) = last {
-            for step in &steps_to(submission, found, last)? {
-                self.play(submission, step.chain, step.access, play)?;
-            }
+    // Makes the accesses of these steps, and goes on to the end of each chain, one chain after
+    // another.
+    fn make_all(&mut self, steps: &[FoundStep]) -> Result<(), NoMemory> {
+        for step in steps {
+            self.make(step.chain, step.access)?;
         }
-        for chain in 0..submission.chains.len() {
+        for chain in 0..self.submission.chains.len() {
             for _ in 0..MOST_ACCESSES {
-                if !self.play_first(submission, chain, play)? {
+                if !self.make_first(chain)? {
                     break;
                 }
             }
         }
-        for own in self.recorded.iter_mut() {
-            play.completions.append(own)?;
+        let alloc = self.submission.alloc;
+        let recorded = std::mem::replace(&mut self.recorded, Vec::new(alloc));
+        for mut own in recorded {
+            self.play.completions.append(&mut own)?;
         }
-        sort_by_mark(&mut play.closes);
+        sort_by_mark(&mut self.play.closes);
         Ok(())
     }
 }
@@ -149,10 +127,15 @@ pub(crate) fn play_to(
     last: Option<FoundStep>,
     play: &mut OrderPlay,
 ) -> Result<(), NoMemory> {
+    let steps = steps_to(submission, found, last)?;
     let mut recorded = Vec::new(submission.alloc);
-    let state = start(submission, slots, &mut recorded)?;
-    let mut player = Player { state, recorded };
-    player.play_all(submission, found, last, play)
+    let mut player = Player {
+        state: start(submission, slots, &mut recorded)?,
+        submission,
+        recorded,
+        play,
+    };
+    player.make_all(&steps)
 }
 
 // Checks whether no request lacked memory.

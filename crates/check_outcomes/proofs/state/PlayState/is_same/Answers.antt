@@ -1,4 +1,4 @@
-use Rattle.check_outcomes.proofs.Words.{◌≡◌, ◌∙◌, sym, refl, not-false, slice_eq-Decides, file_Decides}
+use Rattle.check_outcomes.proofs.Words.{◌∙◌, sym, refl, not-false, slice_eq-Decides, file_Decides}
 use Rattle.check_outcomes.proofs.Viewing.{progress_Decides}
 use Rattle.check_outcomes.proofs.state.PlayState.is_same.Goals as goal
 
