@@ -1,17 +1,14 @@
 -- The calls between submissions: the rings that they leave, and their lines.
-use Rattle.check_lines.proofs.Words.{List, None, Option, Some, [], ap, arith, refl, subst, sym, ℕ, ◌∙◌, ◌≡◌, ◌≤◌, FileEntry, Bool, MatchBool}
-use Rattle.check_lines.proofs.Words.{if◌then◌else◌, inl, inr, nat_le, true, ◌+◌, leb-false, Errno, registered_rings, updated_rings, counted_still}
-use Rattle.check_lines.proofs.Words.{none_rings, Table, ring_of_slots, ring_with_slots, table_of_slots, registered_sparse, range_refusal, IsRing}
+use Rattle.check_lines.proofs.Words.{Instruction, MakesSparse, RegistersList, SetsRange, SubmitsAll, Unregisters, UpdatesRing, RingSlots, Slots}
+use Rattle.check_lines.proofs.Words.{after_call, call_of, unless_refused, IsCall, accepted_following, word_unless, memory_word, append_assoc}
+use Rattle.check_lines.proofs.Words.{both_options, List, None, Option, Some, [], ap, arith, refl, subst, sym, ℕ, ◌∙◌, ◌≡◌, ◌≤◌, FileEntry, Bool}
+use Rattle.check_lines.proofs.Words.{MatchBool, if◌then◌else◌, inl, inr, nat_le, true, ◌+◌, leb-false, Errno, registered_rings, updated_rings}
+use Rattle.check_lines.proofs.Words.{counted_still, none_rings, Table, ring_with_slots, table_of_slots, registered_sparse, range_refusal, IsRing}
 use Rattle.check_lines.proofs.Words.{RingState, without_table, HasClosed, RingContents, ring_of, tags_given, MOST_REGISTRATIONS, MOST_SUBMISSIONS}
 use Rattle.check_lines.proofs.Words.{AreInRange, ◌<◌, ◌^◌, pos, negsuc, ◌++◌, All, IfSome, unwrap_or, ⊎_elim, ◌↔◌, ◌⊎◌, append-nil, nil_from_length}
 use Rattle.check_lines.proofs.Words.{length_permutation, CloseListView, ENOMEM, Closed, negated, closes_text, result_line, refused_line}
 use Rattle.check_lines.proofs.Words.{too_many_line, MatchOption, fault_of, CutFault, MOST_SLOTS, CallAnswers, IsCallRefused, Prints, PrintsReport}
-use Rattle.fx_language.specs.Instruction.{Instruction, MakesSparse, RegistersList, SetsRange, SubmitsAll, Unregisters, UpdatesRing}
-use Rattle.fx_order.specs.declared.ring_slots.RingSlots.{RingSlots}
-use Rattle.fx_order.specs.declared.slots.Slots.{Slots}
-use Rattle.check_lines.specs.Calls.{after_call, call_of, unless_refused, IsCall, accepted_following, word_unless, memory_word}
 use Rattle.check_lines.proofs.Entries.{none_holds, inside_of, IsAtOne, all_in_order, all_removed, closes_printed}
-use Rattle.std.proofs.Common.{append_assoc}
 pub use Rattle.check_lines.specs.Calls.{AnswersFound, Call, IsLineOf, IsNoSubmission, YieldsCall as Tells, YieldsClosed}
 use Rattle.check_lines.proofs.Decimals.{one_result}
 
@@ -27,30 +24,14 @@ pub still : (P : RingState → Type 0) {ring : RingState} (command : Instruction
 still P (SubmitsAll asked) so goes = so
 still P {ring} command so goes = unless_so P (call_of ring command).refusal so goes
 
-abbrev AreSame : RingSlots → RingSlots → Type 0
-AreSame new old = (catalogue : List FileEntry) → ring_with_slots catalogue new ≡ ring_with_slots catalogue old
-
--- a call that is refused leaves a copy
-pub refused_leaves : (catalogue : List FileEntry) (ring copy : RingSlots) (command : Instruction) {errno : Errno} → AreSame copy ring
-    → (call_of (ring_with_slots catalogue ring) command).refusal ≡ Some errno
-    → ring_with_slots catalogue copy ≡ after_call (ring_with_slots catalogue ring) command
-refused_leaves catalogue ring copy command same is =
-    let old = ring_with_slots catalogue ring in
-    subst (λ (x : Option Errno). ring_with_slots catalogue copy ≡ unless_refused x old (call_of old command).left) (sym is) (same catalogue)
-
--- the slots of a copy with another range
-pub ranged_left : (catalogue : List FileEntry) (ring : RingSlots) (copy : Slots) (range : ℕ × ℕ) → table_of_slots copy ≡ table_of_slots ring.slots
-    → ring_of_slots catalogue (record copy { range = range }) ring.submissions ring.registrations ≡ record (ring_with_slots catalogue ring) { range = range }
-ranged_left catalogue ring copy range same =
-    ap (λ (t : Table). record (ring_with_slots catalogue ring) { size = t.size; range = range; at = t.at }) same
-
 -- the files of a copy, and of slots without files, are in range
 
 pub same_in_range : (copy old : Slots) → table_of_slots copy ≡ table_of_slots old → AreInRange (table_of_slots old).at
     → AreInRange (table_of_slots copy).at
 same_in_range copy old same = subst (λ (t : Table). AreInRange t.at) (sym same)
 
-pub copy_in_range : (copy ring : RingSlots) → AreSame copy ring → AreInRange (table_of_slots ring.slots).at → AreInRange (table_of_slots copy.slots).at
+pub copy_in_range : (copy ring : RingSlots) → ((catalogue : List FileEntry) → ring_with_slots catalogue copy ≡ ring_with_slots catalogue ring)
+    → AreInRange (table_of_slots ring.slots).at → AreInRange (table_of_slots copy.slots).at
 copy_in_range copy ring same = subst AreInRange (sym (ap (λ (r : RingState). r.at) (same [])))
 
 pub none_in_range : (slots : Slots) {n : ℕ} → table_of_slots slots ≡ record { size = n; range = (0, n); at = λ _. None }
@@ -113,22 +94,15 @@ told_closed ring head None {closes} has is =
     is ∙ ap (λ (files : List Closed). head ++ closes_text ring.catalogue files) none ∙ append-nil head
 told_closed ring head (Some files) {closes} has is = (closes, has, is)
 
--- the line of a call by its refusal
-pub line_by : (ring : RingState) (command : Instruction) (line : List ℕ) {refusal : Option Errno} → IsNoSubmission command
-    → (call_of ring command).refusal ≡ refusal → AnswersFound refusal (call_of ring command).word (Tells ring (call_of ring command)) line
-    → IsLineOf ring command line
-line_by ring (SubmitsAll asked) line none is told = absurd none
-line_by ring command line none is told =
-    let call = call_of ring command in subst (λ (x : Option Errno). AnswersFound x call.word (Tells ring call) line) (sym is) told
-
--- so that of an accepted one is its result, and the lines of the files that it closes
+-- the line of an accepted call is its result, and the lines of the files that it closes
 pub accepted_line : (ring : RingState) (command : Instruction) (files : List Closed) (closes : CloseListView) (first line : List ℕ)
     → IsNoSubmission command → (call_of ring command).refusal ≡ None → files ≡ unwrap_or (call_of ring command).closed [] → HasClosed files closes
     → first ≡ result_line (call_of ring command).word (pos (call_of ring command).res) → line ≡ first ++ closes_text ring.catalogue closes.files
     → IsLineOf ring command line
+accepted_line ring (SubmitsAll asked) files closes first line none accepted are has is_first is = absurd none
 accepted_line ring command files closes first line none accepted are has is_first is =
     let call = call_of ring command in
-    line_by ring command line none accepted
+    subst (λ (x : Option Errno). AnswersFound x call.word (Tells ring call) line) (sym accepted)
     (told_closed ring (result_line call.word (pos call.res)) call.closed (subst (λ (l : List Closed). HasClosed l closes) are has)
     (is ∙ ap (λ (l : List ℕ). l ++ closes_text ring.catalogue closes.files) is_first))
 
@@ -143,7 +117,7 @@ one_told : (ring : RingState) (head : List ℕ) (closed : Option (List Closed)) 
     → YieldsClosed ring head closed a → YieldsClosed ring head closed b → a ≡ b
 one_told ring head None a b is_ring all first second = first ∙ sym second
 one_told ring head (Some files) a b is_ring all (closes, has, is) second =
-    is ∙ sym (closes_printed ring ring files files closes head b is_ring refl all refl has second)
+    is ∙ sym (closes_printed ring files closes head b is_ring all has second)
 
 pub one_line : (ring : RingState) (command : Instruction) (a b : List ℕ) → IsRing ring → Tells ring (call_of ring command) a
     → Tells ring (call_of ring command) b → a ≡ b
@@ -151,7 +125,7 @@ one_line ring command a b is_ring =
     let call = call_of ring command in one_told ring (result_line call.word (pos call.res)) call.closed a b is_ring (there ring command)
 
 -- and it isn't the line of an allocation failure
-tail_of : (ring : RingState) (head : List ℕ) (closed : Option (List Closed)) (line : List ℕ) → YieldsClosed ring head closed line
+pub tail_of : (ring : RingState) (head : List ℕ) (closed : Option (List Closed)) (line : List ℕ) → YieldsClosed ring head closed line
     → (tail : List ℕ) × (line ≡ head ++ tail)
 tail_of ring head None line tells = ([], tells ∙ sym (append-nil head))
 tail_of ring head (Some files) line (closes, has, is) = (closes_text ring.catalogue closes.files, is)
@@ -227,15 +201,11 @@ either_line : (x : Option Errno) (word : List ℕ) (prints : List ℕ → Type 0
 either_line (Some errno) word prints one first second = first ∙ sym second
 either_line None word prints one first second = one first second
 
-either_refusal : (x : Option CutFault) (many : List ℕ) (text : CutFault → List ℕ) {a b : List ℕ} → MatchOption x (a ≡ many) (λ fault. a ≡ text fault)
-    → MatchOption x (b ≡ many) (λ fault. b ≡ text fault) → a ≡ b
-either_refusal (Some fault) many text first second = first ∙ sym second
-either_refusal None many text first second = first ∙ sym second
-
 pub one_line_of : {ring : RingState} (command : Instruction) {a b : List ℕ} → IsRing ring → IsLineOf ring command a → IsLineOf ring command b → a ≡ b
-one_line_of (SubmitsAll asked) {a} {b} is_ring first second = either_refusal (fault_of asked) too_many_line refused_line first second
-one_line_of {ring} command {a} {b} is_ring first second =
-    let call = call_of ring command in either_line call.refusal call.word (Tells ring call) (one_line ring command a b is_ring) first second
+one_line_of (SubmitsAll asked) is_ring =
+    both_options (fault_of asked) (λ first second. first ∙ sym second) (λ fault first second. first ∙ sym second)
+one_line_of {ring} command {a} {b} is_ring =
+    let call = call_of ring command in either_line call.refusal call.word (Tells ring call) (one_line ring command a b is_ring)
 
 -- nor is the line of a call that finds memory that of one that finds none
 
@@ -245,16 +215,12 @@ few_told ring (UpdatesRing off list tags) few none =
     let within = inside_of ring off list tags none in omega arith
 few_told ring _ few none = omega arith
 
-told_at : (x : Option Errno) (word : List ℕ) (prints : List ℕ → Type 0) (line : List ℕ) → x ≡ None → AnswersFound x word prints line → prints line
-told_at (Some errno) word prints line none told = absurd (let e : Some errno ≡ None = none in cc)
-told_at None word prints line none told = told
-
 told_of : (ring : RingState) (command : Instruction) (line : List ℕ) → TakesMemory command → (call_of ring command).refusal ≡ None
     → IsLineOf ring command line → Tells ring (call_of ring command) line
 told_of ring (SetsRange off len) line takes none told = absurd takes
 told_of ring (SubmitsAll asked) line takes none told = absurd takes
 told_of ring command line takes none told =
-    let call = call_of ring command in told_at call.refusal call.word (Tells ring call) line none told
+    let call = call_of ring command in subst (λ (x : Option Errno). AnswersFound x call.word (Tells ring call) line) none told
 
 pub not_failed : (ring : RingState) (command : Instruction) (line behind more : List ℕ) → ring.size ≤ MOST_SLOTS → TakesMemory command
     → (call_of ring command).refusal ≡ None → IsLineOf ring command line
@@ -274,12 +240,10 @@ may_fail ring (SetsRange off len) {word} is = absurd (let e : None ≡ Some word
 may_fail ring (SubmitsAll asked) {word} is = absurd (let e : None ≡ Some word = is in cc)
 may_fail ring command is = let (none, own) = word_at (call_of ring command).refusal is in (tt, none, own)
 
-unless_none : (x : Option Errno) (word : List ℕ) → word_unless x word ≡ None → x ≡ None → ⊥
-unless_none (Some errno) word is none = let e : Some errno ≡ None = none in cc
-unless_none None word is none = let e : Some word ≡ None = is in cc
-
 pub never_fails : (ring : RingState) (command : Instruction) → memory_word ring command ≡ None → TakesMemory command
     → (call_of ring command).refusal ≡ None → ⊥
 never_fails ring (SetsRange off len) is takes none = takes
 never_fails ring (SubmitsAll asked) is takes none = takes
-never_fails ring command is takes none = let call = call_of ring command in unless_none call.refusal call.word is none
+never_fails ring command is takes none =
+    let word = (call_of ring command).word in
+    let e : Some word ≡ None = subst (λ (x : Option Errno). word_unless x word ≡ None) none is in cc

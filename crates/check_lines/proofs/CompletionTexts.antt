@@ -1,15 +1,13 @@
 -- The lines of completions, part by part, and their number.
-use Rattle.check_lines.proofs.Words.{◌≡◌, ℕ, ◌<◌, List, [], ◌∷◌, ◌++◌, length, refl, sym, ap, ◌∙◌, inl, inr, arith, None, ℤ, signed_decimal}
-use Rattle.check_lines.proofs.Words.{append-nil, IsBytes, encode_lower, IsCutPart, answer_text, cut_text, IsResultInRange, is_without, IsPrintedFrom}
-use Rattle.check_lines.proofs.Words.{ReadsPrinted, true, append_assoc, Completed, Place, completion_text, place_digits, IsCompletionInRange}
-use Rattle.check_lines.proofs.Words.{IsPlaceInRange, completion_line, ◌+◌, length-append, FileEntry, state_of, Event, Asked, runs_of, are_runs}
-use Rattle.check_lines.proofs.Words.{ExplainsParts, ◌⊎◌, Option, option_map, ReportsHaveEachRequest}
-use Rattle.std.specs.Prelude.{flat_map}
+use Rattle.check_lines.proofs.Words.{flat_map, explained_count, ◌≡◌, ℕ, ◌<◌, List, [], ◌∷◌, ◌++◌, length, refl, sym, ap, ◌∙◌, inl, inr, arith, None}
+use Rattle.check_lines.proofs.Words.{ℤ, signed_decimal, append-nil, IsBytes, encode_lower, IsCutPart, answer_text, cut_text, IsResultInRange}
+use Rattle.check_lines.proofs.Words.{is_without, IsPrintedFrom, ReadsPrinted, true, append_assoc, Completed, Place, completion_text, place_digits}
+use Rattle.check_lines.proofs.Words.{IsCompletionInRange, IsPlaceInRange, completion_line, ◌+◌, length-append, FileEntry, state_of, Event, Asked}
+use Rattle.check_lines.proofs.Words.{runs_of, are_runs, ExplainsParts, ◌⊎◌, Option, option_map, ReportsHaveEachRequest}
 use Rattle.check_lines.proofs.Cuts.{cut_has, reads_as, without_between, AreGiven, some_got, hex_without, parts_are}
 use Rattle.check_lines.proofs.Decimals.{result_without}
 use Rattle.check_lines.proofs.ReportTexts.{IsOneLine}
 use Rattle.check_lines.proofs.Marks.{place_without}
-use Rattle.fx_chain.proofs.ChainGoesOn.{explained_count}
 
 abbrev pub FitsAnswer : ℤ × List ℕ → Type 0
 FitsAnswer found = IsResultInRange found.0 × IsBytes found.1
@@ -92,12 +90,12 @@ one_completion {line} {word} {answer} {place} {res} {got} cuts first last = reco
 }
 
 -- an answer has no line end
-answer_without : (res : ℤ) (got : List ℕ) → IsResultInRange res → is_without 10 (answer_text (res, got)) ≡ true
-answer_without res got fits =
+answer_without : (res : ℤ) (got : List ℕ) → IsResultInRange res → IsBytes got → is_without 10 (answer_text (res, got)) ≡ true
+answer_without res got fits bytes =
     elim (alone_or_cut got res refl) [
       | inl alone ↦ ap (is_without 10) alone.1 ∙ result_without 10 res refl refl fits
       | inr both ↦ ap (is_without 10) both.1
-          ∙ without_between 10 32 (signed_decimal res) _ (result_without 10 res refl refl fits) refl (hex_without got)
+          ∙ without_between 10 32 (signed_decimal res) _ (result_without 10 res refl refl fits) refl (hex_without got bytes)
     ]
 
 -- a completion is one line
@@ -105,7 +103,7 @@ pub completions_are_lines : IsOneLine completion_line completion_text IsCompleti
 completions_are_lines = record {
   line = λ c more. simp append_assoc;
   no_end = λ c fits. without_between 10 32 (place_digits c.place) (answer_text (c.res, c.got))
-      (place_without 10 c.place refl refl fits.place) refl (answer_without c.res c.got fits.res);
+      (place_without 10 c.place refl refl fits.place) refl (answer_without c.res c.got fits.res fits.got);
 }
 
 -- The number of completions of a submission.

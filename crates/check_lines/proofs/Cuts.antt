@@ -1,11 +1,11 @@
 -- Texts that are cut at a byte, and the readings of their parts.
-use Rattle.check_lines.proofs.Words.{◌≡◌, ℕ, ◌+◌, ◌<◌, List, ◌∷◌, length, drop, sym, ap, ◌∙◌, slice_index_or, ◌≢◌, Ok, Err, drop_more, ◌==◌, true}
-use Rattle.check_lines.proofs.Words.{false, not, [], ◌++◌, get_or, take, refl, take-append-drop, Option, Some, None, arith, option_map, Bor}
-use Rattle.check_lines.proofs.Words.{append_cancel_left, nat_tests, and_from, and_parts, IsCutPart, cut_text, is_without, IsPrintedFrom, ReadsPrinted}
-use Rattle.check_lines.proofs.Words.{◌^◌, subst, number_text, zero, suc, ◌/◌, ◌%◌, Bool, slice_index, list_all, IsBytes, encode_lower, got_text}
-use Rattle.check_lines.proofs.Words.{list_all-append, ne_eqb}
-use Rattle.std.specs.Prelude.{MatchOption}
-use Rattle.hex.specs.Hex.{decode_of, encode_with, lower_digits}
+use Rattle.check_lines.proofs.Words.{MatchOption, ◌≡◌, ℕ, ◌+◌, ◌<◌, List, ◌∷◌, length, drop, sym, ap, ◌∙◌, slice_index_or, ◌≢◌, Ok, Err, drop_more}
+use Rattle.check_lines.proofs.Words.{◌==◌, true, false, not, [], ◌++◌, get_or, take, refl, take-append-drop, Option, Some, None, arith, option_map}
+use Rattle.check_lines.proofs.Words.{Bor, append_cancel_left, nat_tests, and_from, and_parts, IsCutPart, cut_text, is_without, IsPrintedFrom}
+use Rattle.check_lines.proofs.Words.{ReadsPrinted, ◌^◌, subst, number_text, Bool, list_all, IsBytes, encode_lower, got_text, list_all-append, ne_eqb}
+use Rattle.check_lines.proofs.Words.{true≢false}
+use Rattle.std.proofs.lemmas.List.Sums.{list_all-from_AllPass}
+use Rattle.hex.specs.Hex.{decode_of, is_hex_digit, lower_digits}
 use Rattle.hex.specs.declared.error.FromHexError.{FromHexError}
 use Rattle.hex.proofs.HexLemmas.{decode_of-encode_lower, decode_of-ok, length-encode_with}
 
@@ -18,13 +18,12 @@ from_here {X} xs i x inside is = drop_more xs i x inside ∙ ap (λ (y : X). y �
 not_self : (at x : ℕ) → at ≡ x → not (x == at) ≡ true → ⊥
 not_self at x same other = grind (arith, nat_tests)
 
--- two texts, one after the other
-pub without_both : (at : ℕ) (xs ys : List ℕ) → is_without at xs ≡ true → is_without at ys ≡ true → is_without at (xs ++ ys) ≡ true
-without_both at xs ys left right = list_all-append (λ b. not (b == at)) xs ys ∙ and_from _ _ left right
-
--- the second of them
-pub without_right : (at : ℕ) (xs ys : List ℕ) → is_without at (xs ++ ys) ≡ true → is_without at ys ≡ true
-without_right at xs ys all = (and_parts _ _ (sym (list_all-append (λ b. not (b == at)) xs ys) ∙ all)).1
+-- a text of bytes that pass a test doesn't have a byte that fails it
+pub without_failing : (test : ℕ → Bool) (at : ℕ) → test at ≡ false → (bs : List ℕ) → list_all test bs ≡ true → is_without at bs ≡ true
+without_failing test at fails [] all = refl
+without_failing test at fails (b ∷ bs) all =
+    let other = ne_eqb b at (λ same. true≢false (sym (and_parts (test b) (list_all test bs) all).0 ∙ ap test same ∙ fails)) in
+    and_from (not (b == at)) (is_without at bs) (ap not other) (without_failing test at fails bs (and_parts (test b) (list_all test bs) all).1)
 
 -- a text that is cut at a byte has it
 pub cut_has : (at : ℕ) (before after : List ℕ) → is_without at (before ++ at ∷ after) ≡ true → ⊥
@@ -66,21 +65,12 @@ behind_is text front (Some x) is = record {
   only = λ other _ same. append_cancel_left front other x.now (sym same ∙ is);
 }
 
--- the text of a number continues after its full stop: no letter comes before one
-pub other_first : (at : ℕ) (front rest more : List ℕ) (b : ℕ) → is_without b front ≡ true → at ≢ b → front ++ at ∷ rest ≡ b ∷ more → ⊥
-other_first at [] rest more b none differ same = differ cc
-other_first at (x ∷ front) rest more b none differ same = let first : b ≡ x = cc in not_self b x first (and_parts _ _ none).0
-
--- a text without a byte doesn't begin with it
-pub not_first : (at : ℕ) (text rest : List ℕ) → is_without at text ≡ true → text ≡ at ∷ rest → ⊥
-not_first at [] rest none same = cc same
-not_first at (x ∷ text) rest none same = let first : at ≡ x = cc in not_self at x first (and_parts _ _ none).0
-
 -- a text in two parts, neither of which has the byte, with another byte between them
 pub without_between : (at b : ℕ) (front behind : List ℕ) → is_without at front ≡ true → (b == at) ≡ false → is_without at behind ≡ true
     → is_without at (front ++ b ∷ behind) ≡ true
 without_between at b front behind left other right =
-    without_both at front (b ∷ behind) left (and_from (not (b == at)) (is_without at behind) (ap not other) right)
+    list_all-append (λ d. not (d == at)) front (b ∷ behind)
+    ∙ and_from _ _ left (and_from (not (b == at)) (is_without at behind) (ap not other) right)
 
 -- a part of a text is read, and each value of the one is that of a value of the other
 pub reads_as : {A B : Type 0} {print : A → List ℕ} {fits : A → Type 0} {show : B → List ℕ} {good : B → Type 0} {part text : List ℕ} (f : A → B)
@@ -165,24 +155,11 @@ pub printed_otherwise : {word bytes : List ℕ} → decode_of word ≡ Ok bytes 
     → ReadsPrinted encode_lower AreGiven word None
 printed_otherwise {word} {bytes} decodes differs other fits same = differs (same ∙ ap encode_lower (same_bytes decodes fits.1 same))
 
--- an element of a list, or 0
-at_any : (p : ℕ → Bool) (xs : List ℕ) (i : ℕ) → list_all p xs ≡ true → p 0 ≡ true → p (slice_index xs i) ≡ true
-at_any p [] i all nought = nought
-at_any p (x ∷ xs) zero all nought = (and_parts (p x) (list_all p xs) all).0
-at_any p (x ∷ xs) (suc i) all nought = at_any p xs i (and_parts (p x) (list_all p xs) all).1 nought
-
-digits_without : (at : ℕ) (got : List ℕ) → list_all (λ b. not (b == at)) lower_digits ≡ true → not (0 == at) ≡ true
-    → is_without at (encode_lower got) ≡ true
-unfolding encode_with
-digits_without at [] none nought = refl
-digits_without at (b ∷ got) none nought =
-    and_from (not (slice_index lower_digits (b / 16) == at)) _ (at_any (λ d. not (d == at)) lower_digits (b / 16) none nought)
-    (and_from (not (slice_index lower_digits (b % 16) == at)) _ (at_any (λ d. not (d == at)) lower_digits (b % 16) none nought)
-    (digits_without at got none nought))
-
 -- hexadecimal digits have no line end
-pub hex_without : (got : List ℕ) → is_without 10 (encode_lower got) ≡ true
-hex_without got = digits_without 10 got refl refl
+pub hex_without : (got : List ℕ) → IsBytes got → is_without 10 (encode_lower got) ≡ true
+hex_without got fits =
+    let (even, digits, long, same) = decode_of-ok (encode_lower got) got (decode_of-encode_lower got fits) in
+    without_failing is_hex_digit 10 refl (encode_lower got) (list_all-from_AllPass is_hex_digit (encode_lower got) digits)
 
 -- the text of a read's bytes, where there are any
 pub some_got : (got : List ℕ) → 0 < length got → got_text got ≡ 32 ∷ encode_lower got

@@ -1,14 +1,14 @@
 -- Decimal numbers and results as they are printed.
 use Rattle.check_lines.proofs.Words.{◌≡◌, ℕ, ◌+◌, ◌<◌, ◌≤◌, ◌^◌, ◌==◌, zero, suc, Bool, true, false, not, nat_le, List, [], ◌∷◌, length, get_or, refl}
-use Rattle.check_lines.proofs.Words.{sym, ap, ◌∙◌, arith, Option, option_map, Some, None, if◌then◌else◌, decimal, list_all, nat_tests, and_from, and_parts, true≢false}
-use Rattle.check_lines.proofs.Words.{is_digit, is_without, ReadsPrinted, ◌-◌, ◌++◌, ℤ, pos, negsuc, signed_decimal, IsResultInRange, IsPrintedFrom}
-use Rattle.check_lines.proofs.Words.{codes, append_assoc, append_cancel_left, cut_text, result_line, ◌&&◌, ◌||◌, le-leb, leb-true, is_decimal}
-use Rattle.check_lines.proofs.Words.{number_up_to, BeginsWithOneResult}
+use Rattle.check_lines.proofs.Words.{sym, ap, ◌∙◌, arith, Option, option_map, Some, None, if◌then◌else◌, decimal, list_all, nat_tests, and_from}
+use Rattle.check_lines.proofs.Words.{and_parts, true≢false, is_digit, is_without, ReadsPrinted, ◌-◌, ◌++◌, ℤ, pos, negsuc, signed_decimal}
+use Rattle.check_lines.proofs.Words.{IsResultInRange, IsPrintedFrom, codes, append_assoc, append_cancel_left, cut_text, result_line, ◌&&◌, ◌||◌}
+use Rattle.check_lines.proofs.Words.{le-leb, leb-true, is_decimal, number_up_to, BeginsWithOneResult}
 use Rattle.std.specs.Str.Parse.{digits_value}
 use Rattle.std.proofs.lemmas.Fmt.{decimal_digit, decimal_nonempty, first_decimal, digits_decimal, digits_value-decimal, decimal-digits_value}
 use Rattle.std.proofs.lemmas.Fmt.{signed_decimal_injective}
 use Rattle.std.proofs.lemmas.Str.Parse.{IsNumeralModel, IsDigitsTest, numerals_by_value}
-use Rattle.check_lines.proofs.Cuts.{not_first, cut_once, reads_as}
+use Rattle.check_lines.proofs.Cuts.{cut_has, cut_once, reads_as, without_failing}
 use Rattle.std.specs.Int.Signed.{mag}
 
 tells : IsDigitsTest (λ ds. list_all is_digit ds ≡ true)
@@ -67,18 +67,9 @@ by_test largest word small false is = λ other inside same.
 pub number_reads : (largest : ℕ) (word : List ℕ) → largest < 2 ^ 64 → ReadsPrinted decimal (λ n. n < largest + 1) word (number_up_to largest word)
 number_reads largest word small = by_test largest word small _ refl
 
-differs : (d at : ℕ) → is_digit d ≡ true → is_digit at ≡ false → not (d == at) ≡ true
-differs d at is none = grind (arith, nat_tests)
-
 -- a byte that isn't a digit is in no number
-digits_without : (at : ℕ) (ds : List ℕ) → is_digit at ≡ false → list_all is_digit ds ≡ true → is_without at ds ≡ true
-digits_without at [] none all = refl
-digits_without at (d ∷ ds) none all =
-    let other : not (d == at) ≡ true = differs d at (and_parts (is_digit d) (list_all is_digit ds) all).0 none in
-    and_from (not (d == at)) (is_without at ds) other (digits_without at ds none (and_parts (is_digit d) (list_all is_digit ds) all).1)
-
 pub decimal_without : (at n : ℕ) → is_digit at ≡ false → n < 2 ^ 64 → is_without at (decimal n) ≡ true
-decimal_without at n none small = digits_without at (decimal n) none (digits_decimal own n small)
+decimal_without at n none small = without_failing is_digit at none (decimal n) (digits_decimal own n small)
 
 -- Results as they are printed: 0 or more, or a sign and a number.
 
@@ -104,7 +95,8 @@ negative_reads {word} {digits} begins r = reads_as (λ n. negsuc (n - 1)) r ther
 
     back : (res : ℤ) → IsResultInRange res → word ≡ signed_decimal res
         → (n : ℕ) × ((0 < n) × (n < 2147483649)) × (digits ≡ decimal n) × (res ≡ negsuc (n - 1))
-    back (pos n) fits same = absurd (not_first 45 (decimal n) digits (decimal_without 45 n refl (omega arith)) (sym same ∙ begins))
+    back (pos n) fits same =
+        absurd (cut_has 45 [] digits (ap (is_without 45) (sym begins ∙ same) ∙ decimal_without 45 n refl (omega arith)))
     back (negsuc n) fits same =
         let both : 45 ∷ digits ≡ 45 ∷ decimal (suc n) = sym begins ∙ same in let less : n ≡ suc n - 1 = omega arith in
         (suc n, (omega arith, omega arith), cc, ap negsuc less)

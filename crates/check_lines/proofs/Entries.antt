@@ -1,22 +1,18 @@
 -- Refusals between submissions, and the files that a list closes or keeps.
-use Rattle.check_lines.proofs.Words.{Bool, List, None, Option, Some, [], false, if◌then◌else◌, length, refl, sym, true, ℕ, ℤ, ◌≤◌, ◌+◌, ◌==◌, ◌∙◌}
-use Rattle.check_lines.proofs.Words.{◌∷◌, ◌≡◌, nat_le, nat_lt, ◌||◌, zero, suc, ◌<◌, ◌^◌, pos, negsuc, All, ap, subst, arith, IfNone, unwrap_or, ◌++◌}
-use Rattle.check_lines.proofs.Words.{slice_index_or, drop, ltb-false, or_parts, leb-false, lt-leb, or_from, AllByRecursion, list_any, Errno, EAGAIN}
-use Rattle.check_lines.proofs.Words.{EBADF, EBUSY, EINVAL, EMFILE, ENOMEM, ENXIO, MOST_SLOTS, is_bad_file, removed_from, removed_by_number}
-use Rattle.check_lines.proofs.Words.{file_after, RingState, HasClosed, IsRing, ring_files_in_order, files_of_ring, RingContents, ring_of}
-use Rattle.check_lines.proofs.Words.{are_bad_tags, tags_given, tag_at, MOST_REGISTRATIONS, option_to_list, All-permutation, FileEntry, CloseListView}
-use Rattle.check_lines.proofs.Words.{Closed, ring_with_slots, table_of_slots, good_files, files_upto, upto_here, upto_next, removed_next, few_removed}
-use Rattle.check_lines.proofs.Words.{removed_entries, IsEntry, entries_of, All-append, All-cons, All-nil, PrintsClosed, PrintsEnd, closes_text}
-use Rattle.check_lines.proofs.Words.{teardown_text, Registered, AreInRange, IsFileInRange, Table, with_file}
-use Rattle.std.proofs.Common.{length-append, append_assoc}
+use Rattle.check_lines.proofs.Words.{length-append, append_assoc, is_bad_entry, Instruction, MakesSparse, RegistersList, SetsRange, SubmitsAll}
+use Rattle.check_lines.proofs.Words.{Unregisters, UpdatesRing, call_of, RingSlots, by_equality, Bool, List, None, Option, Some, [], false}
+use Rattle.check_lines.proofs.Words.{if◌then◌else◌, length, refl, sym, true, ℕ, ℤ, ◌≤◌, ◌+◌, ◌==◌, ◌∙◌, ◌∷◌, ◌≡◌, nat_le, nat_lt, ◌||◌, zero, suc}
+use Rattle.check_lines.proofs.Words.{◌<◌, ◌^◌, pos, negsuc, All, ap, subst, arith, IfNone, unwrap_or, ◌++◌, slice_index_or, drop, ltb-false, or_parts}
+use Rattle.check_lines.proofs.Words.{leb-false, lt-leb, or_from, AllByRecursion, list_any, Errno, EAGAIN, EBADF, EBUSY, EINVAL, EMFILE, ENOMEM, ENXIO}
+use Rattle.check_lines.proofs.Words.{MOST_SLOTS, is_bad_file, removed_from, removed_by_number, file_after, RingState, HasClosed, IsRing}
+use Rattle.check_lines.proofs.Words.{ring_files_in_order, files_of_ring, RingContents, ring_of, are_bad_tags, tags_given, tag_at, MOST_REGISTRATIONS}
+use Rattle.check_lines.proofs.Words.{option_to_list, All-permutation, FileEntry, CloseListView, Closed, ring_with_slots, table_of_slots, good_files}
+use Rattle.check_lines.proofs.Words.{files_upto, upto_here, upto_next, removed_next, few_removed, removed_entries, IsEntry, entries_of, All-append}
+use Rattle.check_lines.proofs.Words.{All-cons, All-nil, PrintsClosed, PrintsEnd, closes_text, teardown_text, Registered, AreInRange, IsFileInRange}
+use Rattle.check_lines.proofs.Words.{Table, with_file}
 use Rattle.fx_chain.proofs.Counted.{passed}
-use Rattle.fx_chain.specs.Answers.{is_bad_entry}
-use Rattle.fx_language.specs.Instruction.{Instruction, MakesSparse, RegistersList, SetsRange, SubmitsAll, Unregisters, UpdatesRing}
-use Rattle.check_lines.specs.Calls.{call_of}
 use Rattle.fx_base.specs.declared.catalogue.TheConstants.{MOST_ENTRIES}
-use Rattle.fx_order.specs.declared.ring_slots.RingSlots.{RingSlots}
 use Rattle.check_lines.proofs.Marks.{one_close_list}
-use Rattle.fx_plain.proofs.Cells.{by_equality}
 use Rattle.fx_order.proofs.OneRing.{none_past, ring_with_files, shows_ring}
 
 abbrev pub reasons_of : RingState → Instruction → List (Bool × Errno)
@@ -98,28 +94,18 @@ few_of_ring ring files is few =
     let same = ap length is in
     let most = few_in_order (table_of_slots ring.slots).at (length ring.slots.at.items) in omega arith
 
-pub all_of_list : (catalogue : List FileEntry) (ring : RingSlots) (off : ℕ) (list : List ℤ) (files : List Closed)
-    → files ≡ removed_from (table_of_slots ring.slots).at off list → IsRing (ring_with_slots catalogue ring) → AreOf catalogue files
-all_of_list catalogue ring off list files is kept =
-    subst (AreOf catalogue) (sym is) (removed_entries (length catalogue) (table_of_slots ring.slots).at off list kept.entries)
-
-pub few_of_list : (ring : RingSlots) (off : ℕ) (list : List ℤ) (files : List Closed)
-    → files ≡ removed_from (table_of_slots ring.slots).at off list → off + length list ≤ length ring.slots.at.items
-    → length ring.slots.at.items ≤ MOST_SLOTS → length files < 2 ^ 32
-few_of_list ring off list files is inside few =
-    let same = ap length is in
-    let most = few_removed (table_of_slots ring.slots).at off list in omega arith
-
 -- so are those that a call closes
 pub closed_files : (catalogue : List FileEntry) (ring : RingSlots) (command : Instruction) (files : List Closed)
     → files ≡ unwrap_or (call_of (ring_with_slots catalogue ring) command).closed [] → IsRing (ring_with_slots catalogue ring)
     → length ring.slots.at.items ≤ MOST_SLOTS → (call_of (ring_with_slots catalogue ring) command).refusal ≡ None
     → AreOf catalogue files × (length files < 2 ^ 32)
 closed_files catalogue ring Unregisters files is kept few none = (all_of_ring catalogue ring files is kept, few_of_ring ring files is few)
-closed_files catalogue ring (UpdatesRing off list tags) files is kept few none = (
-  all_of_list catalogue ring off list files is kept,
-  few_of_list ring off list files is (inside_of (ring_with_slots catalogue ring) off list tags none) few,
-)
+closed_files catalogue ring (UpdatesRing off list tags) files is kept few none =
+    let at = (table_of_slots ring.slots).at in
+    let same : length files ≡ length (removed_from at off list) = ap length is in
+    let most = few_removed at off list in
+    let ends = inside_of (ring_with_slots catalogue ring) off list tags none in
+    (subst (AreOf catalogue) (sym is) (removed_entries (length catalogue) at off list kept.entries), omega arith)
 closed_files catalogue ring _ files is kept few none =
     let empty : length files ≡ 0 = ap length is in (λ k d inside. absurd (omega arith), omega arith)
 
@@ -137,9 +123,6 @@ good_larger m n [] few good = refl
 good_larger m n (z ∷ list) few good =
     or_from _ _ (larger_entry m n z few (or_parts _ _ good).0) (good_larger m n list few (or_parts _ _ good).1)
 
-pub good_registered : (m n : ℕ) (list : List ℤ) → m ≤ n → list_any (is_bad_file m) list ≡ false → list_any (is_bad_entry n) list ≡ false
-good_registered m n list few good = good_larger m n list few (good_files m list good)
-
 -- so the list of a call that isn't refused has only entries that a catalogue may have
 pub good_updated : (refusal : Option Errno) (entries : ℕ) (list : List ℤ) → IfNone refusal (entries ≤ MOST_ENTRIES)
     → IfNone refusal (list_any (is_bad_entry entries) list ≡ false) → IfNone refusal (list_any (is_bad_entry MOST_ENTRIES) list ≡ false)
@@ -148,7 +131,7 @@ good_updated (Some errno) entries list few good = tt
 
 pub good_listed : (refusal : Option Errno) (entries : ℕ) (list : List ℤ) → IfNone refusal (entries ≤ MOST_ENTRIES)
     → IfNone refusal (list_any (is_bad_file entries) list ≡ false) → IfNone refusal (list_any (is_bad_entry MOST_ENTRIES) list ≡ false)
-good_listed None entries list few good = good_registered entries MOST_ENTRIES list few good
+good_listed None entries list few good = good_larger entries MOST_ENTRIES list few (good_files entries list good)
 good_listed (Some errno) entries list few good = tt
 
 -- The files that a call closes are at slots of the ring, so they have different marks.
@@ -181,14 +164,11 @@ one_at ring is x y here there marks =
     let same : Some x ≡ Some y = sym here.1 ∙ ap ring.at slots ∙ there.1 in cc
 
 -- the printed text of them is the same
-pub closes_printed : (before ring : RingState) (files theirs : List Closed) (closes : CloseListView) (line printed : List ℕ) → IsRing before
-    → ring ≡ before → All (IsAtOne before.at) files → theirs ≡ files → HasClosed files closes → PrintsClosed ring theirs line printed
-    → printed ≡ line ++ closes_text before.catalogue closes.files
-closes_printed before ring files theirs closes line printed is_ring same all are closed (other, has, is) =
-    let lists : other.files ≡ closes.files =
-    one_close_list (IsAtOne before.at) (one_at before is_ring) files other closes all (subst (λ (l : List Closed). HasClosed l other) are has) closed in
-    is ∙ ap (λ (r : RingState). line ++ closes_text r.catalogue other.files) same
-    ∙ ap (λ (l : List Closed). line ++ closes_text before.catalogue l) lists
+pub closes_printed : (ring : RingState) (files : List Closed) (closes : CloseListView) (line printed : List ℕ) → IsRing ring → All (IsAtOne ring.at) files
+    → HasClosed files closes → PrintsClosed ring files line printed → printed ≡ line ++ closes_text ring.catalogue closes.files
+closes_printed ring files closes line printed is_ring all closed (other, has, is) =
+    is ∙ ap (λ (l : List Closed). line ++ closes_text ring.catalogue l)
+    (one_close_list (IsAtOne ring.at) (one_at ring is_ring) files other closes all has closed)
 
 -- and so is what is printed of those that are left at the end
 pub end_printed : (before : RingState) (files : List Closed) (closes : CloseListView) (text : List ℕ) → IsRing before → files ≡ files_of_ring before

@@ -1,19 +1,15 @@
 -- Places and marks by their numbers, and lists in order of mark.
-use Rattle.check_lines.proofs.Words.{◌≡◌, ℕ, ◌<◌, ◌^◌, List, [], ◌∷◌, ◌++◌, refl, sym, ap, ◌∙◌, arith, Option, Some, decimal, append_assoc}
-use Rattle.check_lines.proofs.Words.{and_from, is_digit, Mark, Place, number_text, place_digits, IsMarkInRange, IsPlaceInRange, is_without}
-use Rattle.check_lines.proofs.Words.{ReadsPrinted, mark_text, option_map, suc, ◌+◌, ◌≤◌, Bool, if◌then◌else◌, length, All}
-use Rattle.check_lines.proofs.Words.{slice_index_or, inl, inr, not, true, false, ◌==◌, nat_eq, Registered, Submitted, cases_Bool, sum_by}
-use Rattle.check_lines.proofs.Words.{All-cons, All-head, All-tail, All-permutation, ranks_by, sorted_far, sum_by-IsPermutation, CloseListView, Closed}
-use Rattle.check_lines.proofs.Words.{HasClosed}
-use Rattle.check_lines.proofs.Cuts.{other_first, reads_as, without_between, AreBoth, number_and}
+use Rattle.check_lines.proofs.Words.{bytes_decides, is_lt, nat_cmp, Ordering, Equal, sum_by-cons, sum_by-le, IsInOrderOfMark, mark_cmp, ◌≡◌, ℕ, ◌<◌}
+use Rattle.check_lines.proofs.Words.{◌^◌, List, [], ◌∷◌, ◌++◌, refl, sym, ap, ◌∙◌, arith, Option, Some, decimal, append_assoc, and_from, is_digit}
+use Rattle.check_lines.proofs.Words.{Mark, Place, number_text, place_digits, IsMarkInRange, IsPlaceInRange, is_without, ReadsPrinted, mark_text}
+use Rattle.check_lines.proofs.Words.{option_map, suc, ◌+◌, ◌≤◌, Bool, if◌then◌else◌, length, All, slice_index_or, not, true, false, ◌==◌, Registered}
+use Rattle.check_lines.proofs.Words.{Submitted, sum_by, All-cons, All-head, All-tail, All-permutation, ranks_by, sorted_far, sum_by-IsPermutation}
+use Rattle.check_lines.proofs.Words.{CloseListView, Closed, HasClosed}
+use Rattle.check_lines.proofs.Cuts.{cut_has, reads_as, without_between, AreBoth, number_and}
 use Rattle.check_lines.proofs.Decimals.{decimal_without}
 use Rattle.std.specs.Cmp.{IsStrictWeakOrder}
-use Rattle.std.specs.Cmp.Lexicographic.{bytes_decides, nat_list_cmp_total, pointwise, slice_cmp, texts_po}
-use Rattle.std.specs.Ordering.{is_lt, nat_cmp, ordering_reverse, ordering_then}
-use Rattle.std.specs.declared.cmp.Ordering.{Ordering}
-use Rattle.std.specs.declared.cmp.Ordering.TheVariants.{Equal}
-use Rattle.std.proofs.lemmas.List.Sums.{sum_by-cons}
-use Rattle.fx_base.specs.CloseList.{IsInOrderOfMark, mark_cmp}
+use Rattle.std.specs.Cmp.Lexicographic.{nat_list_cmp_total, slice_cmp, texts_po}
+use Rattle.std.specs.Ordering.{ordering_reverse, ordering_then}
 
 abbrev pub is_small : ℕ → Type 0
 is_small n = n < 2 ^ 32
@@ -26,10 +22,16 @@ place_reads word r =
     (λ x fits is. (record { submission = fits.0; chain = fits.1.0; member = fits.1.1 }, is))
     (λ place fits is. ((place.submission, (place.chain, place.member)), (fits.submission, (fits.chain, fits.member)), is, refl))
 
--- the word of a registered mark begins with a letter
-no_letter : (n : ℕ) (rest more : List ℕ) → n < 2 ^ 32 → number_text (n, rest) ≡ 114 ∷ more → ⊥
-no_letter n rest more small same =
-    other_first 46 (decimal n) rest more 114 (decimal_without 114 n refl (omega arith)) (λ e. absurd (omega arith)) same
+-- a number and the text after its full stop
+number_without : (at n : ℕ) (rest : List ℕ) → is_digit at ≡ false → (46 == at) ≡ false → n < 2 ^ 32 → is_without at rest ≡ true
+    → is_without at (number_text (n, rest)) ≡ true
+number_without at n rest none other small behind = without_between at 46 (decimal n) rest (decimal_without at n none (omega arith)) other behind
+
+-- the text of a place has no byte but digits and full stops
+pub place_without : (at : ℕ) (place : Place) → is_digit at ≡ false → (46 == at) ≡ false → IsPlaceInRange place
+    → is_without at (place_digits place) ≡ true
+place_without at place none other fits = number_without at place.submission _ none other fits.submission
+    (number_without at place.chain _ none other fits.chain (decimal_without at place.member none (omega arith)))
 
 -- the numbers of a submitted mark
 abbrev pub MarkNumbers : Type 0
@@ -48,6 +50,12 @@ submitted_text : (x : MarkNumbers) → mark_text (submitted_of x) ≡ numbers_te
 submitted_text x =
     append_assoc (decimal x.0) (46 ∷ number_text (x.1.0, decimal x.1.1.0)) (46 ∷ decimal x.1.1.1)
     ∙ ap (λ (t : List ℕ). decimal x.0 ++ 46 ∷ t) (append_assoc (decimal x.1.0) (46 ∷ decimal x.1.1.0) (46 ∷ decimal x.1.1.1))
+
+-- that text has no letter
+numbers_without : (at : ℕ) (x : MarkNumbers) → is_digit at ≡ false → (46 == at) ≡ false → AreSmall x → is_without at (numbers_text x) ≡ true
+numbers_without at x none other fits = number_without at x.0 _ none other fits.0
+    (place_without at (record { submission = x.1.0; chain = x.1.1.0; member = x.1.1.1 }) none other
+    (record { submission = fits.1.0; chain = fits.1.1.0; member = fits.1.1.1 }))
 
 -- a word without the letter is that of a submitted mark
 pub submitted_reads : {word : List ℕ} → ((rest : List ℕ) → Unit {0} → word ≡ 114 ∷ [] ++ rest → ⊥) → (r : Option MarkNumbers)
@@ -77,32 +85,17 @@ registered_reads {word} {rest} begins r =
     back (Registered k i) fits same =
         let both : 114 ∷ rest ≡ 114 ∷ number_text (k, decimal i) = sym begins ∙ same in ((k, i), fits, cc, refl)
     back (Submitted s c m e) fits same =
-        absurd (no_letter s (number_text (c, number_text (m, decimal e))) rest fits.0.submission (sym (same ∙ submitted_text (s, (c, (m, e)))) ∙ begins))
-
--- a number and the text after its full stop
-number_without : (at n : ℕ) (rest : List ℕ) → is_digit at ≡ false → (46 == at) ≡ false → n < 2 ^ 32 → is_without at rest ≡ true
-    → is_without at (number_text (n, rest)) ≡ true
-number_without at n rest none other small behind = without_between at 46 (decimal n) rest (decimal_without at n none (omega arith)) other behind
-
-last_without : (at n : ℕ) → is_digit at ≡ false → n < 2 ^ 32 → is_without at (decimal n) ≡ true
-last_without at n none small = decimal_without at n none (omega arith)
-
--- the text of a place has no byte but digits and full stops
-pub place_without : (at : ℕ) (place : Place) → is_digit at ≡ false → (46 == at) ≡ false → IsPlaceInRange place
-    → is_without at (place_digits place) ≡ true
-place_without at place none other fits = number_without at place.submission _ none other fits.submission
-    (number_without at place.chain _ none other fits.chain (last_without at place.member none fits.member))
+        let x : MarkNumbers = (s, (c, (m, e))) in
+        let small : AreSmall x = (fits.0.submission, (fits.0.chain, (fits.0.member, fits.1))) in
+        absurd (cut_has 114 [] rest (ap (is_without 114) (sym begins ∙ (same ∙ submitted_text x)) ∙ numbers_without 114 x refl refl small))
 
 -- the text of a mark has no byte but digits, full stops and its letter
 pub mark_without : (at : ℕ) (mark : Mark) → is_digit at ≡ false → (46 == at) ≡ false → (114 == at) ≡ false → IsMarkInRange mark
     → is_without at (mark_text mark) ≡ true
 mark_without at (Registered k i) none other letter fits = and_from (not (114 == at)) (is_without at (number_text (k, decimal i))) (ap not letter)
-    (number_without at k (decimal i) none other fits.0 (last_without at i none fits.1))
-mark_without at (Submitted s c m e) none other letter fits =
-    let place = fits.0 in
-    ap (is_without at) (submitted_text (s, (c, (m, e)))) ∙ number_without at s (number_text (c, number_text (m, decimal e))) none other place.submission
-    (number_without at c (number_text (m, decimal e)) none other place.chain
-    (number_without at m (decimal e) none other place.member (last_without at e none fits.1)))
+    (number_without at k (decimal i) none other fits.0 (decimal_without at i none (omega (arith, fits.1))))
+mark_without at (Submitted s c m e) none other letter fits = ap (is_without at) (submitted_text (s, (c, (m, e))))
+    ∙ numbers_without at (s, (c, (m, e))) none other (fits.0.submission, (fits.0.chain, (fits.0.member, fits.1)))
 
 -- Files with different marks have exactly one list in order of mark.
 
@@ -140,13 +133,12 @@ is_order = ranks_by nat_list_cmp_total (λ (file : Closed). numbers file.mark)
 level : (o p : Ordering) → o ≡ ordering_reverse p → is_lt o ≡ false → is_lt p ≡ false → o ≡ Equal
 level o p turned one other = grind arith
 
-equal_numbers : (k l : List ℕ) → slice_cmp nat_cmp k l ≡ Equal → k ≡ l
-equal_numbers k l is = (bytes_decides k l).0 ((texts_po.matches_eq k l).1 (ap Some is))
-
 pub neither_below : (x y : Closed) → is_below x y ≡ false → is_below y x ≡ false → x.mark ≡ y.mark
 neither_below x y one other =
     let k = numbers x.mark in
-    let l = numbers y.mark in same_mark x.mark y.mark (equal_numbers k l (level _ _ (nat_list_cmp_total.antisymm k l) one other))
+    let l = numbers y.mark in
+    let equal : slice_cmp nat_cmp k l ≡ Equal = level _ _ (nat_list_cmp_total.antisymm k l) one other in
+    same_mark x.mark y.mark ((bytes_decides k l).0 ((texts_po.matches_eq k l).1 (ap Some equal)))
 
 -- none of them is below the first
 abbrev pub AreNotBelow : Closed → List Closed → Type 0
@@ -169,29 +161,21 @@ in_order_rises : (xs : List Closed) → IsInOrderOfMark xs → Rises xs
 in_order_rises xs up = rises_from xs (sorted_far is_below is_order xs
     (λ k d low high. ap is_lt (same_cmp (slice_index_or xs (k + 1) d).mark (slice_index_or xs k d).mark) ∙ up k d low high))
 
--- 1 where the mark has these numbers
-abbrev hits : List ℕ → Closed → ℕ
-hits k x = if pointwise nat_eq (numbers x.mark) k then 1 else 0
-
-hits_itself : (x : Closed) → hits (numbers x.mark) x ≡ 1
-hits_itself x = ap (λ (b : Bool). if b then 1 else 0) ((bytes_decides (numbers x.mark) (numbers x.mark)).1 refl)
-
--- a mark that one of them has isn't below that before them
-found_above : (k : List ℕ) (y : Closed) (zs : List Closed) → AreNotBelow y zs → 1 ≤ sum_by (hits k) zs → below k (numbers y.mark) ≡ false
-found_above k y [] rises some = absurd (omega arith)
-found_above k y (z ∷ zs) rises some =
-    let parts = sum_by-cons (hits k) z zs in
-    elim (cases_Bool (pointwise nat_eq (numbers z.mark) k)) [
-      | inl is ↦ ap (λ (l : List ℕ). below l (numbers y.mark)) (sym ((bytes_decides (numbers z.mark) k).0 is))
-          ∙ All-head (λ (x : Closed). is_below x y ≡ false) z zs rises
-      | inr is ↦
-          let none : hits k z ≡ 0 = ap (λ (b : Bool). if b then 1 else 0) is in
-          found_above k y zs (All-tail (λ (x : Closed). is_below x y ≡ false) z zs rises) (omega arith)
-    ]
-
 no_test : (b : Bool) → (b ≡ true → b ≡ false) → b ≡ false
 no_test true is = is refl
 no_test false is = refl
+
+-- 1 where a file is below the other
+abbrev lower : Closed → Closed → ℕ
+lower y x = if is_below x y then 1 else 0
+
+none_lower : (y : Closed) (zs : List Closed) → AreNotBelow y zs → sum_by (lower y) zs ≡ 0
+none_lower y zs rises =
+    let few = sum_by-le (lower y) 0 zs (λ k d inside.
+    let none : lower y (slice_index_or zs k d) ≡ 0 = ap (λ (b : Bool). if b then 1 else 0) (rises k d inside) in omega arith) in omega arith
+
+not_lower : (y x : Closed) → lower y x ≡ 0 → is_below x y ≡ false
+not_lower y x none = no_test (is_below x y) (λ yes. absurd (let one : lower y x ≡ 1 = ap (λ (b : Bool). if b then 1 else 0) yes in omega arith))
 
 module _ (P : Closed → Type 0) (one : (x y : Closed) → P x → P y → x.mark ≡ y.mark → x ≡ y) where
   first_too : (x : Closed) (xs : List Closed) → AreNotBelow x xs → AreNotBelow x (x ∷ xs)
@@ -204,12 +188,11 @@ module _ (P : Closed → Type 0) (one : (x y : Closed) → P x → P y → x.mar
   one_list (x ∷ xs) [] all too up rise sums =
       let same = sums (λ _. 1) in let parts = sum_by-cons (λ (z : Closed). 1) x xs in absurd (omega arith)
   one_list (x ∷ xs) (y ∷ ys) all too up rise sums =
-      let f = hits (numbers x.mark) in let g = hits (numbers y.mark) in let x_itself = hits_itself x in
-      let y_itself = hits_itself y in let f_parts = sum_by-cons f x xs in let g_parts = sum_by-cons g y ys in
-      let f_same = sums f in let g_same = sums g in
-      let y_not_above : is_below x y ≡ false = found_above (numbers x.mark) y (y ∷ ys) (first_too y ys rise.0) (omega arith) in
-      let x_not_above : is_below y x ≡ false = found_above (numbers y.mark) x (x ∷ xs) (first_too x xs up.0) (omega arith) in
-      let same : x ≡ y = one x y (All-head P x xs all) (All-head P y ys too) (neither_below x y y_not_above x_not_above) in
+      let x_first = none_lower x (x ∷ xs) (first_too x xs up.0) in let y_first = none_lower y (y ∷ ys) (first_too y ys rise.0) in
+      let x_sums = sums (lower x) in let y_sums = sums (lower y) in
+      let x_parts = sum_by-cons (lower x) y ys in let y_parts = sum_by-cons (lower y) x xs in
+      let same : x ≡ y = one x y (All-head P x xs all) (All-head P y ys too)
+      (neither_below x y (not_lower y x (omega arith)) (not_lower x y (omega arith))) in
       let rest : xs ≡ ys = one_list xs ys (All-tail P x xs all) (All-tail P y ys too) up.1 rise.1
       (λ h. let before = sum_by-cons h x xs in let behind = sum_by-cons h y ys in let whole = sums h in
       let equal : h x ≡ h y = ap h same in omega arith) in

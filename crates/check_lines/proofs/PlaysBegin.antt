@@ -1,15 +1,14 @@
 -- The output of a play begins with no line of a closed file or of a tag.
-use Rattle.check_lines.proofs.Words.{◌≡◌, ℕ, zero, suc, ◌/◌, ◌%◌, ◌<◌, ◌==◌, true, false, List, [], ◌∷◌, ◌++◌, get_or, refl, sym, ap, ◌∙◌, arith}
-use Rattle.check_lines.proofs.Words.{if◌then◌else◌, codes, decimal, true≢false, nat_tests, is_digit, HasNoCloses, ◌≤◌, Bool, nat_le, length, drop}
-use Rattle.check_lines.proofs.Words.{map, subst, inl, inr, Option, Some, None, ℤ, pos, signed_decimal, MatchBool, append_assoc, FileEntry, Closed}
-use Rattle.check_lines.proofs.Words.{Event, Completed, Asked, runs_of, Reported, completion_lines, got_text, result_line, Contains, MatchOption}
-use Rattle.check_lines.proofs.Words.{nil_from_length, length_permutation, Errno, ENOMEM, negated, fault_of, CutFault, RingContents, RingState}
-use Rattle.check_lines.proofs.Words.{files_of_ring, ring_of, range_refusal, register_refusal, removed_from, sparse_refusal, unregister_refusal}
-use Rattle.check_lines.proofs.Words.{update_refusal, tags_given, IsOneHistory, MOST_SUBMISSIONS, CallAnswers, IsCallRefused, Prints, PrintsClosed}
-use Rattle.check_lines.proofs.Words.{PrintsEnd, PrintsReport, PlaysBeginWithNoClose, closes_text, kind_name, refused_line, too_many_line}
+use Rattle.check_lines.proofs.Words.{action_of, closes_in, Instruction, MakesSparse, RegistersList, Unregisters, SetsRange, UpdatesRing, SubmitsAll}
+use Rattle.check_lines.proofs.Words.{AnswersFound, Call, IsNoSubmission, call_of, either_case, either_option, ◌≡◌, ℕ, zero, suc, ◌/◌, ◌%◌, ◌<◌, ◌==◌}
+use Rattle.check_lines.proofs.Words.{true, false, List, [], ◌∷◌, ◌++◌, get_or, refl, sym, ap, ◌∙◌, arith, if◌then◌else◌, codes, decimal, true≢false}
+use Rattle.check_lines.proofs.Words.{nat_tests, is_digit, HasNoCloses, ◌≤◌, nat_le, length, drop, map, subst, Option, Some, None, ℤ, pos}
+use Rattle.check_lines.proofs.Words.{signed_decimal, append_assoc, FileEntry, Closed, Event, Completed, Asked, runs_of, Reported, completion_lines}
+use Rattle.check_lines.proofs.Words.{got_text, result_line, Contains, nil_from_length, length_permutation, Errno, ENOMEM, negated, fault_of}
+use Rattle.check_lines.proofs.Words.{RingContents, RingState, ring_of, IsOneHistory, MOST_SUBMISSIONS, Prints, PrintsEnd, PrintsReport}
+use Rattle.check_lines.proofs.Words.{PlaysBeginWithNoClose, closes_text, kind_name, too_many_line, ⊎_elim}
 use Rattle.std.specs.Fmt.{digit_glyph, digits, digits_onto}
-use Rattle.fx_plain.specs.History.{action_of, closes_in}
-use Rattle.fx_language.specs.Instruction.{Instruction, MakesSparse, RegistersList, Unregisters, SetsRange, UpdatesRing, SubmitsAll}
+use Rattle.check_lines.proofs.Calls.{Tells, answers, tail_of}
 use Rattle.check_lines.proofs.CompletionTexts.{each_request}
 
 -- a text with another first byte
@@ -114,6 +113,15 @@ line_begins : (word : List ℕ) (res : ℤ) (rest : List ℕ) → IsWord word �
 line_begins word res rest is_word =
     let tail : List ℕ = codes " " ++ (signed_decimal res ++ codes "\n") in rw (append_assoc word tail rest) (is_word (tail ++ rest))
 
+-- the word of a call
+called_word : (ring : RingState) (command : Instruction) → IsNoSubmission command → IsWord (call_of ring command).word
+called_word ring (MakesSparse n) call = word_with (drop 1 (codes "sparse")) refl refl
+called_word ring (RegistersList list tags) call = word_with (drop 1 (codes "register")) refl refl
+called_word ring Unregisters call = word_with (drop 1 (codes "unregister")) refl refl
+called_word ring (SetsRange off len) call = word_with (drop 1 (codes "range")) refl refl
+called_word ring (UpdatesRing off list tags) call = word_with (drop 1 (codes "regupdate")) refl refl
+called_word ring (SubmitsAll asked) call = absurd call
+
 module _ (old new : RingContents) (line others : List ℕ) (behind : HasNoCloses others) where
   abbrev Begins : Type 0
   Begins = HasNoCloses (line ++ others)
@@ -121,47 +129,26 @@ module _ (old new : RingContents) (line others : List ℕ) (behind : HasNoCloses
   result_begins : (word : List ℕ) (res : ℤ) → IsWord word → line ≡ result_line word res → Begins
   result_begins word res is_word is = rw is (line_begins word res others is_word)
 
-  closes_begin : (files : List Closed) (word : List ℕ) (res : ℤ) → IsWord word → PrintsClosed (ring_of old) files (result_line word res) line → Begins
-  closes_begin files word res is_word (closes, are, is) =
-      let tail : List ℕ = closes_text (ring_of old).catalogue closes.files in
-      rw (is, append_assoc (result_line word res) tail others) (line_begins word res (tail ++ others) is_word)
-
   -- it is refused, or printed as one that is accepted
-  answer_begins : (refusal : Option Errno) (same printed : Type 0) (word : List ℕ) → IsWord word → (IsWord word → printed → Begins)
-      → CallAnswers refusal (same × printed) (IsCallRefused (ring_of old) (ring_of new) word line) → Begins
-  answer_begins (Some errno) same printed word is_word accepted refused = result_begins word (negated errno) is_word refused.1
-  answer_begins None same printed word is_word accepted (inl ok) = accepted is_word ok.1
-  answer_begins None same printed word is_word accepted (inr refused) = result_begins word (negated ENOMEM) is_word refused.1
+  found_begins : (call : Call) (x : Option Errno) → IsWord call.word → AnswersFound x call.word (Tells (ring_of old) call) line → Begins
+  found_begins call (Some errno) is_word refused = result_begins call.word (negated errno) is_word refused
+  found_begins call None is_word tells =
+      let head : List ℕ = result_line call.word (pos call.res) in let (tail, is) = tail_of (ring_of old) head call.closed line tells in
+      rw (is, append_assoc head tail others) (line_begins call.word (pos call.res) (tail ++ others) is_word)
 
-  range_begins : (refusal : Option Errno) (same printed : Type 0) (word : List ℕ) → IsWord word → (IsWord word → printed → Begins)
-      → MatchOption refusal (same × printed) (IsCallRefused (ring_of old) (ring_of new) word line) → Begins
-  range_begins (Some errno) same printed word is_word accepted refused = result_begins word (negated errno) is_word refused.1
-  range_begins None same printed word is_word accepted ok = accepted is_word ok.1
-
-  too_many_begins : (over : Bool) (same reported : Type 0) → MatchBool over (same × (line ≡ too_many_line)) reported → (reported → Begins) → Begins
-  too_many_begins true same reported is ok = rw is.1 (word_with (drop 1 too_many_line) refl refl others)
-  too_many_begins false same reported it ok = ok it
-
-  refusal_begins : (fault : Option CutFault) (same played : Type 0) → MatchOption fault played (λ cut. same × (line ≡ refused_line cut))
-      → (played → Begins) → Begins
-  refusal_begins (Some cut) same played is ok = rw is.1
-      (word_with (drop 1 (codes "submit refused ") ++ (kind_name cut.kind ++ (codes " " ++ (decimal cut.at ++ codes "\n")))) refl refl others)
-  refusal_begins None same played it ok = ok it
+  submitted_begins : (asked : List Asked) → Prints old (SubmitsAll asked) new line → Begins
+  submitted_begins asked = either_option (fault_of asked)
+      (λ _. either_case (nat_le MOST_SUBMISSIONS old.submissions) (λ many. rw many.1 (word_with (drop 1 too_many_line) refl refl others))
+      (λ report. submission_begins report behind))
+      (λ cut refused. rw refused.1
+      (word_with (drop 1 (codes "submit refused ") ++ (kind_name cut.kind ++ (codes " " ++ (decimal cut.at ++ codes "\n")))) refl refl others))
 
   begins : (command : Instruction) → Prints old command new line → Begins
-  begins (MakesSparse n) prints = answer_begins (sparse_refusal (ring_of old) n) _ _ (codes "sparse") (word_with (drop 1 (codes "sparse")) refl refl)
-      (result_begins (codes "sparse") (pos 0)) prints
-  begins (RegistersList list tags) prints = answer_begins (register_refusal (ring_of old) list (tags_given list tags)) _ _ (codes "register")
-      (word_with (drop 1 (codes "register")) refl refl) (result_begins (codes "register") (pos 0)) prints
-  begins Unregisters prints = answer_begins (unregister_refusal (ring_of old)) _ _ (codes "unregister")
-      (word_with (drop 1 (codes "unregister")) refl refl) (closes_begin (files_of_ring (ring_of old)) (codes "unregister") (pos 0)) prints
-  begins (SetsRange off len) prints = range_begins (range_refusal (ring_of old) off len) _ _ (codes "range")
-      (word_with (drop 1 (codes "range")) refl refl) (result_begins (codes "range") (pos 0)) prints
-  begins (UpdatesRing off list tags) prints = answer_begins (update_refusal (ring_of old) off list (tags_given list tags)) _ _ (codes "regupdate")
-      (word_with (drop 1 (codes "regupdate")) refl refl)
-      (closes_begin (removed_from (ring_of old).at off list) (codes "regupdate") (pos (length list))) prints
-  begins (SubmitsAll asked) prints = refusal_begins (fault_of asked) _ _ prints
-      (λ played. too_many_begins (nat_le MOST_SUBMISSIONS old.submissions) _ _ played (λ it. submission_begins it behind))
+  begins (SubmitsAll asked) prints = submitted_begins asked prints
+  begins command prints =
+      let call = call_of (ring_of old) command in let is_word = called_word (ring_of old) command tt in
+      ⊎_elim (λ found. found_begins call call.refusal is_word found.1) (λ fails. result_begins call.word (negated ENOMEM) is_word fails.1.2)
+      ((answers old new command line tt).0 prints)
 
 pub command_begins : (old : RingContents) (command : Instruction) (new : RingContents) (line : List ℕ) {others : List ℕ} → Prints old command new line
     → HasNoCloses others → HasNoCloses (line ++ others)

@@ -2,11 +2,11 @@
 use Rattle.check_lines.proofs.Words.{◌≡◌, ℕ, true, List, [], ◌∷◌, ◌++◌, length, take, drop, refl, sym, ap, subst, ◌∙◌, All, None, take-append-drop}
 use Rattle.check_lines.proofs.Words.{StartsWith, flat_map, append_assoc, append-nil, append_cancel_left, take_at, All-head, IsCutPart, FitsFront}
 use Rattle.check_lines.proofs.Words.{cut_text, lines_before, is_without, ReadsPrinted, IsPrintedFrom, ◌<◌, ◌^◌, codes, decimal, Mark, close_text}
-use Rattle.check_lines.proofs.Words.{IsCloseInRange, IsMarkInRange, NamedClose, line_of_tag, named_line, and_parts, mark_text, Bool, false, nat_le}
-use Rattle.check_lines.proofs.Words.{list_all, eqb-true, true≢false, and_from, get_or, Option, Some, Completed, AreAll, HasLength, HasNoCloses}
-use Rattle.check_lines.proofs.Words.{IsCompletionInRange, completion_line, completion_lines, FileEntry, Closed, Reported, flat_map_more, All-push}
-use Rattle.check_lines.proofs.Words.{All-tail, not, ◌==◌, IsReportBefore, Lines, ReadsReport, lines_of, lines_text, name_of, flat_map-map}
-use Rattle.check_lines.proofs.Cuts.{parts_are, without_between, without_right}
+use Rattle.check_lines.proofs.Words.{IsCloseInRange, IsMarkInRange, NamedClose, line_of_tag, named_line, and_parts, mark_text, nat_le, list_all}
+use Rattle.check_lines.proofs.Words.{true≢false, get_or, Option, Some, Completed, AreAll, HasLength, HasNoCloses, IsCompletionInRange}
+use Rattle.check_lines.proofs.Words.{completion_line, completion_lines, FileEntry, Closed, Reported, flat_map_more, All-push, All-tail, not, ◌==◌}
+use Rattle.check_lines.proofs.Words.{IsReportBefore, Lines, ReadsReport, lines_of, lines_text, name_of, flat_map-map, list_all-append}
+use Rattle.check_lines.proofs.Cuts.{parts_are, without_between, without_failing}
 use Rattle.check_lines.proofs.Decimals.{decimal_without}
 use Rattle.check_lines.proofs.Marks.{mark_without}
 use Rattle.fx_base.specs.Name.{is_name, name_byte}
@@ -162,29 +162,15 @@ tags_are_lines = record {
 pub close_fits : {line : List ℕ} {close : NamedClose} → is_without 10 line ≡ true
     → IsPrintedFrom close_text (λ close. IsMarkInRange close.mark) line close → IsCloseInRange close
 close_fits {close} none is =
-    let whole : is_without 10 (close_text close) ≡ true = ap (is_without 10) (sym is.printed) ∙ none in
-    record {
-      mark = is.fits_value;
-      name = (and_parts (not (32 == 10)) (is_without 10 close.name) (without_right 10 (mark_text close.mark) (32 ∷ close.name) whole)).1;
-    }
+    let parts = sym (list_all-append (λ b. not (b == 10)) (mark_text close.mark) (32 ∷ close.name)) ∙ ap (is_without 10) (sym is.printed) ∙ none in
+    record { mark = is.fits_value; name = (and_parts (not (32 == 10)) (is_without 10 close.name) (and_parts _ _ parts).1).1 }
 
 -- The names of a catalogue fit in lines.
-
--- no byte of a name is a line end
-no_end : (b : ℕ) (test : Bool) → (b == 10) ≡ test → name_byte b ≡ true → not test ≡ true
-no_end b false is named = refl
-no_end b true is named = let same : b ≡ 10 = eqb-true b 10 is in absurd (true≢false (sym named ∙ ap name_byte same))
-
-bytes_without : (name : List ℕ) → list_all name_byte name ≡ true → is_without 10 name ≡ true
-bytes_without [] all = refl
-bytes_without (b ∷ name) all =
-    and_from (not (b == 10)) (is_without 10 name) (no_end b (b == 10) refl (and_parts (name_byte b) (list_all name_byte name) all).0)
-    (bytes_without name (and_parts (name_byte b) (list_all name_byte name) all).1)
 
 -- a name has no line end
 pub name_without_end : (name : List ℕ) → is_name name ≡ true → is_without 10 name ≡ true
 name_without_end name is =
-    bytes_without name (and_parts (nat_le (length name) LONGEST_NAME) (list_all name_byte name)
+    without_failing name_byte 10 refl name (and_parts (nat_le (length name) LONGEST_NAME) (list_all name_byte name)
     (and_parts (nat_le 1 (length name)) _ is).1).1
 
 -- The lines of a report: those of its completions, then those of closed files, then those of tags.

@@ -17,7 +17,7 @@ ghost use Rattle.fx_chain.specs.Operation.{all_asked};
 ghost use Rattle.fx_language.specs.Instruction.{instruction_of};
 ghost use Rattle.fx_plain.specs.declared.table.TheConstants.{MOST_SLOTS};
 ghost use Rattle.fx_print.specs.Text.{refused_line, too_many_line};
-ghost use Rattle.check_lines.specs.Calls.{HasEntries, IsLineOf, IsNoSubmission, after_call, call_of};
+ghost use Rattle.check_lines.specs.Calls.{HasEntries, IsLineOf, after_call, call_of};
 
 use crate::call_head::{given, head_of};
 use fx_base::{Catalogue, CloseList, Closed, Mark, NoMemory};
@@ -213,43 +213,6 @@ fn accepted(
     }
 }
 
-// Returns what a call other than a submission leaves and prints. A refused call leaves the ring as
-// it was.
-fn answer(
-    alloc: Global,
-    catalogue: &Catalogue,
-    ring: &RingSlots,
-    command: &Command,
-) -> Result<CallAnswer, NoMemory>
-    requires few { length ring.now.slots.at.items ≤ MOST_SLOTS }
-    requires ring { IsRing (ring_with_slots catalogue.now ring.now) }
-    requires call { IsNoSubmission (instruction_of command.now) }
-    ensures value { IfOk result (λ called. ring_with_slots catalogue.now called.ring
-        ≡ after_call (ring_with_slots catalogue.now ring.now) (instruction_of command.now)) }
-    ensures line { IfOk result (λ called. IsLineOf (ring_with_slots catalogue.now ring.now)
-        (instruction_of command.now) (string_bytes called.line)) }
-    ensures few { IfOk result (λ called. length called.ring.slots.at.items ≤ MOST_SLOTS) }
-    ensures in_range { IfOk result (λ called. AreInRange (table_of_slots ring.now.slots).at
-        → AreInRange (table_of_slots called.ring.slots).at) }
-{
-    let head = head_of(catalogue, ring, command);
-    if let Some(errno) = head.refusal {
-        let ring = copy_of(alloc, ring)?;
-        let line = result_line(alloc, head.word, -i64::from(errno.code()))?;
-        return Ok(CallAnswer { ring, line });
-    }
-    let (slots, registrations, closed) = accepted(alloc, catalogue, ring, command)?;
-    let closes = close_in_order(alloc, catalogue, &closed)?;
-    let first = result_line(alloc, head.word, head.res as i64)?;
-    let line = with_closes(alloc, first.as_str(), catalogue, &closes)?;
-    let ring = RingSlots {
-        slots,
-        submissions: ring.submissions,
-        registrations,
-    };
-    Ok(CallAnswer { ring, line })
-}
-
 // The line of a refused submission: that of its first fault, or else that there were too many.
 fn refused_submission(alloc: Global, requests: &[Request]) -> Result<String, NoMemory>
     ensures { IfOk result (λ line. MatchOption (fault_of (all_asked requests.now))
@@ -283,12 +246,25 @@ pub fn call(
     ensures in_range { IfOk result (λ called. AreInRange (table_of_slots ring.now.slots).at
         → AreInRange (table_of_slots called.ring.slots).at) }
 {
-    match command {
-        Command::Submit(requests) => {
-            let ring = copy_of(alloc, ring)?;
-            let line = refused_submission(alloc, requests)?;
-            Ok(CallAnswer { ring, line })
-        }
-        _ => answer(alloc, catalogue, ring, command),
+    if let Command::Submit(requests) = command {
+        let ring = copy_of(alloc, ring)?;
+        let line = refused_submission(alloc, requests)?;
+        return Ok(CallAnswer { ring, line });
     }
+    let (word, refusal, res) = head_of(catalogue, ring, command);
+    if let Some(errno) = refusal {
+        let ring = copy_of(alloc, ring)?;
+        let line = result_line(alloc, word, -i64::from(errno.code()))?;
+        return Ok(CallAnswer { ring, line });
+    }
+    let (slots, registrations, closed) = accepted(alloc, catalogue, ring, command)?;
+    let closes = close_in_order(alloc, catalogue, &closed)?;
+    let first = result_line(alloc, word, res as i64)?;
+    let line = with_closes(alloc, first.as_str(), catalogue, &closes)?;
+    let ring = RingSlots {
+        slots,
+        submissions: ring.submissions,
+        registrations,
+    };
+    Ok(CallAnswer { ring, line })
 }

@@ -50,55 +50,40 @@ pub fn accepted_in(command: &Command, submissions: u32) -> Option<&[Request]>
     }
 }
 
-/// The beginning of a call's line.
-#[derive(Clone, Copy)]
-pub(crate) struct CallHead {
-    /// The word of the call.
-    pub word: &'static str,
-    /// The error with which the call is refused, or `None` if only a failed allocation could refuse
-    /// it.
-    pub refusal: Option<Errno>,
-    /// The result of the call if it isn't refused.
-    pub res: usize,
-}
-
-fn head(word: &'static str, refusal: Option<Errno>, res: usize) -> CallHead
-    ensures word { result.word.now ≡ word.now }
-    ensures refusal { result.refusal ≡ refusal }
-    ensures res { result.res ≡ res }
-{
-    CallHead { word, refusal, res }
-}
-
-/// Returns the beginning of a call's line. That of a submission has no word.
+/// Returns the word of a call, the error with which it is refused, or `None` if only a failed
+/// allocation could refuse it, and its result if it isn't refused. A submission has no word.
 #[tactic(auto, using(crate::proofs::Entries::good_updated, crate::proofs::Entries::good_listed))]
-pub(crate) fn head_of(catalogue: &Catalogue, ring: &RingSlots, command: &Command) -> CallHead
-    ensures word { result.word.now
+pub(crate) fn head_of(
+    catalogue: &Catalogue,
+    ring: &RingSlots,
+    command: &Command,
+) -> (&'static str, Option<Errno>, usize)
+    ensures word { result.0.now
         ≡ (call_of (ring_with_slots catalogue.now ring.now) (instruction_of command.now)).word }
-    ensures refusal { result.refusal
+    ensures refusal { result.1
         ≡ (call_of (ring_with_slots catalogue.now ring.now) (instruction_of command.now)).refusal }
-    ensures res { result.res
+    ensures res { result.2
         ≡ (call_of (ring_with_slots catalogue.now ring.now) (instruction_of command.now)).res }
-    ensures entries { IfNone result.refusal (HasEntries (instruction_of command.now)) }
+    ensures entries { IfNone result.1 (HasEntries (instruction_of command.now)) }
 {
     let size = ring.slots.at.len();
     let count = ring.registrations;
     match command {
-        Command::Sparse(n) => head("sparse", sparse_refusal(size, *n as usize), 0),
+        Command::Sparse(n) => ("sparse", sparse_refusal(size, *n as usize), 0),
         Command::Register(list, tags) => {
             let refusal = register_refusal(catalogue, size, count, list, given(tags));
-            head("register", refusal, 0)
+            ("register", refusal, 0)
         }
-        Command::Unregister => head("unregister", (size == 0).then_some(Errno::ENXIO), 0),
+        Command::Unregister => ("unregister", (size == 0).then_some(Errno::ENXIO), 0),
         Command::Range(off, len) => {
             let is_past = *off as u64 + *len as u64 > size as u64;
-            head("range", is_past.then_some(Errno::EINVAL), 0)
+            ("range", is_past.then_some(Errno::EINVAL), 0)
         }
         Command::Update(off, list, tags) => {
             let refusal = update_refusal(catalogue, size, count, *off, list, given(tags));
-            head("regupdate", refusal, list.len())
+            ("regupdate", refusal, list.len())
         }
-        Command::Submit(_) => head("", None, 0),
+        Command::Submit(_) => ("", None, 0),
     }
 }
 
@@ -126,9 +111,9 @@ pub fn memory_word(
     if matches!(command, Command::Range(_, _) | Command::Submit(_)) {
         return None;
     }
-    let head = head_of(catalogue, ring, command);
-    match head.refusal {
+    let (word, refusal, _) = head_of(catalogue, ring, command);
+    match refusal {
         Some(_) => None,
-        None => Some(head.word),
+        None => Some(word),
     }
 }

@@ -7,6 +7,7 @@ ghost use Rattle.check_lines.specs.Laws.{BeginsWithOneResult, NamesHaveNoLineEnd
 ghost use Rattle.check_lines.specs.Lines.{lines_of, lines_text};
 
 /// States that the text of a report is that of its lines.
+#[tactic(auto, using(crate::proofs::ReportTexts::printed_lines))]
 pub fn a_report_prints_its_lines()
     ensures { (catalogue : List FileEntry) (report : Reported)
         → report_text catalogue report ≡ lines_text (lines_of catalogue report) }
@@ -14,12 +15,14 @@ pub fn a_report_prints_its_lines()
 
 /// States that a text begins with at most one line of a word and a result: of two such lines,
 /// neither begins with the other.
+#[tactic(auto, using(crate::proofs::Decimals::one_result))]
 pub fn a_text_begins_with_one_result()
     ensures { BeginsWithOneResult }
 {}
 
 /// States that the text of commands never begins with a line of a closed file or of a tag. So the
 /// text after a report's lines is never read as one of them.
+#[tactic(auto, using(crate::proofs::PlaysBegin::plays_begin))]
 pub fn plays_begin_with_no_close()
     ensures { PlaysBeginWithNoClose }
 {}
@@ -32,6 +35,7 @@ pub fn reports_have_each_request()
 
 /// States that the name of a catalogue entry has no line end, so that `read_report` reads the names
 /// of each report.
+#[tactic(auto, using(crate::proofs::ReportTexts::name_without_end))]
 pub fn names_have_no_line_end()
     ensures { NamesHaveNoLineEnd }
 {}

@@ -1,4 +1,5 @@
-use Rattle.check_lines.proofs.Calls.{none_in_range, ranged_left, same_in_range}
+use Rattle.check_lines.proofs.Words.{ℕ, ap, Table, ring_with_slots}
+use Rattle.check_lines.proofs.Calls.{none_in_range, same_in_range}
 use Rattle.check_lines.proofs.call_answer.accepted.Goals as goal
 
 pub returns-in_ok-empty_slots-in-Sparse-clause-in_range : goal.returns-in_ok-empty_slots-in-Sparse-clause-in_range
@@ -11,8 +12,9 @@ returns-in_ok-_none-in-Register-clause-in_range c =
 
 pub returns-in_ok-slots-in-Range-clause-left : goal.returns-in_ok-slots-in-Range-clause-left
 returns-in_ok-slots-in-Range-clause-left c =
-    rw c.in-Range.is (ranged_left c.args.catalogue.now c.args.ring.now c.in_ok-slots-in-Range.slots (c.in-Range.off, c.in-Range.len)
-    c.in_ok-slots-in-Range.ensures)
+    let ring = ring_with_slots c.args.catalogue.now c.args.ring.now in
+    let range : ℕ × ℕ = (c.in-Range.off, c.in-Range.len) in
+    rw c.in-Range.is (ap (λ (t : Table). record ring { size = t.size; range = range; at = t.at }) c.in_ok-slots-in-Range.ensures)
 
 pub returns-in_ok-slots-in-Range-clause-in_range : goal.returns-in_ok-slots-in-Range-clause-in_range
 returns-in_ok-slots-in-Range-clause-in_range c =

@@ -1,10 +1,7 @@
-use Rattle.check_lines.proofs.Words.{◌≡◌, ◌+◌, ℕ, List, [], ◌∷◌, ◌++◌, pos, to_z, of_z, w32, slice_index_or, drop, ap, subst, sym, ◌∙◌, rules, arith}
-use Rattle.check_lines.proofs.Words.{length, upto_none, upto_all, option_to_list, Registered, Closed, Table, with_file, table_of_slots, file_after}
-use Rattle.check_lines.proofs.Words.{removed_from, tags_for, AreInRange}
-use Rattle.std.proofs.Common.{append-nil}
+use Rattle.check_lines.proofs.Words.{append-nil, drop-length, Vec, ◌≡◌, ◌+◌, ℕ, List, [], ◌∷◌, ◌++◌, pos, to_z, of_z, w32, slice_index_or, drop, ap}
+use Rattle.check_lines.proofs.Words.{subst, sym, ◌∙◌, rules, arith, length, upto_none, upto_all, option_to_list, Registered, Closed, Table, with_file}
+use Rattle.check_lines.proofs.Words.{table_of_slots, file_after, removed_from, tags_for, AreInRange}
 use Rattle.std.proofs.Math.Nat.{add-zero}
-use Rattle.std.proofs.Math.Seq.{drop-length}
-use Rattle.std.specs.Global.{Vec}
 use Rattle.check_lines.proofs.Entries.{in_range_after, one_more, more_removed}
 use Rattle.check_lines.proofs.call_answer.apply_list.Goals.{in-Some+in_ok-push, in_default}
 use Rattle.check_lines.proofs.call_answer.apply_list.Goals as goal

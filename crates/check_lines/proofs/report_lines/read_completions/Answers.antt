@@ -1,6 +1,5 @@
-use Rattle.fx_chain.specs.declared.completion.Completion.{Completion}
-use Rattle.check_lines.proofs.Words.{◌≡◌, ℕ, List, HasLength, ◌<◌, ◌≤◌, [], ◌∷◌, length, refl, arith, length-append, map-append, all_completed}
-use Rattle.check_lines.proofs.Words.{IsCompletionInRange, length-map, completed_of}
+use Rattle.check_lines.proofs.Words.{Completion, ◌≡◌, ℕ, List, HasLength, ◌<◌, ◌≤◌, [], ◌∷◌, length, refl, arith, length-append, map-append}
+use Rattle.check_lines.proofs.Words.{all_completed, IsCompletionInRange, length-map, completed_of}
 use Rattle.check_lines.proofs.CompletionTexts.{completions_are_lines}
 use Rattle.check_lines.proofs.ReportTexts.{ends_here, next_line, no_line, other_line}
 use Rattle.check_lines.proofs.report_lines.read_completions.Goals as goal
