@@ -1,12 +1,11 @@
 -- The calls between submissions, and refused submissions: where memory is found they lead to one
 -- ring, and print one line.
-use Rattle.check_texts.proofs.Words.{Errno, ENOMEM, call_of, fault_of, Asked, CutFault, Instruction, SetsRange, SubmitsAll, MOST_SLOTS, refused_line}
-use Rattle.check_texts.proofs.Words.{too_many_line, IsRing, RingContents, RingState, ring_of, Reported, MOST_SUBMISSIONS, Prints, PrintsReport}
-use Rattle.check_texts.proofs.Words.{HasEachNextStage, IsLineOf, LeadsRing, MayLeadTo, Stage, after_call, count_after, accepted_following, kept_text}
-use Rattle.check_texts.proofs.Words.{IsCall, FoundMemory, Bool, List, None, Option, Some, [], ap, arith, inl, nat_le, refl, sym, ℕ, ⊎_elim, ◌++◌, ◌+◌}
-use Rattle.check_texts.proofs.Words.{◌<◌, ◌∙◌, ◌≡◌, ◌≤◌, MatchBool, MatchOption, Contains, ◌^◌, negated, AnswersFound, refusal_other, HasFound}
-use Rattle.fx_chain.proofs.Cases.{either_way}
-use Rattle.check_lines.specs.Lines.{IsResultInRange}
+use Rattle.check_texts.proofs.Words.{either_way, IsResultInRange, Errno, ENOMEM, call_of, fault_of, Asked, CutFault, Instruction, SetsRange}
+use Rattle.check_texts.proofs.Words.{SubmitsAll, MOST_SLOTS, refused_line, too_many_line, IsRing, RingContents, RingState, ring_of, Reported}
+use Rattle.check_texts.proofs.Words.{MOST_SUBMISSIONS, Prints, PrintsReport, HasEachNextStage, IsLineOf, LeadsRing, MayLeadTo, Stage, after_call}
+use Rattle.check_texts.proofs.Words.{count_after, accepted_following, kept_text, IsCall, FoundMemory, Bool, List, None, Option, Some, [], ap, arith}
+use Rattle.check_texts.proofs.Words.{inl, nat_le, refl, sym, ℕ, ⊎_elim, ◌++◌, ◌+◌, ◌<◌, ◌∙◌, ◌≡◌, ◌≤◌, MatchBool, MatchOption, Contains, ◌^◌, negated}
+use Rattle.check_texts.proofs.Words.{AnswersFound, refusal_other, HasFound}
 use Rattle.check_lines.proofs.Decimals.{one_result}
 use Rattle.check_lines.proofs.Calls.{Call, Tells, not_refused, Answers, Fails, answers, few_told, one_line_of}
 

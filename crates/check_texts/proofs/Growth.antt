@@ -2,8 +2,7 @@
 use Rattle.check_texts.proofs.Words.{contains_mapped, contains_none, Grows, List, None, Option, Some, [], inl, inr, length, map, refl, slice_index_or}
 use Rattle.check_texts.proofs.Words.{string_bytes, subst, sym, take, true, ℕ, ⊎_elim, ◌++◌, ◌+◌, ◌<◌, ◌∷◌, ◌≡◌, cases_Bool, map-append, map_more}
 use Rattle.check_texts.proofs.Words.{bytes_decides, list_any, option_to_list, All, Contains, IfSome, Global, String, Contains-append_left}
-use Rattle.check_texts.proofs.Words.{Contains-push, Contains-push_cases, string_eq, each_all}
-use Rattle.std.proofs.lemmas.List.Folds.{Any-from_list_any}
+use Rattle.check_texts.proofs.Words.{Contains-push, Contains-push_cases, string_eq, each_all, Any-from_list_any}
 use Rattle.indexmap.specs.IndexSet.{insert_key}
 
 pub stays : {X : Type 0} {P : X → Type 0} {xs : List X} → Grows P xs xs

@@ -1,12 +1,12 @@
 -- Plays in which memory is found: cut at a submission, and whole.
 use Rattle.check_texts.proofs.Words.{fault_of, Asked, Instruction, SubmitsAll, Meaning, RingContents, Reported, Prints, contains_none, LeadsAll}
-use Rattle.check_texts.proofs.Words.{count_after_all, accepted_following, FoundMemory, IsReportFound, IsTextFound, PrintsAllFound, List, None, Option, Some}
-use Rattle.check_texts.proofs.Words.{[], ap, arith, inl, inr, refl, subst, sym, ℕ, ⊎_elim, ◌++◌, ◌+◌, ◌∷◌, ◌≡◌, ◌≤◌, ◌⊎◌, append_assoc}
+use Rattle.check_texts.proofs.Words.{count_after_all, accepted_following, FoundMemory, IsReportFound, IsTextFound, PrintsAllFound, List, None, Option}
+use Rattle.check_texts.proofs.Words.{Some, [], ap, arith, inl, inr, refl, subst, sym, ℕ, ⊎_elim, ◌++◌, ◌+◌, ◌∷◌, ◌≡◌, ◌≤◌, ◌⊎◌, append_assoc}
 use Rattle.check_texts.proofs.Words.{option_to_list, Contains, FileEntry, Completed, Place, RingState, files_of_ring, new_ring, ring_of, HasEachLast}
 use Rattle.check_texts.proofs.Words.{HasEachSaidFrom, MayEnd, MayLeadAllTo, MayLeadTo, MaySay, Stage, stage, MayAnswerIn, Bool, ◌<◌, ◌∙◌}
 use Rattle.check_texts.proofs.Words.{Contains-append_cases, Contains-append_right, contains_only, IsText, PrintsAll, teardown_text}
 use Rattle.check_texts.proofs.Walks.{after_grows, all_grows, leads_counts, own_number, starts, all_counts}
-use Rattle.check_texts.proofs.Submitted.{closes_for, has_closed}
+use Rattle.check_texts.proofs.Submitted.{closes_for}
 
 -- a text found is a text
 
@@ -101,8 +101,8 @@ report_at {ring} (command ∷ front) behind text reports (next, line, others, ow
 -- the end of the script can be printed
 pub may_end : (state : RingState) → MayEnd state []
 may_end state ring same =
-    let files = files_of_ring (ring_of ring) in
-    (teardown_text (ring_of ring).catalogue (closes_for files).files, [], ((closes_for files, has_closed files, refl), refl))
+    let (closes, has) = closes_for (files_of_ring (ring_of ring)) in
+    (teardown_text (ring_of ring).catalogue closes.files, [], ((closes, has, refl), refl))
 
 pub may_end_behind : (keeps : Bool) (old : Stage) {new : Stage} (command : Instruction) (commands : List Instruction)
     → MayLeadTo keeps old command new → MayEnd new.ring commands → MayEnd old.ring (command ∷ commands)

@@ -1,69 +1,51 @@
 -- Accepted submissions at a ring that is kept as slots, and their reports.
-use Rattle.check_texts.proofs.Words.{Closed, List, [], arith, false, if◌then◌else◌, inl, inr, length, slice_index_or, suc, sym, true, zero, ℕ, ◌<◌}
-use Rattle.check_texts.proofs.Words.{◌∷◌, ◌≡◌, add-one, cases_Bool, IsPermutation-refl, HasEachEnd, HasEachReport, IsAnswer, IsPossible, IsTrue}
-use Rattle.check_texts.proofs.Words.{ring_following, PossibleAnswer, PossibleReport, FileEntry, completed_of, fault_of, Asked, Place, Instruction}
-use Rattle.check_texts.proofs.Words.{SubmitsAll, MOST_SLOTS, closes_text, IsRing, RingContents, RingState, ring_of, Reported, reported}
-use Rattle.check_texts.proofs.Words.{MOST_SUBMISSIONS, Prints, PrintsReport, contains_map, contains_mapped, HasEachNextStage, LeadsRing, MayEnd}
-use Rattle.check_texts.proofs.Words.{MayLeadTo, MaySay, Stage, accepted_following, stage_reported, IsReportFound, Bool, None, Some, ap, map, refl}
-use Rattle.check_texts.proofs.Words.{slice_get, ◌++◌, ◌+◌, ◌∙◌, ◌≤◌, lt-leb, All, Contains, All-cons, All-nil, All-weaker, All-contains}
-use Rattle.check_texts.proofs.Words.{All-contains_itself, HasClosed, IsReportBy, MayReport, ReportsOf, each_closed_file_is_known, completion_lines}
-use Rattle.std.specs.List.Sorted.{IsPermutation}
-use Rattle.std.proofs.lemmas.List.Sorted.{All-permutation, IsPermutation-sym, IsPermutation-cons, IsPermutation-middle}
-use Rattle.fx_order.proofs.Words.{IsPermutation-trans}
-use Rattle.fx_base.specs.CloseListView.{CloseListView}
+use Rattle.check_texts.proofs.Words.{IsPermutation, All-permutation, IsPermutation-sym, IsPermutation-cons, IsPermutation-middle, IsPermutation-trans}
+use Rattle.check_texts.proofs.Words.{CloseListView, ChainAccess, Slots, report_text, IsAccepted, AreKnown, ring_left, Closed, List, [], arith, false}
+use Rattle.check_texts.proofs.Words.{inl, inr, length, slice_index_or, suc, sym, true, zero, ℕ, ◌<◌, ◌∷◌, ◌≡◌, add-one, cases_Bool}
+use Rattle.check_texts.proofs.Words.{IsPermutation-refl, HasEachEnd, HasEachReport, IsAnswer, IsPossible, IsTrue, ring_following, PossibleAnswer}
+use Rattle.check_texts.proofs.Words.{PossibleReport, completed_of, fault_of, Asked, Place, Instruction, SubmitsAll, MOST_SLOTS, closes_text, IsRing}
+use Rattle.check_texts.proofs.Words.{RingContents, RingState, ring_of, Reported, reported, MOST_SUBMISSIONS, Prints, contains_map, contains_mapped}
+use Rattle.check_texts.proofs.Words.{HasEachNextStage, LeadsRing, MayEnd, MayLeadTo, MaySay, Stage, accepted_following, stage_reported, IsReportFound}
+use Rattle.check_texts.proofs.Words.{Bool, None, Some, ap, map, refl, slice_get, ◌++◌, ◌+◌, ◌∙◌, ◌≤◌, lt-leb, All, Contains, All-cons, All-nil}
+use Rattle.check_texts.proofs.Words.{All-weaker, All-contains, All-contains_itself, HasClosed, IsReportBy, MayReport, ReportsOf}
+use Rattle.check_texts.proofs.Words.{each_closed_file_is_known, completion_lines}
 use Rattle.check_lines.proofs.Marks.{Rises, is_below, is_order, same_cmp, one_close_list}
-use Rattle.fx_order.specs.declared.access.ChainAccess.{ChainAccess}
-use Rattle.fx_order.specs.declared.slots.Slots.{Slots}
-use Rattle.fx_script.specs.Text.{report_text}
-use Rattle.fx_chain.specs.Accepted.{IsAccepted}
-use Rattle.fx_order.specs.Laws.{AreKnown}
-use Rattle.fx_order.specs.Order.{ring_left}
 use Rattle.check_search.proofs.Hopeless.{get_at}
-use Rattle.fx_order.specs.Access.{Table}
 use Rattle.check_texts.proofs.Growth.{stays}
 use Rattle.check_texts.proofs.Walks.{history_counts, submission_counts}
 
 -- a file among others in order of mark
-abbrev put : Closed → List Closed → List Closed
-put x [] = x ∷ []
-put x (y ∷ ys) = if is_below y x then y ∷ put x ys else x ∷ y ∷ ys
-
-put_permutes : (x : Closed) (ys : List Closed) → IsPermutation (x ∷ ys) (put x ys)
-put_permutes x [] = IsPermutation-refl (x ∷ [])
-put_permutes x (y ∷ ys) = elim (is_below y x) as (λ b. IsPermutation (x ∷ y ∷ ys) (if b then y ∷ put x ys else x ∷ y ∷ ys)) [
-  | true ↦ IsPermutation-trans (x ∷ y ∷ ys) (y ∷ x ∷ ys) (y ∷ put x ys)
-      (IsPermutation-sym (y ∷ x ∷ ys) (x ∷ y ∷ ys) (IsPermutation-middle (y ∷ []) x ys))
-      (IsPermutation-cons y (x ∷ ys) (put x ys) (put_permutes x ys))
-  | false ↦ IsPermutation-refl (x ∷ y ∷ ys)
-]
-
-put_rises : (x : Closed) (ys : List Closed) → Rises ys → Rises (put x ys)
-put_rises x [] rises = (All-nil (λ (z : Closed). is_below z x ≡ false), tt)
-put_rises x (y ∷ ys) rises = elim (cases_Bool (is_below y x)) [
-  | inl is ↦ rw is (
-    All-permutation (λ (z : Closed). is_below z y ≡ false) (x ∷ ys) (put x ys) (put_permutes x ys)
-        (All-cons (λ (z : Closed). is_below z y ≡ false) x ys (is_order.one_way y x is) rises.0),
-    put_rises x ys rises.1,
+put : (x : Closed) (ys : List Closed) → Rises ys → (zs : List Closed) × IsPermutation (x ∷ ys) zs × Rises zs
+put x [] rises = (x ∷ [], IsPermutation-refl (x ∷ []), (All-nil (λ (z : Closed). is_below z x ≡ false), tt))
+put x (y ∷ ys) rises = elim (cases_Bool (is_below y x)) [
+  | inl is ↦ let (zs, moved, up) = put x ys rises.1 in (
+    y ∷ zs,
+    IsPermutation-trans (x ∷ y ∷ ys) (y ∷ x ∷ ys) (y ∷ zs)
+        (IsPermutation-sym (y ∷ x ∷ ys) (x ∷ y ∷ ys) (IsPermutation-middle (y ∷ []) x ys)) (IsPermutation-cons y (x ∷ ys) zs moved),
+    (
+      All-permutation (λ (z : Closed). is_below z y ≡ false) (x ∷ ys) zs moved
+          (All-cons (λ (z : Closed). is_below z y ≡ false) x ys (is_order.one_way y x is) rises.0),
+      up,
+    ),
   )
-  | inr is ↦ rw is (
-    All-cons (λ (z : Closed). is_below z x ≡ false) y ys is
-        (All-weaker (λ (z : Closed). is_below z y ≡ false) (λ (z : Closed). is_below z x ≡ false)
-        (λ z below. is_order.chain z y x below is) ys rises.0),
-    rises,
+  | inr is ↦ (
+    x ∷ y ∷ ys,
+    IsPermutation-refl (x ∷ y ∷ ys),
+    (
+      All-cons (λ (z : Closed). is_below z x ≡ false) y ys is
+          (All-weaker (λ (z : Closed). is_below z y ≡ false) (λ (z : Closed). is_below z x ≡ false)
+          (λ z below. is_order.chain z y x below is) ys rises.0),
+      rises,
+    ),
   )
 ]
 
 -- the files in order of mark
-abbrev pub in_order : List Closed → List Closed
-in_order [] = []
-in_order (x ∷ xs) = put x (in_order xs)
-
-sorted : (xs : List Closed) → IsPermutation xs (in_order xs) × Rises (in_order xs)
-sorted [] = (IsPermutation-refl [], tt)
-sorted (x ∷ xs) = let (moved, rises) = sorted xs in (
-  IsPermutation-trans (x ∷ xs) (x ∷ in_order xs) (put x (in_order xs)) (IsPermutation-cons x xs (in_order xs) moved) (put_permutes x (in_order xs)),
-  put_rises x (in_order xs) rises,
-)
+sorted : (xs : List Closed) → (ys : List Closed) × IsPermutation xs ys × Rises ys
+sorted [] = ([], IsPermutation-refl [], tt)
+sorted (x ∷ xs) =
+    let (ys, moved, rises) = sorted xs in let (zs, placed, up) = put x ys rises in
+    (zs, IsPermutation-trans (x ∷ xs) (x ∷ ys) zs (IsPermutation-cons x xs ys moved) placed, up)
 
 rises_at : (xs : List Closed) (k : ℕ) (d : Closed) → Rises xs → suc k < length xs
     → is_below (slice_index_or xs (suc k) d) (slice_index_or xs k d) ≡ false
@@ -71,17 +53,15 @@ rises_at [] k d rises high = absurd (omega (arith, high))
 rises_at (x ∷ xs) zero d rises high = rises.0 0 d (omega (arith, high))
 rises_at (x ∷ xs) (suc k) d rises high = rises_at xs k d rises.1 (omega (arith, high))
 
-abbrev pub closes_for : List Closed → CloseListView
-closes_for files = record { files = in_order files; room = 0 }
-
-pub has_closed : (files : List Closed) → HasClosed files (closes_for files)
-has_closed files = record {
-  same_files = (sorted files).0;
-  in_order = λ k d low high.
-      let xs = in_order files in
-      rw (add-one, sym (same_cmp (slice_index_or xs (suc k) d).mark (slice_index_or xs k d).mark))
-      (rises_at xs k d (sorted files).1 (omega (arith, high)));
-}
+pub closes_for : (files : List Closed) → (closes : CloseListView) × HasClosed files closes
+closes_for files = let (xs, moved, rises) = sorted files in (
+  record { files = xs; room = 0 },
+  record {
+    same_files = moved;
+    in_order = λ k d low high.
+        rw (add-one, sym (same_cmp (slice_index_or xs (suc k) d).mark (slice_index_or xs k d).mark)) (rises_at xs k d rises (omega (arith, high)));
+  },
+)
 
 -- What an accepted submission may come to at a ring that is kept as slots.
 
@@ -89,16 +69,13 @@ pub counted_one : (requests : List Asked) {count : ℕ} → fault_of requests �
     → accepted_following count (fault_of requests) ≡ count + 1
 counted_one requests {count} faultless few = rw (faultless, lt-leb MOST_SUBMISSIONS count few)
 
--- a report that memory is found for is printed
-prints_report : {ring next : RingContents} {asked : List Asked} {line : List ℕ} → fault_of asked ≡ None → ring.submissions < MOST_SUBMISSIONS
-    → PrintsReport ring asked next line → Prints ring (SubmitsAll asked) next line
-prints_report {ring} faultless few reports = rw (faultless, lt-leb MOST_SUBMISSIONS ring.submissions few) reports
-
 -- where a history leads and finds memory, the submission leads
 report_leads : {ring next : RingContents} {asked : List Asked} {report : Reported} → fault_of asked ≡ None → ring.submissions < MOST_SUBMISSIONS
     → MayReport ring asked report next → LeadsRing ring (SubmitsAll asked) next (report_text ring.catalogue report)
-report_leads {report = report} faultless few may =
-    (Some report, prints_report faultless few (report, may.history, refl), record { may = may; printed = refl })
+report_leads {ring} {next} {asked} {report} faultless few may =
+    let prints : Prints ring (SubmitsAll asked) next (report_text ring.catalogue report) =
+    rw (faultless, lt-leb MOST_SUBMISSIONS ring.submissions few) (report, may.history, refl) in
+    (Some report, prints, record { may = may; printed = refl })
 
 module _ (keeps : Bool) (old : Stage) (asked : List Asked) (faultless : fault_of asked ≡ None) (few : old.ring.submissions < MOST_SUBMISSIONS) where
   pub possible_may_lead : {possible : PossibleReport} → IsPossible old.ring asked possible
@@ -152,10 +129,8 @@ module _ (old : RingState) (asked : List Asked) (is_ring : IsRing old) (accepted
 
   one_file : (x y : Closed) → Contains told.closes.files x → Contains told.closes.files y → x.mark ≡ y.mark → x ≡ y
   one_file x y (i, low, at) (j, high, there) marks =
-      let places : i ≡ j = known.distinct i j x y (get_at told.closes.files i x low (sym at)) (get_at told.closes.files j y high (sym there)) marks in
-      let found : Some x ≡ Some y =
-      sym (get_at told.closes.files i x low (sym at)) ∙ ap (slice_get told.closes.files) places ∙ get_at told.closes.files j y high (sym there) in
-      cc
+      let one = get_at told.closes.files i x low (sym at) in let other = get_at told.closes.files j y high (sym there) in
+      let same_file : Some x ≡ Some y = sym one ∙ ap (slice_get told.closes.files) (known.distinct i j x y one other marks) ∙ other in cc
 
   closes_same : told.closes.files ≡ report.closes.files
   closes_same =
@@ -184,12 +159,3 @@ reports_are_all false old {asked} reports stages is_ring accepted each inside co
     let (possible, there, is) = contains_map (λ (p : PossibleReport). ring_following old.ring p.slots) reports (ring_of next)
     (ends ring next report same found.may) in
     rw is (inside _ (contains_mapped (stage_reported false old) reports possible there))
-
--- a ring whose slots were copied
-abbrev ring_of_table : List FileEntry → ℕ → ℕ → Table → RingState
-ring_of_table catalogue n k t =
-    record { catalogue = catalogue; size = t.size; range = t.range; at = t.at; submissions = n; registrations = k }
-
-pub copied_ring : (catalogue : List FileEntry) (n k : ℕ) {copy table : Table} → copy ≡ table
-    → ring_of_table catalogue n k copy ≡ ring_of_table catalogue n k table
-copied_ring catalogue n k same = ap (ring_of_table catalogue n k) same

@@ -1,15 +1,14 @@
 -- Commands that lead on, one after another, and the rings that they lead to.
-use Rattle.check_texts.proofs.Words.{IsAnswer, ring_following, PossibleAnswer, FileEntry, shown, Asked, Place, Instruction, SubmitsAll, ring_with_files}
-use Rattle.check_texts.proofs.Words.{shows_ring, ring_with_slots, IsRing, RingContents, new_ring, ring_of, LeadsRing, LeadsAll, MayLeadAllTo}
-use Rattle.check_texts.proofs.Words.{MayLeadTo, Stage, stage_of, Reached, Bool, List, [], ap, refl, subst, sym, ℕ, ◌∷◌, ◌≡◌, from_here, fault_of}
-use Rattle.check_texts.proofs.Words.{SetsRange, instruction_of, instructions_of, Command, RingState, Reported, MOST_SUBMISSIONS, Prints}
+use Rattle.check_texts.proofs.Words.{IsOneHistory, IsAnswer, ring_following, PossibleAnswer, FileEntry, shown, Asked, Place, Instruction, SubmitsAll}
+use Rattle.check_texts.proofs.Words.{ring_with_files, shows_ring, ring_with_slots, IsRing, RingContents, new_ring, ring_of, LeadsRing, LeadsAll}
+use Rattle.check_texts.proofs.Words.{MayLeadAllTo, MayLeadTo, Stage, stage_of, Reached, Bool, List, [], ap, refl, subst, sym, ℕ, ◌∷◌, ◌≡◌, from_here}
+use Rattle.check_texts.proofs.Words.{fault_of, SetsRange, instruction_of, instructions_of, Command, RingState, Reported, MOST_SUBMISSIONS, Prints}
 use Rattle.check_texts.proofs.Words.{AreStagesFrom, HasEachFrom, HasEachLast, count_after, count_after_all, accepted_following, kept_text, stage}
 use Rattle.check_texts.proofs.Words.{FoundMemory, None, Option, Some, arith, drop, false, if◌then◌else◌, length, nat_le, slice_index_or, take, true}
 use Rattle.check_texts.proofs.Words.{◌++◌, ◌+◌, ◌<◌, ◌∙◌, ◌≤◌, append-nil, append_assoc, map-append, map_more, Contains, none_rings, take-append-drop}
 use Rattle.fx_ring.proofs.SubmittedRing.{submitted_rings}
 use Rattle.check_lines.proofs.Calls.{called_ring, called_submissions}
 use Rattle.check_texts.proofs.Calls.{call_leaves, submission_cases}
-use Rattle.fx_ring.specs.Submission.{IsOneHistory}
 
 leads_ring : (old next : RingContents) (command : Instruction) (line : List ℕ) → IsRing (ring_of old)
     → LeadsRing old command next line → IsRing (ring_of next)

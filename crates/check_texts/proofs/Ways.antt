@@ -1,17 +1,14 @@
 -- The ways of plays in which memory is found: their texts, and those that begin with an exit.
-use Rattle.check_texts.proofs.Words.{Bool, Contains, FileEntry, Instruction, IsTextFound, List, Meaning, PrintsAllFound, Reported, RingContents}
-use Rattle.check_texts.proofs.Words.{RingState, Stage, [], ap, arith, false, length, map, new_ring, refl, ring_of, subst, sym, true, ℕ, ⊎_elim, ◌++◌}
-use Rattle.check_texts.proofs.Words.{◌+◌, ◌<◌, ◌∙◌, ◌∷◌, ◌≡◌, append-nil, contains_map, contains_mapped, contains_none, option_to_list}
-use Rattle.check_texts.proofs.Words.{ring_with_slots, stages_of, HasEachNextStage, IsTrue, MayLeadTo, Reached, stage, All, IfSome, None, Option, Some}
-use Rattle.check_texts.proofs.Words.{Grows, bytes_decides, list_any, map-append, string_bytes, ◌||◌, append_assoc, instruction_of, concat}
-use Rattle.check_texts.proofs.Words.{length-append, length-map, All-contains, Contains-append_cases, Contains-append_left, Contains-append_right}
-use Rattle.check_texts.proofs.Words.{Contains-push, Contains-push_cases, contains_cases, contains_head, contains_only, contains_tail, each_all}
-use Rattle.check_texts.proofs.Words.{PrintsEnd, AreBare, AreDistinct, AreTextsOf, CountsUpTo, GoesBy, HasWays, IsBare, IsAfterLine, IsWay}
-use Rattle.check_texts.proofs.Words.{ways_after, Global, String, string_eq, min, not, ◌-◌, ◌^◌, AreExits, AreWaysBy, IsRest, IsRestOf, bare}
-use Rattle.check_texts.proofs.Words.{commands_in, texts_in, Layer, none_rings}
-use Rattle.std.specs.Borrow.{Bor}
-use Rattle.check_texts.specs.declared.layers.Exits.{Exits}
-use Rattle.check_texts.specs.declared.rests.KeptWays.{KeptWays}
+use Rattle.check_texts.proofs.Words.{Bor, Exits, KeptWays, Bool, Contains, FileEntry, Instruction, IsTextFound, List, Meaning, PrintsAllFound}
+use Rattle.check_texts.proofs.Words.{Reported, RingContents, RingState, Stage, [], ap, arith, false, length, map, new_ring, refl, ring_of, subst, sym}
+use Rattle.check_texts.proofs.Words.{true, ℕ, ⊎_elim, ◌++◌, ◌+◌, ◌<◌, ◌∙◌, ◌∷◌, ◌≡◌, append-nil, contains_map, contains_mapped, contains_none}
+use Rattle.check_texts.proofs.Words.{option_to_list, ring_with_slots, stages_of, HasEachNextStage, IsTrue, MayLeadTo, Reached, stage, All, IfSome}
+use Rattle.check_texts.proofs.Words.{None, Option, Some, Grows, bytes_decides, list_any, map-append, string_bytes, append_assoc, instruction_of}
+use Rattle.check_texts.proofs.Words.{concat, length-append, length-map, All-contains, Contains-append_cases, Contains-append_left}
+use Rattle.check_texts.proofs.Words.{Contains-append_right, Contains-push_cases, contains_head, contains_only, contains_tail, PrintsEnd, AreBare}
+use Rattle.check_texts.proofs.Words.{AreDistinct, AreTextsOf, CountsUpTo, GoesBy, HasWays, IsBare, IsAfterLine, IsWay, ways_after, Global, String}
+use Rattle.check_texts.proofs.Words.{string_eq, min, not, ◌-◌, ◌^◌, AreExits, AreWaysBy, IsRest, IsRestOf, bare, commands_in, texts_in, Layer}
+use Rattle.check_texts.proofs.Words.{none_rings, list_any_at, true≢false}
 use Rattle.check_texts.proofs.Walks.{starts}
 
 -- a text found is that of a way, and a way's text is found
@@ -50,12 +47,6 @@ distinct_behind line (way ∷ ways) (new, others) = (
       let same : other ≡ way = cc in new (subst (Contains ways) same there),
   distinct_behind line ways others,
 )
-
--- the counts of two lists
-
-pub counts_both : {A : Type 0} {m n k : ℕ} (xs ys : List A) → ((a b : ℕ) → CountsUpTo m a → CountsUpTo n b → CountsUpTo k (a + b))
-    → CountsUpTo m (length xs) → CountsUpTo n (length ys) → CountsUpTo k (length (xs ++ ys))
-counts_both {k = k} xs ys sum one other = subst (CountsUpTo k) (sym (length-append xs ys)) (sum (length xs) (length ys) one other)
 
 -- one more exit of a ring
 module _ (catalogue : List FileEntry) (command : Instruction) (commands : List Instruction) (before : List Stage) (s : Stage)
@@ -129,20 +120,20 @@ module _ (catalogue : List FileEntry) (command : Instruction) (commands : List I
           let both = all yes in
           ⊎_elim (λ here. Contains-append_left ways.ways those (t.printed ∷ way) (ways.all both.0 t here ring way at by))
           (λ is. of_stage both.1 t is ring way at by) (Contains-push_cases before s t inside);
-      count = counts_both ways.ways those counts ways.count
-          (subst (CountsUpTo later.ways) (sym (length-map rest.ways (λ (w : List (List ℕ)). s.printed ∷ w))) rest.count);
+      count = subst (CountsUpTo new.ways) (sym (length-append ways.ways those)) (counts (length ways.ways) (length those) ways.count
+          (subst (CountsUpTo later.ways) (sym (length-map rest.ways (λ (w : List (List ℕ)). s.printed ∷ w))) rest.count));
       texts = texts ways.ways rest.ways ways.texts rest.texts;
     }
 
 -- no way yet
-pub no_ways : (catalogue : List FileEntry) (command : Instruction) (commands : List Instruction) (exits : List Stage) (lines : List (List ℕ))
-    (rest : KeptWays) → exits ≡ [] → rest.ways ≡ 0 → rest.endings.items ≡ [] → AreWaysBy catalogue command commands exits lines rest
-no_ways catalogue command commands exits lines rest nothing none empty = record {
+pub no_ways : (catalogue : List FileEntry) (command : Instruction) (commands : List Instruction) (lines : List (List ℕ)) (rest : KeptWays)
+    → rest.ways ≡ 0 → rest.endings.items ≡ [] → AreWaysBy catalogue command commands [] lines rest
+no_ways catalogue command commands lines rest none empty = record {
   ways = [];
   each = λ way inside. absurd (contains_none way inside);
   once = tt;
   first = λ line way inside. absurd (contains_none (line ∷ way) inside);
-  all = λ yes s inside. absurd (contains_none s (subst (λ (l : List Stage). Contains l s) nothing inside));
+  all = λ yes s inside. absurd (contains_none s inside);
   count = rw none (record { few = omega arith; same = λ few. refl });
   texts = rw empty (record {
     each = λ text inside. absurd (contains_none text inside);
@@ -182,7 +173,7 @@ rest_of_end catalogue rest s text same bare (end, prints, split) only one each w
   ways = (text ∷ []) ∷ [];
   are = record {
     each = λ way inside ring at.
-        let is : way ≡ text ∷ [] = only_way way inside in
+        let is : way ≡ text ∷ [] = contains_only (text ∷ []) way inside in
         let stands : ring_of ring ≡ s.ring = at ∙ same in
         let text_is : text ≡ end = split ∙ ap (λ (p : List ℕ). p ++ end) bare in
         (end, subst (λ (r : RingState). PrintsEnd r end) (sym stands) prints, is ∙ ap (λ (t : List ℕ). t ∷ []) text_is);
@@ -196,19 +187,11 @@ rest_of_end catalogue rest s text same bare (end, prints, split) only one each w
   };
   count = rw one (record { few = omega arith; same = λ few. refl });
   texts = record {
-    each = λ t inside. subst (Contains (map concat ((text ∷ []) ∷ []))) (sym (each t inside)) there;
-    all = λ yes t inside. subst (Contains (texts_in rest.endings.items)) (sym (only_text t inside)) (whole yes);
+    each = λ t inside.
+        subst (Contains (map concat ((text ∷ []) ∷ []))) (append-nil text ∙ sym (each t inside)) (contains_head (concat (text ∷ [])) []);
+    all = λ yes t inside. rw (contains_only (concat (text ∷ [])) t inside, append-nil text) (whole yes);
   };
 }
-  where
-    only_way : (way : List (List ℕ)) → Contains ((text ∷ []) ∷ []) way → way ≡ text ∷ []
-    only_way way inside = contains_only (text ∷ []) way inside
-
-    there : Contains (map concat ((text ∷ []) ∷ [])) text
-    there = subst (Contains (map concat ((text ∷ []) ∷ []))) (append-nil text) (contains_head (concat (text ∷ [])) [])
-
-    only_text : (t : List ℕ) → Contains (map concat ((text ∷ []) ∷ [])) t → t ≡ text
-    only_text t inside = contains_only (concat (text ∷ [])) t inside ∙ append-nil text
 
 -- the ways of a script are those of its first ring
 module _ (script : Meaning) {rest : KeptWays} (rests : IsRest script.catalogue script.commands rest)
@@ -296,18 +279,13 @@ module _ (line : List ℕ) (ways others : List (List (List ℕ))) (old later new
         (subst (λ (l : List (List ℕ)). Contains l text) (map-append concat ways (ways_after line others)) inside));
   }
 
--- a text that isn't among the keys of a set
-pub not_there : (keys : List (String Global)) (k : String Global) → list_any (string_eq k) keys ≡ false
+-- a text that is new in a set isn't among its keys
+pub new_text : (keys : List (String Global)) (k : String Global) {added : Bool} → added ≡ not (list_any (string_eq k) keys) → added ≡ true
     → Contains (map string_bytes keys) (string_bytes k) → ⊥
-not_there [] k none inside = contains_none (string_bytes k) inside
-not_there (x ∷ keys) k none inside =
-    let parts = or_false (string_eq k x) (list_any (string_eq k) keys) none in
-    ⊎_elim (λ same. let eq = (bytes_decides (string_bytes k) (string_bytes x)).1 same in let e : true ≡ false = sym eq ∙ parts.0 in cc)
-    (not_there keys k parts.1) (contains_cases (string_bytes x) (map string_bytes keys) (string_bytes k) inside)
-  where
-    or_false : (a b : Bool) → (a || b) ≡ false → (a ≡ false) × (b ≡ false)
-    or_false true b none = absurd (let e : true ≡ false = none in cc)
-    or_false false b none = (refl, none)
+new_text keys k is new inside =
+    let (x, (i, low, here), same) = contains_map string_bytes keys (string_bytes k) inside in
+    let equal = (bytes_decides (string_bytes k) (string_bytes x)).1 same in
+    true≢false (sym new ∙ is ∙ ap not (list_any_at (string_eq k) keys i x low (rw here equal)))
 
 -- what is new behind nothing
 pub only_new : {X : Type 0} {P : X → Type 0} {new : List X} → Grows P [] new → (x : X) → Contains new x → P x
@@ -356,17 +334,3 @@ module _ (layers : List Layer) (layer : Layer) {all : List Layer} (is : all ≡ 
   commands_before done commands same =
       sym (append_assoc (commands_in layers) (instruction_of layer.command.now ∷ []) done)
       ∙ (ap (λ (cs : List Instruction). cs ++ done) (sym (ap commands_in is ∙ commands_more layers layer refl)) ∙ same)
-
-  pub last_layer : (P : Layer → Type 0) → All P all → P layer × All P layers
-  last_layer P are = (
-    All-contains P all layer are (rw is (Contains-push layers layer)),
-    each_all P layers (λ l inside. All-contains P all l are (rw is (Contains-append_left layers (layer ∷ []) l inside))),
-  )
-
-pub new_text : (keys : List (String Global)) (k : String Global) {added : Bool} → added ≡ not (list_any (string_eq k) keys) → added ≡ true
-    → Contains (map string_bytes keys) (string_bytes k) → ⊥
-new_text keys k is new = not_there keys k (not_true (list_any (string_eq k) keys) (sym is ∙ new))
-  where
-    not_true : (b : Bool) → not b ≡ true → b ≡ false
-    not_true true none = absurd (let e : false ≡ true = none in cc)
-    not_true false none = refl

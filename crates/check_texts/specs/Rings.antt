@@ -1,6 +1,6 @@
 -- The rings that commands may come to where memory is found.
 use Rattle.std.specs.Prelude.{◌≡◌, ◌⊎◌, ℕ, ◌+◌, List, [], ◌∷◌, ◌++◌, map, string_bytes}
-use Rattle.std.specs.Prelude.{Bool, true, false, Option, Contains}
+use Rattle.std.specs.Prelude.{Bool, true, false, Option, Contains, IsTrue}
 use Rattle.fx_base.specs.Catalogue.{FileEntry}
 use Rattle.fx_chain.specs.Completed.{Completed, completed_of}
 use Rattle.fx_chain.specs.Faults.{fault_of}
@@ -116,6 +116,14 @@ stage_of catalogue reached = record {
 
 abbrev pub stages_of : List FileEntry → List Reached → List Stage
 stages_of catalogue rings = map (stage_of catalogue) rings
+
+-- rings that the command may lead to from one were appended; all of them, if so said
+pub record AppendsNext (keeps : Bool) (catalogue : List FileEntry) (from : Reached)
+    (command : Instruction) (old new : List Reached) (are_all : Bool) : Type 0 where
+  pub grows : Grows (MayLeadTo keeps (stage_of catalogue from) command) (stages_of catalogue old)
+      (stages_of catalogue new)
+  pub all : IsTrue are_all
+      → HasEachNextStage keeps (stage_of catalogue from) command (stages_of catalogue new)
 
 -- where a report leads
 abbrev pub stage_reported : Bool → Stage → PossibleReport → Stage

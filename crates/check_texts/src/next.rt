@@ -11,8 +11,8 @@ ghost use Rattle.fx_plain.specs.declared.table.TheConstants.{MOST_SLOTS};
 ghost use Rattle.fx_ring.specs.Ring.{IsRing};
 ghost use Rattle.fx_ring.specs.declared.ring.TheConstants.{MOST_SUBMISSIONS};
 ghost use Rattle.check_lines.specs.Calls.{IsCall};
-ghost use Rattle.check_texts.specs.Rings.{Grows, HasEachNextStage, MayLeadTo, kept_text};
-ghost use Rattle.check_texts.specs.Rings.{stage_of, stage_reported, stages_of};
+ghost use Rattle.check_texts.specs.Rings.{Grows, AppendsNext, kept_text, stage_of, stage_reported};
+ghost use Rattle.check_texts.specs.Rings.{stages_of};
 
 use crate::walk::{Reached, Spent, WalkSetting};
 use check_lines::{accepted_in, call};
@@ -62,21 +62,15 @@ pub(crate) fn are_same(one: &RingSlots, other: &RingSlots) -> bool
         && one.slots.is_same(&other.slots)
 }
 
-// Checks whether both are the same ring, after the same text.
-fn are_alike(one: &Reached, other: &Reached) -> bool
-    ensures { IsTrue result → (catalogue : List FileEntry)
-        → stage_of catalogue one.now ≡ stage_of catalogue other.now }
-{
-    one.printed.as_bytes() == other.printed.as_bytes() && are_same(&one.ring, &other.ring)
-}
-
 // Checks whether a ring is in a list, after the same text.
 fn has_ring(rings: &[Reached], one: &Reached) -> bool
     ensures { IsTrue result → (catalogue : List FileEntry)
         → Contains (stages_of catalogue rings.now) (stage_of catalogue one.now) }
 {
     for reached in rings {
-        if are_alike(reached, one) {
+        if reached.printed.as_bytes() == one.printed.as_bytes()
+            && are_same(&reached.ring, &one.ring)
+        {
             return true;
         }
     }
@@ -129,16 +123,12 @@ fn push_report(
     let line = report_text(setting.alloc, &possible.report, setting.catalogue)?;
     let printed = printed_after(setting, from.printed.as_str(), line.as_str())?;
     let ring = from.ring_after(setting.alloc, &possible.slots)?;
-    push_new(
-        setting,
-        spent,
-        rings,
-        Reached {
-            ring,
-            printed,
-            past: Some(past),
-        },
-    )?;
+    let reached = Reached {
+        ring,
+        printed,
+        past: Some(past),
+    };
+    push_new(setting, spent, rings, reached)?;
     Ok(())
 }
 
@@ -155,14 +145,8 @@ fn push_reports(
     requires faultless { fault_of (all_asked requests.now) ≡ None }
     requires few { from.now.ring.submissions < MOST_SUBMISSIONS }
     requires ring { IsRing (ring_with_slots setting.now.catalogue.now from.now.ring) }
-    ensures grows { IfOk result (λ _. Grows
-        (MayLeadTo setting.now.keeps (stage_of setting.now.catalogue.now from.now)
-        (SubmitsAll (all_asked requests.now)))
-        (stages_of setting.now.catalogue.now rings.old.items)
-        (stages_of setting.now.catalogue.now rings.new.items)) }
-    ensures all { IfOk result (λ all. IsTrue all → HasEachNextStage setting.now.keeps
-        (stage_of setting.now.catalogue.now from.now) (SubmitsAll (all_asked requests.now))
-        (stages_of setting.now.catalogue.now rings.new.items)) }
+    ensures { IfOk result (AppendsNext setting.now.keeps setting.now.catalogue.now from.now
+        (SubmitsAll (all_asked requests.now)) rings.old.items rings.new.items) }
 {
     let found = may_report(
         setting.alloc,
@@ -180,37 +164,29 @@ fn push_reports(
     Ok(found.are_all)
 }
 
-// Appends the ring that a call between submissions leaves, or a refused submission.
+// Appends the ring that a call between submissions, or a refused submission, leaves. Returns true:
+// there is no other.
 fn push_call(
     setting: &WalkSetting<'_>,
     spent: &mut Spent,
     rings: &mut Vec<Reached>,
     from: &Reached,
     command: &Command,
-) -> Result<(), NoMemory>
+) -> Result<bool, NoMemory>
     requires call { IsCall from.now.ring.submissions (instruction_of command.now) }
     requires ring { IsRing (ring_with_slots setting.now.catalogue.now from.now.ring) }
-    ensures grows { OnOk result (Grows
-        (MayLeadTo setting.now.keeps (stage_of setting.now.catalogue.now from.now)
-        (instruction_of command.now)) (stages_of setting.now.catalogue.now rings.old.items)
-        (stages_of setting.now.catalogue.now rings.new.items)) }
-    ensures all { OnOk result (HasEachNextStage setting.now.keeps
-        (stage_of setting.now.catalogue.now from.now) (instruction_of command.now)
-        (stages_of setting.now.catalogue.now rings.new.items)) }
+    ensures { IfOk result (AppendsNext setting.now.keeps setting.now.catalogue.now from.now
+        (instruction_of command.now) rings.old.items rings.new.items) }
 {
     let called = call(setting.alloc, setting.catalogue, &from.ring, command)?;
     let printed = printed_after(setting, from.printed.as_str(), called.line.as_str())?;
-    push_new(
-        setting,
-        spent,
-        rings,
-        Reached {
-            ring: called.ring,
-            printed,
-            past: from.past,
-        },
-    )?;
-    Ok(())
+    let reached = Reached {
+        ring: called.ring,
+        printed,
+        past: from.past,
+    };
+    push_new(setting, spent, rings, reached)?;
+    Ok(true)
 }
 
 /// Appends the rings that a command may lead to from one, and returns whether these are all of
@@ -227,20 +203,14 @@ pub(crate) fn push_next(
     command: &Command,
 ) -> Result<bool, NoMemory>
     requires ring { IsRing (ring_with_slots setting.now.catalogue.now from.now.ring) }
-    ensures grows { IfOk result (λ _. Grows
-        (MayLeadTo setting.now.keeps (stage_of setting.now.catalogue.now from.now)
-        (instruction_of command.now)) (stages_of setting.now.catalogue.now rings.old.items)
-        (stages_of setting.now.catalogue.now rings.new.items)) }
-    ensures all { IfOk result (λ all. IsTrue all → HasEachNextStage setting.now.keeps
-        (stage_of setting.now.catalogue.now from.now) (instruction_of command.now)
-        (stages_of setting.now.catalogue.now rings.new.items)) }
+    ensures { IfOk result (AppendsNext setting.now.keeps setting.now.catalogue.now from.now
+        (instruction_of command.now) rings.old.items rings.new.items) }
 {
     if !spent.has_room(setting.limits) {
         return Ok(false);
     }
-    if let Some(requests) = accepted_in(command, from.ring.submissions) {
-        return push_reports(setting, spent, rings, from, requests);
+    match accepted_in(command, from.ring.submissions) {
+        Some(requests) => push_reports(setting, spent, rings, from, requests),
+        None => push_call(setting, spent, rings, from, command),
     }
-    push_call(setting, spent, rings, from, command)?;
-    Ok(true)
 }

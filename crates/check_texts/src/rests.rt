@@ -188,16 +188,16 @@ fn push_exit(
 {
     let line = String::from_str(setting.alloc, exit.printed.as_str())?;
     let is_new = lines.insert(line)?;
-    let Some(later) = later else {
-        rest.are_all = false;
-        return Ok(());
-    };
-    if !is_new {
-        rest.are_all = false;
-        return Ok(());
+    match later {
+        Some(later) if is_new => {
+            push_ways(setting, spent, rest, exit, later)?;
+            Ok(())
+        }
+        _ => {
+            rest.are_all = false;
+            Ok(())
+        }
     }
-    push_ways(setting, spent, rest, exit, later)?;
-    Ok(())
 }
 
 // Returns what is kept of a ring before a command.

@@ -1,6 +1,5 @@
 //! The texts that a script can print, each of which is one of its texts.
-ghost use Rattle.std.specs.Prelude.{◌≡◌, ◌-◌, ◌<◌, ◌^◌, [], false, All, Contains, IfOk, IsTrue, List, map};
-ghost use Rattle.std.specs.Prelude.{string_bytes, string_eq, ℕ};
+ghost use Rattle.std.specs.Prelude.{All, Contains, IfOk, IsTrue, List, map, string_bytes, string_eq, ℕ};
 ghost use Rattle.indexmap.specs.IndexSet.{IsUnique};
 ghost use Rattle.check_texts.specs.Layers.{texts_in};
 ghost use Rattle.check_texts.specs.Texts.{EachFoundTextIsAText, IsTextFound};
@@ -35,26 +34,6 @@ pub struct AllTexts {
     pub are_counted: bool,
 }
 
-impl AllTexts {
-    // Returns no text, where nothing was shown.
-    fn nothing(alloc: Global, orders: Vec<Past>) -> AllTexts
-        ensures texts { result.texts.keys ≡ [] }
-        ensures once { IsUnique string_eq result.texts }
-        ensures shown { result.are_all ≡ false }
-        ensures ways { result.ways ≡ 0 }
-        ensures counted { result.are_counted ≡ false }
-    {
-        AllTexts {
-            texts: IndexSet::new(alloc),
-            by: Vec::new(alloc),
-            orders,
-            are_all: false,
-            ways: 0,
-            are_counted: false,
-        }
-    }
-}
-
 // Returns the texts, each once, and the orders of each, the first submission's first.
 fn each_text(
     alloc: Global,
@@ -77,13 +56,6 @@ fn each_text(
         }
     }
     Ok((texts, by))
-}
-
-// Checks whether a number of ways is not the largest one, which stands for all larger ones.
-fn is_exact(ways: u64) -> bool
-    ensures { IsTrue result → ways < 2 ^ 64 - 1 }
-{
-    ways < u64::MAX
 }
 
 /// Returns the first texts that the plays of a script print in which no allocation fails, at most
@@ -119,7 +91,14 @@ pub fn texts_of(
     let layers = layers_of(&setting, &mut spent, script.commands())?;
     let rests = rests_of(&setting, &mut spent, layers)?;
     let Some(rest) = rest_at(&rests, 0, &start_ring(alloc)) else {
-        return Ok(AllTexts::nothing(alloc, spent.orders));
+        return Ok(AllTexts {
+            texts: IndexSet::new(alloc),
+            by: Vec::new(alloc),
+            orders: spent.orders,
+            are_all: false,
+            ways: 0,
+            are_counted: false,
+        });
     };
     let (texts, by) = each_text(alloc, &rest.endings)?;
     Ok(AllTexts {
@@ -128,11 +107,13 @@ pub fn texts_of(
         orders: spent.orders,
         are_all: both(rest.are_all, rest.is_whole),
         ways: rest.ways,
-        are_counted: both(rest.are_all, is_exact(rest.ways)),
+        // the largest number stands for all larger ones
+        are_counted: both(rest.are_all, rest.ways < u64::MAX),
     })
 }
 
 /// States that a text of a play in which no allocation fails is a text of the script.
+#[tactic(auto, using(crate::proofs::Plays::found_text))]
 pub fn each_found_text_is_a_text()
     ensures { EachFoundTextIsAText }
 {}

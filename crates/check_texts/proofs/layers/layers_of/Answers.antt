@@ -1,4 +1,4 @@
-use Rattle.check_texts.proofs.Words.{refl, arith, take_all, All-push, IsLayer}
+use Rattle.check_texts.proofs.Words.{refl, take_all, All-nil, All-push, IsLayer}
 use Rattle.check_texts.proofs.Walks.{taken_one}
 use Rattle.check_texts.proofs.Ways.{bare_start, commands_more}
 use Rattle.check_texts.proofs.layers.layers_of.Goals as goal
@@ -7,7 +7,7 @@ pub loop-command-init : goal.loop-command-init
 loop-command-init c =
     let cat = c.args.setting.now.catalogue.now in
     record {
-      layers = rw c.new-layers.ensures.items (λ k d inside. absurd (omega (arith, inside)));
+      layers = rw c.new-layers.ensures.items (All-nil (IsLayer cat));
       commands = rw c.new-layers.ensures.items refl;
       last = rw (c.in_ok-rings.ensures cat) (bare_start cat);
     }

@@ -1,6 +1,5 @@
 use Rattle.check_texts.proofs.Words.{shown, instruction_of, ring_with_slots, IsLineOf, Stage, after_call, kept_text, stage_of, stages_of}
-use Rattle.check_texts.proofs.Words.{string_bytes}
-use Rattle.check_texts.proofs.Words.{◌++◌, ◌≡◌}
+use Rattle.check_texts.proofs.Words.{string_bytes, ◌++◌, ◌≡◌}
 use Rattle.check_texts.proofs.Calls.{call_may_lead, call_only}
 use Rattle.check_texts.proofs.Growth.{grows_on, stays}
 use Rattle.check_texts.proofs.next.push_call.Goals as goal
@@ -22,6 +21,6 @@ returns c =
       grows = grows_on
           (λ s is. rw is (call_may_lead keeps from new command line c.requires.call left told kept next shows c.args.from.now.few_slots)) stays
           (c.in_ok-push_new.ensures.grows cat);
-      all = call_only keeps from new command line c.requires.call left told kept (stages_of cat c.push_new.new.rings.items) c.requires.ring
+      all = λ _. call_only keeps from new command line c.requires.call left told kept (stages_of cat c.push_new.new.rings.items) c.requires.ring
           (c.in_ok-push_new.ensures.there cat);
     }

@@ -29,14 +29,17 @@ loop-possible-preserved c =
           c.loop-possible.invariant.there c.in_ok-push_report.ensures.there;
     }
 
-pub returns-clause-all : goal.returns-clause-all
-returns-clause-all c = λ all.
-    let old = stage_of c.args.setting.now.catalogue.now c.args.from.now in
-    let number = c.args.from.now.ring.registrations in
-    reports_are_all c.args.setting.now.keeps old c.deref-possible-items.result.now
-    (stages_of c.args.setting.now.catalogue.now c.loop-possible.rings.items) c.requires.ring c.requires.accepted
-    (rw c.deref-possible-items.ensures.value (c.in_ok-found.ensures.each number))
-    (rw (take_all c.loop-possible.possible-index c.deref-possible-items.result.now c.loop-possible-test.false) at c.loop-possible.invariant.there)
-    (counted_one (all_asked c.args.requests.now) c.requires.faultless c.requires.few)
-    (rw c.deref-possible-items.ensures.value (c.in_ok-found.ensures.ends all number))
-    (λ keeps. rw c.deref-possible-items.ensures.value (c.in_ok-found.ensures.all all keeps number))
+pub returns : goal.returns
+returns c = record {
+  grows = c.loop-possible.invariant.grows;
+  all = λ all.
+      let old = stage_of c.args.setting.now.catalogue.now c.args.from.now in
+      let number = c.args.from.now.ring.registrations in
+      reports_are_all c.args.setting.now.keeps old c.deref-possible-items.result.now
+      (stages_of c.args.setting.now.catalogue.now c.loop-possible.rings.items) c.requires.ring c.requires.accepted
+      (rw c.deref-possible-items.ensures.value (c.in_ok-found.ensures.each number))
+      (rw (take_all c.loop-possible.possible-index c.deref-possible-items.result.now c.loop-possible-test.false) at c.loop-possible.invariant.there)
+      (counted_one (all_asked c.args.requests.now) c.requires.faultless c.requires.few)
+      (rw c.deref-possible-items.ensures.value (c.in_ok-found.ensures.ends all number))
+      (λ keeps. rw c.deref-possible-items.ensures.value (c.in_ok-found.ensures.all all keeps number));
+}

@@ -1,5 +1,5 @@
-use Rattle.check_texts.proofs.Words.{AreOf, all_closed, all_of_ring, few_of_ring, contains_only, end_printed, refl, stage_of}
-use Rattle.check_texts.proofs.Words.{HasClosed, List, Closed, PrintsEnd, [], ap, contains_head, files_of_ring, string_bytes, subst, ℕ, ◌++◌, ◌∙◌, ◌≡◌}
+use Rattle.check_texts.proofs.Words.{AreOf, all_closed, all_of_ring, few_of_ring, contains_only, end_printed, refl, stage_of, HasClosed, List, Closed}
+use Rattle.check_texts.proofs.Words.{PrintsEnd, [], ap, contains_head, files_of_ring, string_bytes, subst, ℕ, ◌++◌, ◌∙◌, ◌≡◌}
 use Rattle.check_texts.proofs.Ways.{only_new, rest_of_end}
 use Rattle.check_texts.proofs.rests.rest_at_end.Goals.{After-deref}
 use Rattle.check_texts.proofs.rests.rest_at_end.Goals as goal

@@ -8,9 +8,9 @@ loop-i-init c = record {
   ring = c.in_ok-ring.ensures.same;
   all = λ yes. yes;
   ways = λ command commands are later.
-      no_ways c.args.setting.now.catalogue.now command commands _ _
+      no_ways c.args.setting.now.catalogue.now command commands _
       (record { ring = c.in_ok-ring.ring; ways = 0; are_all = c.args.exits.now.are_all; endings = c.new-endings.result; is_whole = true })
-      refl refl c.new-endings.ensures.items;
+      refl c.new-endings.ensures.items;
 }
 
 pub loop-i-preserved : goal.loop-i-preserved

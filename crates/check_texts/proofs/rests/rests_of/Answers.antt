@@ -1,6 +1,6 @@
 use Rattle.check_texts.proofs.Words.{All, Instruction, List, ap, append-nil, arith, instruction_of, subst, sym, [], ◌++◌, ◌∙◌, ◌∷◌, ◌≡◌}
-use Rattle.check_texts.proofs.Words.{nil_from_length, IsLayer, IsRest, commands_in, Layer}
-use Rattle.check_texts.proofs.Ways.{commands_before, last_layer}
+use Rattle.check_texts.proofs.Words.{nil_from_length, IsLayer, IsRest, commands_in, Layer, All-pop, Some}
+use Rattle.check_texts.proofs.Ways.{commands_before}
 use Rattle.check_texts.proofs.rests.rests_of.Goals as goal
 
 pub rests_at_end-requires-clause-rings : goal.rests_at_end-requires-clause-rings
@@ -16,13 +16,13 @@ loop-layer-preserved c =
     let layer = c.in-Some.layer in
     let is = c.in-Some.ensures.items in
     let (done, same, are) = c.loop-layer.invariant.rests in
-    let own = last_layer layers layer is (IsLayer cat) c.loop-layer.invariant.layers in
+    let own = All-pop (IsLayer cat) c.loop-layer.layers.items layers (Some layer) is c.loop-layer.invariant.layers in
     record {
-      layers = own.1;
+      layers = own.0;
       rests = (
         instruction_of layer.command.now ∷ done,
         commands_before layers layer is done _ same,
-        c.in_ok-later-2.ensures (instruction_of layer.command.now) done (rw c.deref-in-Some.ensures.value own.0)
+        c.in_ok-later-2.ensures (instruction_of layer.command.now) done (rw c.deref-in-Some.ensures.value own.1)
             (rw c.deref-in-Some-2.ensures.value are),
       );
     }

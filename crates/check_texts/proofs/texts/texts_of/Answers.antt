@@ -1,18 +1,18 @@
-use Rattle.check_texts.proofs.Words.{IsTextFound, ring_with_slots, string_bytes, sym, ◌∙◌, ◌≡◌, All-contains, All-nil, new_ring, IsRest, commands_in}
-use Rattle.std.proofs.lemmas.Bool.{false≢true}
+use Rattle.check_texts.proofs.Words.{ltb-true, IsTextFound, ring_with_slots, string_bytes, ◌∙◌, ◌≡◌, All-contains, All-nil, new_ring, IsRest}
+use Rattle.check_texts.proofs.Words.{commands_in, false, true}
 use Rattle.check_texts.proofs.Growth.{all_of_values}
 use Rattle.check_texts.proofs.Ways.{no_script_ways, script_text, script_texts, script_ways}
 use Rattle.check_texts.proofs.texts.texts_of.Goals.{In-Some}
 use Rattle.check_texts.proofs.texts.texts_of.Goals as goal
 
 pub returns-in_default-clause-each : goal.returns-in_default-clause-each
-returns-in_default-clause-each c = rw c.nothing.ensures.texts (All-nil _)
+returns-in_default-clause-each c = rw c.new.ensures.empty (All-nil _)
 
 pub returns-in_default-clause-all : goal.returns-in_default-clause-all
-returns-in_default-clause-all c = λ yes text found. absurd (false≢true (sym c.nothing.ensures.shown ∙ yes))
+returns-in_default-clause-all c = λ yes text found. absurd (let e : false ≡ true = yes in cc)
 
 pub returns-in_default-clause-ways : goal.returns-in_default-clause-ways
-returns-in_default-clause-ways c = rw (c.nothing.ensures.ways, c.nothing.ensures.counted) (no_script_ways c.args.script.now)
+returns-in_default-clause-ways c = no_script_ways c.args.script.now
 
 -- the ways of the first ring
 first_ways : (c : In-Some) → IsRest c.args.script.now.catalogue c.args.script.now.commands c.in-Some.rest.now
@@ -43,4 +43,4 @@ returns-clause-ways c =
     let at = (goal.at.returns-clause-ways c).In-Some in
     let ways = first_ways at in
     script_ways c.args.script.now ways (first_ring at) c.both-2.result
-    (λ yes. let two = c.both-2.ensures yes in (two.0, ways.count.same (c.is_exact.ensures two.1)))
+    (λ yes. let two = c.both-2.ensures yes in (two.0, ways.count.same (ltb-true _ _ two.1)))
