@@ -6,11 +6,10 @@ use Rattle.check_judge.proofs.Words.{◌∙◌, ◌^◌, All, Contains, subst, A
 use Rattle.check_judge.proofs.Words.{Chain, each_all, RingState, Reported, accesses_of, RingSlots, IsOneOrder, table_of, ring_with_slots, AreFrom}
 use Rattle.check_judge.proofs.Words.{IsFileAtSlot, MayBeClosed, ◌⊎◌, All-weaker, HasNone, MayCloseAll, removes_contained, HasCounted}
 use Rattle.check_judge.proofs.Words.{files_removed_in, fault_of, IsRingKept, MOST_SUBMISSIONS, None, false, zero, suc, map, drop, refl, Some}
-use Rattle.check_judge.proofs.Words.{slice_index_or, length-map, slice_get-get_or, is_lt, name_at, all_completed, completed_of, all_asked, asked_of}
-use Rattle.check_judge.proofs.Words.{Slots, named_close_of, named_close, named_closes, ClosedLine, AreApart, name_of, drop_all, get_or-map}
-use Rattle.check_judge.proofs.Words.{get_or_default, HasDistinctMarks, each_placed, Contains-permutation, IsPermutation-sym, Request, chains_of}
-use Rattle.check_judge.proofs.Words.{accepted-chains, members-are-runs, are_runs}
-use Rattle.check_lines.proofs.Cuts.{from_here}
+use Rattle.check_judge.proofs.Words.{slice_index_or, length-map, slice_get-get_or, is_lt, name_at, all_completed, all_asked, Slots, named_close_of}
+use Rattle.check_judge.proofs.Words.{named_close, named_closes, ClosedLine, AreApart, name_of, drop_all, get_or-map, get_or_default, HasDistinctMarks}
+use Rattle.check_judge.proofs.Words.{each_placed, Contains-permutation, IsPermutation-sym, Request, chains_of, accepted-chains, members-are-runs}
+use Rattle.check_judge.proofs.Words.{are_runs}
 use Rattle.check_lines.proofs.Marks.{neither_below, same_cmp}
 use Rattle.fx_base.specs.CloseList.{IsInOrderOfMark}
 use Rattle.fx_chain.specs.declared.completion.Completion.{Completion}
@@ -213,15 +212,6 @@ not_in_turn files {i} j d e next inside is up distinct =
     (ap is_lt (same_cmp y.mark x.mark) ∙ up j d (omega arith) (omega arith)) in
     let one : j ≡ j + 1 = distinct j (j + 1) x y (slice_get-get_or files j d (omega arith)) (slice_get-get_or files (j + 1) d (omega arith)) marks in
     absurd (omega arith)
-
--- one of the requests from a place on, where it isn't the one there
-pub next_installed : (requests : List Request) (completions : List Completion) {mark : Mark} {i : ℕ} {r : Request} {c : Completion}
-    → i < length requests → i < length completions → r ≡ slice_index_or requests i r → c ≡ slice_index_or completions i c
-    → (Installed (asked_of r) (completed_of c) mark → ⊥)
-    → OneInstalled (all_asked (drop i requests)) (all_completed (drop i completions)) mark
-    → OneInstalled (all_asked (drop (i + 1) requests)) (all_completed (drop (i + 1) completions)) mark
-next_installed requests completions {mark} {i} {r} {c} low few is are none one =
-    ⊎_elim (λ here. absurd (none here)) (λ later. later) (rw (from_here requests i r low is, from_here completions i c few are) at one)
 
 none_there : (requests : List Request) (mark : Mark) → OneInstalled (all_asked requests) [] mark → ⊥
 none_there [] mark one = one

@@ -9,8 +9,8 @@ use Rattle.check_judge.proofs.Words.{Contains-append_right, slice_get_within, Ta
 use Rattle.check_judge.proofs.Words.{files_removed_in, Standing, HasNoOrder, table_of_slots, eq-eqb, ◌==◌, IsEndOfClaims, Ends, cells_after}
 use Rattle.check_judge.proofs.Words.{is_staying, may_stay, next, IsCell, ShowsFile, has_slot, Resident, All-weaker, ne_eqb, true≢false, length-drop}
 use Rattle.check_judge.proofs.Words.{drop_more, drop_all, cases_Bool, list_all-from_AllPass, same_Some, slice_get_cases, slice_get_past, not_own}
-use Rattle.check_judge.proofs.Words.{Slots, each_set, Completed, next_member, first_member, severs, Asked, Place, AreDone, AreMembersDone}
-use Rattle.check_judge.proofs.Words.{Possibly, IsRequestDone, take, both_parts, parts_of}
+use Rattle.check_judge.proofs.Words.{Slots, each_set, Completed, next_member, first_member, severs, Asked, Place, AreDone, AreMembersDone, Possibly}
+use Rattle.check_judge.proofs.Words.{IsRequestDone, take, both_parts, parts_of}
 use Rattle.check_search.proofs.Uneven.{slots_after}
 use Rattle.check_search.specs.Machine.{HasNoEnd}
 use Rattle.check_search.specs.Starts.{starting}
@@ -80,16 +80,6 @@ get_push (z ∷ xs) {y} (suc k) {x} is = ⊎_elim (λ old. inl old) (λ new. inr
 pub record SoFar (cells : List Cell) (chains : List (Vec Claim)) (i : ℕ) (strands : List Strand) : Type 0 where
   pub low : (k : ℕ) (strand : Strand) → slice_get strands k ≡ Some strand → strand.chain ≤ i
   pub are : (closes : List Closed) (order : List ChainAccess) → AreClaims closes chains order → AreStrands closes cells i order strands
-
-pub none_yet : (cells : List Cell) (chains : List (Vec Claim)) → SoFar cells chains 0 []
-none_yet cells chains = record {
-  low = λ k strand is. absurd (cc);
-  are = λ closes order claims. record {
-    fits = λ k strand is. absurd (cc);
-    each = λ chain low high. absurd (omega arith);
-    once = λ k j one other is too. absurd (cc);
-  };
-}
 
 module _ (cells : List Cell) (chains : List (Vec Claim)) (i : ℕ) (strands : List Strand) (claims own : Vec Claim)
     (is : slice_get chains i ≡ Some claims) (kept : own.items ≡ filter (keeps cells) claims.items) (so : SoFar cells chains i strands) where

@@ -8,8 +8,8 @@ pub use Rattle.check_lines.proofs.Words.{completed_of, drop_more, fault_of, is_w
 pub use Rattle.check_lines.proofs.Words.{nat_tests, negated, negsuc, nil_from_length, of_z, option_map, pos, refused_line, result_line, ring_of}
 pub use Rattle.check_lines.proofs.Words.{ring_with_slots, runs_of, slice_eq-Decides, string_bytes, table_of_slots, take_rest, teardown_text, to_z}
 pub use Rattle.check_lines.proofs.Words.{too_many_line, unwrap_or, w32, ℤ, ◌-◌, ◌^◌, ◌↔◌}
-pub use Rattle.check_search.proofs.Words.{All, All-contains, All-map, Any, Bool, Contains, Ends, IfOk-weaker, IsEndOfClaims, IsTrue, List}
-pub use Rattle.check_search.proofs.Words.{None, Option, Some, Standing, Vec, [], ap, arith, by_equality, cases_lt, cells_after, cond, drop, drop_all}
+pub use Rattle.check_search.proofs.Words.{All, All-contains, All-map, Any, Bool, Contains, Ends, IfOk-weaker, IsEndOfClaims, IsTrue, List, None}
+pub use Rattle.check_search.proofs.Words.{Option, Some, Standing, Vec, [], ap, arith, by_equality, cases_lt, cells_after, cond, drop, drop_all}
 pub use Rattle.check_search.proofs.Words.{eq-eqb, false, get_or, get_or-map, get_or_from_slice_get, has_slot, if◌then◌else◌, inl, inr, is_some}
 pub use Rattle.check_search.proofs.Words.{is_staying, length, length-map, length-set, map, may_stay, ne_eqb, next, not, refl, rules, same_Some}
 pub use Rattle.check_search.proofs.Words.{slice_get, slice_get-get_or, slice_get_read, slice_get_within, slice_index, slice_index_or, slice_set}

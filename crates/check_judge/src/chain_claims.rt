@@ -55,58 +55,44 @@ fn push_members(
     )
 }
 
-/// The chains of a submission from one on, and their completions.
-#[derive(Clone, Copy)]
-pub(crate) struct RecordedChains<'a> {
-    pub submission: u32,
-    pub requests: &'a [Request],
-    pub chains: &'a [Chain],
-    pub completions: &'a [Completion],
-}
-
-/// Appends the claims of the chains after those of `lists`, a list for each chain.
+/// Appends the claims of chains after those of `lists`, a list for each chain, by the completions
+/// of their requests.
 pub(crate) fn push_chains(
     lists: &mut Vec<Vec<Claim>>,
     setting: &ClaimSetting<'_>,
-    parts: RecordedChains<'_>,
+    submission: u32,
+    requests: &[Request],
+    chains: &[Chain],
+    completions: &[Completion],
 ) -> Result<(), Stop>
-    requires within { All (IsChain (all_asked parts.requests.now)) parts.chains.now }
-    requires numbers { length lists.old.items + length parts.chains.now + 1 < 2 ^ 32 }
+    requires within { All (IsChain (all_asked requests.now)) chains.now }
+    requires numbers { length lists.old.items + length chains.now + 1 < 2 ^ 32 }
     ensures claims { Concludes (List ChainAccess) (Unit {0}) (AreDone setting.now.catalogue.now
-        setting.now.size setting.now.range parts.entry.submission (length lists.old.items + 1)
-        (map (members_of (all_asked parts.entry.requests.now)) parts.entry.chains.now)
-        (all_completed parts.entry.completions.now))
+        setting.now.size setting.now.range submission (length lists.old.items + 1)
+        (map (members_of (all_asked requests.now)) chains.now) (all_completed completions.now))
         (λ _ order. AreClaims setting.now.closes.now lists.old.items order
         → AreClaims setting.now.closes.now lists.new.items order) result }
     ensures many { OnOk result
-        (length lists.new.items ≡ length lists.old.items + length parts.entry.chains.now) }
+        (length lists.new.items ≡ length lists.old.items + length chains.now) }
 {
-    let [chain, chains @ ..] = parts.chains else {
-        if !parts.completions.is_empty() {
+    let [chain, chains @ ..] = chains else {
+        if !completions.is_empty() {
             return Err(Stop::Refuted(Reason::TooManyCompletions));
         }
         return Ok(());
     };
-    let members = members(parts.requests, *chain);
+    let members = members(requests, *chain);
     let place = Place {
-        submission: parts.submission,
+        submission,
         chain: lists.len() as u32 + 1,
         member: 1,
     };
-    if parts.completions.len() < members.len() {
+    if completions.len() < members.len() {
         return Err(Stop::Refuted(Reason::Member(place)));
     }
-    let (own, completions) = parts.completions.split_at(members.len());
+    let (own, others) = completions.split_at(members.len());
     let mut claims = Vec::new(setting.alloc);
     push_members(&mut claims, setting, place, members, own, false)?;
     lists.push(claims)?;
-    push_chains(
-        lists,
-        setting,
-        RecordedChains {
-            chains,
-            completions,
-            ..parts
-        },
-    )
+    push_chains(lists, setting, submission, requests, chains, others)
 }

@@ -3,7 +3,7 @@
 use check_search::Doubt;
 use fx_chain::Place;
 use fx_order::{ChainAccess, Order, RingSlots};
-use std::alloc::{AllocError, AllocFailed};
+use std::alloc::AllocFailed;
 
 /// The reason why no order leads to a report. It is advice for a person, and no contract speaks of
 /// it.
@@ -41,17 +41,6 @@ pub enum Stop {
     Unknown,
     /// An allocation failed.
     NoMemory,
-}
-
-impl From<AllocError> for Stop {
-    ghost use Rattle.std.specs.Prelude.{◌≡◌};
-    ghost use Rattle.check_judge.specs.declared.judgement.Stop.TheVariants.{NoMemory};
-
-    ghost from_gives = { λ _ e. e ≡ NoMemory };
-
-    fn from(_error: AllocError) -> Stop {
-        Stop::NoMemory
-    }
 }
 
 impl From<fx_base::NoMemory> for Stop {

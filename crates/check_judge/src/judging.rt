@@ -8,7 +8,7 @@ ghost use Rattle.fx_order.specs.Slots.{ring_with_slots};
 ghost use Rattle.check_judge.specs.Verdict.{CameBy, IsRecordedOutcome, IsVerdict};
 
 use crate::answered::{ClaimSetting, TableRecorded};
-use crate::chain_claims::{RecordedChains, push_chains};
+use crate::chain_claims::push_chains;
 use crate::judgement::{Stop, Verdict};
 use crate::part::{PartVerdict, judge_table};
 use crate::recorded::Recorded;
@@ -80,14 +80,15 @@ fn judge_recorded(
         range: ring.slots.range,
         closes: &case.recorded.closes,
     };
-    let parts = RecordedChains {
-        submission: ring.submissions + 1,
-        requests: case.requests,
-        chains: &chains,
-        completions: &case.recorded.completions,
-    };
     let mut claims = Vec::new(case.alloc);
-    match push_chains(&mut claims, &setting, parts) {
+    match push_chains(
+        &mut claims,
+        &setting,
+        ring.submissions + 1,
+        case.requests,
+        &chains,
+        &case.recorded.completions,
+    ) {
         Ok(()) => (),
         Err(Stop::Refuted(reason)) => return Ok(PartVerdict::Refuted(reason)),
         Err(Stop::Unknown) => return Ok(PartVerdict::Unsettled(Doubt::NotShown)),
