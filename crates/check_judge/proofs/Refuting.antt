@@ -4,7 +4,7 @@ use Rattle.check_judge.proofs.Words.{Contains, Option, Some, None, slice_index_o
 use Rattle.check_judge.proofs.Words.{table_with, accesses_of, accesses_of_chain, contains_head, contains_tail, Access, ChainAccess, Fits, found_by}
 use Rattle.check_judge.proofs.Words.{left_by, touched, HasNoOrder, Claim, At, Full, Same, Empty, File, table_of_slots, same_Some, slice_get_cases}
 use Rattle.check_judge.proofs.Words.{none-some, Brings, contains_none, Slots, refl, ap, AllByRecursion, all_completed, Asked, RingState, IsRing}
-use Rattle.check_judge.proofs.Words.{files_removed_in, Allocates, IsOneOrder, table_of, AreDone, AreClaims, IsAllocationInRange, IsOutcome, same_size}
+use Rattle.check_judge.proofs.Words.{files_removed_in, Allocates, IsOneOrder, table_of, AreDone, AreClaims, IsAllocationInRange, IfRefuted, same_size}
 use Rattle.check_judge.proofs.Words.{◌-◌, Removes, emptied, removes_contained, IsBrought, IsKnown, IsPermutation-sym, Contains-permutation, runs_of}
 use Rattle.check_judge.proofs.Words.{IsRecordedOutcome, IsRefuted, recorded_report, Recorded, no_file_that_stays_is_closed}
 use Rattle.check_judge.specs.declared.part.PartVerdict.{PartVerdict}
@@ -109,7 +109,7 @@ module _ (old : RingState) (requests : List Asked) (recorded : Recorded) where
 
   pub outcome_recorded : IsRing old → (chains : List (Vec Claim)) → length chains ≡ length (runs_of requests)
       → ((order : List ChainAccess) → IsDone order → AreClaims recorded.closes.items chains order)
-      → (o : PartVerdict) → IsOutcome (table_of old) recorded.closes.items chains o → IsRecordedOutcome old requests recorded o
+      → (o : PartVerdict) → IfRefuted (HasNoOrder (table_of old) recorded.closes.items chains) o → IsRecordedOutcome old requests recorded o
   outcome_recorded ring chains many claims (Refuted reason) none = λ room left one.
       let closed = recorded.closes.items in
       let removed = files_removed_in (accesses_of one.order) in

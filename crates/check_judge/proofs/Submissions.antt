@@ -5,8 +5,8 @@ use Rattle.check_judge.proofs.Words.{ring_of, Reported, MOST_SUBMISSIONS, Submit
 use Rattle.check_judge.proofs.Words.{named_closes, CameBy, recorded_report, RingSlots, Recorded, IsRingKept, BeginsWith, MayPrintBy, AreAccessPlaces}
 use Rattle.check_judge.proofs.Words.{AreChainsDone, Order, Bool, MatchOption, Option, Prints, PrintsReport, RingContents, false, nat_le, refused_line}
 use Rattle.check_judge.proofs.Words.{too_many_line, ◌↔◌, ring_with_slots, printed_lines, IsOrderOf, ring_left, HasLines, ◌++◌, None, Result, Ok, Err}
-use Rattle.check_judge.proofs.Words.{Lines, ReadsReport, ContinuesText, LeadsNowhere, LeadsTo, AreApart, YieldsKnown, Fault, IsReportBefore}
-use Rattle.check_judge.proofs.Words.{YieldsCloses, one_at, IsRefuted, each_order_is_a_history, CutFault}
+use Rattle.check_judge.proofs.Words.{Lines, ReadsReport, ContinuesText, LeadsNowhere, LeadsTo, AreApart, YieldsKnown, Fault, IsReportBefore, Yields}
+use Rattle.check_judge.proofs.Words.{one_at, IsRefuted, each_order_is_a_history, CutFault}
 use Rattle.check_lines.proofs.CompletionTexts.{each_request}
 use Rattle.check_lines.specs.declared.report_lines.ReportLines.{ReportLines}
 use Rattle.std.specs.Bool.{MatchBool}
@@ -172,7 +172,7 @@ module _ {catalogue : List FileEntry} {old : RingSlots} {asked : List Asked} (s 
     same_front next others p = found.only (lines_of catalogue p.report, others) p.fits p.split
 
     recorded_files : (next : RingContents) (others : List ℕ) (p : Played next others) (recorded : Result Recorded Fault)
-        → (AreApart catalogue old.slots → YieldsKnown catalogue old.slots asked lines recorded) → YieldsCloses recorded p.report.closes.files
+        → (AreApart catalogue old.slots → YieldsKnown catalogue old.slots asked lines recorded) → Yields recorded (λ read. read.closes.items) p.report.closes.files
     recorded_files next others p recorded tells = tells (record { names = s.kept.files.catalogue; marks = one_at ring_before s.kept.is_ring }) p.report
         (may_close_all s p.order) (are_from s p.order) (ap (λ (front : Lines × List ℕ). front.0) (same_front next others p))
 

@@ -38,12 +38,12 @@ pub use Rattle.check_judge.specs.Step.{IsCommandVerdict, BeginsWith, IsMet, Cont
 pub use Rattle.check_judge.specs.Claims.{AreDone, AreMembersDone, AreAppended, AreClaims, Concludes, Expected, Fits, IsAllocationInRange}
 pub use Rattle.check_judge.specs.Claims.{IsAnsweredBy, IsDecided, IsMade, LeavesSo, Possibly, answer, found_by, left_by, touched}
 pub use Rattle.check_judge.specs.Kept.{IsOfRing, IsRingKept}
-pub use Rattle.check_judge.specs.Played.{Brings, IsBrought, IsKnown, HasNoOrder, IsCell, IsOutcome, ShowsFile, AreStrands, seen, strand_for}
+pub use Rattle.check_judge.specs.Played.{Brings, IsBrought, IsKnown, HasNoOrder, IsCell, IfRefuted, ShowsFile, AreStrands, seen, strand_for}
 pub use Rattle.check_judge.specs.Ordered.{MayPrintAllBy, MayPrintBy, PrintsAllBy}
 pub use Rattle.check_judge.specs.Places.{AreListsOf, IsListFor, AreAccessPlaces, AreChainsListed, IsChainListed, own_places, place_at}
 pub use Rattle.check_judge.specs.Places.{places_of_chain}
 pub use Rattle.check_judge.specs.Recorded.{AreApart, AreFrom, HasDistinctMarks, HasLines, HasNone, Installed, IsFileAtSlot, MayBeClosed, MayCloseAll}
-pub use Rattle.check_judge.specs.Recorded.{OneInstalled, YieldsCloses, YieldsKnown}
+pub use Rattle.check_judge.specs.Recorded.{OneInstalled, Yields, YieldsKnown}
 pub use Rattle.check_judge.specs.Verdict.{CameBy, IsRecordedOutcome, IsRefuted, recorded_report}
 pub use Rattle.check_judge.specs.declared.judgement.Fault.{Fault}
 pub use Rattle.check_judge.specs.declared.recorded.Recorded.{Recorded}

@@ -15,7 +15,7 @@ use Rattle.check_search.specs.declared.claim.Claim.{Claim}
 use Rattle.check_search.specs.declared.claim.Resident.{Resident}
 use Rattle.check_judge.specs.declared.answered.TableRecorded.{TableRecorded}
 use Rattle.check_judge.specs.declared.part.PartVerdict.{PartVerdict}
-use Rattle.check_judge.specs.declared.part.PartVerdict.TheVariants.{Order, Refuted, Unsettled}
+use Rattle.check_judge.specs.declared.part.PartVerdict.TheVariants.{Refuted}
 use Rattle.check_search.specs.Residents.{IsResident}
 use Rattle.check_search.specs.declared.claim.Claim.TheVariants.{At, Full}
 use Rattle.check_search.specs.declared.claim.Leaves.TheVariants.{Same, Empty, File}
@@ -55,10 +55,10 @@ abbrev pub HasNoOrder : Table → List Closed → List (Vec Claim) → Type 0
 HasNoOrder table closes chains = (order : List ChainAccess)
     → IsPlayed table closes (length chains) order → AreClaims closes chains order → ⊥
 
-abbrev pub IsOutcome : Table → List Closed → List (Vec Claim) → PartVerdict → Type 0
-IsOutcome table closes chains (Order order) = Unit {0}
-IsOutcome table closes chains (Refuted reason) = HasNoOrder table closes chains
-IsOutcome table closes chains (Unsettled doubt) = Unit {0}
+-- this holds if the verdict is that there is no order
+abbrev pub IfRefuted : Type 0 → PartVerdict → Type 0
+IfRefuted P (Refuted reason) = P
+IfRefuted P verdict = Unit {0}
 
 -- the same of a table with its closes and claims: no order, the verdict on it, and cells that are
 -- slots of it
@@ -66,8 +66,7 @@ abbrev pub IsOrderless : TableRecorded → Type 0
 IsOrderless table = HasNoOrder (table_of_slots table.slots.now) table.closes.now table.chains.now
 
 abbrev pub IsTableVerdict : TableRecorded → PartVerdict → Type 0
-IsTableVerdict table =
-    IsOutcome (table_of_slots table.slots.now) table.closes.now table.chains.now
+IsTableVerdict table = IfRefuted (IsOrderless table)
 
 abbrev pub AreCellsOf : TableRecorded → List Cell → Type 0
 AreCellsOf table = All (IsCell (table_of_slots table.slots.now) table.closes.now)

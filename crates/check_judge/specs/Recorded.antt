@@ -1,7 +1,6 @@
 -- Reports that lines describe.
 use Rattle.std.specs.Prelude.{◌≡◌, ◌⊎◌, ◌<◌, ℕ, pos, List, ◌∷◌, length, All, Result, Ok, Err}
 use Rattle.std.specs.Prelude.{slice_get, Some}
-use Rattle.std.specs.Global.{Vec}
 use Rattle.fx_base.specs.Catalogue.{FileEntry, IsCatalogue}
 use Rattle.fx_base.specs.CloseList.{IsInOrderOfMark}
 use Rattle.fx_base.specs.declared.mark.Mark.{Mark}
@@ -59,15 +58,10 @@ pub record MayCloseAll (catalogue : List FileEntry) (slots : Slots) (files : Lis
   pub in_order : IsInOrderOfMark files
   pub distinct : HasDistinctMarks files
 
--- these files are read, one from each line
-abbrev pub YieldsFiles : Result (Vec Closed) ℕ → List Closed → Type 0
-YieldsFiles (Ok recorded) files = recorded.items ≡ files
-YieldsFiles (Err line) files = ⊥
-
 -- these files are read, and no fault
-abbrev pub YieldsCloses : Result Recorded Fault → List Closed → Type 0
-YieldsCloses (Ok recorded) files = recorded.closes.items ≡ files
-YieldsCloses (Err fault) files = ⊥
+abbrev pub Yields : {X E : Type 0} → Result X E → (X → List Closed) → List Closed → Type 0
+Yields (Ok read) files_of files = files_of read ≡ files
+Yields (Err fault) files_of files = ⊥
 
 -- the request, which completed so, installed a file with the mark
 pub record Installed (asked : Asked) (c : Completed) (mark : Mark) : Type 0 where
@@ -88,16 +82,12 @@ abbrev pub AreFrom : Slots → List Asked → List Completed → List Closed →
 AreFrom slots requests completions files =
     All (λ file. IsFileAtSlot slots file ⊎ OneInstalled requests completions file.mark) files
 
--- each report with these lines, of files that a submission may close, has the files that are read
-abbrev pub YieldsAll : List FileEntry → Slots → ReportLines → Result Recorded Fault → Type 0
-YieldsAll catalogue slots lines recorded =
-    (report : Reported) → MayCloseAll catalogue slots report.closes.files
-    → lines_of catalogue report ≡ lines_in lines → YieldsCloses recorded report.closes.files
-
--- the same, where each was at a slot or is one that a request installed
+-- each report with these lines, of files that a submission may close, each of which was at a slot or
+-- is one that a request installed, has the files that are read
 abbrev pub YieldsKnown :
     List FileEntry → Slots → List Asked → ReportLines → Result Recorded Fault → Type 0
 YieldsKnown catalogue slots requests lines recorded =
     (report : Reported) → MayCloseAll catalogue slots report.closes.files
     → AreFrom slots requests report.completions report.closes.files
-    → lines_of catalogue report ≡ lines_in lines → YieldsCloses recorded report.closes.files
+    → lines_of catalogue report ≡ lines_in lines
+    → Yields recorded (λ read. read.closes.items) report.closes.files

@@ -7,7 +7,7 @@ use Rattle.fx_ring.specs.Submission.{Reported}
 use Rattle.fx_order.specs.Order.{IsOneOrder}
 use Rattle.fx_order.specs.declared.access.ChainAccess.{ChainAccess}
 use Rattle.check_judge.specs.declared.part.PartVerdict.{PartVerdict}
-use Rattle.check_judge.specs.declared.part.PartVerdict.TheVariants.{Order, Refuted, Unsettled}
+use Rattle.check_judge.specs.Played.{IfRefuted}
 use Rattle.check_judge.specs.declared.recorded.Recorded.{Recorded}
 use Rattle.check_judge.specs.declared.judgement.Verdict.{Verdict}
 use Rattle.check_judge.specs.declared.judgement.Verdict.TheVariants.{Legal, NotLegal, Undecided}
@@ -33,9 +33,7 @@ IsRefuted old requests recorded =
 
 -- the result of a search is right if it says that there is no order
 abbrev pub IsRecordedOutcome : RingState → List Asked → Recorded → PartVerdict → Type 0
-IsRecordedOutcome old requests recorded (Order order) = Unit {0}
-IsRecordedOutcome old requests recorded (Refuted reason) = IsRefuted old requests recorded
-IsRecordedOutcome old requests recorded (Unsettled doubt) = Unit {0}
+IsRecordedOutcome old requests recorded = IfRefuted (IsRefuted old requests recorded)
 
 -- an order of the requests leads to the report, or none does, or nothing is said; only the first
 -- verdict leads to another ring

@@ -54,13 +54,13 @@ fn judge_part(
     let strands = strands_of(alloc, cells, table.chains)?;
     let steps = Steps::new(alloc, &strands, cells)?;
     let (rows, found) = explore(alloc, &steps, limits)?;
+    let web = Web { steps, rows };
     match found {
         Found::Order(order) => {
             let accesses = accesses_along(alloc, &strands, cells, &order)?;
             Ok(PartVerdict::Order(accesses))
         }
         Found::NoEnd => {
-            let web = Web { steps, rows };
             if !shows_no_end(alloc, &strands, cells, &web)? {
                 return Ok(PartVerdict::Unsettled(Doubt::NotShown));
             }

@@ -5,7 +5,7 @@ ghost use Rattle.fx_base.specs.CloseList.{IsInOrderOfMark};
 ghost use Rattle.fx_base.specs.declared.open_file.Closed.{Closed as File};
 ghost use Rattle.check_lines.specs.ClosedView.{named_close_of};
 ghost use Rattle.check_lines.specs.Lines.{named_close, named_closes};
-ghost use Rattle.check_judge.specs.Recorded.{AreApart, HasDistinctMarks, HasNone, IsFileAtSlot, MayBeClosed, YieldsFiles, AreFrom, Installed, OneInstalled};
+ghost use Rattle.check_judge.specs.Recorded.{AreApart, HasDistinctMarks, HasNone, IsFileAtSlot, MayBeClosed, Yields, AreFrom, Installed, OneInstalled};
 ghost use Rattle.fx_chain.specs.Completed.{all_completed, completed_of};
 ghost use Rattle.fx_chain.specs.Operation.{all_asked, asked_of};
 
@@ -92,7 +92,8 @@ pub(crate) fn files_recorded(
         named_closes catalogue.now files.items ≡ map named_close_of lines.now)) }
     ensures only { IfOk result (λ recorded. AreApart catalogue.now slots.now → (files : List File)
         → All (MayBeClosed catalogue.now slots.now) files
-        → named_closes catalogue.now files ≡ map named_close_of lines.now → YieldsFiles recorded files) }
+        → named_closes catalogue.now files ≡ map named_close_of lines.now
+        → Yields recorded (λ read. read.items) files) }
 {
     let mut files = Vec::new(alloc);
     for (i, line) in lines.iter().enumerate() {
@@ -188,13 +189,12 @@ fn is_installed(requests: &[Request], completions: &[Completion], mark: Mark) ->
 pub(crate) fn unknown_file(
     slots: &Slots,
     requests: &[Request],
-    recorded: &Recorded,
+    completions: &[Completion],
+    closes: &[Closed],
 ) -> Option<usize>
     ensures { IfSome result (λ i. AreFrom slots.now (all_asked requests.now)
-        (all_completed recorded.now.completions.items) recorded.now.closes.items → ⊥) }
+        (all_completed completions.now) closes.now → ⊥) }
 {
-    let completions = recorded.completions.as_slice();
-    let closes = recorded.closes.as_slice();
     let mut at = 0usize;
     for i in 0..closes.len() {
         let mark = closes[i].mark;

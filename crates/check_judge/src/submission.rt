@@ -11,7 +11,7 @@ ghost use Rattle.check_judge.specs.Step.{IsCommandVerdict};
 ghost use Rattle.check_judge.specs.Kept.{IsRingKept};
 ghost use Rattle.check_judge.specs.Places.{AreAccessPlaces};
 ghost use Rattle.fx_order.specs.Requests.{AreChainsDone};
-ghost use Rattle.check_judge.specs.Recorded.{AreApart, HasLines, YieldsAll, YieldsKnown};
+ghost use Rattle.check_judge.specs.Recorded.{AreApart, HasLines, YieldsKnown};
 ghost use Rattle.fx_table.specs.declared.limits.TheConstants.{MAX_CHAINS};
 
 use crate::command::CommandVerdict;
@@ -103,59 +103,19 @@ fn wrong_close(alloc: Global, before: usize, text: &[u8]) -> Result<Fault, NoMem
         rest = others;
         count = count.saturating_add(1);
     }
-    line_fault(alloc, count, "the closed files, and then their tags")
+    line_fault(alloc, count, 0, "the closed files, and then their tags")
 }
 
-// Returns the fault of a line in whose place these words are expected.
-fn line_fault(alloc: Global, number: usize, expected: &str) -> Result<Fault, NoMemory> {
+// Returns the fault of the line at a position after `before` lines, in whose place these words are
+// expected.
+fn line_fault(alloc: Global, before: usize, i: usize, expected: &str) -> Result<Fault, NoMemory> {
+    let number = before.saturating_add(i);
     Ok(Fault::Line(number, String::from_str(alloc, expected)?))
-}
-
-// Returns the completions and closes that lines report, or the first invalid line.
-fn recorded_by(
-    alloc: Global,
-    catalogue: &Catalogue,
-    ring: &RingSlots,
-    lines: ReportLines,
-) -> Result<Result<Recorded, Fault>, NoMemory>
-    ensures lines { IfOk result (λ recorded. IfOk recorded (HasLines catalogue.now lines)) }
-    ensures only { IfOk result (λ recorded. AreApart catalogue.now ring.now.slots
-        → YieldsAll catalogue.now ring.now.slots lines recorded) }
-{
-    let ReportLines {
-        completions,
-        closed,
-        tags,
-    } = lines;
-    let closes = match files_recorded(alloc, catalogue, &ring.slots, &closed)? {
-        Ok(files) => files,
-        Err(i) => {
-            let number = completions.len().saturating_add(i);
-            let expected = "a closed file by its mark and its own name";
-            return Ok(Err(line_fault(alloc, number, expected)?));
-        }
-    };
-    if let Some(i) = wrong_order(&closes) {
-        let number = completions.len().saturating_add(i);
-        let expected = "the closed files in order of mark, each once";
-        return Ok(Err(line_fault(alloc, number, expected)?));
-    }
-    let own_tags = tags_recorded(alloc, &closes)?;
-    if let Some(i) = wrong_tag(&own_tags, &tags) {
-        let behind = completions.len().saturating_add(closes.len());
-        let number = behind.saturating_add(i);
-        let expected = "the tags of the closed files, in their order";
-        return Ok(Err(line_fault(alloc, number, expected)?));
-    }
-    Ok(Ok(Recorded {
-        completions,
-        closes,
-    }))
 }
 
 // Returns the completions and closes that lines report, or the first invalid line. Each closed file
 // must have been at a slot, or a request must have installed it.
-fn recorded_of(
+fn recorded_by(
     alloc: Global,
     catalogue: &Catalogue,
     ring: &RingSlots,
@@ -166,16 +126,32 @@ fn recorded_of(
     ensures only { IfOk result (λ recorded. AreApart catalogue.now ring.now.slots
         → YieldsKnown catalogue.now ring.now.slots (all_asked requests.now) lines recorded) }
 {
-    let recorded = match recorded_by(alloc, catalogue, ring, lines)? {
-        Ok(recorded) => recorded,
-        Err(fault) => return Ok(Err(fault)),
+    let before = lines.completions.len();
+    let closes = match files_recorded(alloc, catalogue, &ring.slots, &lines.closed)? {
+        Ok(files) => files,
+        Err(i) => {
+            let expected = "a closed file by its mark and its own name";
+            return Ok(Err(line_fault(alloc, before, i, expected)?));
+        }
     };
-    if let Some(i) = unknown_file(&ring.slots, requests, &recorded) {
-        let number = recorded.completions.len().saturating_add(i);
-        let expected = "a file that was at a slot, or that a request installed";
-        return Ok(Err(line_fault(alloc, number, expected)?));
+    if let Some(i) = wrong_order(&closes) {
+        let expected = "the closed files in order of mark, each once";
+        return Ok(Err(line_fault(alloc, before, i, expected)?));
     }
-    Ok(Ok(recorded))
+    let own_tags = tags_recorded(alloc, &closes)?;
+    if let Some(i) = wrong_tag(&own_tags, &lines.tags) {
+        let behind = before.saturating_add(closes.len());
+        let expected = "the tags of the closed files, in their order";
+        return Ok(Err(line_fault(alloc, behind, i, expected)?));
+    }
+    if let Some(i) = unknown_file(&ring.slots, requests, &lines.completions, &closes) {
+        let expected = "a file that was at a slot, or that a request installed";
+        return Ok(Err(line_fault(alloc, before, i, expected)?));
+    }
+    Ok(Ok(Recorded {
+        completions: lines.completions,
+        closes,
+    }))
 }
 
 // Returns the order of a submission, with the places of its accesses. The ring has counted the
@@ -247,7 +223,7 @@ pub(crate) fn play_submission(
         return Ok(CommandVerdict::Broken(wrong_line(alloc, number, requests, text)?));
     };
     let (lines, rest) = front;
-    let recorded = match recorded_of(alloc, catalogue, ring, requests, lines)? {
+    let recorded = match recorded_by(alloc, catalogue, ring, requests, lines)? {
         Ok(recorded) => recorded,
         Err(fault) => return Ok(CommandVerdict::Broken(fault)),
     };

@@ -1,4 +1,5 @@
 use Rattle.check_judge.proofs.Words.{◌≡◌, ◌==◌, List, filter, map, not, sym, ap, ◌∙◌, Closed, named_close_of, ClosedLine, Lines, named_closes}
+use Rattle.check_judge.proofs.Words.{all_completed}
 use Rattle.check_judge.proofs.Submissions.{tags_again, recorded_lines}
 use Rattle.check_judge.proofs.submission.recorded_by.Goals as goal
 
@@ -11,7 +12,7 @@ returns-clause-lines c =
     ∙ sym c.in_ok-own_tags.ensures ∙ sym c.deref-4.ensures.value ∙ c.in_default-wrong_tag.ensures.same ∙ c.deref-5.ensures.value)
 
 pub returns-in-Some-wrong_tag-clause-only : goal.returns-in-Some-wrong_tag-clause-only
-returns-in-Some-wrong_tag-clause-only c = λ apart report may same.
+returns-in-Some-wrong_tag-clause-only c = λ apart report may from same.
     let catalogue = c.args.catalogue.now in
     let slots = c.args.ring.now.slots in
     let only = rw c.in-Ok.is at c.in_ok-files.ensures.only in
@@ -20,3 +21,12 @@ returns-in-Some-wrong_tag-clause-only c = λ apart report may same.
     let files : c.deref-3.result.now ≡ report.closes.files = c.deref-3.ensures.value ∙ only apart report.closes.files may.each closed in
     c.in-Some-wrong_tag.ensures.apart (c.deref-4.ensures.value ∙ c.in_ok-own_tags.ensures ∙ tags_again files
     ∙ ap (λ (l : Lines). l.tags) same ∙ sym c.deref-5.ensures.value)
+
+pub returns-in-Some-unknown_file-clause-only : goal.returns-in-Some-unknown_file-clause-only
+returns-in-Some-unknown_file-clause-only c = λ apart report may from same.
+    let only = rw c.in-Ok.is at c.in_ok-files.ensures.only in
+    let closed : named_closes c.args.catalogue.now report.closes.files ≡ map named_close_of c.deref.result.now =
+    ap (λ (l : Lines). l.closed) same ∙ ap (λ (l : List ClosedLine). map named_close_of l) (sym c.deref.ensures.value) in
+    let files : c.in-Ok.files.items ≡ report.closes.files = only apart report.closes.files may.each closed in
+    let completions : all_completed c.args.lines.completions.items ≡ report.completions = sym (ap (λ (l : Lines). l.completions) same) in
+    c.in-Some-unknown_file.ensures (rw (c.deref-6.ensures.value, c.deref-7.ensures.value, completions, files) from)
