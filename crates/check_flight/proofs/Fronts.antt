@@ -1,14 +1,14 @@
 -- All states that flights reach, from event to event.
-use Rattle.check_flight.proofs.Words.{Access, Accesses, Answered, AreCalls, AreLooksSeen, Asked, ChainAccess, Completed, Contains}
+use Rattle.check_flight.proofs.Words.{◌+◌, Access, Accesses, Answered, AreCalls, AreLooksSeen, Asked, ChainAccess, Completed, Contains}
 use Rattle.check_flight.proofs.Words.{Contains-append_right, FlightSetting, Happening, Identity, IsFlight, List, Logged, LookAnswered, LookCalled}
 use Rattle.check_flight.proofs.Words.{Looks, Moment, Option, RingState, WasLogged, ap, arith, by_equality, contains_head, either_way, if◌then◌else◌}
-use Rattle.check_flight.proofs.Words.{inl, inr, leb-true, log_of, made_by, nat_le, setting_of, suc, sym, zero, ℕ, ⊎_elim, ◌++◌, ◌∙◌, ◌∷◌, ◌≡◌, ◌≤◌}
-use Rattle.check_flight.proofs.Words.{◌⊎◌, [], length, refl, ◌-◌, subst, Contains-push_cases, get_or_append_left, get_or_at, run_at, length-append}
-use Rattle.check_flight.proofs.Words.{rules_of, append-nil, append_assoc, IsNumbered, runs_with, AreReached, AreAnswers, AreFollowed, ArePassed}
-use Rattle.check_flight.proofs.Words.{HasNoFlight, IsStopped, GoesOnTo, FlightView, Called, Freed, FileClosed, AllSettled, MayFollow}
+use Rattle.check_flight.proofs.Words.{inl, inr, leb-true, log_of, made_by, nat_le, setting_of, sym, ℕ, ⊎_elim, ◌++◌, ◌∙◌, ◌∷◌, ◌≡◌, ◌≤◌, ◌⊎◌, []}
+use Rattle.check_flight.proofs.Words.{length, refl, ◌-◌, subst, Contains-push_cases, get_or_append_left, get_or_at, run_at, length-append, rules_of}
+use Rattle.check_flight.proofs.Words.{append-nil, append_assoc, IsNumbered, runs_with, AreReached, AreAnswers, AreFollowed, ArePassed, HasNoFlight}
+use Rattle.check_flight.proofs.Words.{IsStopped, GoesOnTo, FlightView, Called, Freed, FileClosed, AllSettled, MayFollow}
 use Rattle.check_flight.specs.Refutations.{IsRefutation, IsRefutedFrom}
 use Rattle.fx_flight.proofs.Beginnings.{lasts, logged as was_logged}
-use Rattle.fx_flight.proofs.InTime.{in_log as was_read}
+use Rattle.fx_flight.proofs.InTime.{made_by-parts, in_log as was_read, seen as was_seen}
 use Rattle.check_flight.proofs.Steps.{event_leads, followed_on, looks_on, not_stopped, shifted}
 
 -- a look that was answered is past the size, or what it found first is its answer
@@ -22,37 +22,32 @@ one_more x flight id first more made = by_equality x.chain id
     (λ b. (most : List Access) × ((if b then made_by id flight ++ x.access ∷ [] else made_by id flight) ≡ first ∷ most))
     (λ _. (more ++ x.access ∷ [], ap (λ (l : List Access). l ++ x.access ∷ []) made)) (λ _. (more, made))
 
-has_looked : (s : FlightSetting) (flight : List Moment) → IsFlight s flight → (id : ℕ) (found : Option Identity)
-    → WasLogged flight (LookAnswered id found) → HasLooked s.old.size flight id found
-has_looked s [] is id found (k, low, at) = absurd (omega arith)
-has_looked s (Logged e ∷ flight) is id found (zero, low, at) =
-    let same : e ≡ LookAnswered id found = cc in
-    let (slot, was, done, unclosed) = rw same at is.1 in (
+has_looked : (s : FlightSetting) (before after flight : List Moment) (id : ℕ) (found : Option Identity)
+    → flight ≡ after ++ Logged (LookAnswered id found) ∷ before → MayFollow s before (LookAnswered id found) → HasLooked s.old.size flight id found
+has_looked s before after flight id found parts (slot, was, done, unclosed) =
+    let later : List Moment = Logged (LookAnswered id found) ∷ before in (
       slot,
-      shifted flight was,
-      either_way (nat_le s.old.size slot) (λ past _. inl (leb-true s.old.size slot past)) (λ _ made. inr ([], made)) done,
-    )
-has_looked s (Accesses x ∷ flight) is id found (zero, low, at) = absurd (cc)
-has_looked s (Logged e ∷ flight) is id found (suc k, low, at) =
-    let (slot, was, either) = has_looked s flight is.0 id found (k, omega arith, at) in (slot, shifted flight was, either)
-has_looked s (Accesses x ∷ flight) is id found (suc k, low, at) =
-    let (slot, was, either) = has_looked s flight is.0 id found (k, omega arith, at) in (
-      slot,
-      shifted flight was,
-      ⊎_elim (λ past. inl past) (λ made. inr (one_more x flight id (Looks slot found) made.0 made.1)) either,
+      rw parts (Contains-append_right after later (Logged (LookCalled id slot)) (shifted before was)),
+      either_way (nat_le s.old.size slot) (λ past _. inl (leb-true s.old.size slot past))
+          (λ _ made. inr (made_by id after, ap (made_by id) parts ∙ (made_by-parts id after later ∙ ap (λ (l : List Access). l ++ made_by id after) made)))
+          done,
     )
 
 -- in a flight of the log, each look finds what the log has
 looks_seen : (s : FlightSetting) (runs : List (List Asked)) (log : List Happening) (flight : List Moment) → AreCalls runs log
     → IsFlight s flight → log_of flight ≡ log → AreLooksSeen s.old.size log flight
-looks_seen s runs log flight calls is same id slot found seen more was low made inside =
-    let (other, there, either) = has_looked s flight is id seen (was_logged flight (LookAnswered id seen) (rw same inside)) in
-    let slots : other ≡ slot = calls.once id other slot (rw same at (was_read flight (LookCalled id other) there))
-    (rw same at (was_read flight (LookCalled id slot) was)) in
-    ⊎_elim (λ past. absurd (omega arith))
-    (λ own.
-    let both : Looks other seen ∷ own.0 ≡ Looks slot found ∷ more = sym own.1 ∙ made in
-    let first : Looks other seen ≡ Looks slot found = cc in cc) either
+looks_seen s runs log flight calls is same id slot found answer more was low made inside =
+    let at = was_seen s flight (LookAnswered id answer) is (was_logged flight (LookAnswered id answer) (rw same inside)) in
+    same_look (has_looked s at.before at.after flight id answer at.parts at.may)
+  where
+    same_look : HasLooked s.old.size flight id answer → answer ≡ found
+    same_look (other, there, inl past) =
+        let slots : other ≡ slot = calls.once id other slot (rw same at (was_read flight (LookCalled id other) there))
+        (rw same at (was_read flight (LookCalled id slot) was)) in
+        absurd (omega arith)
+    same_look (other, there, inr (rest, own)) =
+        let both : Looks other answer ∷ rest ≡ Looks slot found ∷ more = sym own ∙ made in
+        let first : Looks other answer ≡ Looks slot found = cc in cc
 
 -- and before its last moment
 seen_before : (size : ℕ) (log : List Happening) (m : Moment) (flight : List Moment) → AreLooksSeen size log (m ∷ flight)
@@ -65,13 +60,9 @@ seen_before size log (Accesses x) flight all id slot found seen more was low mad
 -- each answer that was seen is one of its call
 answered_in : (old : RingState) (answers : ℕ → List Completed) (flight : List Moment) → IsFlight (setting_of old answers) flight
     → (id : ℕ) (c : Completed) → WasLogged flight (Answered id c) → Contains (answers id) c
-answered_in old answers [] is id c (k, low, at) = absurd (omega arith)
-answered_in old answers (Logged e ∷ flight) is id c (zero, low, at) =
-    let same : e ≡ Answered id c = cc in
-    let may = rw same at is.1 in
-    rw may.2.answer (Contains-append_right may.2.earlier (c ∷ may.2.later) c (contains_head c may.2.later))
-answered_in old answers (Accesses x ∷ flight) is id c (zero, low, at) = absurd (cc)
-answered_in old answers (m ∷ flight) is id c (suc k, low, at) = answered_in old answers flight is.0 id c (k, omega arith, at)
+answered_in old answers flight is id c was =
+    let own = (was_seen (setting_of old answers) flight (Answered id c) is was).may.2 in
+    rw own.answer (Contains-append_right own.earlier (c ∷ own.later) c (contains_head c own.later))
 
 never_empty : (xs : List Happening) (x : Happening) → xs ++ x ∷ [] ≡ [] → ⊥
 never_empty xs x is = let long = ap length is in omega (arith, length-append xs (x ∷ []))
@@ -164,57 +155,56 @@ module _ {runs : List (List Asked)} {read : List Happening} (calls : AreCalls ru
         calls.once id slot other (known e (LookCalled id slot) (look id slot) inside) (known e (LookCalled id other) (look id other) there);
   }
 
-  -- a look is still one with a call more
-  still_look : (requests : List Asked) (id : ℕ) → (1 ≤ id) × (id ≤ length runs) × (run_at runs id ≡ [])
-      → (1 ≤ id) × (id ≤ length (runs ++ requests ∷ [])) × (run_at (runs ++ requests ∷ []) id ≡ [])
-  still_look requests id (low, high, none) = (
-    low,
-    omega (arith, length-append runs (requests ∷ [])),
-    get_or_append_left runs (requests ∷ []) [] (id - 1) (omega arith) ∙ none,
-  )
+  -- the requests of the calls, after one call more
+  earlier_run : (requests : List Asked) (id : ℕ) → 1 ≤ id → id ≤ length runs → run_at (runs ++ requests ∷ []) id ≡ run_at runs id
+  earlier_run requests id low high = get_or_append_left runs (requests ∷ []) [] (id - 1) (omega arith)
 
-  pub calls_with : (e : Happening) → IsNumbered (length runs) e → AreCalls (runs_with runs e) (read ++ e ∷ [])
-  calls_with (Called id requests) numbered = record {
+  last_run : (requests : List Asked) (id : ℕ) → id ≡ length runs + 1 → run_at (runs ++ requests ∷ []) id ≡ requests
+  last_run requests id is = get_or_at runs requests [] [] (id - 1) (omega arith)
+
+  -- an event that is a call
+  with_call : (id : ℕ) (requests : List Asked) (e : Happening) → id ≡ length runs + 1
+      → ((other : ℕ) (own : List Asked) → e ≡ Called other own → (other ≡ id) × (own ≡ requests))
+      → ((other slot : ℕ) → e ≡ LookCalled other slot → (other ≡ id) × (requests ≡ []))
+      → ((other slot place : ℕ) → e ≡ LookCalled other slot → e ≡ LookCalled other place → slot ≡ place)
+      → AreCalls (runs ++ requests ∷ []) (read ++ e ∷ [])
+  with_call id requests e is chain look once = record {
     chain = λ other own inside. ⊎_elim
         (λ before.
         let (low, high, same) = calls.chain other own before in
-        let at : run_at (runs ++ requests ∷ []) other ≡ run_at runs other = get_or_append_left runs (requests ∷ []) [] (other - 1) (omega arith) in
-        (low, omega (arith, length-append runs (requests ∷ [])), rw at same))
-        (λ (is : Called id requests ≡ Called other own).
-        let number : id ≡ other = cc in
-        let own_is : requests ≡ own = cc in
-        let at : run_at (runs ++ requests ∷ []) other ≡ requests = get_or_at runs requests [] [] (other - 1) (omega arith) in
-        (omega arith, omega (arith, length-append runs (requests ∷ [])), rw at (sym own_is)))
-        (Contains-push_cases read (Called id requests) (Called other own) inside);
-    look = λ other slot inside. still_look requests other (calls.look other slot (no_look other slot inside));
-    once = λ other slot another inside there. calls.once other slot another (no_look other slot inside) (no_look other another there);
+        (low, omega (arith, many), rw (earlier_run requests other low high) same))
+        (λ last.
+        let (number, same) = chain other own last in
+        (omega arith, omega (arith, many), same ∙ sym (last_run requests other (omega arith))))
+        (Contains-push_cases read e (Called other own) inside);
+    look = λ other slot inside. ⊎_elim
+        (λ before.
+        let (low, high, none) = calls.look other slot before in
+        (low, omega (arith, many), earlier_run requests other low high ∙ none))
+        (λ last.
+        let (number, none) = look other slot last in
+        (omega arith, omega (arith, many), last_run requests other (omega arith) ∙ none))
+        (Contains-push_cases read e (LookCalled other slot) inside);
+    once = λ other slot place inside there. ⊎_elim
+        (λ before. ⊎_elim (λ also. calls.once other slot place before also) (λ last. absurd (apart other slot place before last))
+        (Contains-push_cases read e (LookCalled other place) there))
+        (λ last. ⊎_elim (λ before. absurd (apart other place slot before last)) (λ also. once other slot place last also)
+        (Contains-push_cases read e (LookCalled other place) there))
+        (Contains-push_cases read e (LookCalled other slot) inside);
   }
     where
-      no_look : (other slot : ℕ) → Contains (read ++ Called id requests ∷ []) (LookCalled other slot) → Contains read (LookCalled other slot)
-      no_look other slot = known (Called id requests) (LookCalled other slot) (λ is. cc)
+      many : length (runs ++ requests ∷ []) ≡ length runs + 1
+      many = omega (arith, length-append runs (requests ∷ []))
+
+      apart : (other slot place : ℕ) → Contains read (LookCalled other slot) → e ≡ LookCalled other place → ⊥
+      apart other slot place before last = let high = (calls.look other slot before).1 in omega (arith, (look other place last).0)
+
+  pub calls_with : (e : Happening) → IsNumbered (length runs) e → AreCalls (runs_with runs e) (read ++ e ∷ [])
+  calls_with (Called id requests) numbered =
+      with_call id requests (Called id requests) numbered (λ _ _ is. (cc, cc)) (λ _ _ is. absurd (cc)) (λ _ _ _ one two. absurd (cc))
   calls_with (Answered id c) numbered = no_call (Answered id c) (λ _ _ is. cc) (λ _ _ is. cc)
-  calls_with (LookCalled id slot) numbered = record {
-    chain = λ other own inside.
-        let (low, high, same) = calls.chain other own (known (LookCalled id slot) (Called other own) (λ is. cc) inside) in
-        let at : run_at (runs ++ [] ∷ []) other ≡ run_at runs other = get_or_append_left runs ([] ∷ []) [] (other - 1) (omega arith) in
-        (low, omega (arith, length-append runs ([] ∷ [])), rw at same);
-    look = λ other place inside. ⊎_elim (λ before. still_look [] other (calls.look other place before))
-        (λ is.
-        let at : run_at (runs ++ [] ∷ []) other ≡ [] = get_or_at runs [] [] [] (other - 1) (omega (arith, is.0)) in
-        (omega (arith, is.0), omega (arith, is.0, length-append runs ([] ∷ [])), at))
-        (is_look other place inside);
-    once = λ other place another inside there. ⊎_elim
-        (λ before. ⊎_elim (λ also. calls.once other place another before also)
-        (λ last. absurd (let high = (calls.look other place before).1 in omega (arith, last.0))) (is_look other another there))
-        (λ last. ⊎_elim (λ before. absurd (let high = (calls.look other another before).1 in omega (arith, last.0)))
-        (λ also. sym last.1 ∙ also.1) (is_look other another there))
-        (is_look other place inside);
-  }
-    where
-      is_look : (other place : ℕ) → Contains (read ++ LookCalled id slot ∷ []) (LookCalled other place)
-          → Contains read (LookCalled other place) ⊎ ((id ≡ other) × (slot ≡ place))
-      is_look other place inside = ⊎_elim (λ before. inl before) (λ (is : LookCalled id slot ≡ LookCalled other place). inr (cc, cc))
-          (Contains-push_cases read (LookCalled id slot) (LookCalled other place) inside)
+  calls_with (LookCalled id slot) numbered =
+      with_call id [] (LookCalled id slot) numbered (λ _ _ is. absurd (cc)) (λ _ _ is. (cc, refl)) (λ _ _ _ one two. cc)
   calls_with (LookAnswered id found) numbered = no_call (LookAnswered id found) (λ _ _ is. cc) (λ _ _ is. cc)
   calls_with (Freed id) numbered = no_call (Freed id) (λ _ _ is. cc) (λ _ _ is. cc)
   calls_with (FileClosed file) numbered = no_call (FileClosed file) (λ _ _ is. cc) (λ _ _ is. cc)

@@ -4,14 +4,13 @@ use Rattle.check_flight.proofs.Words.{◌+◌, ◌-◌, ◌<◌, ◌≤◌, List
 use Rattle.check_flight.proofs.Words.{Completed, Contains, Option, Rest, Rules, false, over, subst, suc, zero, file_removed_by, run_at, settled_at}
 use Rattle.check_flight.proofs.Words.{slice_index_or, step, Contains-append_cases, Contains-push_cases, Contains-append_left, Contains-append_right}
 use Rattle.check_flight.proofs.Words.{option_to_list, table_with, if◌then◌else◌, Identity, inl, inr, take, eq-eqb, true, ◌⊎◌, false≢true}
-use Rattle.check_flight.proofs.Words.{append_assoc, get_or_append_left, get_or_at, one_more_of, nat_le, slice_set, IsPermutation, All, map, nat_eq}
-use Rattle.check_flight.proofs.Words.{filter, not, take-append_seam, cases_Bool, drop_all, get_or-set_other, get_or-set_same, get_or-drop}
-use Rattle.check_flight.proofs.Words.{IsPermutation-sym, not_begun, table_of_slots, drop, file_Decides, map-append, take-append-drop, Progress}
-use Rattle.check_flight.proofs.Words.{Contains-permutation, first_of_call, Happening, same_file, IsAccessFollowed, IsCallFollowed, IsFrontOf}
-use Rattle.check_flight.proofs.Words.{IsWhollyFollowed, catalogue_in, flight_view, flight_views, log_in, rest_of, runs_of_calls, IsOneDenied}
-use Rattle.check_flight.proofs.Words.{IsStateFollowed, AreFewer, AreWith, AreWithout, FlightView, LeadsByCall, StepsByAccess, AreFollowed}
-use Rattle.check_flight.proofs.Words.{AreWaitsDenied, IsLookDenied, ChainCall, JudgedLog, IsWithinLimits, all_asked, asked_of, Request, WaitingLook}
-use Rattle.check_flight.proofs.Words.{IsMarked, file_number, IndexSet, Updates, Permits, Looks, FlightState}
+use Rattle.check_flight.proofs.Words.{append_assoc, get_or_append_left, get_or_at, one_more_of, nat_le, slice_set, IsPermutation, map, nat_eq, filter}
+use Rattle.check_flight.proofs.Words.{not, take-append_seam, cases_Bool, drop_all, get_or-set_other, get_or-set_same, get_or-drop, IsPermutation-sym}
+use Rattle.check_flight.proofs.Words.{not_begun, table_of_slots, drop, file_Decides, map-append, take-append-drop, Progress, Contains-permutation}
+use Rattle.check_flight.proofs.Words.{first_of_call, Happening, same_file, IsAccessFollowed, IsCallFollowed, IsFrontOf, IsWhollyFollowed}
+use Rattle.check_flight.proofs.Words.{catalogue_in, flight_view, flight_views, log_in, rest_of, runs_of_calls, IsOneDenied, IsStateFollowed, AreFewer}
+use Rattle.check_flight.proofs.Words.{AreWith, AreWithout, FlightView, LeadsByCall, StepsByAccess, ChainCall, JudgedLog, WaitingLook, IsMarked}
+use Rattle.check_flight.proofs.Words.{file_number, IndexSet, Updates, FlightState}
 use Rattle.check_outcomes.specs.Stands.{HasEachNext, StepsChain, rest_in}
 use Rattle.fx_table.proofs.SumLemmas.{contains_map, contains_tail}
 use Rattle.std.proofs.lemmas.Bool.{cases_lt, le-leb, leb-false, lt-leb}
@@ -115,29 +114,32 @@ stepped runs {rules} state next {j} {id} {a} {own} {progress} {after} is base fe
 
 -- The next call.
 
-pub called : {rules : Rules} (runs : List (List Asked)) (state next : FlightState) (n done : ℕ) (own : List Asked) → length runs ≡ n
-    → state.base ≤ n → length state.chains.items ≡ n - state.base
-    → table_of_slots next.slots ≡ table_of_slots state.slots → next.base ≡ state.base
-    → next.chains.items ≡ state.chains.items ++ record { done = done; made = 0 } ∷ [] → next.removed.items ≡ state.removed.items
+pub called : {rules : Rules} (runs : List (List Asked)) (state copy next : FlightState) (n done : ℕ) {id : ℕ} {own requests : List Asked}
+    → id ≡ n + 1 → own ≡ requests → length runs ≡ n → state.base ≤ n → length state.chains.items ≡ n - state.base
+    → IsCopy state state.base 0 copy → next.chains.items ≡ copy.chains.items ++ record { done = done; made = 0 } ∷ []
     → (settled_at rules (first_of_call (n + 1)) own).1 ≡ rest_in (first_of_call (n + 1)) own (record { done = done; made = 0 })
-    → LeadsByCall rules (flight_view runs state) (n + 1) own (flight_view (runs ++ own ∷ []) next)
-called runs state next n done own many within count table base chains removed settled =
+    → LeadsByCall rules (flight_view runs state) id requests (flight_view (runs ++ requests ∷ []) (record copy { chains = next.chains }))
+    × AreFewer state.waiting.items copy.waiting.items
+called {rules} runs state copy next n done {id} {own} is same many within count copied added settled =
     let last : Progress = record { done = done; made = 0 } in
+    let after : FlightState = record copy { chains = next.chains } in
     let j : ℕ = n - state.base in
+    let chains : next.chains.items ≡ state.chains.items ++ last ∷ [] = rw copied.chains at added in
     let run : run_at (runs ++ own ∷ []) (n + 1) ≡ own = get_or_at runs own [] [] (n + 1 - 1) (omega arith) in
     let here : slice_index_or next.chains.items j not_begun ≡ last = rw chains (get_or_at state.chains.items last [] not_begun j count) in
-    record {
-      table = table;
-      own = open_rest (runs ++ own ∷ []) next (n + 1) j (omega arith) ∙ (rw (run, here) (sym settled));
+    let led : LeadsByCall rules (flight_view runs state) (n + 1) own (flight_view (runs ++ own ∷ []) after) = record {
+      table = copied.table;
+      own = open_rest (runs ++ own ∷ []) after (n + 1) j (omega arith) ∙ (rw (run, here) (sym settled));
       others = λ other low high.
           let before : run_at (runs ++ own ∷ []) other ≡ run_at runs other = get_or_append_left runs (own ∷ []) [] (other - 1) (omega arith) in
-          rw (base, before, chains) (⊎_elim (λ early. rw early refl)
+          rw (copied.base, before, chains) (⊎_elim (λ early. rw early refl)
           (λ late.
           let above : state.base < other = leb-false other state.base late in
           rw (late, get_or_append_left state.chains.items (last ∷ []) not_begun (other - 1 - state.base) (omega arith)) refl)
           (cases_Bool (nat_le other state.base)));
-      removed = removed;
-    }
+      removed = copied.removed;
+    } in
+    (rw (is, ← same) led, λ look inside. rw copied.waiting at inside)
 
 -- The same state without its first calls, which are over.
 
@@ -214,7 +216,8 @@ read_more events at event few is =
 -- what a front takes in
 
 pub passed_by : (log : JudgedLog) (runs : List (List Asked)) (read : List Happening) (nexts : List FlightState) (state : FlightState) (event : Happening)
-    (passage : Passage) → IsPassage log runs read state event passage → IsTakenIn nexts passage → IsStatePassed log runs read nexts state event
+    (passage : Passage) → IsPassage log runs read state event passage → IsTakenIn nexts passage
+    → IsStatePassed log runs read nexts event (flight_view runs state)
 passed_by log runs read nexts state event Stops is inside = inl is
 passed_by log runs read nexts state event (Leads next) is inside =
     inr (flight_view (runs_with runs event) next, inside (runs_with runs event), is)
@@ -259,7 +262,8 @@ pub call_more : (log : JudgedLog) (runs : List (List Asked)) (before after : Lis
 call_more log runs before after state id is followed a next = access_more log runs before after state id a is (followed a next)
 
 state_more : (log : JudgedLog) (calls : List ChainCall) (before after : List FlightState) (state : FlightState)
-    → IsFrontOf before after → IsWhollyFollowed log calls before state → IsWhollyFollowed log calls after state
+    → IsFrontOf before after → IsWhollyFollowed log calls before (flight_view (runs_of_calls calls) state)
+    → IsWhollyFollowed log calls after (flight_view (runs_of_calls calls) state)
 state_more log calls before after state is (followed, denied) =
     (λ id low high a next. access_more log (runs_of_calls calls) before after state id a is (followed id low high a next), denied)
 
@@ -293,58 +297,21 @@ each_view P f states each view inside =
     let (x, (k, low, is), same) = contains_map f states view inside in
     subst P (ap f is ∙ sym same) (each k x low)
 
--- a state with the same view
-pub same_followed : (log : JudgedLog) (calls : List ChainCall) (states : List FlightState) (state own : FlightState)
-    → flight_view (runs_of_calls calls) own ≡ flight_view (runs_of_calls calls) state → IsWhollyFollowed log calls states own
-    → IsWhollyFollowed log calls states state
-same_followed log calls states state own same = subst (λ (view : FlightView).
-    IsStateFollowed (catalogue_in log) log.setting.size (log_in log) (length calls) (flight_views (runs_of_calls calls) states) view
-    × AreWaitsDenied (log_in log) view) same
-
 -- one state more
 pub more_followed : (log : JudgedLog) (calls : List ChainCall) (before after : List FlightState) {n : ℕ} {state : FlightState} → n < length before
     → state ≡ slice_index_or before n state → IsFrontOf before after
-    → ((k : ℕ) (d : FlightState) → k < n → IsWhollyFollowed log calls before (slice_index_or before k d)) → IsWhollyFollowed log calls after state
-    → (k : ℕ) (d : FlightState) → k < n + 1 → IsWhollyFollowed log calls after (slice_index_or after k d)
+    → ((k : ℕ) (d : FlightState) → k < n → IsWhollyFollowed log calls before (flight_view (runs_of_calls calls) (slice_index_or before k d)))
+    → IsWhollyFollowed log calls after (flight_view (runs_of_calls calls) state)
+    → (k : ℕ) (d : FlightState) → k < n + 1 → IsWhollyFollowed log calls after (flight_view (runs_of_calls calls) (slice_index_or after k d))
 more_followed log calls before after low here is all last k d few =
-    rw (front_at before after k d is (omega arith)) (one_more_of (λ (own : FlightState). IsWhollyFollowed log calls after own) before
-    (λ j e less. state_more log calls before after (slice_index_or before j e) is (all j e less)) low here last k d few)
-
--- all of them
-pub all_followed : (log : JudgedLog) (calls : List ChainCall) (states : List FlightState)
-    → ((k : ℕ) (d : FlightState) → k < length states → IsWhollyFollowed log calls states (slice_index_or states k d))
-    → AreFollowed (catalogue_in log) log.setting.size (log_in log) (length calls) (flight_views (runs_of_calls calls) states)
-all_followed log calls states all = each_view (λ (view : FlightView).
-    IsStateFollowed (catalogue_in log) log.setting.size (log_in log) (length calls) (flight_views (runs_of_calls calls) states) view
-    × AreWaitsDenied (log_in log) view) (flight_view (runs_of_calls calls)) states all
-
-pub limits_of : (requests : List Request) → All IsWithinLimits (all_asked requests) → All (λ (r : Request). IsWithinLimits (asked_of r)) requests
-limits_of requests all = λ k d few.
-    let as_many = length-map requests asked_of in
-    subst IsWithinLimits (get_or-map asked_of requests k d (asked_of d) few) (all k (asked_of d) (omega arith))
-
--- where a call leads
-pub called_led : (rules : Rules) (runs : List (List Asked)) (state next : FlightState) (n : ℕ) {id : ℕ} {own requests : List Asked} → id ≡ n + 1
-    → own ≡ requests → LeadsByCall rules (flight_view runs state) (n + 1) own (flight_view (runs ++ own ∷ []) next)
-    → next.waiting.items ≡ state.waiting.items
-    → LeadsByCall rules (flight_view runs state) id requests (flight_view (runs ++ requests ∷ []) next)
-    × AreFewer state.waiting.items next.waiting.items
-called_led rules runs state next n is same led waiting = (rw (is, ← same) led, λ look inside. rw waiting at inside)
+    rw (front_at before after k d is (omega arith)) (one_more_of (λ (own : FlightState). IsWhollyFollowed log calls after (flight_view (runs_of_calls calls) own))
+    before (λ j e less. state_more log calls before after (slice_index_or before j e) is (all j e less)) low here last k d few)
 
 -- what a call answers at once is denied
 pub denied_call : (log : List Happening) (rules : Rules) (n : ℕ) {id : ℕ} {requests own : List Asked} {answered : List Completed} → id ≡ n + 1 → own ≡ requests
     → answered ≡ (settled_at rules (first_of_call (n + 1)) own).0 → IsOneDenied log answered
     → IsOneDenied log (settled_at rules (first_of_call id) requests).0
 denied_call log rules n is same all denied = rw (is, ← same, ← all) denied
-
--- each look that waits
-pub each_waits : (log : List Happening) (runs : List (List Asked)) (state : FlightState)
-    → ((k : ℕ) (d : WaitingLook) → k < length state.waiting.items → (found : Option Identity)
-    → Permits (table_of_slots state.slots) (Looks (slice_index_or state.waiting.items k d).slot found)
-    → IsLookDenied log (slice_index_or state.waiting.items k d).id found)
-    → AreWaitsDenied log (flight_view runs state)
-each_waits log runs state each look found (k, low, is) =
-    subst (λ (it : WaitingLook). Permits (table_of_slots state.slots) (Looks it.slot found) → IsLookDenied log it.id found) is (each k look low found)
 
 -- a closed file more
 pub marked_more : {S : Type 0} (before after : IndexSet ℕ S) (file : Identity) → Updates nat_eq before after (file_number file) true → (other : Identity)

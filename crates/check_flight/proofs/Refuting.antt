@@ -2,7 +2,7 @@
 use Rattle.check_flight.proofs.Words.{◌≡◌, ℕ, ◌+◌, ◌<◌, List, [], ◌∷◌, ◌++◌, length, take, refl, sym, ap, ◌∙◌, arith, subst, suc, Asked}
 use Rattle.check_flight.proofs.Words.{contains_head, Contains, inl, inr, ⊎_elim, drop, length-map, drop_all, drop-cons, take_more, Happening}
 use Rattle.check_flight.proofs.Words.{AllSettled, ring_of_slots, Slots, WaitingLook, IsFrontOf, catalogue_in, flight_view, flight_views, log_in}
-use Rattle.check_flight.proofs.Words.{requests_of, rules_of_log, runs_of_calls, IsFirstFront, IsNextFront, IsRefutedAfter, event_at, rules_of}
+use Rattle.check_flight.proofs.Words.{requests_of, rules_of_log, runs_of_calls, IsInitialState, IsNextFront, IsRefutedAfter, event_at, rules_of}
 use Rattle.check_flight.proofs.Words.{AreFollowed, ArePassed, FlightView, HasNoFlight, IsNumbered, runs_with, ChainCall, JudgedLog, FlightState}
 use Rattle.check_flight.proofs.Fronts.{refuted}
 use Rattle.check_flight.proofs.Judging.{views_more}
@@ -10,12 +10,13 @@ use Rattle.check_flight.proofs.Steps.{only_one}
 
 module _ (log : JudgedLog) (slots : Slots) where
   -- before the first event
-  pub refutes_first : {calls : List ChainCall} {states : List FlightState} → calls ≡ [] → IsFirstFront slots states → IsRefutedAfter log slots 0 calls states
-  refutes_first {calls} {states} none first submissions registrations from =
-      let start : FlightView = flight_view [] first.state in
+  pub refutes_first : {calls : List ChainCall} {states : List FlightState} {state : FlightState} → calls ≡ [] → states ≡ state ∷ []
+      → IsInitialState slots state → IsRefutedAfter log slots 0 calls states
+  refutes_first {calls} {states} {state} none only first submissions registrations from =
+      let start : FlightView = flight_view [] state in
       refuted (ring_of_slots (catalogue_in log) slots submissions registrations) (log_in log) (flight_views [] states) (record {
         start = start;
-        inside = rw first.only (contains_head start []);
+        inside = rw only (contains_head start []);
         leads = record {
           table = first.table;
           rests = λ id low high. absurd (omega arith);
@@ -24,12 +25,12 @@ module _ (log : JudgedLog) (slots : Slots) where
           only = λ file inside. let none = rw first.removed at inside in absurd (let few = none.1 in omega arith);
           waits = λ look inside. let none = rw first.waiting at inside in absurd (let few = none.1 in omega arith);
         };
-        closed = λ state inside. (
+        closed = λ view inside. (
           λ id low high. absurd (omega arith),
           λ look found waiting.
-              let same : flight_view [] first.state ≡ state = only_one start state (rw first.only at inside) in
+              let same : start ≡ view = only_one start view (rw only at inside) in
               let none : Contains [] look = subst (λ (l : List WaitingLook). Contains l look) first.waiting
-              (subst (λ (view : FlightView). Contains view.waiting look) (sym same) waiting) in absurd (let few = none.1 in omega arith),
+              (subst (λ (own : FlightView). Contains own.waiting look) (sym same) waiting) in absurd (let few = none.1 in omega arith),
         );
         refuted = rw none at from;
       })

@@ -1,13 +1,13 @@
 -- The places of a chain's completions, its accesses one after another, and how few members are left
 -- after them.
 use Rattle.check_flight.specs.declared.plan.CallPlan.{CallPlan}
-use Rattle.check_flight.proofs.Words.{if◌then◌else◌, Bool, true, false, false≢true, IsCallDone, JudgedLog, Request, Completion, AreChainsDone}
-use Rattle.check_flight.proofs.Words.{ChainAccess, Chain, accesses_of_chain, append-nil, first_of_call, members_of, map, take_all, take-map}
-use Rattle.check_flight.proofs.Words.{all_asked, all_completed, answers_of_plan, asked_of, completed_of, ◌-◌, slice_index_or, length, ◌≡◌, ℕ, ◌+◌}
-use Rattle.check_flight.proofs.Words.{◌≤◌, List, [], ◌∷◌, ◌++◌, take, refl, sym, ap, arith, suc, zero, Access, Asked, AllByRecursion, Completed}
-use Rattle.check_flight.proofs.Words.{FileEntry, HasMemory, IsChainDone, MatchBool, Place, Rest, Rules, AreRight, behind, canceled, either_way}
-use Rattle.check_flight.proofs.Words.{last_of, ne_eqb, eq-eqb, cases_Bool, ⊎_elim, next_member, over, rest_at, settled_at, severs, step, step_of}
-use Rattle.check_flight.proofs.Words.{Some, None, ◌==◌, length-take, rest_after, ◌<◌, ◌∙◌, Contains, moved}
+use Rattle.check_flight.proofs.Words.{subst, IsCallDone, JudgedLog, Request, Completion, AreChainsDone, ChainAccess, Chain, accesses_of_chain}
+use Rattle.check_flight.proofs.Words.{append-nil, first_of_call, members_of, map, take_all, take-map, all_asked, all_completed, answers_of_plan}
+use Rattle.check_flight.proofs.Words.{asked_of, completed_of, ◌-◌, slice_index_or, length, ◌≡◌, ℕ, ◌+◌, ◌≤◌, List, [], ◌∷◌, ◌++◌, take, refl, sym, ap}
+use Rattle.check_flight.proofs.Words.{arith, suc, zero, Access, Asked, AllByRecursion, Completed, FileEntry, HasMemory, IsChainDone, MatchBool, Place}
+use Rattle.check_flight.proofs.Words.{Rest, Rules, AreRight, behind, canceled, either_way, last_of, ne_eqb, eq-eqb, cases_Bool, ⊎_elim, next_member}
+use Rattle.check_flight.proofs.Words.{over, rest_at, settled_at, severs, step, step_of, Some, None, ◌==◌, length-take, rest_after, ◌<◌, ◌∙◌, Contains}
+use Rattle.check_flight.proofs.Words.{moved}
 use Rattle.fx_chain.proofs.ChainGoesOn.{canceled_count}
 use Rattle.fx_order.proofs.RequestCases.{request_place}
 
@@ -98,25 +98,12 @@ module _ (rules : Rules) where
       → rest_after rules (rest_at place (request ∷ requests) made) (a ∷ own)
       ≡ (behind rules place request requests (rules.answer place request (last_of (a ∷ own)))).1
   own_after place request requests made a [] all =
-      let last : rules.count request ≡ made + 1 = omega arith in
-      by_last (rules.count request == made + 1) (eq-eqb _ _ last)
-    where
-      by_last : (b : Bool) → b ≡ true
-          → (if b then behind rules place request requests (rules.answer place request (Some a)) else ([], rest_at place (request ∷ requests) (made + 1))).1
-          ≡ (behind rules place request requests (rules.answer place request (Some a))).1
-      by_last true is = refl
-      by_last false is = absurd (false≢true is)
+      let last : (step_of rules place (request ∷ requests) made a).1 ≡ (behind rules place request requests (rules.answer place request (Some a))).1 =
+      rw (eq-eqb (rules.count request) (made + 1) (omega arith)) in last
   own_after place request requests made a (b ∷ own) all =
-      let more : rules.count request ≡ made + 1 → ⊥ = λ (e : rules.count request ≡ made + 1). omega arith in
-      by_more (rules.count request == made + 1) (ne_eqb _ _ more) (own_after place request requests (made + 1) b own (omega arith))
-    where
-      by_more : (t : Bool) → t ≡ false → rest_after rules (rest_at place (request ∷ requests) (made + 1)) (b ∷ own)
-          ≡ (behind rules place request requests (rules.answer place request (last_of (b ∷ own)))).1
-          → rest_after rules
-          (if t then behind rules place request requests (rules.answer place request (Some a)) else ([], rest_at place (request ∷ requests) (made + 1))).1
-          (b ∷ own) ≡ (behind rules place request requests (rules.answer place request (last_of (b ∷ own)))).1
-      by_more true is on = absurd (false≢true (sym is))
-      by_more false is on = on
+      let more : (step_of rules place (request ∷ requests) made a).1 ≡ rest_at place (request ∷ requests) (made + 1) =
+      rw (ne_eqb (rules.count request) (made + 1) (λ (e : rules.count request ≡ made + 1). omega arith)) in
+      ap (λ (r : Rest). rest_after rules r (b ∷ own)) more ∙ own_after place request requests (made + 1) b own (omega arith)
 
   module _ (catalogue : List FileEntry) (size : ℕ) (right : AreRight catalogue size rules) where
     abbrev Few : Rest → List Access → ℕ → List Asked → Type 0
@@ -142,23 +129,14 @@ module _ (rules : Rules) where
         → Few (behind rules place request requests c).1 others done (request ∷ requests)
         → Few (rest_after rules (settled_at rules place (request ∷ requests)).1 mine) others done (request ∷ requests)
     first_own place request requests [] others c done long is goes =
-        at_none (rules.count request == 0) (eq-eqb _ _ (sym long)) (rw is at goes)
-      where
-        at_none : (b : Bool) → b ≡ true → Few (behind rules place request requests (rules.answer place request None)).1 others done (request ∷ requests)
-            → Few (if b then behind rules place request requests (rules.answer place request None) else ([], rest_at place (request ∷ requests) 0)).1
-            others done (request ∷ requests)
-        at_none true is goes = goes
-        at_none false is goes = absurd (false≢true is)
+        let none : (settled_at rules place (request ∷ requests)).1 ≡ (behind rules place request requests (rules.answer place request None)).1 =
+        rw (eq-eqb (rules.count request) 0 (sym long)) in
+        subst (λ (r : Rest). Few r others done (request ∷ requests)) (sym none) (rw is at goes)
     first_own place request requests (a ∷ mine) others c done long is goes =
-        at_some (rules.count request == 0) (ne_eqb _ _ (λ (e : rules.count request ≡ 0). omega arith))
-        (rw (own_after place request requests 0 a mine (omega arith), ← is) goes)
-      where
-        at_some : (b : Bool) → b ≡ false → Few (rest_after rules (rest_at place (request ∷ requests) 0) (a ∷ mine)) others done (request ∷ requests)
-            → Few (rest_after rules
-            (if b then behind rules place request requests (rules.answer place request None) else ([], rest_at place (request ∷ requests) 0)).1
-            (a ∷ mine)) others done (request ∷ requests)
-        at_some true is goes = absurd (false≢true (sym is))
-        at_some false is goes = goes
+        let some : (settled_at rules place (request ∷ requests)).1 ≡ rest_at place (request ∷ requests) 0 =
+        rw (ne_eqb (rules.count request) 0 (λ (e : rules.count request ≡ 0). omega arith)) in
+        subst (λ (r : Rest). Few r others done (request ∷ requests))
+        (sym (ap (λ (r : Rest). rest_after rules r (a ∷ mine)) some ∙ own_after place request requests 0 a mine (omega arith))) (rw is at goes)
 
     -- the first members are done, so no more are left than those after them
     pub done_members : (place : Place) (requests : List Asked) (m : ℕ) (own : List Access) (cs : List Completed) → AllByRecursion HasMemory cs

@@ -10,7 +10,7 @@ use Rattle.check_flight.proofs.Words.{IsStateFollowed, GoesOnTo, FlightView, res
 use Rattle.check_flight.proofs.Words.{Called, Answered, LookCalled, LookAnswered, Freed, FileClosed, AllSettled, first_of_call, Accesses, IsBegun}
 use Rattle.check_flight.proofs.Words.{IsLookDone, Logged, MayFollow, Moment, WasLogged, log_of, made_by, taken_in, table_left_by, Permits, Looks}
 use Rattle.check_flight.proofs.Words.{both_parts}
-use Rattle.check_flight.specs.States.{LeadsByAnswer, LeadsByClose, origin_of}
+use Rattle.check_flight.specs.States.{origin_of}
 use Rattle.check_outcomes.proofs.Playing.{OfChain, steps_on}
 use Rattle.check_outcomes.proofs.Requests.{are_right}
 use Rattle.fx_flight.proofs.Chains.{answer_place}
@@ -87,18 +87,6 @@ module _ (old : RingState) where
         waiting = λ look inside. inside;
       }) apart
 
-  -- an event that changes no state
-  stays : {runs : List (List Asked)} {flight : List Moment} {state : FlightView} (e : Happening) → GoesOnTo old runs flight state
-      → GoesOnTo old runs (Logged e ∷ flight) state
-  stays {flight = flight} e to = record {
-    table = to.table;
-    rests = to.rests;
-    unmade = to.unmade;
-    has = λ file inside unclosed. to.has file inside (λ was. unclosed (shifted flight was));
-    only = to.only;
-    waits = λ look inside. let before = to.waits look inside in (shifted flight before.0, before.1);
-  }
-
   abbrev Waits : List Moment → List WaitingLook → Type 0
   Waits flight waiting =
       (look : WaitingLook) → Contains waiting look → WasLogged flight (LookCalled look.id look.slot) × (made_by look.id flight ≡ [])
@@ -145,32 +133,26 @@ module _ (old : RingState) where
       (contains_head (Logged e) flight, to.unmade id (omega arith)))
       (Contains-push_cases state.waiting (record { id = id; slot = slot }) look (fewer look inside))
 
-  -- the answer of a look
-  answer_leads : {runs : List (List Asked)} {flight : List Moment} {state next : FlightView} (e : Happening)
-      → GoesOnTo old runs flight state → LeadsByAnswer state next → GoesOnTo old runs (Logged e ∷ flight) next
-  answer_leads {flight = flight} e to lead = record {
-    table = lead.table ∙ to.table;
-    rests = λ id low high. ap (λ (f : ℕ → Rest). f id) lead.rests ∙ to.rests id low high;
+  -- an event that begins no call, and closes at most its own file
+  goes_on : {runs : List (List Asked)} {flight : List Moment} {state next : FlightView} (e : Happening) → GoesOnTo old runs flight state
+      → next.table ≡ state.table → next.rests ≡ state.rests
+      → ((file : Identity) → (e ≡ FileClosed file → ⊥) → Contains state.removed file → Contains next.removed file)
+      → ((file : Identity) → Contains next.removed file → Contains state.removed file) → AreFewer state.waiting next.waiting
+      → GoesOnTo old runs (Logged e ∷ flight) next
+  goes_on {flight = flight} e to table rests kept only fewer = record {
+    table = table ∙ to.table;
+    rests = λ id low high. ap (λ (f : ℕ → Rest). f id) rests ∙ to.rests id low high;
     unmade = to.unmade;
-    has = λ file inside unclosed. rw lead.removed (to.has file inside (λ was. unclosed (shifted flight was)));
-    only = λ file inside. to.only file (rw lead.removed at inside);
-    waits = same_looks _ e to lead.waiting;
+    has = λ file inside unclosed. kept file (λ is. unclosed (zero, omega arith, ap Logged is))
+        (to.has file inside (λ was. unclosed (shifted flight was)));
+    only = λ file inside. to.only file (only file inside);
+    waits = same_looks _ e to fewer;
   }
 
-  -- a close
-  close_leads : {runs : List (List Asked)} {flight : List Moment} {state next : FlightView} {closed : Identity}
-      → GoesOnTo old runs flight state → LeadsByClose state closed next
-      → GoesOnTo old runs (Logged (FileClosed closed) ∷ flight) next
-  close_leads {flight = flight} {closed = closed} to lead = record {
-    table = lead.table ∙ to.table;
-    rests = λ id low high. ap (λ (f : ℕ → Rest). f id) lead.rests ∙ to.rests id low high;
-    unmade = to.unmade;
-    has = λ file inside unclosed. (lead.removed file).1
-        (λ same. unclosed (zero, omega arith, ap (λ f. Logged (FileClosed f)) (sym same)))
-        (to.has file inside (λ was. unclosed (shifted flight was)));
-    only = λ file inside. to.only file ((lead.removed file).0 inside);
-    waits = same_looks _ (FileClosed closed) to (λ look inside. rw lead.waiting at inside);
-  }
+  -- an event that changes no state
+  stays : {runs : List (List Asked)} {flight : List Moment} {state : FlightView} (e : Happening) → GoesOnTo old runs flight state
+      → GoesOnTo old runs (Logged e ∷ flight) state
+  stays e to = goes_on e to refl refl (λ file other inside. inside) (λ file inside. inside) (λ look inside. inside)
 
   -- an event leads a state on
   pub event_leads : {runs : List (List Asked)} {flight : List Moment} {state next : FlightView} (e : Happening) → GoesOnTo old runs flight state
@@ -180,9 +162,13 @@ module _ (old : RingState) where
   event_leads (Answered id c) to numbered led = rw led (stays (Answered id c) to)
   event_leads (LookCalled id slot) to numbered led =
       call_leads (LookCalled id slot) to numbered led.0 (more_looks _ id slot to numbered led.1)
-  event_leads (LookAnswered id found) to numbered led = answer_leads (LookAnswered id found) to led
+  event_leads (LookAnswered id found) to numbered led =
+      goes_on (LookAnswered id found) to led.table led.rests (λ file other inside. rw led.removed inside) (λ file inside. rw led.removed at inside)
+      led.waiting
   event_leads (Freed id) to numbered led = rw led (stays (Freed id) to)
-  event_leads (FileClosed file) to numbered led = close_leads to led
+  event_leads (FileClosed file) to numbered led =
+      goes_on (FileClosed file) to led.table led.rests (λ other apart. (led.removed other).1 (λ same. apart (ap FileClosed (sym same))))
+      (λ other. (led.removed other).0) (λ look inside. rw led.waiting at inside)
   event_leads AllSettled to numbered led = rw led (stays AllSettled to)
 
   module _ (log : List Happening) (answers : ℕ → List Completed) (fits : AreAnswers log answers) where

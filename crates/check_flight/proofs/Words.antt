@@ -1,11 +1,11 @@
 -- The names that most proofs of this crate use.
-pub use Rattle.check_outcomes.proofs.Words.{Access, All, AllByRecursion, AreChainsDone, Asked, Bool, Chain, ChainAccess, Completed, Completion}
-pub use Rattle.check_outcomes.proofs.Words.{Contains, Contains-append_left, Contains-append_right, FileEntry, HasMemory, Identity, IfOk-weaker}
-pub use Rattle.check_outcomes.proofs.Words.{IsChainDone, IsNext, IsPermutation, IsPermutation-sym, List, Looks, MatchBool, None, Option, Permits}
-pub use Rattle.check_outcomes.proofs.Words.{Place, Request, Rest, RingState, Rules, Slots, Some, Table, [], accesses_of_chain, all_asked}
-pub use Rattle.check_outcomes.proofs.Words.{all_completed, ap, append-nil, append_assoc, arith, asked_of, behind, below_more, both_parts, by_equality}
-pub use Rattle.check_outcomes.proofs.Words.{canceled, cases_Bool, cases_eq, completed_of, contains_head, drop, drop_all, either_way, eq-eqb, eqb-true}
-pub use Rattle.check_outcomes.proofs.Words.{false, false≢true, file_Decides, file_removed_by, filter, get_or-map, get_or-set_other, get_or-set_same}
+pub use Rattle.check_outcomes.proofs.Words.{Access, AllByRecursion, AreChainsDone, Asked, Bool, Chain, ChainAccess, Completed, Completion, Contains}
+pub use Rattle.check_outcomes.proofs.Words.{Contains-append_left, Contains-append_right, FileEntry, HasMemory, Identity, IfOk-weaker, IsChainDone}
+pub use Rattle.check_outcomes.proofs.Words.{IsNext, IsPermutation, IsPermutation-sym, List, Looks, MatchBool, None, Option, Permits, Place, Request}
+pub use Rattle.check_outcomes.proofs.Words.{Rest, RingState, Rules, Slots, Some, Table, [], accesses_of_chain, all_asked, all_completed, ap}
+pub use Rattle.check_outcomes.proofs.Words.{append-nil, append_assoc, arith, asked_of, behind, below_more, both_parts, by_equality, canceled}
+pub use Rattle.check_outcomes.proofs.Words.{cases_Bool, cases_eq, completed_of, contains_head, drop, drop_all, either_way, eq-eqb, eqb-true, false}
+pub use Rattle.check_outcomes.proofs.Words.{false≢true, file_Decides, file_removed_by, filter, get_or-map, get_or-set_other, get_or-set_same}
 pub use Rattle.check_outcomes.proofs.Words.{get_or_append_left, get_or_at, if◌then◌else◌, inl, inr, length, length-append, length-drop, length-map}
 pub use Rattle.check_outcomes.proofs.Words.{map, map-append, members_of, moved, ne_eqb, next_member, nil_from_length, not, not_begun, option_to_list}
 pub use Rattle.check_outcomes.proofs.Words.{over, refl, rest_at, ring_of_slots, rules_of, run_at, settled_at, severs, slice_eq-Decides}
@@ -17,14 +17,14 @@ pub use Rattle.fx_flight.proofs.Words.{IsBegun, IsFlight, Logged, LookAnswered, 
 pub use Rattle.fx_flight.proofs.Words.{rules, table_left_by, taken_in}
 pub use Rattle.fx_order.proofs.Words.{Contains-get_or, Contains-permutation, IsWithinLimits, length-take-le, take-append_seam, take-map, take_more}
 pub use Rattle.check_flight.specs.Judged.{IsAccessFollowed, IsCallFollowed, IsFrontOf, IsWhollyFollowed, catalogue_in, flight_view, flight_views}
-pub use Rattle.check_flight.specs.Judged.{log_in, requests_of, rest_of, rules_of_log, runs_of_calls, IsFirstFront, IsNextFront, IsRefutedAfter}
-pub use Rattle.check_flight.specs.Judged.{IsStatePassed, event_at}
+pub use Rattle.check_flight.specs.Judged.{log_in, requests_of, rest_of, rules_of_log, runs_of_calls, IsInitialState, IsWaitDenied, IsNextFront}
+pub use Rattle.check_flight.specs.Judged.{IsRefutedAfter, IsStatePassed, event_at}
 pub use Rattle.check_flight.specs.Player.{AreCallsMade, AreFilesTaken, AreFoundHeld, HasMadeFlight, IsCallDone, IsCallLogged, IsCallMade}
 pub use Rattle.check_flight.specs.Player.{IsLookAnswered, IsMarked, IsMemberMade, IsPlanned, IsRingOf, MovesOn, accesses_in, accesses_of_plan}
 pub use Rattle.check_flight.specs.Player.{answers_in, answers_of_plan, begun_by, file_number}
 pub use Rattle.check_flight.specs.States.{AreAnswers, AreCalls, AreFewer, AreFollowed, AreLooksSeen, ArePassed, AreReached, AreWaitsDenied, AreWith}
-pub use Rattle.check_flight.specs.States.{AreWithout, FlightView, GoesOnTo, HasNoFlight, IsLed, IsLookDenied, IsNumbered, IsOneDenied}
-pub use Rattle.check_flight.specs.States.{IsStateFollowed, IsStopped, LeadsByCall, StepsByAccess, rest_after, runs_with, setting_of}
+pub use Rattle.check_flight.specs.States.{AreWithout, FlightView, GoesOnTo, HasNoFlight, IsLed, IsNumbered, IsOneDenied, IsStateFollowed, IsStopped}
+pub use Rattle.check_flight.specs.States.{LeadsByCall, StepsByAccess, rest_after, runs_with, setting_of}
 pub use Rattle.check_flight.specs.declared.player.HeldFile.{HeldFile}
 pub use Rattle.check_flight.specs.declared.judged.ChainCall.{ChainCall}
 pub use Rattle.check_flight.specs.declared.judged.JudgedLog.{JudgedLog}

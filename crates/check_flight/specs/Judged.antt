@@ -1,22 +1,25 @@
 -- The states of the judge, as contracts see them, the effect of an event on a state, and a step
 -- from one front to the next.
 use Rattle.std.specs.Prelude.{◌≡◌, ℕ, ◌-◌, nat_le, List, length, map, take, slice_index_or}
-use Rattle.std.specs.Prelude.{if◌then◌else◌, ◌⊎◌, ◌∷◌, [], drop, Contains}
+use Rattle.std.specs.Prelude.{if◌then◌else◌, ◌⊎◌, [], drop, Contains, Option}
 use Rattle.fx_base.specs.Catalogue.{FileEntry}
+use Rattle.fx_base.specs.Identity.{Identity}
 use Rattle.fx_chain.specs.Operation.{Asked, all_asked}
 use Rattle.fx_order.specs.Access.{Permits}
 use Rattle.fx_order.specs.Slots.{table_of_slots, ring_of_slots}
 use Rattle.fx_order.specs.declared.access.Access.{Access}
+use Rattle.fx_order.specs.declared.access.Access.TheVariants.{Looks}
 use Rattle.check_outcomes.specs.Rests.{IsNext, Rest, Rules, over, rules_of, step}
 use Rattle.check_outcomes.specs.Stands.{rest_in}
 use Rattle.check_outcomes.specs.Views.{not_begun, run_at}
 use Rattle.fx_flight.specs.Events.{Happening, all_happenings, first_of_call, AllSettled}
-use Rattle.check_flight.specs.States.{AreWaitsDenied, FlightView, IsFollowed, IsStateFollowed}
-use Rattle.check_flight.specs.States.{AreFollowed, ArePassed, HasNoFlight, IsLed, IsNumbered}
-use Rattle.check_flight.specs.States.{IsOneDenied, IsStopped, StepsByAccess, runs_with}
+use Rattle.check_flight.specs.States.{AreWaitsDenied, FlightView, IsFollowed, IsLookDenied}
+use Rattle.check_flight.specs.States.{IsStateFollowed, AreFollowed, ArePassed, HasNoFlight, IsLed}
+use Rattle.check_flight.specs.States.{IsNumbered, IsOneDenied, IsStopped, StepsByAccess, runs_with}
 use Rattle.check_flight.specs.declared.judged.ChainCall.{ChainCall}
 use Rattle.check_flight.specs.declared.judged.JudgedLog.{JudgedLog}
 use Rattle.check_flight.specs.declared.state.FlightState.{FlightState}
+use Rattle.check_flight.specs.declared.state.WaitingLook.{WaitingLook}
 use Rattle.fx_order.specs.declared.slots.Slots.{Slots}
 use Rattle.check_flight.specs.Refutations.{IsRefutedFrom}
 use Rattle.check_flight.specs.declared.passage.Passage.{Passage}
@@ -85,11 +88,10 @@ IsCallFollowed log runs states state id =
 
 -- each access that a call may make next in a state is followed, and each look that waits there is
 -- denied
-abbrev pub IsWhollyFollowed : JudgedLog → List ChainCall → List FlightState → FlightState → Type 0
+abbrev pub IsWhollyFollowed : JudgedLog → List ChainCall → List FlightState → FlightView → Type 0
 IsWhollyFollowed log calls states state =
     IsStateFollowed (catalogue_in log) log.setting.size (log_in log) (length calls)
-    (flight_views (runs_of_calls calls) states) (flight_view (runs_of_calls calls) state)
-    × AreWaitsDenied (log_in log) (flight_view (runs_of_calls calls) state)
+    (flight_views (runs_of_calls calls) states) state × AreWaitsDenied (log_in log) state
 
 -- the event after `read` does this to the state
 abbrev pub IsPassage : JudgedLog → List (List Asked) → List Happening → FlightState → Happening
@@ -119,11 +121,11 @@ IsTakenIn states IsUnfit = ⊥
 
 -- the event is impossible in the state, or leads to one of the next states
 abbrev pub IsStatePassed : JudgedLog → List (List Asked) → List Happening → List FlightState
-    → FlightState → Happening → Type 0
-IsStatePassed log runs read nexts state event =
-    IsStopped (rules_of_log log) (log_in log) runs read (flight_view runs state) event
+    → Happening → FlightView → Type 0
+IsStatePassed log runs read nexts event state =
+    IsStopped (rules_of_log log) (log_in log) runs read state event
     ⊎ ((next : FlightView) × Contains (flight_views (runs_with runs event) nexts) next
-    × IsLed (rules_of_log log) (flight_view runs state) next event)
+    × IsLed (rules_of_log log) state next event)
 
 -- the event at a position
 abbrev pub event_at : JudgedLog → ℕ → Happening
@@ -149,10 +151,14 @@ IsRefutedAfter log slots at calls states =
     (drop at (log_in log))
     → HasNoFlight (ring_of_slots (catalogue_in log) slots submissions registrations) (log_in log)
 
--- the front before the first event: the table, no call, no removed file, no look
-pub record IsFirstFront (slots : Slots) (states : List FlightState) : Type 0 where
-  pub state : FlightState
-  pub only : states ≡ state ∷ []
+-- the state before the first event: the table, no removed file, no look
+pub record IsInitialState (slots : Slots) (state : FlightState) : Type 0 where
   pub table : table_of_slots state.slots ≡ table_of_slots slots
   pub removed : state.removed.items ≡ []
   pub waiting : state.waiting.items ≡ []
+
+-- a look that waits in a table with these slots finds there what the log denies
+abbrev pub IsWaitDenied : JudgedLog → Slots → WaitingLook → Type 0
+IsWaitDenied log slots look =
+    (found : Option Identity) → Permits (table_of_slots slots) (Looks look.slot found)
+    → IsLookDenied (log_in log) look.id found

@@ -124,7 +124,8 @@ fn follow(
 ) -> Result<bool, NoMemory>
     ensures kept { IfOk result (λ _. IsFrontOf front.old.states.items front.new.states.items) }
     ensures followed { IfOk result (λ yes. IsTrue yes
-        → IsWhollyFollowed log.now calls.now front.new.states.items state.now) }
+        → IsWhollyFollowed log.now calls.now front.new.states.items
+        (flight_view (runs_of_calls calls.now) state.now)) }
 {
     for j in 0..calls.len().saturating_sub(state.base) {
         if !follow_call(log, calls, state, j, front)? {

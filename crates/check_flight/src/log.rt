@@ -54,23 +54,13 @@ fn was_freed(events: &[LogEvent], look: u32) -> bool
     false
 }
 
-// Checks whether an event is this answer of a look.
-fn is_answer_of(event: &LogEvent, look: u32, found: Option<Closed>) -> bool
-    ensures { IsTrue result → happening_of event.now ≡ LookAnswered look found }
-{
-    match event {
-        LogEvent::Found { id, file } => *id == look && *file == found,
-        _ => false,
-    }
-}
-
 // Checks whether the event at a position is this answer of a look.
 fn is_found_at(events: &[LogEvent], position: usize, look: u32, found: Option<Closed>) -> bool
     ensures { IsTrue result → Contains (all_happenings events.now) (LookAnswered look found) }
 {
     match events.get(position) {
-        Some(event) => is_answer_of(event, look, found),
-        None => false,
+        Some(LogEvent::Found { id, file }) => *id == look && *file == found,
+        _ => false,
     }
 }
 
@@ -87,24 +77,14 @@ impl JudgedLog<'_> {
         }
     }
 
-    // Returns what a look found, by the position of its answer. A hint.
-    fn found_at(&self, position: usize) -> Option<Option<Closed>> {
-        match self.events.get(position) {
-            Some(LogEvent::Found { id: _, file }) => Some(*file),
-            _ => None,
-        }
-    }
-
     // Returns the answer of a look in the log: the file, or none. `None` if the log has no answer.
     fn found_by(&self, look: u32) -> Option<Option<Closed>>
         ensures { IfSome result (λ found. Contains (log_in self.now) (LookAnswered look found)) }
     {
-        let at = self.positions.answer_of(look, 1);
-        let found = self.found_at(at)?;
-        if !is_found_at(self.events, at, look, found) {
-            return None;
+        match self.events.get(self.positions.answer_of(look, 1)) {
+            Some(LogEvent::Found { id, file }) if *id == look => Some(*file),
+            _ => None,
         }
-        Some(found)
     }
 
     /// Checks whether the log has another answer of a look that finds this.
@@ -142,21 +122,6 @@ impl JudgedLog<'_> {
         }
     }
 
-    // Checks whether the answer at a position is that of a look which found a file, and its hold
-    // begins to end at none of the first events.
-    fn is_hold_of(&self, at: usize, position: usize, look: u32, held: Closed) -> bool
-        requires { at ≤ length self.now.events.now }
-        ensures { IsTrue result → IsHeld (take at (log_in self.now)) held }
-    {
-        if !is_found_at(&self.events[..at], position, look, Some(held)) {
-            return false;
-        }
-        if was_freed(&self.events[..at], look) {
-            return false;
-        }
-        true
-    }
-
     /// Checks whether a look holds a file before the event at a position.
     pub(crate) fn is_held(&self, at: usize, file: Closed) -> bool
         requires { at ≤ length self.now.events.now }
@@ -165,7 +130,10 @@ impl JudgedLog<'_> {
         let Some((look, position)) = self.positions.hold_of(at, file) else {
             return false;
         };
-        self.is_hold_of(at, position, look, file)
+        if !is_found_at(&self.events[..at], position, look, Some(file)) {
+            return false;
+        }
+        !was_freed(&self.events[..at], look)
     }
 
     // Checks whether the log has another answer at the place of this one.

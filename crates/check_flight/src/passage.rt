@@ -1,19 +1,19 @@
 //! The effect of an event of the log on a state: it leads to another one, or is impossible.
 ghost use Rattle.std.specs.Prelude.{◌≡◌, ◌+◌, ◌<◌, ◌≤◌, ℕ, [], Contains, IfOk, IsTrue, List, length, take};
 ghost use Rattle.fx_base.specs.Identity.{Identity};
-ghost use Rattle.fx_chain.specs.Completed.{completed_of};
 ghost use Rattle.fx_chain.specs.Operation.{Asked, all_asked};
-ghost use Rattle.fx_flight.specs.Events.{Answered, Called, FileClosed, AllSettled, Happening, LookAnswered, LookCalled};
-ghost use Rattle.fx_flight.specs.Events.{happening_of};
+ghost use Rattle.fx_flight.specs.Events.{Called, FileClosed, Happening, LookCalled, happening_of};
 ghost use Rattle.fx_flight.specs.Flight.{IsLookDone};
 ghost use Rattle.check_outcomes.specs.Views.{run_at};
 ghost use Rattle.check_flight.specs.Judged.{flight_view, log_in, rest_of, runs_of_calls, IsPassage};
 ghost use Rattle.check_flight.specs.States.{IsNumbered, IsUnmade};
+ghost use Rattle.check_flight.specs.declared.passage.Passage.TheVariants.{Stops};
 
-use crate::call::members_at;
+use crate::call::{first_place, members_at};
 use crate::judged::{ChainCall, JudgedLog};
 use crate::log::was_closed;
-use crate::state::{FlightState, WaitingLook, called_state, remove_file, still_waiting, trimmed};
+use crate::state::{FlightState, WaitingLook, remove_file, still_waiting, trimmed};
+use check_outcomes::{Progress, settle};
 use fx_base::{Closed, NoMemory};
 use fx_chain::{Completion, Request};
 use fx_flight::LogEvent;
@@ -75,34 +75,22 @@ fn by_call(
     let Some(call) = ChainCall::of(chain) else {
         return Ok(Passage::IsUnfit);
     };
-    if id == 0 || id as usize - 1 != calls.len() {
+    let i = calls.len();
+    if id == 0 || id as usize - 1 != i {
         return Ok(Passage::IsUnfit);
     }
-    let mut answered = Vec::new(log.setting.alloc);
-    let Some(next) = called_state(log, calls, state, &call, &mut answered)? else {
+    if state.base > i || state.chains.len() != i - state.base {
         return Ok(Passage::IsUnfit);
-    };
+    }
+    let alloc = log.setting.alloc;
+    let mut answered = Vec::new(alloc);
+    let done = settle(&log.setting, first_place(i), call.requests, &mut answered)?;
     if log.is_one_denied(&answered) {
         return Ok(Passage::Stops);
     }
+    let mut next = state.copy(alloc, state.base, 0)?;
+    next.chains.push(Progress { done, made: 0 })?;
     Ok(Passage::Leads(next))
-}
-
-// Returns what an answer does to a state.
-fn by_answer(
-    log: &JudgedLog<'_>,
-    calls: &[ChainCall<'_>],
-    state: &FlightState,
-    c: &Completion,
-) -> Result<Passage, NoMemory>
-    ensures { IfOk result (λ passage. (read : List Happening) → IsPassage log.now
-        (runs_of_calls calls.now) read state.now
-        (Answered c.now.place.submission (completed_of c.now)) passage) }
-{
-    if is_early(calls, state, c) {
-        return Ok(Passage::Stops);
-    }
-    Ok(Passage::Leads(trimmed(log.setting.alloc, calls, state)?))
 }
 
 // Returns what the call of a look does to a state: it is a call without requests.
@@ -150,66 +138,50 @@ fn is_unmade(state: &FlightState, id: u32, found: Option<Closed>) -> bool
     false
 }
 
-// Returns what the answer of a look does to a state.
-fn by_found(
-    log: &JudgedLog<'_>,
-    calls: &[ChainCall<'_>],
-    at: usize,
-    state: &FlightState,
-    id: u32,
-    found: Option<Closed>,
-) -> Result<Passage, NoMemory>
-    requires { at ≤ length log.now.events.now }
-    ensures { IfOk result (λ passage. IsPassage log.now (runs_of_calls calls.now)
-        (take at (log_in log.now)) state.now (LookAnswered id found) passage) }
-{
-    if log.is_found_closed(at, found) {
-        return Ok(Passage::Stops);
-    }
-    if is_unmade(state, id, found) {
-        return Ok(Passage::Stops);
-    }
-    Ok(Passage::Leads(trimmed(log.setting.alloc, calls, state)?))
-}
-
-// Returns what the close of a file does to a state.
+// Returns what the close of a file does to a state in which it is possible.
 fn by_close(
     log: &JudgedLog<'_>,
     calls: &[ChainCall<'_>],
-    at: usize,
     state: &FlightState,
     file: Closed,
 ) -> Result<Passage, NoMemory>
-    requires { at ≤ length log.now.events.now }
-    ensures { IfOk result (λ passage. IsPassage log.now (runs_of_calls calls.now)
-        (take at (log_in log.now)) state.now (FileClosed file) passage) }
+    ensures { IfOk result (λ passage. (read : List Happening) → IsPassage log.now
+        (runs_of_calls calls.now) read state.now (FileClosed file) passage) }
 {
-    if !state.removed.contains(&file) {
-        return Ok(Passage::Stops);
-    }
-    if log.is_held(at, file) {
-        return Ok(Passage::Stops);
-    }
     let mut next = state.copy(log.setting.alloc, state.base, 0)?;
     remove_file(&mut next.removed, file);
     Ok(Passage::Leads(next))
 }
 
-// Returns what the end of a wait for all closes does to a state.
-fn at_end(
+// Checks whether the event at a position, unless it is a call, is impossible in a state.
+fn is_stopped(
     log: &JudgedLog<'_>,
     calls: &[ChainCall<'_>],
     at: usize,
+    event: &LogEvent,
     state: &FlightState,
-) -> Result<Passage, NoMemory>
+) -> bool
     requires { at ≤ length log.now.events.now }
-    ensures { IfOk result (λ passage. IsPassage log.now (runs_of_calls calls.now)
-        (take at (log_in log.now)) state.now AllSettled passage) }
+    ensures { IsTrue result → IsPassage log.now (runs_of_calls calls.now)
+        (take at (log_in log.now)) state.now (happening_of event.now) Stops }
 {
-    if is_one_unclosed(log, at, &state.removed) {
-        return Ok(Passage::Stops);
+    match event {
+        LogEvent::Done(c) => is_early(calls, state, c),
+        LogEvent::Found { id, file } => {
+            if log.is_found_closed(at, *file) {
+                return true;
+            }
+            is_unmade(state, *id, *file)
+        }
+        LogEvent::Closed(file) => {
+            if !state.removed.contains(file) {
+                return true;
+            }
+            log.is_held(at, *file)
+        }
+        LogEvent::Settled => is_one_unclosed(log, at, &state.removed),
+        _ => false,
     }
-    Ok(Passage::Leads(state.copy(log.setting.alloc, state.base, 0)?))
 }
 
 /// Returns what the event at a position does to a state.
@@ -224,18 +196,21 @@ pub(crate) fn passage_of(
     ensures { IfOk result (λ passage. IsPassage log.now (runs_of_calls calls.now)
         (take at (log_in log.now)) state.now (happening_of event.now) passage) }
 {
+    if is_stopped(log, calls, at, event, state) {
+        return Ok(Passage::Stops);
+    }
     let alloc = log.setting.alloc;
     match event {
         LogEvent::Call { id, chain } => by_call(log, calls, state, *id, chain.as_slice()),
-        LogEvent::Done(c) => by_answer(log, calls, state, c),
         LogEvent::Look { id, slot } => {
             let (id, slot) = (*id, *slot);
             by_look(log, calls, state, WaitingLook { id, slot })
         }
-        LogEvent::Found { id, file } => by_found(log, calls, at, state, *id, *file),
+        LogEvent::Done(_) => Ok(Passage::Leads(trimmed(alloc, calls, state)?)),
+        LogEvent::Found { id: _, file: _ } => Ok(Passage::Leads(trimmed(alloc, calls, state)?)),
         LogEvent::Free { id: _ } => Ok(Passage::Leads(state.copy(alloc, state.base, 0)?)),
-        LogEvent::Closed(file) => by_close(log, calls, at, state, *file),
-        LogEvent::Settled => at_end(log, calls, at, state),
+        LogEvent::Closed(file) => by_close(log, calls, state, *file),
+        LogEvent::Settled => Ok(Passage::Leads(state.copy(alloc, state.base, 0)?)),
     }
 }
 

@@ -71,9 +71,10 @@ impl LogPositions {
         match event {
             LogEvent::Call { .. } | LogEvent::Look { .. } => {
                 self.answers.push(Vec::new(alloc))?;
+                Ok(())
             }
-            LogEvent::Done(c) => self.add_answer(c.place.submission, at)?,
-            LogEvent::Free { id } => self.add_answer(*id, at)?,
+            LogEvent::Done(c) => self.add_answer(c.place.submission, at),
+            LogEvent::Free { id } => self.add_answer(*id, at),
             LogEvent::Found { id, file } => {
                 if let Some(file) = file {
                     let position = self.add_file(alloc, *file)?;
@@ -81,17 +82,17 @@ impl LogPositions {
                         own.found.push(*id)?;
                     }
                 }
-                self.add_answer(*id, at)?;
+                self.add_answer(*id, at)
             }
             LogEvent::Closed(file) => {
                 let position = self.add_file(alloc, *file)?;
                 if let Some(own) = self.files.get_mut(position) {
                     own.closed = own.closed.min(at);
                 }
+                Ok(())
             }
-            LogEvent::Settled => {}
+            LogEvent::Settled => Ok(()),
         }
-        Ok(())
     }
 
     // Returns the positions of a file, if it is closed or found.

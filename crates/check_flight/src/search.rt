@@ -81,23 +81,6 @@ fn lead_by(
     Ok(Some(Lead { made, state, at }))
 }
 
-// Checks whether a pair is after the last one, and before the next one.
-fn is_between(
-    last: Option<(usize, usize)>,
-    pair: (usize, usize),
-    next: Option<(usize, usize)>,
-) -> bool {
-    if let Some(last) = last
-        && pair <= last
-    {
-        return false;
-    }
-    match next {
-        Some(next) => pair < next,
-        None => true,
-    }
-}
-
 // Returns the next call of a state to try that isn't over, with the position of its next answer:
 // calls are tried in the order of these positions, and then of their numbers.
 fn call_after(
@@ -114,7 +97,8 @@ fn call_after(
             continue;
         }
         let own = (log.positions.answer_after(i, at), j);
-        if is_between(last, own, next) {
+        let is_tried = matches!(last, Some(last) if own <= last);
+        if !is_tried && !matches!(next, Some(next) if next <= own) {
             next = Some(own);
         }
     }
@@ -305,16 +289,19 @@ impl Search {
 
     // Leaves the last state, which leads nowhere.
     fn leave(&mut self, alloc: Global, most: usize) -> Result<(), NoMemory> {
-        let Some(frame) = self.frames.pop() else {
+        let Some(frame) = self.frames.last() else {
             return Ok(());
         };
-        self.plan.moves.truncate(frame.moves);
+        let (at, moves) = (frame.at, frame.moves);
+        let number = number_of(at, &frame.state);
+        self.frames.pop();
+        self.plan.moves.truncate(moves);
         if self.dead.len() > most {
             self.dead = IndexSet::new(alloc);
             self.dead_until = 0;
         }
-        self.dead_until = self.dead_until.max(frame.at.saturating_add(1));
-        self.dead.insert_full(number_of(frame.at, &frame.state))?;
+        self.dead_until = self.dead_until.max(at.saturating_add(1));
+        self.dead.insert_full(number)?;
         Ok(())
     }
 

@@ -1,22 +1,13 @@
-//! A state of the flights of a log, and where a call leads from it.
-ghost use Rattle.std.specs.Prelude.{◌≡◌, ◌+◌, ◌++◌, ◌<◌, ◌≤◌, ◌^◌, ℕ, [], ◌∷◌, Contains, IfOk, IfSome, IsTrue, Option};
-ghost use Rattle.std.specs.Prelude.{length, slice_index_or};
-ghost use Rattle.fx_chain.specs.Completed.{all_completed};
-ghost use Rattle.fx_base.specs.Identity.{Identity};
-ghost use Rattle.fx_order.specs.Access.{Permits};
-ghost use Rattle.fx_order.specs.declared.access.Access.TheVariants.{Looks};
-ghost use Rattle.fx_order.specs.Slots.{table_of_slots};
-ghost use Rattle.fx_flight.specs.Events.{first_of_call};
-ghost use Rattle.check_outcomes.specs.Rests.{settled_at};
+//! A state of the flights of a log.
+ghost use Rattle.std.specs.Prelude.{◌≡◌, ◌+◌, ◌<◌, ◌≤◌, ◌^◌, ℕ, Contains, IfOk, IsTrue, length, slice_index_or};
 ghost use Rattle.check_outcomes.specs.Views.{not_begun, run_at};
-ghost use Rattle.check_flight.specs.Judged.{IsCopy, log_in, requests_of, rules_of_log, runs_of_calls, flight_view};
-ghost use Rattle.check_flight.specs.States.{AreFewer, AreWithout, IsLookDenied, LeadsByCall};
+ghost use Rattle.check_flight.specs.Judged.{IsCopy, IsInitialState, IsWaitDenied, runs_of_calls, flight_view};
+ghost use Rattle.check_flight.specs.States.{AreFewer, AreWithout};
 
-use crate::call::{first_place, members_at};
+use crate::call::members_at;
 use crate::judged::{ChainCall, JudgedLog};
-use check_outcomes::{Progress, settle};
+use check_outcomes::Progress;
 use fx_base::{Closed, NoMemory};
-use fx_chain::Completion;
 use fx_order::Slots;
 use std::alloc::Global;
 
@@ -56,9 +47,7 @@ pub(crate) fn remove_file(files: &mut Vec<Closed>, file: Closed)
 /// Checks whether a look still waits in a table with these slots: it finds what isn't its answer in
 /// the log. Past the size it finds no file.
 pub(crate) fn waits(log: &JudgedLog<'_>, slots: &Slots, look: &WaitingLook) -> bool
-    ensures { IsTrue result → (found : Option Identity)
-        → Permits (table_of_slots slots.now) (Looks look.now.slot found)
-        → IsLookDenied (log_in log.now) look.now.id found }
+    ensures { IsTrue result → IsWaitDenied log.now slots.now look.now }
 {
     let found = match slots.at.get(look.slot as usize) {
         Some(found) => *found,
@@ -135,10 +124,7 @@ impl FlightState {
 
 /// Returns the state before the first event.
 pub(crate) fn first_state(alloc: Global, slots: &Slots) -> Result<FlightState, NoMemory>
-    ensures table { IfOk result (λ state.
-        table_of_slots state.slots ≡ table_of_slots slots.now) }
-    ensures removed { IfOk result (λ state. state.removed.items ≡ []) }
-    ensures waiting { IfOk result (λ state. state.waiting.items ≡ []) }
+    ensures { IfOk result (IsInitialState slots.now) }
 {
     Ok(FlightState {
         slots: slots.copy(alloc)?,
@@ -147,37 +133,6 @@ pub(crate) fn first_state(alloc: Global, slots: &Slots) -> Result<FlightState, N
         removed: Vec::new(alloc),
         waiting: Vec::new(alloc),
     })
-}
-
-/// Returns where the next call leads, and appends what is answered on the way. `None` if the state
-/// isn't one of the log.
-pub(crate) fn called_state(
-    log: &JudgedLog<'_>,
-    calls: &[ChainCall<'_>],
-    state: &FlightState,
-    call: &ChainCall<'_>,
-    answered: &mut Vec<Completion>,
-) -> Result<Option<FlightState>, NoMemory>
-    requires answered { answered.old.items ≡ [] }
-    ensures answered { IfOk result (λ next. IfSome next (λ next. all_completed answered.new.items
-        ≡ (settled_at (rules_of_log log.now) (first_of_call (length calls.now + 1))
-        (requests_of call.now)).0)) }
-    ensures leads { IfOk result (λ next. IfSome next (λ next. LeadsByCall (rules_of_log log.now)
-        (flight_view (runs_of_calls calls.now) state.now) (length calls.now + 1)
-        (requests_of call.now)
-        (flight_view (runs_of_calls calls.now ++ requests_of call.now ∷ []) next))) }
-    ensures waiting { IfOk result (λ next. IfSome next (λ next.
-        next.waiting.items ≡ state.now.waiting.items)) }
-{
-    let alloc = log.setting.alloc;
-    let i = calls.len();
-    if i >= u32::MAX as usize - 1 || state.base > i || state.chains.len() != i - state.base {
-        return Ok(None);
-    }
-    let done = settle(&log.setting, first_place(i), call.requests, answered)?;
-    let mut next = state.copy(alloc, state.base, 0)?;
-    next.chains.push(Progress { done, made: 0 })?;
-    Ok(Some(next))
 }
 
 // Returns the number of calls that are over, from the first one in the list on.

@@ -95,10 +95,9 @@ fn has_flight(log: &JudgedLog<'_>, slots: &Slots, most: usize) -> Result<bool, N
 
 // Checks whether a request of the log lacked memory (-12).
 fn lacks_memory(events: &[LogEvent]) -> bool {
+    let no_memory = -Errno::ENOMEM.code();
     for event in events {
-        if let LogEvent::Done(c) = event
-            && c.res == -Errno::ENOMEM.code()
-        {
+        if matches!(event, LogEvent::Done(c) if c.res == no_memory) {
             return true;
         }
     }

@@ -1,5 +1,5 @@
-use Rattle.check_flight.proofs.Words.{arith, leb-true, runs_of_calls}
-use Rattle.check_flight.proofs.Judging.{all_followed, copied, front_on, more_followed, same_followed}
+use Rattle.check_flight.proofs.Words.{arith, flight_view, leb-true, runs_of_calls, subst, IsWhollyFollowed}
+use Rattle.check_flight.proofs.Judging.{copied, each_view, front_on, more_followed}
 use Rattle.check_flight.proofs.explore.follow_all.Goals as goal
 
 pub loop-number-preserved : goal.loop-number-preserved
@@ -15,17 +15,21 @@ loop-number-preserved c =
     record {
       kept = front_on _ _ _ c.loop-number.invariant.kept next.kept;
       followed = more_followed log calls c.loop-number.front.states.items c.follow.new.front.states.items (rw items at found.3.0) (rw items at found.1) next.kept
-          c.loop-number.invariant.followed (same_followed log calls c.follow.new.front.states.items state own same (next.followed c.if-not-branch.false));
+          c.loop-number.invariant.followed (subst (IsWhollyFollowed log calls c.follow.new.front.states.items) same (next.followed c.if-not-branch.false));
     }
 
 pub returns-in_default-clause-followed : goal.returns-in_default-clause-followed
 returns-in_default-clause-followed c = λ _.
     let past = rw c.deref.ensures.value at c.in_default.ensures.lookup in
-    all_followed c.args.log.now c.args.calls.now c.loop-number.front.states.items
+    let calls = c.args.calls.now in
+    let states = c.loop-number.front.states.items in
+    each_view (IsWhollyFollowed c.args.log.now calls states) (flight_view (runs_of_calls calls)) states
     (λ k d low. c.loop-number.invariant.followed k d (omega (arith, low, past)))
 
 pub returns-clause-followed : goal.returns-clause-followed
 returns-clause-followed c = λ few.
     let high = leb-true _ c.args.most few in
-    all_followed c.args.log.now c.args.calls.now c.loop-number.front.states.items
+    let calls = c.args.calls.now in
+    let states = c.loop-number.front.states.items in
+    each_view (IsWhollyFollowed c.args.log.now calls states) (flight_view (runs_of_calls calls)) states
     (λ k d low. c.loop-number.invariant.followed k d (omega (arith, low, high, c.loop-number.front.states.ok.0, c.loop-number-test.false)))

@@ -1,5 +1,5 @@
-use Rattle.check_flight.proofs.Words.{◌⊎◌, Contains, arith, inl, inr, take, ⊎_elim, one_more_of, flight_view, flight_views, log_in, rules_of_log}
-use Rattle.check_flight.proofs.Words.{runs_of_calls, IsStatePassed, FlightView, IsLed, IsStopped, runs_with, FlightState, happening_of}
+use Rattle.check_flight.proofs.Words.{arith, inl, inr, take, ⊎_elim, one_more_of, flight_view, log_in, runs_of_calls, IsStatePassed, runs_with}
+use Rattle.check_flight.proofs.Words.{FlightState, happening_of}
 use Rattle.check_flight.proofs.Judging.{each_view, passed_by, views_more}
 use Rattle.check_flight.proofs.explore.pass_all.Goals as goal
 
@@ -11,7 +11,7 @@ loop-state-preserved c =
     let runs = runs_with (runs_of_calls c.args.calls.now) (happening_of c.args.event.now) in
     one_more_of
     (λ (state : FlightState). IsStatePassed c.args.log.now (runs_of_calls c.args.calls.now) (take c.args.at (log_in c.args.log.now))
-    c.take_in.new.self.states.items state (happening_of c.args.event.now)) states
+    c.take_in.new.self.states.items (happening_of c.args.event.now) (flight_view (runs_of_calls c.args.calls.now) state)) states
     (λ k d low. ⊎_elim (λ stopped. inl stopped)
     (λ led. inr (led.0, views_more runs c.loop-state.nexts.states.items c.take_in.new.self.states.items next.kept led.0 led.1, led.2))
     (c.loop-state.invariant k d low))
@@ -23,8 +23,6 @@ pub returns : goal.returns
 returns c = λ _.
     let log = c.args.log.now in
     let runs = runs_of_calls c.args.calls.now in
-    let event = happening_of c.args.event.now in
-    each_view (λ (view : FlightView). IsStopped (rules_of_log log) (log_in log) runs (take c.args.at (log_in log)) view event
-    ⊎ ((next : FlightView) × Contains (flight_views (runs_with runs event) c.loop-state.nexts.states.items) next
-    × IsLed (rules_of_log log) view next event)) (flight_view runs) c.args.front.now.states.items
+    each_view (IsStatePassed log runs (take c.args.at (log_in log)) c.loop-state.nexts.states.items (happening_of c.args.event.now)) (flight_view runs)
+    c.args.front.now.states.items
     (λ k d low. c.loop-state.invariant k d (omega (arith, low, c.loop-state-test.false)))

@@ -3,13 +3,7 @@ use Rattle.check_flight.proofs.Refuting.{refutes_first, refutes_last, refutes_ne
 use Rattle.check_flight.proofs.refute.refute_log.Goals as goal
 
 pub loop-at-init : goal.loop-at-init
-loop-at-init c = refutes_first c.args.log.now c.args.slots.now c.new-calls.ensures.items (record {
-  state = c.in_ok-state.state;
-  only = c.in_ok-front.ensures;
-  table = c.in_ok-state.ensures.table;
-  removed = c.in_ok-state.ensures.removed;
-  waiting = c.in_ok-state.ensures.waiting;
-})
+loop-at-init c = refutes_first c.args.log.now c.args.slots.now c.new-calls.ensures.items c.in_ok-front.ensures c.in_ok-state.ensures
 
 pub loop-at-preserved : goal.loop-at-preserved
 loop-at-preserved c =
