@@ -4,7 +4,7 @@ use Rattle.check_flight.proofs.Words.{zero, Access, AllByRecursion, Asked, Chain
 use Rattle.check_flight.proofs.Words.{Place, Rest, Rules, append_assoc, by_equality, cases_eq, file_removed_by, get_or_append_left, get_or_at}
 use Rattle.check_flight.proofs.Words.{length-append, ne_eqb, option_to_list, rules_of, run_at, settled_at, settles, step, table_with}
 use Rattle.check_flight.proofs.Words.{Contains-append_cases, Contains-push_cases, Contains-append_left, RingState, ◌-◌, Table, subst}
-use Rattle.check_flight.proofs.Words.{Contains-append_right, Identity, if◌then◌else◌, contains_head, ◌⊎◌, eq-eqb, over, table_of, AreAnswers}
+use Rattle.check_flight.proofs.Words.{Contains-append_right, Identity, if◌then◌else◌, contains_head, eq-eqb, over, table_of, AreAnswers}
 use Rattle.check_flight.proofs.Words.{AreCalls, IsLed, IsOneDenied, IsStopped, StepsByAccess, LeadsByCall, AreFewer, AreLooksSeen, AreWaitsDenied}
 use Rattle.check_flight.proofs.Words.{IsStateFollowed, GoesOnTo, FlightView, rest_after, setting_of, IsNumbered, runs_with, WaitingLook, Happening}
 use Rattle.check_flight.proofs.Words.{Called, Answered, LookCalled, LookAnswered, Freed, FileClosed, AllSettled, first_of_call, Accesses, IsBegun}
