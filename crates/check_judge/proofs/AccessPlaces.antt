@@ -16,22 +16,17 @@ own_listed catalogue size place operation own c done =
     ∙ length-take-le (length own) (positions_of operation) (few_made catalogue place size operation own c done)
 
 -- they are all of the chain
-abbrev pub AreOfChain : ℕ → List AccessPlace → Type 0
-AreOfChain chain places = All (λ p. p.chain ≡ chain) places
-
-none_of_chain : (chain : ℕ) → AreOfChain chain []
-none_of_chain chain = All-nil (λ (p : AccessPlace). p.chain ≡ chain)
-
-own_of_chain : (place : Place) (operation : Operation) (own : List Access) → AreOfChain place.chain (own_places place operation own)
+own_of_chain : (place : Place) (operation : Operation) (own : List Access)
+    → All (λ (p : AccessPlace). p.chain ≡ place.chain) (own_places place operation own)
 own_of_chain place operation own =
     All-map (λ (p : AccessPlace). p.chain ≡ place.chain) (place_at place) (take (length own) (positions_of operation)) (λ _ _ _. refl)
 
 -- as many places as accesses, and all of the chain
 abbrev pub AreFor : ℕ → List Access → List AccessPlace → Type 0
-AreFor chain accesses places = (length places ≡ length accesses) × AreOfChain chain places
+AreFor chain accesses places = (length places ≡ length accesses) × All (λ (p : AccessPlace). p.chain ≡ chain) places
 
 none_for : (chain : ℕ) {accesses : List Access} {places : List AccessPlace} → accesses ≡ [] → places ≡ [] → AreFor chain accesses places
-none_for chain none empty = (rw (none, empty), rw empty (none_of_chain chain))
+none_for chain none empty = (rw (none, empty), rw empty (All-nil (λ (p : AccessPlace). p.chain ≡ chain)))
 
 pub chain_listed : (catalogue : List FileEntry) (size : ℕ) (place : Place) (requests : List Asked) (accesses : List Access) (places : List AccessPlace)
     (completions : List Completed) → IsChainListed catalogue size place requests accesses places completions → AreFor place.chain accesses places
@@ -58,14 +53,14 @@ module _ (catalogue : List FileEntry) (size : ℕ) (place : Place) (request : As
     (first : (own : List Access) → IsRequestDone catalogue size place request.operation own c → mid ≡ old ++ own_places place request.operation own) where
   pub severed_put : {accesses : List Access} → severs request c ≡ true → IsChainDone catalogue size place (request ∷ requests) accesses (c ∷ cs)
       → IsPut catalogue size place (request ∷ requests) accesses (c ∷ cs) old mid
-  severed_put cut x =
-      let same : x.2 ≡ c = cc (x.5) in
+  severed_put cut (made, others, d, ds, whole, is, done, behind) =
+      let same : d ≡ c = cc in
       let severed = ap (severs request) same ∙ cut in
-      let over = rw severed at x.7 in
-      let own = own_places place request.operation x.0 in (
+      let over = rw severed at behind in
+      let own = own_places place request.operation made in (
         own,
-        first x.0 (rw same at x.6),
-        (x.0, x.1, [], x.2, x.3, x.4, x.5, sym (append-nil own), x.6, rw severed (over.0, refl, over.1)),
+        first made (rw same at done),
+        (made, others, [], d, ds, whole, is, sym (append-nil own), done, rw severed (over.0, refl, over.1)),
       )
 
   pub going_put : {accesses : List Access} {new : List AccessPlace} → severs request c ≡ false
@@ -73,15 +68,15 @@ module _ (catalogue : List FileEntry) (size : ℕ) (place : Place) (request : As
       → IsPut catalogue size (next_member place) requests others cs mid new)
       → IsChainDone catalogue size place (request ∷ requests) accesses (c ∷ cs)
       → IsPut catalogue size place (request ∷ requests) accesses (c ∷ cs) old new
-  going_put on rest x =
-      let same : x.2 ≡ c = cc (x.5) in
-      let after : x.3 ≡ cs = cc (x.5) in
+  going_put on rest (made, others, d, ds, whole, is, done, behind) =
+      let same : d ≡ c = cc in
+      let after : ds ≡ cs = cc in
       let severed = ap (severs request) same ∙ on in
-      let later = rest x.1 (rw (severed, after) at x.7) in
-      let own = own_places place request.operation x.0 in (
+      let later = rest others (rw (severed, after) at behind) in
+      let own = own_places place request.operation made in (
         own ++ later.0,
-        later.1 ∙ (ap (λ (l : List AccessPlace). l ++ later.0) (first x.0 (rw same at x.6)) ∙ append_assoc old own later.0),
-        (x.0, x.1, later.0, c, cs, x.4, refl, refl, rw same at x.6, rw on later.2),
+        later.1 ∙ (ap (λ (l : List AccessPlace). l ++ later.0) (first made (rw same at done)) ∙ append_assoc old own later.0),
+        (made, others, later.0, c, cs, whole, refl, refl, rw same at done, rw on later.2),
       )
 
 -- The places of all chains, a list for each.
@@ -103,11 +98,6 @@ module _ (catalogue : List FileEntry) (size submission : ℕ) (order : List Chai
       rw (add-zero, sym same) (record { as_many = as_many; same = own })
   each_list chain (run ∷ runs) lists cs x (suc k) {list} got =
       let e : chain + suc k ≡ chain + 1 + k = omega arith in rw e (each_list (chain + 1) runs x.1 x.3 x.7 k (rw x.4 at got))
-
-  pub first_lists : (runs : List (List Asked)) (lists : List (Vec AccessPlace)) (cs : List Completed)
-      → AreListsOf catalogue size submission 1 runs order lists cs
-      → (k : ℕ) (list : Vec AccessPlace) → slice_get lists k ≡ Some list → IsListFor order (k + 1) list.items
-  first_lists runs lists cs x k list got = rw (add_comm k 1) (each_list 1 runs lists cs x k got)
 
   -- a list of places that has them all, each chain's in its order
   pub all_listed : (chain : ℕ) (runs : List (List Asked)) (lists : List (Vec AccessPlace)) (cs : List Completed) (places : List AccessPlace)

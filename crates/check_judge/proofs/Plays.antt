@@ -38,9 +38,6 @@ pub rest_behind : {text line others : List ℕ} {count : ℕ} → BeginsWith tex
 rest_behind {text} {line} {others} {count} found split =
     let size : length line ≡ count = ap length (sym found.is_line) ∙ length-take-le count text found.inside in rw (sym size, split, drop-append_seam)
 
-pub whole_text : (text line : List ℕ) (count : ℕ) → BeginsWith text count line → line ++ drop count text ≡ text
-whole_text text line count found = ap (λ (l : List ℕ). l ++ drop count text) (sym found.is_line) ∙ take-append-drop count text
-
 -- this text is left after the line
 pub begins_with : {text line : List ℕ} (rest : List ℕ) → text ≡ line ++ rest → BeginsWith text (length text - length rest) line
 begins_with {text} {line} rest split =
@@ -92,7 +89,8 @@ module _ (catalogue : List FileEntry) (old : RingSlots) (command : Instruction) 
       may = λ ring next printed same leads so. (answers_at ring next printed same).1 (inl (leads ∙ left, subst (IsLineOf before command) (sym so) recorded));
       only = λ next others g. ⊎_elim (λ a. (a.0 ∙ sym left, one_line_of command kept.is_ring a.1 recorded))
           (λ f. absurd (not_failed before command line (drop count text) others kept.few_slots f.0 f.1.0 recorded
-          (whole_text text line count begins ∙ g.split ∙ ap (λ (l : List ℕ). l ++ others) f.1.2))) ((answers_at g.ring next g.line g.same).0 g.prints);
+          (ap (λ (l : List ℕ). l ++ drop count text) (sym begins.is_line) ∙ take-append-drop count text ∙ g.split
+          ∙ ap (λ (l : List ℕ). l ++ others) f.1.2))) ((answers_at g.ring next g.line g.same).0 g.prints);
     }) (Here count) begins
 
     -- or it doesn't

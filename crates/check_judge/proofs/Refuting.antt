@@ -6,7 +6,7 @@ use Rattle.check_judge.proofs.Words.{left_by, touched, HasNoOrder, Claim, At, Fu
 use Rattle.check_judge.proofs.Words.{none-some, Brings, contains_none, Slots, refl, ap, AllByRecursion, all_completed, Asked, RingState, IsRing}
 use Rattle.check_judge.proofs.Words.{files_removed_in, Allocates, IsOneOrder, table_of, AreDone, AreClaims, IsAllocationInRange, IfRefuted, same_size}
 use Rattle.check_judge.proofs.Words.{◌-◌, Removes, emptied, removes_contained, IsBrought, IsKnown, IsPermutation-sym, Contains-permutation, runs_of}
-use Rattle.check_judge.proofs.Words.{IsRecordedOutcome, IsRefuted, recorded_report, Recorded, no_file_that_stays_is_closed}
+use Rattle.check_judge.proofs.Words.{IsRecordedOutcome, recorded_report, Recorded, no_file_that_stays_is_closed}
 use Rattle.check_judge.specs.declared.part.PartVerdict.{PartVerdict}
 use Rattle.check_judge.specs.declared.part.PartVerdict.TheVariants.{Refuted}
 use Rattle.check_judge.proofs.RequestClaims.{at_after, found_at, some_or_none, untouched, same_range}
@@ -98,14 +98,11 @@ module _ (old : RingState) (requests : List Asked) (recorded : Recorded) where
   abbrev pub IsDone : List ChainAccess → Type 0
   IsDone = AreDone old.catalogue old.size old.range (old.submissions + 1) 1 (runs_of requests) (all_completed recorded.completions.items)
 
-  done_so : (room : ℕ) (left : RingState) → (one : IsOneOrder old requests (recorded_report old recorded room) left) → IsDone one.order
+  pub done_so : (room : ℕ) (left : RingState) → (one : IsOneOrder old requests (recorded_report old recorded room) left) → IsDone one.order
   done_so room left one = record {
     possible = possible_all (table_of old) old.size old.range (accesses_of one.order) refl refl one.is.permitted;
     done = one.is.done;
   }
-
-  pub no_claims : ((order : List ChainAccess) → IsDone order → ⊥) → IsRefuted old requests recorded
-  no_claims none room left one = none one.order (done_so room left one)
 
   pub outcome_recorded : IsRing old → (chains : List (Vec Claim)) → length chains ≡ length (runs_of requests)
       → ((order : List ChainAccess) → IsDone order → AreClaims recorded.closes.items chains order)

@@ -61,16 +61,11 @@ fn is_known(table: &TableRecorded<'_>, file: Closed) -> bool
 // Checks whether the chain that the file's mark names leaves it at a slot. Only that chain installs
 // a file of this submission, so it is searched first.
 fn is_own(table: &TableRecorded<'_>, file: Closed) -> bool {
-    match file.mark {
-        Mark::Submitted { chain, .. } => match table
-            .chains
-            .get((chain as usize).saturating_sub(1))
-        {
-            Some(claims) => has_bringing(claims, file),
-            None => false,
-        },
-        Mark::Registered { .. } => false,
-    }
+    let Mark::Submitted { chain, .. } = file.mark else {
+        return false;
+    };
+    let own = table.chains.get((chain as usize).saturating_sub(1));
+    matches!(own, Some(claims) if has_bringing(claims, file))
 }
 
 // Checks whether this file was never in the table. If so, no order closes it.

@@ -8,7 +8,7 @@ ghost use Rattle.check_judge.specs.Played.{AreStrands, strand_for};
 ghost use Rattle.check_search.specs.AtSlots.{keeps};
 
 use check_search::{Cell, Claim, Condition, Leaves, Strand, apply, cell_at, claim_of, has_slot};
-use fx_base::{Closed, NoMemory};
+use fx_base::NoMemory;
 use fx_order::{Access, ChainAccess, Slots};
 use std::alloc::Global;
 
@@ -68,18 +68,22 @@ pub(crate) fn strands_of(
     Ok(strands)
 }
 
-// Returns the access that a claim describes, if `found` was at the slot.
-fn access_of(claim: &Claim, found: Option<Closed>) -> Access {
-    match claim {
-        Claim::Full => Access::FindsFull,
-        Claim::At(slot, condition, leaves) => match (condition, leaves) {
-            (Condition::NothingToTake, _) => Access::Takes(*slot, None),
-            (_, Leaves::Same) => Access::Looks(*slot, found),
-            (Condition::Something, Leaves::Empty) => Access::Takes(*slot, found),
-            (_, Leaves::Empty) => Access::Clears(*slot, found),
-            (Condition::Nothing, Leaves::File(resident)) => Access::Allocates(*slot, resident.file),
-            (_, Leaves::File(resident)) => Access::Puts(*slot, resident.file, found),
-        },
+// Returns the access that a claim describes at these slots.
+fn access_of(cells: &[Cell], claim: &Claim) -> Access {
+    let Claim::At(slot, condition, leaves) = claim else {
+        return Access::FindsFull;
+    };
+    let found = match cell_at(cells, *slot) {
+        Some(resident) => Some(resident.file),
+        None => None,
+    };
+    match (condition, leaves) {
+        (Condition::NothingToTake, _) => Access::Takes(*slot, None),
+        (_, Leaves::Same) => Access::Looks(*slot, found),
+        (Condition::Something, Leaves::Empty) => Access::Takes(*slot, found),
+        (_, Leaves::Empty) => Access::Clears(*slot, found),
+        (Condition::Nothing, Leaves::File(resident)) => Access::Allocates(*slot, resident.file),
+        (_, Leaves::File(resident)) => Access::Puts(*slot, resident.file, found),
     }
 }
 
@@ -98,16 +102,9 @@ pub(crate) fn accesses_along(
         let (Some(claim), Some(strand)) = (claim_of(strands, &places, *at), strands.get(*at)) else {
             break;
         };
-        let found = match claim {
-            Claim::At(slot, _, _) => match cell_at(&cells, *slot) {
-                Some(resident) => Some(resident.file),
-                None => None,
-            },
-            Claim::Full => None,
-        };
         accesses.push(ChainAccess {
             chain: strand.chain,
-            access: access_of(claim, found),
+            access: access_of(&cells, claim),
         })?;
         apply(&mut cells, claim);
         if *at < places.len() {

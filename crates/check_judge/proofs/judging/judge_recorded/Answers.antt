@@ -1,14 +1,14 @@
 use Rattle.check_judge.proofs.Words.{◌≡◌, length, sym, arith, length-map, members_of, all_asked, ring_with_slots, zero-add, IfOk-weaker}
-use Rattle.check_judge.proofs.Refuting.{no_claims, outcome_recorded}
+use Rattle.check_judge.proofs.Refuting.{done_so, outcome_recorded}
 use Rattle.check_judge.proofs.judging.judge_recorded.Goals as goal
 
 pub returns-in-Err-Refuted : goal.returns-in-Err-Refuted
 returns-in-Err-Refuted c =
     let size : c.len.result ≡ length c.args.ring.now.slots.at.items = omega (arith, c.args.ring.now.slots.at.ok.0) in
     let none = rw c.in-Err-Refuted.field-0-is at c.in-Err-Refuted.ensures.claims in
-    no_claims (ring_with_slots c.args.case.now.catalogue.now c.args.ring.now) (all_asked c.args.case.now.requests.now) c.args.case.now.recorded.now
-    (λ order done. none tt order
-    (rw (size, c.deref-2.ensures.value, c.in_ok-chains.ensures.members, c.deref-3.ensures.value, c.new-claims.ensures.items) done))
+    λ room left one. none tt one.order
+    (rw (size, c.deref-2.ensures.value, c.in_ok-chains.ensures.members, c.deref-3.ensures.value, c.new-claims.ensures.items)
+    (done_so (ring_with_slots c.args.case.now.catalogue.now c.args.ring.now) (all_asked c.args.case.now.requests.now) c.args.case.now.recorded.now room left one))
 
 pub returns : goal.returns
 returns c =

@@ -1,6 +1,6 @@
 use Rattle.check_judge.proofs.Words.{List, Result, Ok, Err, IfOk, map, length-map, members_of, all_completed, Asked, all_asked, AreListsOf, FileEntry}
-use Rattle.check_judge.proofs.Words.{◌++◌, ◌∙◌, ap, subst, sym, AccessPlace, Vec}
-use Rattle.check_judge.proofs.AccessPlaces.{all_places, as_many_lists, first_lists}
+use Rattle.check_judge.proofs.Words.{◌++◌, ◌∙◌, add_comm, ap, subst, sym, AccessPlace, Vec}
+use Rattle.check_judge.proofs.AccessPlaces.{all_places, as_many_lists, each_list}
 use Rattle.check_judge.proofs.places.places_of.Goals.{In_ok-push_lists}
 use Rattle.check_judge.proofs.places.places_of.Goals as goal
 
@@ -34,7 +34,7 @@ in_order-requires c =
     let many = as_many_lists (catalogue p) size answered.submission c.args.order.now 1 (runs p) lists cs (are p) in
     rw c.deref.ensures.value (record {
       chains = rw (many ∙ length-map answered.chains.now (members_of (all_asked answered.requests.now))) c.requires.chains;
-      lists = first_lists (catalogue p) size answered.submission c.args.order.now (runs p) lists cs (are p);
+      lists = λ k list got. rw (add_comm k 1) (each_list (catalogue p) size answered.submission c.args.order.now 1 (runs p) lists cs (are p) k got);
     })
 
 pub returns : goal.returns

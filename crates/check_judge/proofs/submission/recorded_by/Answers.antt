@@ -13,10 +13,8 @@ returns-clause-lines c =
 
 pub returns-in-Some-wrong_tag-clause-only : goal.returns-in-Some-wrong_tag-clause-only
 returns-in-Some-wrong_tag-clause-only c = λ apart report may from same.
-    let catalogue = c.args.catalogue.now in
-    let slots = c.args.ring.now.slots in
     let only = rw c.in-Ok.is at c.in_ok-files.ensures.only in
-    let closed : named_closes catalogue report.closes.files ≡ map named_close_of c.deref.result.now =
+    let closed : named_closes c.args.catalogue.now report.closes.files ≡ map named_close_of c.deref.result.now =
     ap (λ (l : Lines). l.closed) same ∙ ap (λ (l : List ClosedLine). map named_close_of l) (sym c.deref.ensures.value) in
     let files : c.deref-3.result.now ≡ report.closes.files = c.deref-3.ensures.value ∙ only apart report.closes.files may.each closed in
     c.in-Some-wrong_tag.ensures.apart (c.deref-4.ensures.value ∙ c.in_ok-own_tags.ensures ∙ tags_again files
