@@ -28,7 +28,12 @@ use std::rt::Clock;
 use std::sync::Wait;
 use std::thread::Threads;
 use std::time::CpuClock;
-use work::{MARK, READ_LEN, Shape, look, read, row_of};
+use work::{MARK, READ_LEN, Row, Shape, look, read, row_of};
+
+// What the calls on several threads need of the runtime.
+trait Host: Threads + Wait + Clock + CpuClock + Print + AllocGlobal + Sync {}
+
+impl<R: Threads + Wait + Clock + CpuClock + Print + AllocGlobal + Sync> Host for R {}
 
 // Creates a catalogue of one entry of 64 bytes.
 fn one_entry(alloc: Global) -> Option<Catalogue>
@@ -43,43 +48,50 @@ fn one_entry(alloc: Global) -> Option<Catalogue>
     }
 }
 
-// Times a table at the row of these words, as "counted look 256 4": the table, the work, the number
-// of slots, and the number of threads, at most `MAX_PASSES`. Prints the nanoseconds. Returns `None`
-// if there is no such row, or an allocation, a clock or a write fails.
-fn report<R: Threads + Wait + Clock + CpuClock + Print + Sync>(
-    rt: &R,
-    alloc: Global,
-    words: &str,
-) -> Option<()> {
-    let catalogue = &one_entry(alloc)?;
+// Returns the table, the row and the number of threads of words as "counted look 256 4", where 256
+// is the number of slots. Returns `None` if there is no such row.
+fn words_of(words: &str) -> Option<(&str, Row, u32)> {
     let mut words = words.split_whitespace();
     let table = words.next()?;
     let row = row_of(words.next()?, words.next()?.parse().ok()?)?;
-    let threads: u32 = words.next()?.parse().ok()?;
+    Some((table, row, words.next()?.parse().ok()?))
+}
+
+// Times a table at a row, with at most `MAX_PASSES` threads, and returns the nanoseconds. Returns
+// `None` if there is no such table, or an allocation or a clock fails.
+fn timed<H: Host>(rt: &H, catalogue: &Catalogue, table: &str, row: Row, threads: u32) -> Option<u64>
+    requires { 0 < length catalogue.now }
+{
     if threads == 0 || threads > MAX_PASSES {
         return None;
     }
-    let nanoseconds = match table {
-        "lasting" => time::<Shared<LastingTable, Lasts>, R>(rt, alloc, catalogue, row, threads)?,
-        "counted" => time::<Shared<CountedTable, Chains>, R>(rt, alloc, catalogue, row, threads)?,
-        "baton" => time::<Shared<BatonTable, Chains>, R>(rt, alloc, catalogue, row, threads)?,
-        "mutex" => time::<Locked, R>(rt, alloc, catalogue, row, threads)?,
-        _ => return None,
-    };
+    match table {
+        "lasting" => time::<Shared<LastingTable, Lasts>, H>(rt, catalogue, row, threads),
+        "counted" => time::<Shared<CountedTable, Chains>, H>(rt, catalogue, row, threads),
+        "baton" => time::<Shared<BatonTable, Chains>, H>(rt, catalogue, row, threads),
+        "mutex" => time::<Locked, H>(rt, catalogue, row, threads),
+        _ => None,
+    }
+}
+
+// Times the row of these words. Prints the nanoseconds. Returns `None` if there is no such row, or
+// an allocation, a clock or a write fails.
+fn report<H: Host>(rt: &H, words: &str) -> Option<()> {
+    let catalogue = &one_entry(rt.alloc())?;
+    let (table, row, threads) = words_of(words)?;
+    let nanoseconds = timed(rt, catalogue, table, row, threads)?;
     println!(rt; "{nanoseconds}").ok()
 }
 
-// Uses a table of four slots whose last one is empty, which has three files afterwards. Prints the
-// bytes that were read at slot 3 while it was empty and while it had a file, and the slots at which
-// a file was installed at any empty slot: first, after that file's removal, and when no slot was
-// empty.
-fn use_table<S: Subject, R: Wait + Print>(
+// Reads at slot 3 of a table of four slots, which is empty, installs a file at any empty slot, and
+// reads again. Prints the bytes that were read each time, and the slot.
+fn fill_last<S: Subject, R: Wait + Print>(
     rt: &R,
     subject: &S,
     pass: &mut S::Pass,
     catalogue: &Catalogue,
     into: &mut Vec<u8>,
-) -> Option<()>
+)
     requires ready { S.ready subject.now pass.old }
     requires entry { 0 < length catalogue.now }
     requires room { READ_LEN ≤ vec_capacity into.old }
@@ -90,6 +102,22 @@ fn use_table<S: Subject, R: Wait + Print>(
     let first = subject.put_any(rt, pass, catalogue.open(0, MARK, 0));
     read(rt, subject, pass, catalogue, 3, into);
     let full = into.len();
+    let _ = print!(rt; "{empty} and {full} bytes, {first:?}, ");
+}
+
+// Uses a full table of four slots, which has three files afterwards. Prints the slots at which a
+// file was installed at any empty slot: after the removal of the last file, and when no slot was
+// empty.
+fn use_full<S: Subject, R: Wait + Print>(
+    rt: &R,
+    subject: &S,
+    pass: &mut S::Pass,
+    catalogue: &Catalogue,
+)
+    requires ready { S.ready subject.now pass.old }
+    requires entry { 0 < length catalogue.now }
+    ensures { S.ready subject.now pass.new }
+{
     subject.take(rt, pass, 3);
     let again = subject.put_any(rt, pass, catalogue.open(0, MARK, 0));
     look(rt, subject, pass, 3);
@@ -97,7 +125,7 @@ fn use_table<S: Subject, R: Wait + Print>(
     subject.put(rt, pass, 3, catalogue.open(0, MARK, 0));
     let last = subject.put_any(rt, pass, catalogue.open(0, MARK, 0));
     subject.take(rt, pass, 3);
-    print!(rt; "{empty} and {full} bytes, {first:?}, {again:?}, {last:?}, ").ok()
+    let _ = print!(rt; "{again:?}, {last:?}, ");
 }
 
 // Opens a table, uses it, closes it, and prints the results.
@@ -120,7 +148,9 @@ fn try_table<S: Subject, R: Wait + Print>(
         }
         Ok((subject, mut passes)) => {
             if !passes.is_empty() {
-                let _ = use_table(rt, &subject, &mut passes[0], catalogue, &mut into);
+                let pass = &mut passes[0];
+                fill_last(rt, &subject, pass, catalogue, &mut into);
+                use_full(rt, &subject, pass, catalogue);
             }
             subject.close(alloc, passes)?
         }
@@ -147,7 +177,7 @@ fn text_of<'a, I: Read>(reader: &mut I, bytes: &'a mut [u8; 64]) -> Option<&'a s
 
 fn main(rt: HostRuntime) -> ExitCode {
     if let Ok(words) = env::var(&rt, "TABLE_BENCH_ROW") {
-        return match report(&rt, rt.alloc(), words.as_str()) {
+        return match report(&rt, words.as_str()) {
             Some(()) => ExitCode::SUCCESS,
             None => ExitCode::FAILURE,
         };
@@ -156,6 +186,6 @@ fn main(rt: HostRuntime) -> ExitCode {
     let Some(text) = text_of(&mut rt.reader(), &mut bytes) else {
         return ExitCode::FAILURE;
     };
-    refusals::play(&rt, rt.alloc(), text);
+    refusals::play(&rt, text);
     ExitCode::SUCCESS
 }

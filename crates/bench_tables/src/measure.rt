@@ -4,6 +4,7 @@ ghost use Rattle.fx_plain.specs.State.{IsSettled};
 ghost use Rattle.fx_plain.specs.Contents.{state_of};
 ghost use Rattle.fx_table.specs.declared.limits.TheConstants.{MAX_PASSES};
 
+use crate::Host;
 use crate::shared::Subject;
 use crate::work::{Row, Shape, Work, work_all};
 use fx_base::{Catalogue, Mark};
@@ -11,9 +12,7 @@ use fx_plain::PlainTable;
 use fx_table::MAX_CHAINS;
 use std::alloc::Global;
 use std::rt::Clock;
-use std::sync::Wait;
 use std::sync::atomic::{AtomicU32, AtomicU64, Ordering};
-use std::thread::Threads;
 use std::time::{CpuClock, Instant};
 use std::{io, thread};
 
@@ -123,9 +122,8 @@ fn fill(plain: &mut PlainTable, catalogue: &Catalogue, full: u32)
 
 /// Returns the nanoseconds that `threads` threads need for the work of a row, on a new table of its
 /// shape, or `None` if an allocation or a clock fails.
-pub(crate) fn time<S: Subject, R: Threads + Wait + Clock + CpuClock + Sync>(
-    rt: &R,
-    alloc: Global,
+pub(crate) fn time<S: Subject, H: Host>(
+    rt: &H,
     catalogue: &Catalogue,
     row: Row,
     threads: u32,
@@ -133,9 +131,9 @@ pub(crate) fn time<S: Subject, R: Threads + Wait + Clock + CpuClock + Sync>(
     requires entry { 0 < length catalogue.now }
     requires threads { (1 ≤ threads) × (threads ≤ MAX_PASSES) }
 {
-    let watch = Watch::new(rt, threads).ok()?;
+    let (alloc, watch) = (rt.alloc(), Watch::new(rt, threads).ok()?);
     if let Work::Open = row.work {
-        return time_of_openings::<S, R>(rt, alloc, catalogue, row, threads);
+        return time_of_openings::<S, H>(rt, alloc, catalogue, row, threads);
     }
     let plain = shaped(alloc, catalogue, row.shape)?;
     match S::open(alloc, plain, MAX_CHAINS, threads) {
@@ -146,7 +144,7 @@ pub(crate) fn time<S: Subject, R: Threads + Wait + Clock + CpuClock + Sync>(
         Ok((subject, mut passes)) => {
             if !passes.is_empty() {
                 let passes = passes.as_mut_slice();
-                work_all(rt, alloc, &subject, passes, catalogue, row, &watch);
+                work_all(rt, &subject, passes, catalogue, row, &watch);
             }
             subject.close(alloc, passes)?;
             watch.took()

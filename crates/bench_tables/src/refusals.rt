@@ -5,15 +5,13 @@
 mod rings;
 mod tables;
 
+use crate::Host;
 use fx_base::CloseList;
 use fx_baton::BatonTable;
 use fx_counted::CountedTable;
 use fx_ring::Report;
 use fx_table::FileTable;
-use std::alloc::Global;
 use std::fmt::Debug;
-use std::sync::Wait;
-use std::thread::Threads;
 
 // The number of attempts of a call: a second one after an allocation failure.
 const ATTEMPTS: u32 = 2;
@@ -55,31 +53,26 @@ fn print_report<R: Print>(rt: &R, call: &str, report: &Report) {
 }
 
 // Makes a call on a shared table, as `make` does.
-fn make_on<T: FileTable, R: Threads + Wait + Print + Sync>(
-    rt: &R,
-    alloc: Global,
-    call: &str,
-    count: u32,
-) -> Option<()> {
+fn make_on<T: FileTable, H: Host>(rt: &H, call: &str, count: u32) -> Option<()> {
     match call {
-        "open" => tables::open::<T, R>(rt, alloc, count),
-        "submit" => rings::submit::<T, R>(rt, alloc, count),
-        "submit_open" => rings::submit_open::<T, R>(rt, alloc),
+        "open" => tables::open::<T, H>(rt, rt.alloc(), count),
+        "submit" => rings::submit::<T, H>(rt, rt.alloc(), count),
+        "submit_open" => rings::submit_open::<T, H>(rt, rt.alloc()),
         _ => None,
     }
 }
 
 // Makes the call. Returns `None` if an allocation before it fails, or if there is no such call.
-fn make<R: Threads + Wait + Print + Sync>(rt: &R, alloc: Global, asked: Asked<'_>) -> Option<()> {
-    let (call, table, count) = asked;
+fn make<H: Host>(rt: &H, asked: Asked<'_>) -> Option<()> {
+    let (alloc, (call, table, count)) = (rt.alloc(), asked);
     match call {
         "add" => tables::add(rt, alloc, count),
         "prepare" => tables::prepare(rt, alloc, count),
         "tags" => rings::tags(rt, alloc),
         "measured" => crate::try_tables(rt, alloc),
         _ => match table {
-            "words" => make_on::<CountedTable, R>(rt, alloc, call, count),
-            "baton" => make_on::<BatonTable, R>(rt, alloc, call, count),
+            "words" => make_on::<CountedTable, H>(rt, call, count),
+            "baton" => make_on::<BatonTable, H>(rt, call, count),
             _ => None,
         },
     }
@@ -87,17 +80,17 @@ fn make<R: Threads + Wait + Print + Sync>(rt: &R, alloc: Global, asked: Asked<'_
 
 /// Makes the call that each line asks for. Of the output, only the end allocates: a failure there
 /// is printed.
-pub(crate) fn play<R: Threads + Wait + Print + Sync>(rt: &R, alloc: Global, text: &str) {
+pub(crate) fn play<H: Host>(rt: &H, text: &str) {
     for line in text.lines() {
         let made = match asked(line) {
-            Some(asked) => make(rt, alloc, asked),
+            Some(asked) => make(rt, asked),
             None => None,
         };
         if made.is_none() {
             let _ = println!(rt; "no setting");
         }
     }
-    let _ = match String::from_str(alloc, "end") {
+    let _ = match String::from_str(rt.alloc(), "end") {
         Ok(text) => println!(rt; "{text}"),
         Err(_refused) => println!(rt; "end: refused"),
     };

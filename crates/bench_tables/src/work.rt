@@ -1,6 +1,7 @@
 //! The work that is timed, by the words of `bench/rows.txt`, and how a thread does it on a table.
 ghost use Rattle.std.specs.Prelude.{◌≡◌, ◌<◌, ◌≤◌, length, All, vec_capacity};
 
+use crate::Host;
 use crate::measure::Watch;
 use crate::shared::Subject;
 use fx_base::{Catalogue, Mark};
@@ -8,7 +9,6 @@ use std::alloc::Global;
 use std::rt::Clock;
 use std::sync::Wait;
 use std::thread;
-use std::thread::Threads;
 use std::time::CpuClock;
 
 /// The operation that is repeated.
@@ -163,9 +163,8 @@ fn do_work<S: Subject, R: Wait + Clock + CpuClock>(
 }
 
 /// Runs each of the passes in a thread of its own, at the same work, while the watch runs.
-pub(crate) fn work_all<S: Subject, R: Threads + Wait + Clock + CpuClock + Sync>(
-    rt: &R,
-    alloc: Global,
+pub(crate) fn work_all<S: Subject, H: Host>(
+    rt: &H,
     subject: &S,
     passes: &mut [S::Pass],
     catalogue: &Catalogue,
@@ -188,7 +187,7 @@ pub(crate) fn work_all<S: Subject, R: Threads + Wait + Clock + CpuClock + Sync>(
             ensures { S.ready subject.entry.now pass.new }
         {
             let thread = (i % 16) as u32;
-            do_work(rt, alloc, subject, pass, catalogue, row, watch, thread)
+            do_work(rt, rt.alloc(), subject, pass, catalogue, row, watch, thread)
         },
     );
 }

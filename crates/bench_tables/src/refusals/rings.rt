@@ -1,15 +1,15 @@
 //! The calls of a ring that allocate, and that no script makes so: `fixfiles` plays the calls
 //! between submissions.
+use crate::Host;
 use crate::refusals::{ATTEMPTS, print_closes, print_refused, print_report};
 use bitflags::Flags;
 use fx_base::{Catalogue, NoMemory};
 use fx_chain::{Gate, Op, OpenGate, Place, Request, SqeFlags, Target};
-use fx_ring::Ring;
+use fx_ring::{OpenRing, Report, Ring, SubmitFault};
 use fx_table::FileTable;
 use std::alloc::Global;
 use std::sync::Wait;
 use std::sync::atomic::{AtomicU32, Ordering};
-use std::thread::Threads;
 
 // Adds a file to a catalogue. Returns `None` if an allocation fails.
 fn add(alloc: Global, catalogue: &mut Catalogue, name: &str, bytes: &[u8]) -> Option<()> {
@@ -104,65 +104,90 @@ pub(crate) fn tags<R: Print>(rt: &R, alloc: Global) -> Option<()> {
     Some(())
 }
 
+// Prints the report of a call, or why it was refused. Returns whether it was made.
+fn is_made<R: Print>(rt: &R, call: &str, answer: Result<Report, SubmitFault>) -> bool {
+    match answer {
+        Ok(report) => {
+            print_report(rt, call, &report);
+            true
+        }
+        Err(fault) => {
+            print_refused(rt, call, fault);
+            false
+        }
+    }
+}
+
 /// Submits a chain that reads and closes a file, and one that opens another file, to `workers`
 /// workers. If the submission is refused, no request has started.
-pub(crate) fn submit<T: FileTable, R: Threads + Wait + Print + Sync>(
-    rt: &R,
-    alloc: Global,
-    workers: u32,
-) -> Option<()> {
+pub(crate) fn submit<T: FileTable, H: Host>(rt: &H, alloc: Global, workers: u32) -> Option<()> {
     let requests = requests(alloc)?;
     let mut ring = ring_of_two_files(alloc)?;
     let calls = Calls(AtomicU32::new(0));
     for _ in 0..ATTEMPTS {
-        match ring.submit::<T, Calls>(rt, alloc, requests.as_slice(), workers, &calls) {
-            Ok(report) => {
-                print_report(rt, "submit", &report);
-                break;
-            }
-            Err(fault) => {
-                print_refused(rt, "submit", fault);
-                let _ = println!(rt; "gate: {} calls", calls.0.load(Ordering::SeqCst));
-            }
+        let answer = ring.submit::<T, Calls>(rt, alloc, requests.as_slice(), workers, &calls);
+        if is_made(rt, "submit", answer) {
+            break;
         }
+        let _ = println!(rt; "gate: {} calls", calls.0.load(Ordering::SeqCst));
     }
     end(rt, alloc, ring);
     Some(())
+}
+
+// Opens the ring's table, with a second attempt after an allocation failure.
+fn opened<T: FileTable, R: Print>(
+    rt: &R,
+    alloc: Global,
+    ring: Ring,
+) -> Result<OpenRing<T>, (Ring, NoMemory)> {
+    match ring.open::<T>(alloc, 2, 1) {
+        Ok(ring) => Ok(ring),
+        Err((ring, NoMemory)) => {
+            print_refused(rt, "submit_open", NoMemory);
+            ring.open::<T>(alloc, 2, 1)
+        }
+    }
+}
+
+// Submits the requests on a ring whose table is open. Returns whether they were submitted.
+fn is_submitted<T: FileTable, R: Wait + Print>(
+    rt: &R,
+    alloc: Global,
+    ring: &mut OpenRing<T>,
+    requests: &[Request],
+) -> bool {
+    match ring.submit(rt, alloc, requests, &OpenGate) {
+        Ok(Some(report)) => {
+            print_report(rt, "submit_open", &report);
+            true
+        }
+        Ok(None) => {
+            let _ = println!(rt; "submit_open: no room");
+            false
+        }
+        Err(fault) => {
+            print_refused(rt, "submit_open", fault);
+            let _ = println!(rt; "open ring: {} slots", ring.size());
+            false
+        }
+    }
 }
 
 /// Submits the same chains on a ring whose table is open. The opening, too, has a second attempt
 /// after an allocation failure.
 pub(crate) fn submit_open<T: FileTable, R: Wait + Print>(rt: &R, alloc: Global) -> Option<()> {
     let requests = requests(alloc)?;
-    let opened = match ring_of_two_files(alloc)?.open::<T>(alloc, 2, 1) {
-        Ok(ring) => Ok(ring),
-        Err((ring, NoMemory)) => {
-            print_refused(rt, "submit_open", NoMemory);
-            ring.open::<T>(alloc, 2, 1)
-        }
-    };
-    let mut ring = match opened {
-        Ok(ring) => ring,
-        Err((ring, NoMemory)) => {
-            end(rt, alloc, ring);
-            return Some(());
-        }
-    };
-    for _ in 0..ATTEMPTS {
-        match ring.submit(rt, alloc, requests.as_slice(), &OpenGate) {
-            Ok(Some(report)) => {
-                print_report(rt, "submit_open", &report);
-                break;
+    match opened::<T, R>(rt, alloc, ring_of_two_files(alloc)?) {
+        Ok(mut ring) => {
+            for _ in 0..ATTEMPTS {
+                if is_submitted(rt, alloc, &mut ring, requests.as_slice()) {
+                    break;
+                }
             }
-            Ok(None) => {
-                let _ = println!(rt; "submit_open: no room");
-            }
-            Err(fault) => {
-                print_refused(rt, "submit_open", fault);
-                let _ = println!(rt; "open ring: {} slots", ring.size());
-            }
+            end(rt, alloc, ring.close());
         }
+        Err((ring, NoMemory)) => end(rt, alloc, ring),
     }
-    end(rt, alloc, ring.close());
     Some(())
 }
