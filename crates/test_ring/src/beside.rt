@@ -1,14 +1,10 @@
 //! Threads that really run at the same time: a gate stops chains until others have reached the same
 //! point. No clause says that two threads ran, so a player of all chains on one thread would be
 //! proved as well.
-use crate::setting::{Players, TABLES, Table, play};
+use crate::setting::{Host, Players, TABLES, Table, play};
 use fx_chain::{Gate, Place};
-use std::alloc::Global;
-use std::process::Abort;
-use std::sync::Wait;
 use std::sync::atomic::{AtomicBool, AtomicU32, Ordering};
 use std::thread;
-use std::thread::Threads;
 
 // The number of times that a chain checks whether others have come.
 const MOST_TURNS: u32 = 50_000_000;
@@ -72,16 +68,9 @@ impl Gate for Meeting {
 
 // Checks whether the first `held` chains of a script meet, and whether the gate is called once
 // before each member and once after it.
-fn meet<R: Threads + Wait + Abort + Sync>(
-    rt: &R,
-    alloc: Global,
-    script: &[u8],
-    players: Players,
-    held: u32,
-    chains: u32,
-) -> bool {
+fn meet<H: Host>(rt: &H, script: &[u8], players: Players, held: u32, chains: u32) -> bool {
     let meeting = Meeting::new(held, chains);
-    play(rt, alloc, script, players, &meeting);
+    play(rt, script, players, &meeting);
     let (came, left) = (&meeting.came, &meeting.left);
     came.load(Ordering::SeqCst) == chains
         && left.load(Ordering::SeqCst) == chains
@@ -98,7 +87,7 @@ fn each_number_of_workers_play_beside_each_other(rt: HostRuntime) {
     for workers in 1..17 {
         let script = &CLOSES[8 * (16 - workers as usize)..];
         for table in TABLES {
-            assert!(rt; meet(&rt, rt.alloc(), script, (table, workers), workers, workers));
+            assert!(rt; meet(&rt, script, (table, workers), workers, workers));
         }
     }
 }
@@ -110,7 +99,7 @@ fn each_number_of_workers_play_beside_each_other(rt: HostRuntime) {
 fn submit_shares_out_chains_itself(rt: HostRuntime) {
     let script = &CLOSES[8 * 13..];
     for (table, is_free) in [(Table::Words, true), (Table::Baton, false)] {
-        assert!(rt; meet(&rt, rt.alloc(), script, (table, 2), 1, 3) == is_free);
+        assert!(rt; meet(&rt, script, (table, 2), 1, 3) == is_free);
     }
 }
 
@@ -123,7 +112,7 @@ fn an_update_between_an_open_and_its_read(rt: HostRuntime) {
                    closed 1.2.1.0 b.txt\n";
     for table in TABLES {
         let gate = Meeting::new(0, 2);
-        let text = play(&rt, rt.alloc(), script.as_bytes(), (table, 2), &gate);
+        let text = play(&rt, script.as_bytes(), (table, 2), &gate);
         assert!(rt; text.as_slice() == expected.as_slice() && !gate.is_late.load(Ordering::SeqCst));
     }
 }

@@ -1,11 +1,9 @@
 //! The requests that the gate is called for: each that is started, once before and once after, in
 //! order, and no other. Which requests are started was worked out by hand.
-use crate::setting::{TABLES, end, play, read, ring_of, submit};
+use crate::setting::{Host, Players, TABLES, end, play, read, ring_of, submit};
 use bitflags::Flags;
 use fx_chain::{CutFault, CutKind, Gate, Place, Request, SqeFlags};
 use fx_ring::SubmitFault;
-use std::alloc::Global;
-use std::process::Abort;
 use std::sync::atomic::{AtomicBool, AtomicU32, Ordering};
 
 // A gate of a first submission that counts its calls for each chain, and records a call that isn't
@@ -18,8 +16,8 @@ struct Calls {
 
 impl Calls {
     // Creates a gate of a submission of `chains` chains.
-    fn new<R: Abort>(rt: &R, alloc: Global, chains: usize) -> Calls {
-        let mut counts = Vec::new(alloc);
+    fn new<H: Host>(rt: &H, chains: usize) -> Calls {
+        let mut counts = Vec::new(rt.alloc());
         for _ in 0..chains {
             counts.push(AtomicU32::new(0)).expect(rt, "memory");
         }
@@ -89,24 +87,37 @@ const ROWS: [(&str, &[u32]); 4] = [
     ("close 0\nread 0 0 4097\nsubmit\n", &[]),
 ];
 
+// Checks whether a play of the script starts exactly these members of its chains.
+fn starts<H: Host>(rt: &H, script: &str, players: Players, started: &[u32]) -> bool {
+    let calls = Calls::new(rt, started.len());
+    play(rt, script.as_bytes(), players, &calls);
+    calls.were_started(started)
+}
+
 #[test]
 fn gate_is_called_for_what_is_started(rt: HostRuntime) {
-    let alloc = rt.alloc();
     for (script, started) in &ROWS {
         for table in TABLES {
             for workers in [1, 2, 3, 16] {
-                let calls = Calls::new(&rt, alloc, started.len());
-                play(&rt, alloc, script.as_bytes(), (table, workers), &calls);
-                assert!(rt; calls.were_started(started));
+                assert!(rt; starts(&rt, script, (table, workers), started));
             }
         }
     }
 }
 
+// Submits requests to a ring of one file. Checks whether that is refused for this fault, and starts
+// none of them.
+fn is_refused<H: Host>(rt: &H, requests: &[Request], players: Players, fault: SubmitFault) -> bool {
+    let calls = Calls::new(rt, 0);
+    let mut ring = ring_of(rt, &[0]);
+    let answer = submit(rt, &mut ring, requests, players, &calls);
+    end(rt, ring);
+    answer.err() == Some(fault) && calls.were_started(&[])
+}
+
 // Submissions that are refused, and that no script can express.
 #[test]
 fn refused_submissions_start_no_request(rt: HostRuntime) {
-    let alloc = rt.alloc();
     let (op, flags) = (read(0, 0, 5).op, SqeFlags::empty());
     let requests = [read(0, 0, 5), Request { op, flags }];
     let (at, kind) = (2, CutKind::BadFlags);
@@ -119,12 +130,8 @@ fn refused_submissions_start_no_request(rt: HostRuntime) {
         (2, 16, bad_flags),
     ] {
         for table in TABLES {
-            let calls = Calls::new(&rt, alloc, 0);
-            let mut ring = ring_of(&rt, alloc, &[0]);
-            let requests = &requests[..count];
-            let refused = submit(&rt, alloc, &mut ring, requests, (table, workers), &calls);
-            assert!(rt; refused.err() == Some(fault) && calls.were_started(&[]));
-            end(&rt, alloc, ring);
+            let (requests, players) = (&requests[..count], (table, workers));
+            assert!(rt; is_refused(&rt, requests, players, fault));
         }
     }
 }

@@ -11,23 +11,22 @@ use fx_chain::{Gate, Op, Place, Request, SqeFlags, Target};
 use fx_counted::CountedTable;
 use fx_ring::{Report, Ring, SubmitFault};
 use fx_script::run;
-use std::alloc::Global;
 use std::process::Abort;
 use std::sync::Wait;
 use std::thread::Threads;
 
+/// What the tests need of the runtime.
+pub trait Host: Threads + Wait + Abort + AllocGlobal + Sync {}
+
+impl<R: Threads + Wait + Abort + AllocGlobal + Sync> Host for R {}
+
 /// Creates an open of `a.txt` at slot 0.
-pub fn open<R: Abort>(rt: &R, alloc: Global) -> Request
+pub fn open<H: Host>(rt: &H) -> Request
     ensures { operation_of result.op ≡ Opens (codes "a.txt") (Slot 0) }
 {
-    let name = String::from_str(alloc, "a.txt").expect(rt, "memory");
-    let (op, flags) = (
-        Op::Open {
-            name,
-            target: Target::Slot(0),
-        },
-        SqeFlags::empty(),
-    );
+    let name = String::from_str(rt.alloc(), "a.txt").expect(rt, "memory");
+    let (target, flags) = (Target::Slot(0), SqeFlags::empty());
+    let op = Op::Open { name, target };
     Request { op, flags }
 }
 
@@ -83,7 +82,8 @@ pub const TABLES: [Table; 2] = [Table::Words, Table::Baton];
 pub type Players = (Table, u32);
 
 /// Creates a catalogue with only `a.txt`, a file of 4,096 bytes.
-pub fn one_file<R: Abort>(rt: &R, alloc: Global) -> Catalogue {
+pub fn one_file<H: Host>(rt: &H) -> Catalogue {
+    let alloc = rt.alloc();
     let mut catalogue = Catalogue::new(alloc);
     let name = String::from_str(alloc, "a.txt").expect(rt, "memory");
     let bytes = vec![in alloc; 7; 4096].expect(rt, "memory");
@@ -92,22 +92,21 @@ pub fn one_file<R: Abort>(rt: &R, alloc: Global) -> Catalogue {
 }
 
 /// Creates a ring with this catalogue and a table of this list of entries.
-pub fn ring_of<R: Abort>(rt: &R, alloc: Global, list: &[i32]) -> Ring {
-    let mut ring = Ring::new(alloc, one_file(rt, alloc));
-    assert!(rt; ring.register(alloc, list).is_ok());
+pub fn ring_of<H: Host>(rt: &H, list: &[i32]) -> Ring {
+    let mut ring = Ring::new(rt.alloc(), one_file(rt));
+    assert!(rt; ring.register(rt.alloc(), list).is_ok());
     ring
 }
 
 /// Submits requests.
-pub fn submit<R: Threads + Wait + Sync, G: Gate>(
-    rt: &R,
-    alloc: Global,
+pub fn submit<H: Host, G: Gate>(
+    rt: &H,
     ring: &mut Ring,
     requests: &[Request],
     players: Players,
     gate: &G,
 ) -> Result<Report, SubmitFault> {
-    let (table, workers) = players;
+    let (alloc, (table, workers)) = (rt.alloc(), players);
     match table {
         Table::Words => ring.submit::<CountedTable, G>(rt, alloc, requests, workers, gate),
         Table::Baton => ring.submit::<BatonTable, G>(rt, alloc, requests, workers, gate),
@@ -115,22 +114,16 @@ pub fn submit<R: Threads + Wait + Sync, G: Gate>(
 }
 
 /// Tears a ring down; memory for its list suffices.
-pub fn end<R: Abort>(rt: &R, alloc: Global, ring: Ring) {
-    match ring.tear_down(alloc) {
-        Ok(closes) => assert!(rt; closes.tags(alloc).is_ok()),
+pub fn end<H: Host>(rt: &H, ring: Ring) {
+    match ring.tear_down(rt.alloc()) {
+        Ok(closes) => assert!(rt; closes.tags(rt.alloc()).is_ok()),
         Err(_refused) => panic!(rt; "a list of closes"),
     }
 }
 
 /// Plays a script to its end, and returns what it prints.
-pub fn play<R: Threads + Wait + Abort + Sync, G: Gate>(
-    rt: &R,
-    alloc: Global,
-    script: &[u8],
-    players: Players,
-    gate: &G,
-) -> Vec<u8> {
-    let (table, workers) = players;
+pub fn play<H: Host, G: Gate>(rt: &H, script: &[u8], players: Players, gate: &G) -> Vec<u8> {
+    let (alloc, (table, workers)) = (rt.alloc(), players);
     assert!(rt; 1 <= workers && workers <= 16);
     let mut reader = script;
     let mut text = Vec::new(alloc);

@@ -1,11 +1,13 @@
 //! Results that no script shows: values worked out by hand, the memory of reads, and an order of a
 //! report.
 use crate::setting::{
-    TABLES, Table, close, end, first_chain, in_chain, one_file, open, read, ring_of, submit,
+    Host, TABLES, Table, close, end, first_chain, in_chain, one_file, open, read, ring_of, submit,
 };
 use bitflags::Flags;
-use fx_chain::{Completion, LONGEST_READ, OpenGate, SqeFlags, Target, check, target};
+use fx_base::NoMemory;
+use fx_chain::{Completion, LONGEST_READ, OpenGate, Request, SqeFlags, Target, check, target};
 use fx_order::{Access, ChainAccess, RingSlots, Slots, is_one_order};
+use fx_ring::Report;
 use fx_words::{
     begin_amount, control_word, end_amount, entry_of, node_of, retire_amount, says_full, slot_word,
     takes_of,
@@ -59,30 +61,40 @@ fn request_with_both_flags_is_a_hard_link(rt: HostRuntime) {
     assert!(rt; !request.severs(&failed));
 }
 
+// Creates a read of each length, from 0.
+fn reads<H: Host>(rt: &H) -> Vec<Request> {
+    let mut list = Vec::new(rt.alloc());
+    for len in 0..LONGEST_READ + 1 {
+        let request = in_chain(read(0, 0, len), len);
+        list.push(request).expect(rt, "memory");
+    }
+    list
+}
+
+// Checks whether the completion at each position has that number of bytes, in an exact buffer.
+fn has_each_length(report: &Report) -> bool {
+    for (len, completion) in report.completions.iter().enumerate() {
+        if len > 4096 || completion.res != len as i32 || completion.got.capacity() != len {
+            return false;
+        }
+    }
+    true
+}
+
 // A read allocates exactly the bytes that it asks for. By its contract it may fail for lack of
 // memory; here none does. The built program plays scripts of every size (tests/check-limits).
 #[test]
 fn reads_of_each_length(rt: HostRuntime) {
-    let alloc = rt.alloc();
-    let mut list = Vec::new(alloc);
-    for len in 0..LONGEST_READ + 1 {
-        list.push(in_chain(read(0, 0, len), len))
-            .expect(&rt, "memory");
-    }
-    let requests = list.as_slice();
-    let mut ring = ring_of(&rt, alloc, &[0]);
+    let requests = reads(&rt);
+    let mut ring = ring_of(&rt, &[0]);
     for table in TABLES {
         for workers in [1, 16] {
             let players = (table, workers);
-            let answer = submit(&rt, alloc, &mut ring, requests, players, &OpenGate);
-            let report = answer.expect(&rt, "a report");
-            for (len, completion) in report.completions.iter().enumerate() {
-                assert!(rt; len <= 4096);
-                assert!(rt; completion.res == len as i32 && completion.got.capacity() == len);
-            }
+            let answer = submit(&rt, &mut ring, &requests, players, &OpenGate);
+            assert!(rt; has_each_length(&answer.expect(&rt, "a report")));
         }
     }
-    end(&rt, alloc, ring);
+    end(&rt, ring);
 }
 
 // Returns an access by a chain.
@@ -90,36 +102,50 @@ fn by(chain: u32, access: Access) -> ChainAccess {
     ChainAccess { chain, access }
 }
 
+// Returns the report of requests that one worker plays on a ring with two empty slots.
+fn report_of<H: Host>(rt: &H, requests: &[Request]) -> Report {
+    let mut ring = ring_of(rt, &[-1, -1]);
+    let players = (Table::Baton, 1);
+    let answer = submit(rt, &mut ring, requests, players, &OpenGate);
+    end(rt, ring);
+    answer.expect(rt, "a report")
+}
+
+// Checks whether the order explains the report of requests on two empty slots.
+fn is_order_of<H: Host>(
+    rt: &H,
+    requests: &[Request],
+    report: &Report,
+    order: &[ChainAccess],
+) -> Result<bool, NoMemory> {
+    assert!(rt; check(requests).is_ok());
+    let (range, at) = ((0, 2), vec![in rt.alloc(); None; 2].expect(rt, "memory"));
+    let (slots, submissions, registrations) = (Slots { range, at }, 0, 0);
+    let mut empty = RingSlots {
+        slots,
+        submissions,
+        registrations,
+    };
+    let catalogue = one_file(rt);
+    is_one_order(rt.alloc(), &catalogue, &mut empty, requests, report, order)
+}
+
 // One worker plays a chain that opens a file at slot 0 and reads it, and then one that closes the
 // slot. Without the close, the order isn't one of the report. No program here computes orders, so
 // only this test sees that memory suffices for one.
 #[test]
 fn order_of_a_report(rt: HostRuntime) {
-    let alloc = rt.alloc();
     let file = first_chain(1).installed(0, 0);
     let order = [
         by(1, Access::Puts(0, file, None)),
         by(1, Access::Looks(0, Some(file))),
         by(2, Access::Takes(0, Some(file))),
     ];
-    let open = in_chain(open(&rt, alloc), 0);
+    let open = in_chain(open(&rt), 0);
     let requests = [open, read(0, 0, 5), close(0)];
-    let mut ring = ring_of(&rt, alloc, &[-1, -1]);
-    let players = (Table::Baton, 1);
-    let answer = submit(&rt, alloc, &mut ring, &requests, players, &OpenGate);
-    let report = answer.expect(&rt, "a report");
-    end(&rt, alloc, ring);
-    let catalogue = one_file(&rt, alloc);
+    let report = report_of(&rt, &requests);
     for (count, is_order) in [(2, false), (3, true)] {
-        assert!(rt; check(&requests).is_ok());
-        let (range, at) = ((0, 2), vec![in alloc; None; 2].expect(&rt, "memory"));
-        let mut empty = RingSlots {
-            slots: Slots { range, at },
-            submissions: 0,
-            registrations: 0,
-        };
-        let order = &order[..count];
-        let said = is_one_order(alloc, &catalogue, &mut empty, &requests, &report, order);
+        let said = is_order_of(&rt, &requests, &report, &order[..count]);
         assert!(rt; said == Ok(is_order));
     }
 }
