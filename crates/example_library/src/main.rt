@@ -18,7 +18,7 @@ use std::alloc::Global;
 use std::sync::Wait;
 use std::sync::atomic::{AtomicU32, Ordering};
 use std::thread::Threads;
-use tasks::{Gone, open_until_full, read_while_replaced, replace_under_load};
+use tasks::{open_until_full, read_while_replaced, replace_under_load};
 
 // The tag of the first file at slot 0.
 const TAG: u64 = 7;
@@ -54,24 +54,31 @@ fn shared_table<T: FileTable>(
     }
 }
 
-// Reads the file while it is replaced, and then opens files until the table is full.
+// Reads the file while it is replaced, and then opens files until the table is full. Returns the
+// number of bytes that were read, if slot 0 had a file, and of files that were opened.
 fn serve_by_name<T: FileTable, R: Threads + Wait + Sync>(
     rt: &R,
     alloc: Global,
     catalogue: &Catalogue,
-) -> Result<(Option<Gone>, u32), NoMemory>
-    requires { 1 < length catalogue.now }
+    by_reader: &mut CloseList,
+    by_writer: &mut CloseList,
+) -> Result<(Option<u32>, u32), NoMemory>
+    requires entry { 1 < length catalogue.now }
+    requires room { (0 < by_reader.old.room) × (0 < by_writer.old.room) }
 {
     let (table, mut passes) = shared_table::<T>(alloc, catalogue)?;
     // A pass that is used by name leaves the list and returns to it, since the table is closed with
     // all passes.
     let (mut reader, mut writer) = (passes.pop().unwrap(), passes.pop().unwrap());
-    let gone = read_while_replaced(rt, alloc, catalogue, &table, &mut reader, &mut writer);
+    let (one, other) = (&mut reader, &mut writer);
+    let count = read_while_replaced(
+        rt, alloc, catalogue, &table, one, other, by_reader, by_writer,
+    );
     let opened = open_until_full(rt, catalogue, &table, &mut writer);
     passes.push_reserved(writer);
     passes.push_reserved(reader);
     table.close(passes).abandon();
-    Ok((gone, opened))
+    Ok((count?, opened))
 }
 
 // Replaces the file under load. Returns the number of closed files.
@@ -93,7 +100,7 @@ fn serve_under_load<T: FileTable, R: Threads + Wait + Sync>(
 fn print_closed<R: Print>(
     rt: &R,
     alloc: Global,
-    count: usize,
+    count: u32,
     by_reader: &CloseList,
     by_writer: &CloseList,
 ) -> Result<(), NoMemory> {
@@ -120,28 +127,16 @@ fn serve<R: Threads + Wait + Sync + Print>(
     by_writer: &mut CloseList,
 ) -> Result<(), NoMemory>
     requires entry { 1 < length catalogue.now }
-    requires reader { 0 < by_reader.old.room }
-    requires writer { 0 < by_writer.old.room }
+    requires room { (0 < by_reader.old.room) × (0 < by_writer.old.room) }
 {
     let closed = serve_under_load::<CountedTable, R>(rt, alloc, catalogue)?;
-    let (gone, opened) = serve_by_name::<CountedTable, R>(rt, alloc, catalogue)?;
-    let Some(
-        Gone {
-            bytes,
-            released,
-            retired,
-        },
-    ) = gone
-    else {
+    let (count, opened) = serve_by_name::<CountedTable, R>(
+        rt, alloc, catalogue, by_reader, by_writer,
+    )?;
+    let Some(count) = count else {
         return Ok(());
     };
-    if let Some(file) = released {
-        by_reader.close(file);
-    }
-    if let Some(file) = retired {
-        by_writer.close(file);
-    }
-    print_closed(rt, alloc, bytes?.len(), by_reader, by_writer)?;
+    print_closed(rt, alloc, count, by_reader, by_writer)?;
     let _ = println!(rt;
         "files opened at any slot until no slot was free: {opened}\n\
          files that were replaced and closed under load: {closed}"

@@ -5,7 +5,7 @@ ghost use Rattle.std.specs.Thread.{IsSync};
 ghost use Rattle.fx_table.specs.Opening.{size_of};
 ghost use Rattle.fx_table.specs.Pass.{IsIdle};
 
-use fx_base::{Catalogue, Mark, NoMemory, OpenFile};
+use fx_base::{Catalogue, CloseList, Mark, NoMemory, OpenFile};
 use fx_table::FileTable;
 use std::alloc::Global;
 use std::sync::Wait;
@@ -39,24 +39,15 @@ pub fn replace<T: FileTable, R: Wait>(
     table.retire(rt, pass, removed)
 }
 
-// Returns the first five bytes of an entry, or fewer if the entry is shorter.
-fn read(alloc: Global, catalogue: &Catalogue, entry: u8) -> Result<Vec<u8>, NoMemory> {
+// Reads the first five bytes of an entry, or fewer if the entry is shorter. Returns their number.
+fn read(alloc: Global, catalogue: &Catalogue, entry: u8) -> Result<u32, NoMemory> {
     let mut bytes = Vec::with_capacity(alloc, 5)?;
-    catalogue.read_into(entry, 0, 5, &mut bytes);
-    Ok(bytes)
-}
-
-/// The bytes that the reader read, and the files that its release and the writer's update returned,
-/// to be closed.
-pub struct Gone {
-    pub bytes: Result<Vec<u8>, NoMemory>,
-    pub released: Option<OpenFile>,
-    pub retired: Option<OpenFile>,
+    Ok(catalogue.read_into(entry, 0, 5, &mut bytes))
 }
 
 /// Reads the file at slot 0 in one thread, and meanwhile replaces it in another. The reader is the
 /// last user, so the reader closes the file, and learns that by the tag which its list of closes
-/// returns. Returns `None` if the slot is empty.
+/// returns. Returns the number of bytes that were read, or `None` if the slot is empty.
 pub fn read_while_replaced<T: FileTable, R: Threads + Wait + Sync>(
     rt: &R,
     alloc: Global,
@@ -64,17 +55,22 @@ pub fn read_while_replaced<T: FileTable, R: Threads + Wait + Sync>(
     table: &T,
     reader: &mut T::Pass,
     writer: &mut T::Pass,
-) -> Option<Gone>
+    by_reader: &mut CloseList,
+    by_writer: &mut CloseList,
+) -> Result<Option<u32>, NoMemory>
     requires slot { 0 < size_of (T.opening table.now) }
     requires entry { 1 < length catalogue.now }
     requires reader { T.fits table.now reader.old × IsIdle (T.view reader.old) }
     requires writer { T.fits table.now writer.old × IsIdle (T.view writer.old) }
+    requires room { (0 < by_reader.old.room) × (0 < by_writer.old.room) }
     ensures reader { T.fits table.now reader.new × IsIdle (T.view reader.new) }
     ensures writer { T.fits table.now writer.new × IsIdle (T.view writer.new) }
 {
-    let hold = table.look(rt, reader, 0).ok()?;
+    let Ok(hold) = table.look(rt, reader, 0) else {
+        return Ok(None);
+    };
     let entry = hold.entry;
-    let (bytes, retired) = join_mut(
+    let (count, retired) = join_mut(
         rt,
         &mut || read(alloc, catalogue, entry),
         &mut || -> Option<OpenFile>
@@ -83,12 +79,13 @@ pub fn read_while_replaced<T: FileTable, R: Threads + Wait + Sync>(
             ensures { T.fits table.entry.now writer.exit.now × IsIdle (T.view writer.exit.now) }
         { replace(rt, catalogue, table, writer) },
     );
-    let released = table.release(rt, reader, hold);
-    Some(Gone {
-        bytes,
-        released,
-        retired,
-    })
+    if let Some(file) = table.release(rt, reader, hold) {
+        by_reader.close(file);
+    }
+    if let Some(file) = retired {
+        by_writer.close(file);
+    }
+    Ok(Some(count?))
 }
 
 /// Opens entry 0 of the catalogue at any slot, until every slot of the range is full (`ENFILE`) or
