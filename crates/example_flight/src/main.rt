@@ -7,7 +7,7 @@ ghost use Rattle.fx_base.specs.Catalogue.{IsCatalogue};
 use bitflags::Flags;
 use check_flight::{FlightVerdict, judge_events};
 use check_search::Limits;
-use fx_base::{AddFault, Catalogue, Closed, Mark, NoMemory};
+use fx_base::{AddFault, Catalogue, NoMemory};
 use fx_chain::{Completion, Op, Place, Request, SqeFlags, Target};
 use fx_flight::LogEvent;
 use fx_order::Slots;
@@ -15,66 +15,64 @@ use std::alloc::Global;
 
 const NAME: &str = "page.html";
 
-// Returns a call of one request.
-fn call(alloc: Global, id: u32, op: Op, flags: SqeFlags) -> Result<LogEvent, NoMemory> {
-    let mut chain = Vec::new(alloc);
-    chain.push(Request { op, flags })?;
-    Ok(LogEvent::Call { id, chain })
+// Appends a call of one request.
+fn call(alloc: Global, log: &mut Vec<LogEvent>, id: u32, request: Request) -> Result<(), NoMemory> {
+    let chain = Vec::from_array(alloc, [request])?;
+    Ok(log.push(LogEvent::Call { id, chain })?)
 }
 
-// Returns the call of an open at slot 0.
-fn open(alloc: Global, id: u32) -> Result<LogEvent, NoMemory> {
-    let (name, target) = (String::from_str(alloc, NAME)?, Target::Slot(0));
-    call(alloc, id, Op::Open { name, target }, SqeFlags::empty())
-}
-
-// Returns the answer of a call.
-fn done(id: u32, res: i32, got: Vec<u8>) -> LogEvent {
-    let place = Place {
-        submission: id,
-        chain: 1,
-        member: 1,
-    };
-    LogEvent::Done(Completion { place, res, got })
-}
-
-// Returns a log: the file is opened, read and closed. The read is called first, or last.
-fn log(alloc: Global, reads_first: bool) -> Result<Vec<LogEvent>, NoMemory> {
-    let (read, close) = if reads_first { (2, 3) } else { (3, 2) };
-    let op = Op::Read {
-        slot: 0,
-        off: 0,
-        len: 5,
-    };
-    let reads = call(alloc, read, op, SqeFlags::FIXED_FILE)?;
-    let closes = call(alloc, close, Op::Close { slot: 0 }, SqeFlags::empty())?;
-    let closed = done(close, 0, Vec::new(alloc));
-    let mut events = Vec::new(alloc);
-    events.push(open(alloc, 1)?)?;
-    events.push(done(1, 0, Vec::new(alloc)))?;
-    if reads_first {
-        events.push(reads)?;
-        events.push(closes)?;
-        events.push(closed)?;
-    } else {
-        events.push(closes)?;
-        events.push(closed)?;
-        events.push(reads)?;
+// Returns the place of the request of a call.
+fn place_of(id: u32) -> Place {
+    let (submission, chain, member) = (id, 1, 1);
+    Place {
+        submission,
+        chain,
+        member,
     }
-    events.push(done(read, 5, b"hello".to_vec(alloc)?))?;
-    let mark = Mark::Submitted {
-        submission: 1,
-        chain: 1,
-        member: 1,
-        entry: 0,
-    };
-    events.push(LogEvent::Closed(Closed {
-        mark,
-        entry: 0,
-        tag: 0,
-    }))?;
-    events.push(LogEvent::Settled)?;
-    Ok(events)
+}
+
+// Appends the answer of a call.
+fn done(log: &mut Vec<LogEvent>, id: u32, res: i32, got: Vec<u8>) -> Result<(), NoMemory> {
+    let place = place_of(id);
+    Ok(log.push(LogEvent::Done(Completion { place, res, got }))?)
+}
+
+// Appends an open at slot 0, and its answer.
+fn open(alloc: Global, log: &mut Vec<LogEvent>, id: u32) -> Result<(), NoMemory> {
+    let (name, target) = (String::from_str(alloc, NAME)?, Target::Slot(0));
+    let (op, flags) = (Op::Open { name, target }, SqeFlags::empty());
+    call(alloc, log, id, Request { op, flags })?;
+    done(log, id, 0, Vec::new(alloc))
+}
+
+// Appends a read of slot 0, without its answer.
+fn read(alloc: Global, log: &mut Vec<LogEvent>, id: u32) -> Result<(), NoMemory> {
+    let (slot, off, len) = (0, 0, 5);
+    let (op, flags) = (Op::Read { slot, off, len }, SqeFlags::FIXED_FILE);
+    call(alloc, log, id, Request { op, flags })
+}
+
+// Appends a close of slot 0, and its answer.
+fn close(alloc: Global, log: &mut Vec<LogEvent>, id: u32) -> Result<(), NoMemory> {
+    let (op, flags) = (Op::Close { slot: 0 }, SqeFlags::empty());
+    call(alloc, log, id, Request { op, flags })?;
+    done(log, id, 0, Vec::new(alloc))
+}
+
+// Appends a log: the file is opened, read and closed. The read is called first, or last.
+fn play(alloc: Global, log: &mut Vec<LogEvent>, reads_first: bool) -> Result<(), NoMemory> {
+    open(alloc, log, 1)?;
+    if reads_first {
+        read(alloc, log, 2)?;
+        close(alloc, log, 3)?;
+        done(log, 2, 5, b"hello".to_vec(alloc)?)?;
+    } else {
+        close(alloc, log, 2)?;
+        read(alloc, log, 3)?;
+        done(log, 3, 5, b"hello".to_vec(alloc)?)?;
+    }
+    log.push(LogEvent::Closed(place_of(1).installed(0, 0)))?;
+    Ok(log.push(LogEvent::Settled)?)
 }
 
 // Returns the verdict on a log, at a table of one empty slot.
@@ -85,16 +83,12 @@ fn verdict_on(
 ) -> Result<FlightVerdict, NoMemory>
     requires { IsCatalogue catalogue.now }
 {
-    let events = log(alloc, reads_first)?;
-    let slots = Slots {
-        range: (0, 1),
-        at: vec![in alloc; None; 1]?,
-    };
-    let limits = Limits {
-        states: 1000,
-        bytes: 1 << 20,
-    };
-    judge_events(alloc, catalogue, &slots, &events, limits)
+    let mut log = Vec::new(alloc);
+    play(alloc, &mut log, reads_first)?;
+    let (range, at) = ((0, 1), vec![in alloc; None; 1]?);
+    let (states, bytes) = (1000, 1 << 20);
+    let limits = Limits { states, bytes };
+    judge_events(alloc, catalogue, &Slots { range, at }, &log, limits)
 }
 
 fn main(rt: HostRuntime) -> Result<(), AddFault> {
