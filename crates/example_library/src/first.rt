@@ -1,6 +1,6 @@
 //! From nothing to a full table: makes a catalogue, fills a table, shares it, replaces a file and
 //! closes all files.
-ghost use Rattle.std.specs.Prelude.{◌≡◌, ◌<◌, IfOk, length};
+ghost use Rattle.std.specs.Prelude.{◌≡◌, ◌<◌, ◌+◌, IfOk, OnOk, length};
 ghost use Rattle.fx_plain.specs.Contents.{state_of};
 ghost use Rattle.fx_plain.specs.State.{IsSettled};
 ghost use Rattle.fx_table.specs.Opening.{size_of};
@@ -15,13 +15,20 @@ use std::sync::Wait;
 
 const SLOTS: u32 = 4;
 
+// Adds a file to a catalogue.
+fn add(alloc: Global, catalogue: &mut Catalogue, name: &str, bytes: &[u8]) -> Result<(), AddFault>
+    ensures { OnOk result (length catalogue.new ≡ length catalogue.old + 1) }
+{
+    catalogue.add(String::from_str(alloc, name)?, bytes.to_vec(alloc)?)
+}
+
 /// Makes a catalogue of two files, whose entries are 0 and 1.
 pub fn two_files(alloc: Global) -> Result<Catalogue, AddFault>
     ensures { IfOk result (λ catalogue. length catalogue ≡ 2) }
 {
     let mut catalogue = Catalogue::new(alloc);
-    catalogue.add(String::from_str(alloc, "old.txt")?, b"hello".to_vec(alloc)?)?;
-    catalogue.add(String::from_str(alloc, "new.txt")?, b"world".to_vec(alloc)?)?;
+    add(alloc, &mut catalogue, "old.txt", b"hello")?;
+    add(alloc, &mut catalogue, "new.txt", b"world")?;
     Ok(catalogue)
 }
 
@@ -48,8 +55,9 @@ fn full_table(alloc: Global, catalogue: &Catalogue) -> Result<PlainTable, NoMemo
     Ok(plain)
 }
 
-// Puts entry 1 at slot 0. Returns the old file, to be closed, unless another pass holds it.
-fn replace<T: FileTable, R: Wait>(
+/// Puts entry 1 at slot 0. Returns the old file, to be closed, if nobody holds it. Returns `None`
+/// and replaces nothing if the pass has no number for a new file and can't draw one.
+pub fn replace<T: FileTable, R: Wait>(
     rt: &R,
     catalogue: &Catalogue,
     table: &T,
@@ -60,11 +68,13 @@ fn replace<T: FileTable, R: Wait>(
     requires entry { 1 < length catalogue.now }
     ensures ready { T.fits table.now pass.new × IsIdle (T.view pass.new) }
 {
-    table.draw(pass)?;
+    if table.numbers_left(pass) == 0 {
+        table.draw(pass)?;
+    }
     if table.numbers_left(pass) == 0 {
         return None;
     }
-    let file = catalogue.open(1, Mark::Registered { k: 2, i: 0 }, 0);
+    let file = catalogue.open(1, Mark::Registered { k: 1, i: 1 }, 0);
     let removed = table.put(rt, pass, 0, file)?;
     table.retire(rt, pass, removed)
 }

@@ -1,10 +1,11 @@
 //! Three things that a server does: it learns by a tag that a file is closed, opens files until the
-//! table is full, and replaces a file under load. Begin with [`replace`].
+//! table is full, and replaces a file under load.
 ghost use Rattle.std.specs.Prelude.{◌<◌, ◌≡◌, All, length};
 ghost use Rattle.std.specs.Thread.{IsSync};
 ghost use Rattle.fx_table.specs.Opening.{size_of};
 ghost use Rattle.fx_table.specs.Pass.{IsIdle};
 
+use crate::first::replace;
 use fx_base::{Catalogue, CloseList, Mark, NoMemory, OpenFile};
 use fx_table::FileTable;
 use std::alloc::Global;
@@ -12,32 +13,6 @@ use std::sync::Wait;
 use std::sync::atomic::{AtomicU32, Ordering};
 use std::thread;
 use std::thread::{Threads, join_mut};
-
-/// Replaces the file at slot 0, as an update does: puts entry 1 of the catalogue there. Returns the
-/// old file, to be closed, if nobody holds it. Returns `None` if it is still held, or if slot 0 was
-/// empty. Returns `None` and replaces nothing if the pass has no number for a new file and can't
-/// draw one.
-pub fn replace<T: FileTable, R: Wait>(
-    rt: &R,
-    catalogue: &Catalogue,
-    table: &T,
-    pass: &mut T::Pass,
-) -> Option<OpenFile>
-    requires ready { T.fits table.now pass.old × IsIdle (T.view pass.old) }
-    requires slot { 0 < size_of (T.opening table.now) }
-    requires entry { 1 < length catalogue.now }
-    ensures ready { T.fits table.now pass.new × IsIdle (T.view pass.new) }
-{
-    if table.numbers_left(pass) == 0 {
-        table.draw(pass)?;
-    }
-    if table.numbers_left(pass) == 0 {
-        return None;
-    }
-    let file = catalogue.open(1, Mark::Registered { k: 1, i: 1 }, 0);
-    let removed = table.put(rt, pass, 0, file)?;
-    table.retire(rt, pass, removed)
-}
 
 // Reads the first five bytes of an entry, or fewer if the entry is shorter. Returns their number.
 fn read(alloc: Global, catalogue: &Catalogue, entry: u8) -> Result<u32, NoMemory> {

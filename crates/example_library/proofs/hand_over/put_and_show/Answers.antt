@@ -1,5 +1,5 @@
-use Rattle.example_server.proofs.HandOver.{put_is_shown}
-use Rattle.example_server.proofs.hand_over.put_and_show.Goals as goal
+use Rattle.example_library.proofs.HandOver.{put_is_shown}
+use Rattle.example_library.proofs.hand_over.put_and_show.Goals as goal
 
 pub returns-in_default-clause-put : goal.returns-in_default-clause-put
 returns-in_default-clause-put g c =

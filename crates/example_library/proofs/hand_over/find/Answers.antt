@@ -1,6 +1,6 @@
 use Rattle.std.proofs.Common.{ap, Some, None}
-use Rattle.example_server.proofs.HandOver.{finds_the_put, released_then, entry_in}
-use Rattle.example_server.proofs.hand_over.find.Goals as goal
+use Rattle.example_library.proofs.HandOver.{finds_the_put, released_then, entry_in}
+use Rattle.example_library.proofs.hand_over.find.Goals as goal
 
 pub returns-in_default-found-clause-found : goal.returns-in_default-found-clause-found
 returns-in_default-found-clause-found g c =

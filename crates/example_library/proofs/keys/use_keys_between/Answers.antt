@@ -4,7 +4,7 @@ use Rattle.std.specs.Prelude.{Option, IfSome}
 use Rattle.fx_lasting.specs.Tables.{IsPassOfTable, view_of}
 use Rattle.fx_lasting.specs.declared.pass.LastingPass.{LastingPass}
 use Rattle.fx_table.specs.Pass.{IsIdle}
-use Rattle.example_server.proofs.keys.use_keys_between.Goals as goal
+use Rattle.example_library.proofs.keys.use_keys_between.Goals as goal
 
 pub use_keys-requires-clause-holder : goal.use_keys-requires-clause-holder
 use_keys-requires-clause-holder g c =

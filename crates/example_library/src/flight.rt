@@ -1,7 +1,5 @@
 //! A log of calls in flight, judged. A read is open while another call closes the slot: it may find
 //! the file. A read that is called after the answer of the close can't find it.
-#![tactic(auto)]
-
 ghost use Rattle.fx_base.specs.Catalogue.{IsCatalogue};
 
 use bitflags::Flags;
@@ -91,21 +89,28 @@ fn verdict_on(
     judge_events(alloc, catalogue, &Slots { range, at }, &log, limits)
 }
 
-fn main(rt: HostRuntime) -> Result<(), AddFault> {
-    let alloc = rt.alloc();
+// Prints a verdict. A line that can't be written changes nothing.
+fn print_verdict<R: Print>(rt: &R, verdict: FlightVerdict) {
+    let _ = match verdict {
+        FlightVerdict::Faulty(fault) => println!(rt; "event {} isn't one of a log", fault.at),
+        FlightVerdict::NotLegal { at } => println!(rt; "not legal at event {at}"),
+        FlightVerdict::Legal => println!(rt; "legal"),
+        FlightVerdict::Undecided => println!(rt; "undecided"),
+    };
+}
+
+/// Judges a log whose read is called first, and one whose read is called last. Prints the verdicts.
+///
+/// # Errors
+/// `AddFault::NoMemory` if an allocation fails.
+pub fn judge_logs<R: Print>(rt: &R, alloc: Global) -> Result<(), AddFault> {
     let mut catalogue = Catalogue::new(alloc);
     catalogue.add(String::from_str(alloc, NAME)?, b"hello".to_vec(alloc)?)?;
     for reads_first in [true, false] {
-        let Ok(verdict) = verdict_on(alloc, &catalogue, reads_first) else {
-            return Err(AddFault::NoMemory);
-        };
-        // A line that can't be written changes nothing.
-        let _ = match verdict {
-            FlightVerdict::Faulty(fault) => println!(rt; "event {} isn't one of a log", fault.at),
-            FlightVerdict::NotLegal { at } => println!(rt; "not legal at event {at}"),
-            FlightVerdict::Legal => println!(rt; "legal"),
-            FlightVerdict::Undecided => println!(rt; "undecided"),
-        };
+        match verdict_on(alloc, &catalogue, reads_first) {
+            Ok(verdict) => print_verdict(rt, verdict),
+            Err(NoMemory) => return Err(AddFault::NoMemory),
+        }
     }
     Ok(())
 }

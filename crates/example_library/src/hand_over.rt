@@ -5,7 +5,7 @@ ghost use Rattle.std.specs.Prelude.{◌≡◌, ◌<◌, ◌≤◌, ◌+◌, leng
 ghost use Rattle.std.specs.Thread.{IsSync};
 ghost use Rattle.fx_table.specs.Opening.{size_of};
 ghost use Rattle.fx_table.specs.Pass.{IsIdle};
-ghost use Rattle.example_server.specs.HandOver.{HasPut, FindsThePut};
+ghost use Rattle.example_library.specs.HandOver.{HasPut, FindsThePut};
 
 use crate::life::close_all;
 use fx_base::{Catalogue, CloseList, Mark, NoMemory, OpenFile};

@@ -8,6 +8,7 @@ use crate::lasting::{discard, discard_all};
 use fx_base::{Catalogue, Mark, NoMemory};
 use fx_lasting::{Key, KeyFault, KeyLook, KeyPut, KeyTaken, LastingPass, LastingTable, PutOverKey};
 use std::alloc::Global;
+use std::fmt::Debug;
 use std::sync::Wait;
 use std::sync::atomic::{AtomicU32, Ordering};
 
@@ -149,6 +150,18 @@ fn put_at_first(
     Some(key)
 }
 
+// Prints a key, and its 64 bits.
+fn print_key<R: Print>(rt: &R, bits: u64) {
+    let key = Key::from_bits(bits);
+    let _ = println!(rt; "put: {key:?}, in 64 bits {bits}");
+}
+
+// Prints what a call returned, and the number of files that were closed so far.
+fn print_closed<R: Print, A: Debug>(rt: &R, call: &str, answer: &A, closed: &AtomicU32) {
+    let count = closed.load(Ordering::SeqCst);
+    let _ = println!(rt; "{call}: {answer:?}, files closed: {count}");
+}
+
 // Puts a file, removes it by its key, and puts another file at its slot. Prints what is found by
 // the keys. Stops early if a file can't be put.
 fn use_keys<R: Wait + Print>(
@@ -166,14 +179,13 @@ fn use_keys<R: Wait + Print>(
 {
     let closed = AtomicU32::new(0);
     let old = publish(rt, catalogue, table, pass, 1)?;
-    let _ = println!(rt; "put: {:?}, in 64 bits {old}", Key::from_bits(old));
+    print_key(rt, old);
     let found = find(table, holder, old, &closed);
     let _ = println!(rt; "looked up by the key: {found:?}");
     let removed = remove(table, holder, pass, old, &closed);
-    let count = closed.load(Ordering::SeqCst);
-    let _ = println!(rt; "removed by the key: {removed:?}, files closed: {count}");
+    print_closed(rt, "removed by the key", &removed, &closed);
     let new = publish(rt, catalogue, table, pass, 2)?;
-    let _ = println!(rt; "put: {:?}, in 64 bits {new}", Key::from_bits(new));
+    print_key(rt, new);
     let stale = find(table, holder, old, &closed);
     let found = find(table, holder, new, &closed);
     let _ = println!(rt; "looked up by the old key: {stale:?}, by the new key: {found:?}");
@@ -198,13 +210,11 @@ fn replace_by_key<R: Print>(
 {
     let closed = AtomicU32::new(0);
     let replaced = put_over(catalogue, table, holder, pass, bits, 3, &closed)?;
-    let count = closed.load(Ordering::SeqCst);
-    let _ = println!(rt; "replaced by the key: {replaced:?}, files closed: {count}");
+    print_closed(rt, "replaced by the key", &replaced, &closed);
     let again = put_over(catalogue, table, holder, pass, bits, 4, &closed)?;
     let _ = println!(rt; "replaced by the same key again: {again:?}");
     let key = put_at_first(catalogue, table, pass, 5, &closed)?;
-    let count = closed.load(Ordering::SeqCst);
-    let _ = println!(rt; "put at the slot: {key:?}, files closed: {count}");
+    print_closed(rt, "put at the slot", &key, &closed);
     Some(())
 }
 

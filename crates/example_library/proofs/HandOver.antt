@@ -23,7 +23,7 @@ use Rattle.fx_table.specs.declared.values.Retired.{Retired}
 use Rattle.fx_table.proofs.Calls.{follows_shown}
 use Rattle.fx_table.proofs.Finding.{finds_what_was_left}
 use Rattle.fx_table.proofs.SumLemmas.{contains_none, contains_head, contains_tail, contains_cases}
-use Rattle.example_server.specs.HandOver.{HasPut, FindsThePut}
+use Rattle.example_library.specs.HandOver.{HasPut, FindsThePut}
 
 -- an event of a pass's part is one of the history
 from_part : (p : ℕ) (h : List Event) (e : Event) → Contains (part_of_pass p h) e → Contains h e
