@@ -30,7 +30,7 @@ use std::thread::Threads;
 use std::time::CpuClock;
 use work::{MARK, READ_LEN, Row, Shape, look, read, row_of};
 
-// What the calls on several threads need of the runtime.
+// A runtime for the calls that start threads.
 trait Host: Threads + Wait + Clock + CpuClock + Print + AllocGlobal + Sync {}
 
 impl<R: Threads + Wait + Clock + CpuClock + Print + AllocGlobal + Sync> Host for R {}
@@ -163,10 +163,13 @@ fn try_table<S: Subject, R: Wait + Print>(
 // fails.
 fn try_tables<R: Wait + Print>(rt: &R, alloc: Global) -> Option<()> {
     let catalogue = &one_entry(alloc)?;
-    try_table::<Shared<CountedTable, Chains>, R>(rt, alloc, catalogue, "counted")?;
-    try_table::<Shared<LastingTable, Lasts>, R>(rt, alloc, catalogue, "lasting")?;
-    try_table::<Shared<BatonTable, Chains>, R>(rt, alloc, catalogue, "baton")?;
-    try_table::<Locked, R>(rt, alloc, catalogue, "mutex")
+    let tried = try_table::<Shared<CountedTable, Chains>, R>(
+        rt, alloc, catalogue, "counted",
+    ).is_some()
+        && try_table::<Shared<LastingTable, Lasts>, R>(rt, alloc, catalogue, "lasting").is_some()
+        && try_table::<Shared<BatonTable, Chains>, R>(rt, alloc, catalogue, "baton").is_some()
+        && try_table::<Locked, R>(rt, alloc, catalogue, "mutex").is_some();
+    tried.then_some(())
 }
 
 // Returns the first 64 bytes of standard input as a text.

@@ -50,15 +50,12 @@ impl Watch {
         })
     }
 
-    // Returns the nanoseconds until now, or 0 if the clock fails.
-    fn now<R: Clock + CpuClock>(&self, rt: &R) -> u64 {
+    // Returns the nanoseconds until now, or `None` if the clock fails.
+    fn now<R: Clock + CpuClock>(&self, rt: &R) -> Option<u64> {
         if self.threads == 1 {
-            return used(rt).unwrap_or(0);
+            return used(rt);
         }
-        match self.base.elapsed(rt) {
-            Ok(since) => u64::try_from(since.as_nanos()).unwrap_or(0),
-            Err(_) => 0,
-        }
+        u64::try_from(self.base.elapsed(rt).ok()?.as_nanos()).ok()
     }
 
     /// Waits until all threads are there, and records that this thread begins.
@@ -70,12 +67,14 @@ impl Watch {
             }
             thread::yield_now();
         }
-        self.first.fetch_min(self.now(rt), Ordering::SeqCst);
+        self.first
+            .fetch_min(self.now(rt).unwrap_or(0), Ordering::SeqCst);
     }
 
     /// Records that this thread has ended.
     pub(crate) fn end<R: Clock + CpuClock>(&self, rt: &R) {
-        self.last.fetch_max(self.now(rt), Ordering::SeqCst);
+        self.last
+            .fetch_max(self.now(rt).unwrap_or(0), Ordering::SeqCst);
     }
 
     /// Returns the nanoseconds from the first beginning to the last end.
@@ -143,8 +142,7 @@ pub(crate) fn time<S: Subject, H: Host>(
         }
         Ok((subject, mut passes)) => {
             if !passes.is_empty() {
-                let passes = passes.as_mut_slice();
-                work_all(rt, &subject, passes, catalogue, row, &watch);
+                work_all(rt, &subject, &mut passes, catalogue, row, &watch);
             }
             subject.close(alloc, passes)?;
             watch.took()

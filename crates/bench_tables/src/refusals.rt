@@ -9,7 +9,7 @@ use crate::Host;
 use fx_base::CloseList;
 use fx_baton::BatonTable;
 use fx_counted::CountedTable;
-use fx_ring::Report;
+use fx_ring::{Report, SubmitFault};
 use fx_table::FileTable;
 use std::fmt::Debug;
 
@@ -43,13 +43,22 @@ fn print_closes<R: Print>(rt: &R, closes: &CloseList) {
     }
 }
 
-// Prints the report of a call.
-fn print_report<R: Print>(rt: &R, call: &str, report: &Report) {
-    print_done(rt, call);
-    for completion in &report.completions {
-        let _ = println!(rt; "{completion:?}");
+// Prints the report of a submission, or why it was refused. Returns whether it was accepted.
+fn is_accepted<R: Print>(rt: &R, call: &str, answer: Result<Report, SubmitFault>) -> bool {
+    match answer {
+        Ok(report) => {
+            print_done(rt, call);
+            for completion in &report.completions {
+                let _ = println!(rt; "{completion:?}");
+            }
+            print_closes(rt, &report.closes);
+            true
+        }
+        Err(fault) => {
+            print_refused(rt, call, fault);
+            false
+        }
     }
-    print_closes(rt, &report.closes);
 }
 
 // Makes a call on a shared table, as `make` does.

@@ -166,21 +166,21 @@ fn do_work<S: Subject, R: Wait + Clock + CpuClock>(
 pub(crate) fn work_all<S: Subject, H: Host>(
     rt: &H,
     subject: &S,
-    passes: &mut [S::Pass],
+    passes: &mut Vec<S::Pass>,
     catalogue: &Catalogue,
     row: Row,
     watch: &Watch,
 )
-    requires some { 0 < length passes.old }
-    requires ready { All (λ p. S.ready subject.now p) passes.old }
+    requires some { 0 < length passes.old.items }
+    requires ready { All (λ p. S.ready subject.now p) passes.old.items }
     requires entry { 0 < length catalogue.now }
-    ensures ready { All (λ p. S.ready subject.now p) passes.new }
-    ensures count { length passes.new ≡ length passes.old }
+    ensures ready { All (λ p. S.ready subject.now p) passes.new.items }
+    ensures count { length passes.new.items ≡ length passes.old.items }
 {
     let threads = passes.len();
     thread::for_each_mut(
         rt,
-        passes,
+        passes.as_mut_slice(),
         threads,
         &|i, pass: &mut S::Pass|
             requires { S.ready subject.now pass.old × (0 < length catalogue.now) }

@@ -1,11 +1,11 @@
 //! The calls of a ring that allocate, and that no script makes so: `fixfiles` plays the calls
 //! between submissions.
 use crate::Host;
-use crate::refusals::{ATTEMPTS, print_closes, print_refused, print_report};
+use crate::refusals::{ATTEMPTS, is_accepted, print_closes, print_refused};
 use bitflags::Flags;
 use fx_base::{Catalogue, NoMemory};
 use fx_chain::{Gate, Op, OpenGate, Place, Request, SqeFlags, Target};
-use fx_ring::{OpenRing, Report, Ring, SubmitFault};
+use fx_ring::{OpenRing, Ring};
 use fx_table::FileTable;
 use std::alloc::Global;
 use std::sync::Wait;
@@ -104,20 +104,6 @@ pub(crate) fn tags<R: Print>(rt: &R, alloc: Global) -> Option<()> {
     Some(())
 }
 
-// Prints the report of a call, or why it was refused. Returns whether it was made.
-fn is_made<R: Print>(rt: &R, call: &str, answer: Result<Report, SubmitFault>) -> bool {
-    match answer {
-        Ok(report) => {
-            print_report(rt, call, &report);
-            true
-        }
-        Err(fault) => {
-            print_refused(rt, call, fault);
-            false
-        }
-    }
-}
-
 /// Submits a chain that reads and closes a file, and one that opens another file, to `workers`
 /// workers. If the submission is refused, no request has started.
 pub(crate) fn submit<T: FileTable, H: Host>(rt: &H, alloc: Global, workers: u32) -> Option<()> {
@@ -126,7 +112,7 @@ pub(crate) fn submit<T: FileTable, H: Host>(rt: &H, alloc: Global, workers: u32)
     let calls = Calls(AtomicU32::new(0));
     for _ in 0..ATTEMPTS {
         let answer = ring.submit::<T, Calls>(rt, alloc, requests.as_slice(), workers, &calls);
-        if is_made(rt, "submit", answer) {
+        if is_accepted(rt, "submit", answer) {
             break;
         }
         let _ = println!(rt; "gate: {} calls", calls.0.load(Ordering::SeqCst));
@@ -135,53 +121,43 @@ pub(crate) fn submit<T: FileTable, H: Host>(rt: &H, alloc: Global, workers: u32)
     Some(())
 }
 
-// Opens the ring's table, with a second attempt after an allocation failure.
-fn opened<T: FileTable, R: Print>(
-    rt: &R,
-    alloc: Global,
-    ring: Ring,
-) -> Result<OpenRing<T>, (Ring, NoMemory)> {
-    match ring.open::<T>(alloc, 2, 1) {
-        Ok(ring) => Ok(ring),
-        Err((ring, NoMemory)) => {
-            print_refused(rt, "submit_open", NoMemory);
-            ring.open::<T>(alloc, 2, 1)
-        }
-    }
-}
-
-// Submits the requests on a ring whose table is open. Returns whether they were submitted.
-fn is_submitted<T: FileTable, R: Wait + Print>(
+// Submits the requests on a ring whose table is open. Returns whether that was accepted.
+fn submit_to<T: FileTable, R: Wait + Print>(
     rt: &R,
     alloc: Global,
     ring: &mut OpenRing<T>,
     requests: &[Request],
 ) -> bool {
-    match ring.submit(rt, alloc, requests, &OpenGate) {
-        Ok(Some(report)) => {
-            print_report(rt, "submit_open", &report);
-            true
-        }
+    let answer = match ring.submit(rt, alloc, requests, &OpenGate) {
+        Ok(Some(report)) => Ok(report),
         Ok(None) => {
             let _ = println!(rt; "submit_open: no room");
-            false
+            return false;
         }
-        Err(fault) => {
-            print_refused(rt, "submit_open", fault);
-            let _ = println!(rt; "open ring: {} slots", ring.size());
-            false
-        }
+        Err(fault) => Err(fault),
+    };
+    let accepted = is_accepted(rt, "submit_open", answer);
+    if !accepted {
+        let _ = println!(rt; "open ring: {} slots", ring.size());
     }
+    accepted
 }
 
 /// Submits the same chains on a ring whose table is open. The opening, too, has a second attempt
 /// after an allocation failure.
 pub(crate) fn submit_open<T: FileTable, R: Wait + Print>(rt: &R, alloc: Global) -> Option<()> {
     let requests = requests(alloc)?;
-    match opened::<T, R>(rt, alloc, ring_of_two_files(alloc)?) {
+    let opened = match ring_of_two_files(alloc)?.open::<T>(alloc, 2, 1) {
+        Ok(ring) => Ok(ring),
+        Err((ring, NoMemory)) => {
+            print_refused(rt, "submit_open", NoMemory);
+            ring.open::<T>(alloc, 2, 1)
+        }
+    };
+    match opened {
         Ok(mut ring) => {
             for _ in 0..ATTEMPTS {
-                if is_submitted(rt, alloc, &mut ring, requests.as_slice()) {
+                if submit_to(rt, alloc, &mut ring, requests.as_slice()) {
                     break;
                 }
             }

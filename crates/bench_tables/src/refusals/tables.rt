@@ -13,6 +13,22 @@ use std::alloc::Global;
 /// The number of chains that a shared table is opened for.
 const CHAINS: u32 = 2;
 
+// Adds a file of two bytes to a catalogue. Returns whether it was added, or `None` if an allocation
+// before the call fails.
+fn add_two_bytes<R: Print>(rt: &R, alloc: Global, catalogue: &mut Catalogue) -> Option<bool> {
+    let name = String::from_str(alloc, "new.txt").ok()?;
+    match catalogue.add(name, b"hi".to_vec(alloc).ok()?) {
+        Ok(()) => {
+            print_done(rt, "add");
+            Some(true)
+        }
+        Err(fault) => {
+            print_refused(rt, "add", fault);
+            Some(false)
+        }
+    }
+}
+
 /// Adds a file of two bytes to a catalogue of `entries` entries: the n-th, from 0, is `n.txt` and
 /// has no bytes.
 pub(crate) fn add<R: Print>(rt: &R, alloc: Global, entries: u32) -> Option<()> {
@@ -22,13 +38,8 @@ pub(crate) fn add<R: Print>(rt: &R, alloc: Global, entries: u32) -> Option<()> {
         catalogue.add(name, Vec::new(alloc)).ok()?;
     }
     for _ in 0..ATTEMPTS {
-        let name = String::from_str(alloc, "new.txt").ok()?;
-        match catalogue.add(name, b"hi".to_vec(alloc).ok()?) {
-            Ok(()) => {
-                print_done(rt, "add");
-                break;
-            }
-            Err(fault) => print_refused(rt, "add", fault),
+        if add_two_bytes(rt, alloc, &mut catalogue)? {
+            break;
         }
     }
     Some(())
