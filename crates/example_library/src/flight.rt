@@ -15,7 +15,8 @@ const NAME: &str = "page.html";
 
 // Appends a call of one request.
 fn call(alloc: Global, log: &mut Vec<LogEvent>, id: u32, request: Request) -> Result<(), NoMemory> {
-    let chain = Vec::from_array(alloc, [request])?;
+    let mut chain = Vec::new(alloc);
+    chain.push(request)?;
     Ok(log.push(LogEvent::Call { id, chain })?)
 }
 
@@ -60,15 +61,15 @@ fn close(alloc: Global, log: &mut Vec<LogEvent>, id: u32) -> Result<(), NoMemory
 // Appends a log: the file is opened, read and closed. The read is called first, or last.
 fn play(alloc: Global, log: &mut Vec<LogEvent>, reads_first: bool) -> Result<(), NoMemory> {
     open(alloc, log, 1)?;
+    let id = if reads_first { 2 } else { 3 };
     if reads_first {
-        read(alloc, log, 2)?;
+        read(alloc, log, id)?;
         close(alloc, log, 3)?;
-        done(log, 2, 5, b"hello".to_vec(alloc)?)?;
     } else {
         close(alloc, log, 2)?;
-        read(alloc, log, 3)?;
-        done(log, 3, 5, b"hello".to_vec(alloc)?)?;
+        read(alloc, log, id)?;
     }
+    done(log, id, 5, b"hello".to_vec(alloc)?)?;
     log.push(LogEvent::Closed(place_of(1).installed(0, 0)))?;
     Ok(log.push(LogEvent::Settled)?)
 }

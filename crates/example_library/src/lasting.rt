@@ -88,18 +88,18 @@ fn run_both<T: SharedTable, R: Threads + Wait + Sync>(
     rt: &R,
     catalogue: &Catalogue,
     table: &T,
-    passes: &mut [T::Pass],
+    passes: &mut Vec<T::Pass>,
     closed: &AtomicU32,
 )
-    requires ready { All (λ p. T.fits table.now p × IsIdle (T.view p)) passes.old }
+    requires ready { All (λ p. T.fits table.now p × IsIdle (T.view p)) passes.old.items }
     requires slot { 0 < size_of (T.opening table.now) }
     requires entry { 0 < length catalogue.now }
-    ensures ready { All (λ p. T.fits table.now p × IsIdle (T.view p)) passes.new }
-    ensures count { length passes.new ≡ length passes.old }
+    ensures ready { All (λ p. T.fits table.now p × IsIdle (T.view p)) passes.new.items }
+    ensures count { length passes.new.items ≡ length passes.old.items }
 {
     thread::for_each_mut(
         rt,
-        passes,
+        passes.as_mut_slice(),
         2,
         &|i, pass: &mut T::Pass|
             requires { T.fits table.now pass.old × IsIdle (T.view pass.old)
@@ -134,7 +134,7 @@ fn share<R: Threads + Wait + Sync>(
     let room = Vec::with_capacity(alloc, SLOTS as usize)?;
     match LastingTable::open_sparse(alloc, SLOTS, (0, SLOTS), 2, 1) {
         Ok((table, mut passes)) => {
-            run_both(rt, catalogue, &table, passes.as_mut_slice(), closed);
+            run_both(rt, catalogue, &table, &mut passes, closed);
             Ok(discard_all(table.close(passes, room)))
         }
         Err(refused) => {

@@ -1,5 +1,5 @@
 //! The life of the table: it is opened, served by four threads, and closed after the last request.
-ghost use Rattle.std.specs.Prelude.{◌≤◌, All, vec_len};
+ghost use Rattle.std.specs.Prelude.{◌≡◌, ◌≤◌, All, length, vec_len};
 ghost use Rattle.fx_table.specs.Pass.{IsIdle};
 
 use crate::desk::Desk;
@@ -24,14 +24,15 @@ fn serve_by_threads<T: SharedTable, R: Threads + Wait + Sync>(
     alloc: Global,
     desk: &Desk<'_>,
     table: &T,
-    passes: &mut [T::Pass],
+    passes: &mut Vec<T::Pass>,
 )
-    requires ready { All (λ p. T.fits table.now p × IsIdle (T.view p)) passes.old }
-    ensures ready { All (λ p. T.fits table.now p × IsIdle (T.view p)) passes.new }
+    requires ready { All (λ p. T.fits table.now p × IsIdle (T.view p)) passes.old.items }
+    ensures ready { All (λ p. T.fits table.now p × IsIdle (T.view p)) passes.new.items }
+    ensures count { length passes.new.items ≡ length passes.old.items }
 {
     thread::for_each_mut(
         rt,
-        passes,
+        passes.as_mut_slice(),
         PASSES as usize,
         &|_, pass: &mut T::Pass|
             requires { T.fits table.now pass.old × IsIdle (T.view pass.old) }
@@ -63,7 +64,7 @@ pub fn serve_all<R: Threads + Wait + Sync>(
     let room = Vec::with_capacity(alloc, SLOTS as usize)?;
     match LastingTable::open_sparse(alloc, SLOTS, (0, SLOTS), PASSES, PASSES) {
         Ok((table, mut passes)) => {
-            serve_by_threads(rt, alloc, desk, &table, passes.as_mut_slice());
+            serve_by_threads(rt, alloc, desk, &table, &mut passes);
             close_all(table.close(passes, room), &mut closes);
             desk.report(&closes);
             Ok(())

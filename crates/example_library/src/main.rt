@@ -1,5 +1,5 @@
 //! The examples, each in a file of its own. `first.rt` goes from nothing to a full table. In
-//! `two_threads.rt` two threads share one and do what a server does: they learn that a file is
+//! `tasks.rt` two threads share one and do what a server does: they learn that a file is
 //! closed, open files until the table is full, and replace a file under load. After that come a
 //! table that never has to be closed (`lasting.rt`), files that are named by keys (`keys.rt`), a
 //! server (`server.rt`), the order between two threads (`hand_over.rt`), and the verdicts on two
@@ -19,7 +19,6 @@ mod life;
 mod serve;
 mod server;
 mod tasks;
-mod two_threads;
 
 use fx_base::{AddFault, Catalogue, NoMemory};
 use std::alloc::Global;
@@ -35,7 +34,7 @@ fn run<R: Threads + Wait + Sync + Print>(
     requires { 1 < length catalogue.now }
 {
     first::run(rt, alloc, catalogue)?;
-    two_threads::run(rt, alloc, catalogue)?;
+    tasks::run(rt, alloc, catalogue)?;
     lasting::replace_while_looked_up(rt, alloc, catalogue)?;
     keys::share_by_key(rt, alloc, catalogue)?;
     server::serve_clients(rt, alloc, catalogue)?;

@@ -1,12 +1,14 @@
-//! Three things that a server does: it learns by a tag that a file is closed, opens files until the
-//! table is full, and replaces a file under load.
-ghost use Rattle.std.specs.Prelude.{◌<◌, ◌≡◌, All, length};
+//! Two threads share a table, and do three things that a server does: they learn by a tag that a
+//! file is closed, open files until the table is full, and replace a file under load.
+ghost use Rattle.std.specs.Prelude.{◌<◌, ◌≡◌, All, IfOk, length};
 ghost use Rattle.std.specs.Thread.{IsSync};
 ghost use Rattle.fx_table.specs.Opening.{size_of};
 ghost use Rattle.fx_table.specs.Pass.{IsIdle};
 
 use crate::first::replace;
 use fx_base::{Catalogue, CloseList, Mark, NoMemory, OpenFile};
+use fx_counted::CountedTable;
+use fx_plain::PlainTable;
 use fx_table::FileTable;
 use std::alloc::Global;
 use std::sync::Wait;
@@ -20,10 +22,10 @@ fn read(alloc: Global, catalogue: &Catalogue, entry: u8) -> Result<u32, NoMemory
     Ok(catalogue.read_into(entry, 0, 5, &mut bytes))
 }
 
-/// Reads the file at slot 0 in one thread, and meanwhile replaces it in another. The reader is the
-/// last user, so the reader closes the file, and learns that by the tag which its list of closes
-/// returns. Returns the number of bytes that were read, or `None` if the slot is empty.
-pub fn read_while_replaced<T: FileTable, R: Threads + Wait + Sync>(
+// Reads the file at slot 0 in one thread, and meanwhile replaces it in another. The reader is the
+// last user, so the reader closes the file, and learns that by the tag which its list of closes
+// returns. Returns the number of bytes that were read, or `None` if the slot is empty.
+fn read_while_replaced<T: FileTable, R: Threads + Wait + Sync>(
     rt: &R,
     alloc: Global,
     catalogue: &Catalogue,
@@ -63,10 +65,10 @@ pub fn read_while_replaced<T: FileTable, R: Threads + Wait + Sync>(
     Ok(Some(count?))
 }
 
-/// Opens entry 0 of the catalogue at any slot, until every slot of the range is full (`ENFILE`) or
-/// the chain has no number for a new file left. Returns the number of files that were installed: 0
-/// if there is no chain left.
-pub fn open_until_full<T: FileTable, R: Wait>(
+// Opens entry 0 of the catalogue at any slot, until every slot of the range is full (`ENFILE`) or
+// the chain has no number for a new file left. Returns the number of files that were installed: 0
+// if there is no chain left.
+fn open_until_full<T: FileTable, R: Wait>(
     rt: &R,
     catalogue: &Catalogue,
     table: &T,
@@ -132,24 +134,24 @@ fn work<T: FileTable, R: Wait>(
     }
 }
 
-/// Replaces a file 1,000 times while another thread reads it: runs each of two passes in a thread
-/// of its own, and adds the files that came out to `closed`.
-pub fn replace_under_load<T: FileTable, R: Threads + Wait + Sync>(
+// Replaces a file 1,000 times while another thread reads it: runs each of two passes in a thread
+// of its own, and adds the files that came out to `closed`.
+fn replace_under_load<T: FileTable, R: Threads + Wait + Sync>(
     rt: &R,
     catalogue: &Catalogue,
     table: &T,
-    passes: &mut [T::Pass],
+    passes: &mut Vec<T::Pass>,
     closed: &AtomicU32,
 )
-    requires ready { All (λ p. T.fits table.now p × IsIdle (T.view p)) passes.old }
+    requires ready { All (λ p. T.fits table.now p × IsIdle (T.view p)) passes.old.items }
     requires slot { 0 < size_of (T.opening table.now) }
     requires entry { 1 < length catalogue.now }
-    ensures ready { All (λ p. T.fits table.now p × IsIdle (T.view p)) passes.new }
-    ensures count { length passes.new ≡ length passes.old }
+    ensures ready { All (λ p. T.fits table.now p × IsIdle (T.view p)) passes.new.items }
+    ensures count { length passes.new.items ≡ length passes.old.items }
 {
     thread::for_each_mut(
         rt,
-        passes,
+        passes.as_mut_slice(),
         2,
         &|i, pass: &mut T::Pass|
             requires { T.fits table.now pass.old × IsIdle (T.view pass.old)
@@ -157,4 +159,124 @@ pub fn replace_under_load<T: FileTable, R: Threads + Wait + Sync>(
             ensures { T.fits table.entry.now pass.new × IsIdle (T.view pass.new) }
         { work(rt, catalogue, table, pass, i == 0, closed) },
     );
+}
+
+// The tag of the first file at slot 0.
+const TAG: u64 = 7;
+
+// The number of chains. Each gives its pass numbers for 64 new files.
+const CHAINS: u32 = 20;
+
+// Makes a table of four slots, with entry 0 of the catalogue at slot 0, that two threads share,
+// each by a pass.
+fn shared_table<T: FileTable>(
+    alloc: Global,
+    catalogue: &Catalogue,
+) -> Result<(T, Vec<T::Pass>), NoMemory>
+    requires entry { 0 < length catalogue.now }
+    ensures slots { IfOk result (λ (table, _). size_of (T.opening table) ≡ 4) }
+    ensures asked { IfOk result (λ (table, _). (T.opening table).passes ≡ 2) }
+    ensures count { IfOk result (λ (_, passes). length passes.items ≡ 2) }
+    ensures ready { IfOk result (λ (table, passes).
+        All (λ p. T.fits table p × IsIdle (T.view p)) passes.items) }
+{
+    let mut plain = PlainTable::sparse(alloc, 4)?;
+    if let Err(refused) = plain.prepare(4) {
+        plain.abandon();
+        return Err(refused);
+    }
+    plain.put_back(0, catalogue.open(0, Mark::Registered { k: 1, i: 0 }, TAG));
+    match T::open(alloc, plain, CHAINS, 2) {
+        Ok(opened) => Ok(opened),
+        Err((plain, refused)) => {
+            plain.abandon();
+            Err(refused)
+        }
+    }
+}
+
+// Reads the file while it is replaced, and then opens files until the table is full. Returns the
+// number of bytes that were read, if slot 0 had a file, and of files that were opened.
+fn serve_by_name<T: FileTable, R: Threads + Wait + Sync>(
+    rt: &R,
+    alloc: Global,
+    catalogue: &Catalogue,
+    by_reader: &mut CloseList,
+    by_writer: &mut CloseList,
+) -> Result<(Option<u32>, u32), NoMemory>
+    requires entry { 1 < length catalogue.now }
+    requires room { (0 < by_reader.old.room) × (0 < by_writer.old.room) }
+{
+    let (table, mut passes) = shared_table::<T>(alloc, catalogue)?;
+    // A pass that is used by name leaves the list and returns to it, since the table is closed with
+    // all passes.
+    let (mut reader, mut writer) = (passes.pop().unwrap(), passes.pop().unwrap());
+    let (one, other) = (&mut reader, &mut writer);
+    let count = read_while_replaced(
+        rt, alloc, catalogue, &table, one, other, by_reader, by_writer,
+    );
+    let opened = open_until_full(rt, catalogue, &table, &mut writer);
+    passes.push_reserved(writer);
+    passes.push_reserved(reader);
+    table.close(passes).abandon();
+    Ok((count?, opened))
+}
+
+// Replaces the file under load. Returns the number of closed files.
+fn serve_under_load<T: FileTable, R: Threads + Wait + Sync>(
+    rt: &R,
+    alloc: Global,
+    catalogue: &Catalogue,
+) -> Result<u32, NoMemory>
+    requires { 1 < length catalogue.now }
+{
+    let (table, mut passes) = shared_table::<T>(alloc, catalogue)?;
+    let closed = AtomicU32::new(0);
+    replace_under_load(rt, catalogue, &table, &mut passes, &closed);
+    table.close(passes).abandon();
+    Ok(closed.load(Ordering::SeqCst))
+}
+
+// Prints how many bytes were read, and the files that each thread closed.
+fn print_closed<R: Print>(
+    rt: &R,
+    alloc: Global,
+    count: u32,
+    by_reader: &CloseList,
+    by_writer: &CloseList,
+) -> Result<(), NoMemory> {
+    let (writer, reader) = (by_writer.len(), by_reader.len());
+    // A line that can't be written changes nothing.
+    let _ = println!(rt;
+        "the reader read {count} bytes of the file that it holds\n\
+         files closed by the writer: {writer}, by the reader: {reader}"
+    );
+    for tag in &by_reader.tags(alloc)? {
+        let tag = tag.user_data;
+        let _ = println!(rt; "reported by the reader: the file with tag {tag} is closed");
+    }
+    Ok(())
+}
+
+/// Does the three things, the last one first and with a table of its own, and prints the results.
+pub fn run<R: Threads + Wait + Sync + Print>(
+    rt: &R,
+    alloc: Global,
+    catalogue: &Catalogue,
+) -> Result<(), NoMemory>
+    requires { 1 < length catalogue.now }
+{
+    let closed = serve_under_load::<CountedTable, R>(rt, alloc, catalogue)?;
+    let mut by_reader = CloseList::with_room(alloc, 1)?;
+    let mut by_writer = CloseList::with_room(alloc, 1)?;
+    let (first, second) = (&mut by_reader, &mut by_writer);
+    let (count, opened) = serve_by_name::<CountedTable, R>(rt, alloc, catalogue, first, second)?;
+    if let Some(count) = count {
+        print_closed(rt, alloc, count, &by_reader, &by_writer)?;
+        let _ = println!(rt;
+            "files opened at any slot until no slot was free: {opened}\n\
+             files that were replaced and closed under load: {closed}"
+        );
+    }
+    Ok(())
 }
