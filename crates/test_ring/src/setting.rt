@@ -15,7 +15,7 @@ use std::process::Abort;
 use std::sync::Wait;
 use std::thread::Threads;
 
-/// What the tests need of the runtime.
+/// A runtime for tests.
 pub trait Host: Threads + Wait + Abort + AllocGlobal + Sync {}
 
 impl<R: Threads + Wait + Abort + AllocGlobal + Sync> Host for R {}

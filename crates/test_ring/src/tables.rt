@@ -137,16 +137,32 @@ fn play_both<T: FileTable, H: Host>(
     }
 }
 
+// Does the same by the two passes of a list.
+fn play_between<T: FileTable, H: Host>(
+    rt: &H,
+    table: &T,
+    used: Use,
+    files: &Catalogue,
+    passes: &mut Vec<T::Pass>,
+)
+    requires two { length passes.old.items ≡ 2 }
+    requires ready { All (λ p. T.fits table.now p × IsIdle (T.view p)) passes.old.items }
+    ensures two { length passes.new.items ≡ 2 }
+    ensures ready { All (λ p. T.fits table.now p × IsIdle (T.view p)) passes.new.items }
+{
+    let (mut a, mut b) = (passes.pop().unwrap(), passes.pop().unwrap());
+    assert!(rt; table.draw(&mut b) == Some(1));
+    play_both(rt, table, used, files, &mut b, &mut a);
+    assert!(rt; table.is_idle(&b) && table.is_idle(&a));
+    passes.push_reserved(b);
+    passes.push_reserved(a);
+}
+
 // Does the same, from the table's opening to its close.
 fn play_on<T: FileTable, H: Host>(rt: &H, used: Use) {
     let files = one_file(rt);
     let (table, mut passes) = open_table::<T, _>(rt, &files);
-    let (mut a, mut b) = (passes.pop().unwrap(), passes.pop().unwrap());
-    assert!(rt; table.draw(&mut b) == Some(1));
-    play_both(rt, &table, used, &files, &mut b, &mut a);
-    assert!(rt; table.is_idle(&b) && table.is_idle(&a));
-    passes.push_reserved(b);
-    passes.push_reserved(a);
+    play_between(rt, &table, used, &files, &mut passes);
     table.close(passes).abandon();
 }
 
