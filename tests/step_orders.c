@@ -9,6 +9,7 @@
 #include <stdio.h>
 #include <stdlib.h>
 #include <string.h>
+#include <sys/mman.h>
 
 #include "step_table.h"
 
@@ -22,6 +23,7 @@ void want(bool holds, const char *otherwise) {
 
 /* The states that were reached: their fingerprints in a hash table, and those to go on from in a
  * list. */
+enum { LARGE_PAGE = 1 << 21 };
 
 struct state {
     uint64_t words[MOST_STATE / sizeof(uint64_t)];
@@ -39,8 +41,7 @@ static uint64_t print_of(const struct state *s, size_t size) {
     return print ? print : 1;
 }
 
-static void *room_for(void *old, size_t size) {
-    void *room = realloc(old, size);
+static void *there(void *room) {
     if (room == NULL) {
         fprintf(stderr, "step_orders: no memory\n");
         exit(2);
@@ -53,7 +54,11 @@ static bool is_new(uint64_t print) {
         uint64_t *old = seen.prints;
         size_t count = seen.room;
         seen.room = count ? 2 * count : 1 << 16;
-        seen.prints = memset(room_for(NULL, seen.room * sizeof *old), 0, seen.room * sizeof *old);
+        /* each look is at another page, and large pages are found sooner */
+        size_t size = seen.room * sizeof *old;
+        seen.prints = there(aligned_alloc(size < LARGE_PAGE ? size : LARGE_PAGE, size));
+        madvise(seen.prints, size, MADV_HUGEPAGE);
+        memset(seen.prints, 0, size);
         seen.used = 0;
         for (size_t at = 0; at < count; at++) {
             if (old[at]) {
@@ -85,7 +90,7 @@ static void push(const struct step_table *table, const struct state *s) {
         queue.count -= queue.next;
         memmove(queue.states, queue.states + queue.next, queue.count * sizeof *s);
         queue.room = 2 * queue.count + 4096;
-        queue.states = room_for(queue.states, queue.room * sizeof *s);
+        queue.states = there(realloc(queue.states, queue.room * sizeof *s));
         queue.next = 0;
     }
     queue.states[queue.count++] = *s;
