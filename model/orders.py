@@ -67,8 +67,8 @@ def state_of(player):
 
 
 def reached(first, moves):
-    """Each player with its place that moves lead to from the first one, once. What a move leads to comes before the next
-    move is tried."""
+    """Each player with its place that moves lead to from the first one, once. What a move leads to comes before what the
+    next one leads to."""
     seen, stack = set(), [iter([first])]
     while stack:
         found = next(stack[-1], None)
@@ -80,7 +80,7 @@ def reached(first, moves):
         if key not in seen:
             seen.add(key)
             yield found
-            stack.append(moves(player, at))
+            stack.append(iter(moves(player, at)))
 
 
 class Search:
@@ -95,15 +95,20 @@ class Search:
             raise TooManyOrders
 
     def moves(self, player, chains, at):
-        """The players and places after one step of each chain. A chain that has done less comes first."""
-        for nth in sorted(range(len(chains)), key=lambda nth: at[nth]):
-            if at[nth] < len(chains[nth]):
-                place, request, res, got = chains[nth][at[nth]]
+        """The players and places after one step of each chain. A chain that has done less comes first. A read, or an open or a close that
+        is refused, comes alone: it leaves the player as it is, whenever it comes."""
+        found = []
+        for done, nth in sorted(zip(at, range(len(chains)))):
+            if done < len(chains[nth]):
+                place, request, res, got = chains[nth][done]
                 # a read leaves the player as it is
                 after = player if request[0] == "read" else player.copy()
                 after.wanted = res
                 if after.perform(place, request) == (res, got):
-                    yield after, (*at[:nth], at[nth] + 1, *at[nth + 1 :])
+                    found.append((after, (*at[:nth], done + 1, *at[nth + 1 :])))
+                    if request[0] == "read" or res < 0 and request[0] != "update":
+                        return found[-1:]
+        return found
 
     def ends(self, player, chains):
         """Every player that is left when the chains have made their steps."""

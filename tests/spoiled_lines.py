@@ -2,9 +2,13 @@
 
 A verdict names a line by its number; a lost line by its place, or by the file that it reported closed. What names a line names its
 command too."""
+import functools
 import re
 
 from model import Script, fault_of
+
+# the script of a source; that of many texts one after another is read once
+parsed = functools.lru_cache(1)(Script)
 
 COMPLETION = re.compile(r"\d+\.\d+\.\d+ ")
 READ = re.compile(r"\d+\.\d+\.\d+ [1-9]\d* [0-9a-f]+$")
@@ -210,7 +214,7 @@ KINDS = {
 def spoiled(rng, source, text, kind):
     """The text with a spoiled line of a kind; none where it has no such line, or is the same then."""
     lines = text.split("\n")[:-1]
-    script = Script(source)
+    script = parsed(source)
     owners = owners_of(script, lines)
     try:
         wrong, at = KINDS[kind](rng, lines)
