@@ -2,6 +2,7 @@
 
 For each script these are: its text, if the program did without; its text with one answer -12, as model/model.py writes it; or
 status 5 and the whole texts of its first commands. The order of chains changes no text of these scripts."""
+import functools
 import re
 
 from limits import CHAINS, ENTRIES, MEMBERS, full_catalogue, linked, lines
@@ -106,6 +107,7 @@ class Outcomes:
         parts = [player.command(*it) for it in self.script.commands] + [player.end()]
         self.texts = ["".join(f"{line}\n" for line in part) for part in parts]
         self.text = "".join(self.texts)
+        self.known_answer = functools.cache(self.answer)
 
     def kind(self, status, text, message):
         """The name of an outcome, or None where it may not be."""
@@ -113,7 +115,7 @@ class Outcomes:
             return self.beginning(text)
         if (status, message) != (0, ""):
             return None
-        return "the whole text" if text == self.text else self.answer(text)
+        return "the whole text" if text == self.text else self.known_answer(text)
 
     def beginning(self, text):
         """Status 5: the text of no command, of the first ones, or of all."""
