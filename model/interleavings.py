@@ -54,13 +54,13 @@ class Interleavings:
             else:
                 self.submit(after, chains, {**answers, (nth, member): (len(request[2]), b"")}, entries, then)
             return
-        for slot in range(max(len(player.slots), 1)):
+        is_any = request[0] == "open" and request[2] is None
+        for slot in range(max(len(player.slots), 1) if is_any else 1):
             after = player.copy()
             after.wanted = slot
             res, got = after.perform(place, request)
             # an open that was to take this slot and didn't is one of another turn of the loop
-            is_any = request[0] == "open" and request[2] is None and res >= 0
-            if is_any and res != slot or not is_any and slot:
+            if is_any and res != slot and (res >= 0 or slot):
                 continue
             told = {**answers, (nth, member): (res, got)}
             if severs(request, linked_by, res):

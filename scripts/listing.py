@@ -37,10 +37,10 @@ def parsed(lines):
     """Parses the lines of a list. Lines that begin with `#` are skipped."""
     head, texts = None, []
     for line in lines:
-        if re.fullmatch(r"text \d+", line):
-            texts.append(("", []))
-        elif line.startswith("    ") and texts:
+        if line.startswith("    ") and texts:
             texts[-1] = texts[-1][0] + line[4:] + "\n", texts[-1][1]
+        elif re.fullmatch(r"text \d+", line):
+            texts.append(("", []))
         elif line.startswith("order ") and texts:
             texts[-1][1].append(line)
         elif head is None and HEAD.fullmatch(line):
