@@ -12,6 +12,8 @@ LONGEST_SCRIPT, LONGEST_LINE = 4_194_304, 10_000
 ENTRIES, FILE_BYTES, SLOTS = 256, 4_096, 256
 CHAINS, MEMBERS, READ_BYTES, UPDATE_ENTRIES, INSTALLS = 1_023, 16, 4_096, 16, 64
 SUBMISSIONS, REGISTRATIONS = 65_535, 65_535
+# a line and a number as they may be
+TEXT, NUMBER = re.compile(rb"[ -~]*"), re.compile(rb"0|[1-9][0-9]{0,9}")
 ENOENT, ENXIO, EBADF, EAGAIN, EBUSY, EINVAL, ENFILE, EMFILE, ECANCELED = 2, 6, 9, 11, 16, 22, 23, 24, 125
 
 
@@ -29,7 +31,7 @@ def want(holds, fault):
 
 
 def is_number(word):
-    return re.fullmatch(rb"0|[1-9][0-9]{0,9}", word) is not None and int(word) <= LARGEST
+    return NUMBER.fullmatch(word) is not None and int(word) <= LARGEST
 
 
 def number(word):
@@ -113,7 +115,7 @@ class Script:
 
     def take(self, nth, line):
         want(len(line) <= LONGEST_LINE, "long-line")
-        want(all(32 <= byte <= 126 for byte in line), "not-text")
+        want(TEXT.fullmatch(line), "not-text")
         if line == b"" or line[:1] == b"#":
             return
         command, *words = line.split(b" ")
