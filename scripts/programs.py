@@ -1,5 +1,4 @@
-"""Runs programs, asks fixcheck, and builds the C code that is preloaded. What runs several at a time is imported there: that takes a third
-of the start of a short command."""
+"""Runs programs, asks fixcheck, and builds the C code that is preloaded. A short command imports nothing for several runs at a time."""
 import contextlib
 import os
 import resource
@@ -38,7 +37,6 @@ def run(command, given=b"", seconds=120, **how):
 def in_parallel(function, cases):
     """Returns the function's result for each case, in their order. Several run at a time."""
     import concurrent.futures
-
     with concurrent.futures.ThreadPoolExecutor(os.cpu_count()) as pool:
         return list(pool.map(function, cases))
 
@@ -47,7 +45,6 @@ def in_processes(function, cases, each):
     """Yields the function's result for each case, in their order. Several processes take `each` cases at a time."""
     import concurrent.futures
     import multiprocessing
-
     with concurrent.futures.ProcessPoolExecutor(os.cpu_count(), multiprocessing.get_context("fork")) as pool:
         yield from pool.map(function, cases, chunksize=each)
 
