@@ -67,42 +67,44 @@ in_python() {
     want 'a library that does not load is not explained' without_library "$room" "$room/libyachtjudge.so.4 can't be loaded: "
 }
 
+# wrong_modules ROWS: takes modules with wrong changes, which the rows must refuse
+wrong_modules() {
+    local module change
+    while IFS=' ' read -r module change; do
+        want "a wrong change of $module.py is not noticed: $change" wrong_module "$module" "$1" "$change"
+    done
+}
+
 wrong_python() {
-    local change
-    while IFS= read -r change; do
-        want "a wrong change of yachtjudge.py is not noticed: $change" wrong_module yachtjudge judge_rows "$change"
-    done << 'END'
-s/else "undecided"$/else "legal"/
-s/word: Literal\[.*\] = "legal" if code == LEGAL/word = "legal" if code != NOT_LEGAL/
-s/return self.word == "legal"/return self.word != "not legal"/
-s/Outcomes(tuple(listed), code == ALL)/Outcomes(tuple(listed), True)/
-s/Outcomes(tuple(listed), code == ALL)/Outcomes(tuple(listed), False)/
-s/    return numbers$/    return numbers[::-1]/
-s/    return numbers$/    return (STATES, MEMORY)/
-s/    return numbers$/    return (STATES, numbers[1])/
-s/data = of.encode() if isinstance(of, str) else bytes(of)/data = (of.encode() if isinstance(of, str) else bytes(of)).split(b"\\0")[0]/
-s/verdict.commands, verdict.at/verdict.commands + 1, verdict.at/
-s/verdict.commands, verdict.at/verdict.commands, verdict.at + 1/
-s/verdict.submission, words)/0, words)/
-s/verdict.submission, words)/verdict.submission, "")/
-s/"legal" if code == LEGAL else/"legal" if code == LEGAL or verdict.at else/
-s/BadScript(verdict.line, words)/BadScript(verdict.line + 1, words)/
-s/BadScript(verdict.line, words)/BadScript(verdict.line, "")/
-s/room, count = max(found.bytes, 1), max(found.count, 1)/break/
-s/        raise TypeError(f"{name} must/        of = bytes(of)\n    if not isinstance(of, (str, bytes, bytearray, memoryview)):\n&/
-s/    numbers = operator.index(states), operator.index(memory)/    numbers = int(states), int(memory)/
-s/        if not 0 <= number <= MOST:/        if number > MOST:/
-s/        if not 0 <= number <= MOST:/        if number < 0:/
-s/__version__ = "4/__version__ = "3/
+    wrong_modules judge_rows << 'END'
+yachtjudge s/else "undecided"$/else "legal"/
+yachtjudge s/word: Literal\[.*\] = "legal" if code == LEGAL/word = "legal" if code != NOT_LEGAL/
+yachtjudge s/return self.word == "legal"/return self.word != "not legal"/
+yachtjudge s/Outcomes(tuple(listed), code == ALL)/Outcomes(tuple(listed), True)/
+yachtjudge s/Outcomes(tuple(listed), code == ALL)/Outcomes(tuple(listed), False)/
+yachtjudge s/    return numbers$/    return numbers[::-1]/
+yachtjudge s/    return numbers$/    return (STATES, MEMORY)/
+yachtjudge s/    return numbers$/    return (STATES, numbers[1])/
+yachtjudge s/data = of.encode() if isinstance(of, str) else bytes(of)/data = (of.encode() if isinstance(of, str) else bytes(of)).split(b"\\0")[0]/
+yachtjudge s/verdict.commands, verdict.at/verdict.commands + 1, verdict.at/
+yachtjudge s/verdict.commands, verdict.at/verdict.commands, verdict.at + 1/
+yachtjudge s/verdict.submission, words)/0, words)/
+yachtjudge s/verdict.submission, words)/verdict.submission, "")/
+yachtjudge s/"legal" if code == LEGAL else/"legal" if code == LEGAL or verdict.at else/
+yachtjudge s/BadScript(verdict.line, words)/BadScript(verdict.line + 1, words)/
+yachtjudge s/BadScript(verdict.line, words)/BadScript(verdict.line, "")/
+yachtjudge s/room, count = max(found.bytes, 1), max(found.count, 1)/break/
+yachtjudge s/        raise TypeError(f"{name} must/        of = bytes(of)\n    if not isinstance(of, (str, bytes, bytearray, memoryview)):\n&/
+yachtjudge s/    numbers = operator.index(states), operator.index(memory)/    numbers = int(states), int(memory)/
+yachtjudge s/        if not 0 <= number <= MOST:/        if number > MOST:/
+yachtjudge s/        if not 0 <= number <= MOST:/        if number < 0:/
+yachtjudge s/__version__ = "4/__version__ = "3/
 END
 }
 
 # wrong changes of how a log is passed to the verified judge, and of how its verdict is read
 wrong_logs() {
-    local module change
-    while IFS=' ' read -r module change; do
-        want "a wrong change of $module.py is not noticed: $change" wrong_module "$module" log_rows "$change"
-    done << 'END'
+    wrong_modules log_rows << 'END'
 yachtjudge s/LogVerdict("not legal", those\[judgement.at\].line)/LogVerdict("not legal", those[judgement.at - 1].line)/
 yachtjudge s/LogVerdict("legal" if code == LEGAL else "undecided")/LogVerdict("legal")/
 yachtjudge s/(FAULTS if code == FAULTY else FLAWS)/FAULTS/
