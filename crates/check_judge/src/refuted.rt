@@ -29,7 +29,7 @@ fn is_bringing(claim: &Claim, file: Closed) -> bool
 
 // Checks whether one of these claims leaves this file at its slot.
 fn has_bringing(claims: &[Claim], file: Closed) -> bool
-    ensures { Any (λ claim. Brings claim file) claims.now → IsTrue result }
+    ensures { IsTrue result ↔ Any (λ claim. Brings claim file) claims.now }
 {
     for claim in claims {
         if is_bringing(claim, file) {
@@ -41,7 +41,7 @@ fn has_bringing(claims: &[Claim], file: Closed) -> bool
 
 // Checks whether a claim of one of the chains leaves this file at its slot.
 fn is_brought(chains: &[Vec<Claim>], file: Closed) -> bool
-    ensures { IsBrought chains.now file → IsTrue result }
+    ensures { IsTrue result ↔ IsBrought chains.now file }
 {
     for i in 0..chains.len() {
         if has_bringing(&chains[i], file) {
@@ -53,7 +53,8 @@ fn is_brought(chains: &[Vec<Claim>], file: Closed) -> bool
 
 // Checks whether this file was at a slot, or a claim of one of the chains leaves it there.
 fn is_known(table: &TableRecorded<'_>, file: Closed) -> bool
-    ensures { IsKnown table.now.slots.now.at.items table.now.chains.now file → IsTrue result }
+    ensures { IsTrue result
+        ↔ IsKnown table.now.slots.now.at.items table.now.chains.now file }
 {
     table.slots.at.contains(&Some(file)) || is_brought(table.chains, file)
 }

@@ -6,7 +6,7 @@ ghost use Rattle.check_search.specs.Machine.{allows, cell_at, cells_after, is_st
 use crate::claim::{Claim, Condition, Leaves, Resident};
 
 /// A slot, and what is there.
-#[derive(Clone, Copy, PartialEq)]
+#[derive(Clone, Copy, PartialEq, Eq)]
 pub struct Cell {
     /// The slot.
     pub slot: u32,

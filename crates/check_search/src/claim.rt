@@ -7,7 +7,7 @@ use crate::cell::Cell;
 use fx_base::Closed;
 
 /// A file at a slot, and whether it is in the list of closes.
-#[derive(Clone, Copy, PartialEq)]
+#[derive(Clone, Copy, PartialEq, Eq)]
 pub struct Resident {
     /// The file.
     pub file: Closed,
@@ -16,7 +16,7 @@ pub struct Resident {
 }
 
 /// The condition on what an access found at its slot.
-#[derive(Clone, Copy, PartialEq)]
+#[derive(Clone, Copy, PartialEq, Eq)]
 pub enum Condition {
     /// A file or no file.
     Anything,
