@@ -6,7 +6,7 @@ pub returns-in-Some-clause-found : goal.returns-in-Some-clause-found
 returns-in-Some-clause-found c = let s = c.loop.invariant.still in let len = c.args.self.now.range_len in let found = c.in-Some.found in
     allocated_within c.args.seat.now.me c.try_group.new.seat.me c.args.node found.0 found.1 c.args.file
     (groups_most len (c.loop.counter + 1) (s.0 + group_steps len) (groups_in len) (omega (arith, c.loop-test.true, c.groups_in-groups.ensures))
-        (group_more len c.loop.counter s.0 s.1))
+    (group_more len c.loop.counter s.0 s.1))
     (allocated_then found.1 s.2 c.in-Some.ensures.found)
 
 pub loop-preserved : goal.loop-preserved
