@@ -82,8 +82,8 @@ abbrev pub AreFrom : Slots → List Asked → List Completed → List Closed →
 AreFrom slots requests completions files =
     All (λ file. IsFileAtSlot slots file ⊎ OneInstalled requests completions file.mark) files
 
--- each report with these lines, of files that a submission may close, each of which was at a slot or
--- is one that a request installed, has the files that are read
+-- each report with these lines, of files that a submission may close, each of which was at a slot
+-- or is one that a request installed, has the files that are read
 abbrev pub YieldsKnown :
     List FileEntry → Slots → List Asked → ReportLines → Result Recorded Fault → Type 0
 YieldsKnown catalogue slots requests lines recorded =
