@@ -1,9 +1,9 @@
 -- The names that most proofs of this crate use.
-pub use Rattle.check_flight.proofs.Words.{All, AllByRecursion, Bool, Contains, Happening, HasNoFlight, List, LogEvent, None, Option, RingState, Slots}
+pub use Rattle.check_flight.proofs.Words.{AllByRecursion, Bool, Contains, Happening, HasNoFlight, List, LogEvent, None, Option, RingState, Slots}
 pub use Rattle.check_flight.proofs.Words.{Some, Table, [], all_asked, all_happenings, ap, append-nil, arith, asked_of, drop, false, happening_of}
 pub use Rattle.check_flight.proofs.Words.{if◌then◌else◌, length, length-map, map, map-append, ne_eqb, refl, ring_of_slots, slice_index_or, subst, sym}
 pub use Rattle.check_flight.proofs.Words.{table_of_slots, take, take-map, take_more, true, ℕ, ◌++◌, ◌+◌, ◌<◌, ◌==◌, ◌∙◌, ◌∷◌, ◌≡◌, ◌≤◌}
-pub use Rattle.check_judge.proofs.Words.{All-map, IsTrue, Meaning, new_ring, string_bytes, ◌↔◌}
+pub use Rattle.check_judge.proofs.Words.{All, All-map, IsTrue, Meaning, new_ring, string_bytes, ◌↔◌}
 pub use Rattle.fx_judge.specs.Arrays.{Arrays, arrays_in, asked_passed, happening_passed}
 pub use Rattle.fx_judge.specs.Flaws.{event_flaw, flaw_of_log, request_flaw, requests_flaw}
 pub use Rattle.fx_judge.specs.Outcomes.{joined, lengths_in}
