@@ -88,3 +88,39 @@
 //! drop(guard);
 //! println!("{value}");
 //! ```
+//!
+//! Values with another lifetime, neither a shorter nor a longer one:
+//!
+//! ```compile_fail
+//! fn shorter<'a>(it: yachtbanyan::Table<&'static str>) -> yachtbanyan::Table<&'a str> { it }
+//! ```
+//!
+//! ```
+//! fn same<'a>(it: yachtbanyan::Table<&'a str>) -> yachtbanyan::Table<&'a str> { it }
+//! ```
+//!
+//! ```compile_fail
+//! fn shorter<'a>(it: yachtbanyan::Reader<&'static str>) -> yachtbanyan::Reader<&'a str> { it }
+//! ```
+//!
+//! ```
+//! fn same<'a>(it: yachtbanyan::Reader<&'a str>) -> yachtbanyan::Reader<&'a str> { it }
+//! ```
+//!
+//! ```compile_fail
+//! fn shorter<'a>(it: yachtbanyan::Handle<&'static str>) -> yachtbanyan::Handle<&'a str> { it }
+//! ```
+//!
+//! ```
+//! fn same<'a>(it: yachtbanyan::Handle<&'a str>) -> yachtbanyan::Handle<&'a str> { it }
+//! ```
+//!
+//! ```compile_fail
+//! type Calls = yachtbanyan::Table<fn(&'static str)>;
+//! fn longer(it: yachtbanyan::Table<for<'a> fn(&'a str)>) -> Calls { it }
+//! ```
+//!
+//! ```
+//! type Calls = yachtbanyan::Table<for<'a> fn(&'a str)>;
+//! fn same(it: yachtbanyan::Table<for<'a> fn(&'a str)>) -> Calls { it }
+//! ```

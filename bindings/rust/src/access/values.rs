@@ -13,6 +13,10 @@ pub(super) struct Values<T> {
     pub(super) seats: Seats,
     slots: u32,
     _owns: PhantomData<T>,
+    /// A table takes values of `T` and gives them out, so `T` must be neither shortened nor
+    /// lengthened: a clone of a `Table<&'static str>` that were a `Table<&'a str>` would take a
+    /// reference that the other gives out as `&'static str`.
+    _takes_and_gives: PhantomData<fn(T) -> T>,
 }
 
 /// A value that a seat holds: its address, the node of its file, and its number.
@@ -76,6 +80,7 @@ impl<T> Values<T> {
             seats: Seats::open(options)?,
             slots: options.slots,
             _owns: PhantomData,
+            _takes_and_gives: PhantomData,
         })
     }
 
