@@ -39,8 +39,8 @@ extern "C" {
 
 /* The version of this header. The shared library of the same major version has the name
  * libyachtbanyan.so.MAJOR. */
-#define YACHT_VERSION "4.0.0"
-#define YACHT_VERSION_MAJOR 4
+#define YACHT_VERSION "5.0.0"
+#define YACHT_VERSION_MAJOR 5
 #define YACHT_VERSION_MINOR 0
 #define YACHT_VERSION_PATCH 0
 

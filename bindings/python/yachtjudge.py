@@ -1,7 +1,7 @@
 """The verified judge of io_uring's registered file table: judge(script, text), outcomes(script) and judge_events(log).
 
 A script is what fixfiles plays. A text is what fixfiles, or a kernel, prints for it. Both are str or bytes. A log is one of calls in flight,
-as the module yachtlog reads it. The library libyachtjudge.so.4 is looked for in the folder YACHTBANYAN_LIB_DIR if that is set, else beside this file and in the folders lib above it;
+as the module yachtlog reads it. The library libyachtjudge.so.5 is looked for in the folder YACHTBANYAN_LIB_DIR if that is set, else beside this file and in the folders lib above it;
 and at last where the system finds libraries.
 
     >>> import yachtjudge
@@ -30,7 +30,7 @@ if TYPE_CHECKING:
     import yachtlog
 
 __all__ = ["BadEvent", "BadScript", "LogVerdict", "NoMemory", "Outcomes", "Verdict", "judge", "judge_events", "outcomes"]
-__version__ = "4.0.0"
+__version__ = "5.0.0"
 
 # what a script or a text may be
 Words = Union[str, bytes, bytearray, memoryview]
@@ -155,7 +155,7 @@ class _Judgement(ctypes.Structure):
 
 def _paths() -> Iterator[Path]:
     """Yields where the library may be, but for the folders of the system."""
-    name = "libyachtjudge.so.4"
+    name = "libyachtjudge.so.5"
     given = os.environ.get("YACHTBANYAN_LIB_DIR")
     if given:
         yield Path(given) / name

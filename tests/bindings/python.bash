@@ -62,9 +62,9 @@ in_python() {
     want 'the judge from Python is wrong' judges_rows judge_rows 41
     want 'the judge of logs from Python is wrong' judges_rows log_rows 82
     want 'the verified judge of yachtlog is wrong' proved_logs
-    want 'a missing library is not explained' without_library "$room" 'libyachtjudge.so.4 was not found.'
-    echo > "$room/libyachtjudge.so.4"
-    want 'a library that does not load is not explained' without_library "$room" "$room/libyachtjudge.so.4 can't be loaded: "
+    want 'a missing library is not explained' without_library "$room" 'libyachtjudge.so.5 was not found.'
+    echo > "$room/libyachtjudge.so.5"
+    want 'a library that does not load is not explained' without_library "$room" "$room/libyachtjudge.so.5 can't be loaded: "
 }
 
 # wrong_modules ROWS: takes modules with wrong changes, which the rows must refuse
