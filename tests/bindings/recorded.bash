@@ -51,6 +51,7 @@ in_turns() {
 
 recorded() {
     want 'the recorder is not built' builds_recorder
+    want 'a bound or a lifetime of the recorder is wrong' over_the_library "$room/bindings/recorder" "$recorder" --doc bounds
     want 'a log of the Rust crate is not legal' legal yachtbanyan 3 20 300 3
     want 'a log of the Rust crate with one slot is not legal' legal yachtbanyan 4 20 200 1
     want 'a log of the C library is not legal' legal c 3 20 300 3

@@ -61,6 +61,8 @@ fn into_raw(value: Value) -> *mut c_void {
 /// A table of the C library.
 pub struct CTable {
     raw: *mut RawTable,
+    most_handles: u32,
+    /// The number of handles that were given out.
     handles: AtomicU32,
 }
 
@@ -83,14 +85,22 @@ impl CTable {
             )
         };
         assert_eq!(answer, DONE, "a table");
-        let handles = AtomicU32::new(0);
-        CTable { raw, handles }
+        CTable {
+            raw,
+            most_handles: handles as u32,
+            handles: AtomicU32::new(0),
+        }
     }
 }
 
 impl Drop for CTable {
     fn drop(&mut self) {
-        // SAFETY: no handle is used any more, since handles borrow the table
+        for number in 0..*self.handles.get_mut() {
+            // SAFETY: no handle is used any more, since handles borrow the table. If a guard was
+            // forgotten, its handle holds a value until now, and none does in `yacht_free`
+            unsafe { yacht_release(yacht_handle_of(self.raw, number)) };
+        }
+        // SAFETY: as above
         unsafe { yacht_free(self.raw) }
     }
 }
@@ -128,10 +138,11 @@ impl Table for CTable {
     type Handle<'a> = CHandle<'a>;
 
     fn handle(&self) -> CHandle<'_> {
-        let number = self.handles.fetch_add(1, SeqCst);
+        let next = |number| (number < self.most_handles).then_some(number + 1);
+        let number = self.handles.fetch_update(SeqCst, SeqCst, next);
+        let number = number.expect("a handle for each thread");
         // SAFETY: each number is used once, so each handle has one thread
         let raw = unsafe { yacht_handle_of(self.raw, number) };
-        assert!(!raw.is_null(), "a handle for each thread");
         let _table = PhantomData;
         CHandle { raw, _table }
     }

@@ -8,6 +8,8 @@
 //! A ticket of one shared counter orders the lines of all threads. A call's ticket is taken before
 //! it begins, and its answer's after it returned, so a call whose answer is before another call in
 //! the log had returned when that one began.
+#[cfg(all(doctest, not(yachtbanyan_stand_in)))]
+mod bounds;
 #[cfg(not(yachtbanyan_stand_in))]
 pub mod c;
 mod log;

@@ -11,6 +11,7 @@ mod iter;
 mod key;
 mod old;
 mod options;
+mod unwind;
 
 pub use access::{Guard, Handle, OwnedGuard, Reader, Table};
 pub use errors::{Full, GetError, NoSeat, NoSlot, OpenError, Reason, Refused, RemoveError};

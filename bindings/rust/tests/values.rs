@@ -339,11 +339,11 @@ fn a_panic_while_holding_releases() {
     let table = Table::with_slots(1).unwrap();
     let handle = table.handle().unwrap();
     handle.replace_at(0, notes.value(1)).unwrap();
-    let caught = std::panic::catch_unwind(std::panic::AssertUnwindSafe(|| {
+    let caught = std::panic::catch_unwind(|| {
         let _guards = (handle.get_at(0).unwrap(), table.get_owned_at(0).unwrap());
         assert!(matches!(handle.remove_at(0), Ok(Old::InUse)));
         panic!("while holding");
-    }));
+    });
     assert!(caught.is_err());
     assert_eq!(notes.drops(), 1);
     assert_eq!(handle.get_at(0).unwrap_err(), GetError::Empty { slot: 0 });
@@ -436,7 +436,7 @@ fn a_drop_that_panics_loses_no_seat_and_no_other_value() {
         std::mem::forget(handle.get_at(slot).unwrap());
         assert!(matches!(handle.remove_at(slot), Ok(Old::InUse)));
     }
-    let caught = std::panic::catch_unwind(std::panic::AssertUnwindSafe(|| drop(handle)));
+    let caught = std::panic::catch_unwind(|| drop(handle));
     assert!(caught.is_err());
     assert_eq!(drops.load(SeqCst), 2);
     // the next handle has all guards
@@ -454,7 +454,7 @@ fn a_drop_that_panics_leaves_the_other_values_of_a_table_to_be_dropped() {
         handle.insert(Counted(drops.clone())).unwrap();
     }
     drop(handle);
-    let caught = std::panic::catch_unwind(std::panic::AssertUnwindSafe(|| drop(table)));
+    let caught = std::panic::catch_unwind(|| drop(table));
     assert!(caught.is_err());
     assert_eq!(drops.load(SeqCst), 4);
 }

@@ -18,6 +18,8 @@
 #[doc = include_str!("../README.md")]
 struct Readme;
 
+#[cfg(doctest)]
+mod bounds;
 mod core;
 mod errors;
 mod log;

@@ -35,6 +35,16 @@ use std::fmt;
 ///     scope.spawn(|| drop(reader.get_at(0)));
 /// });
 /// ```
+///
+/// But it may go to another one:
+///
+/// ```
+/// let table = yachtbanyan::Table::<u64>::with_slots(1).unwrap();
+/// let reader = table.reader().unwrap();
+/// std::thread::scope(|scope| {
+///     scope.spawn(move || drop(reader.get_at(0)));
+/// });
+/// ```
 #[must_use = "a reader is in use until it is dropped"]
 pub struct Reader<T> {
     table: Table<T>,
