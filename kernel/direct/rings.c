@@ -1,0 +1,122 @@
+#include "rings.h"
+
+#include <arpa/inet.h>
+#include <errno.h>
+#include <poll.h>
+#include <stdio.h>
+#include <stdlib.h>
+#include <string.h>
+#include <sys/socket.h>
+#include <unistd.h>
+
+enum { ENTRIES = 16, BACKLOG = 16 };
+
+void must(int holds, const char *what) {
+	if (holds)
+		return;
+	fprintf(stderr, "traps: %s failed\n", what);
+	exit(1);
+}
+
+void open_rig(struct rig *rig, unsigned flags, unsigned slots) {
+	socklen_t size = sizeof rig->address;
+	memset(rig, 0, sizeof *rig);
+	if (io_uring_queue_init(ENTRIES, &rig->ring, flags) || io_uring_register_files_sparse(&rig->ring, slots))
+		exit(NO_IO_URING);
+	rig->address.sin_family = AF_INET;
+	rig->address.sin_addr.s_addr = htonl(INADDR_LOOPBACK);
+	rig->listener = socket(AF_INET, SOCK_STREAM, 0);
+	must(rig->listener >= 0, "socket");
+	must(!bind(rig->listener, (void *)&rig->address, size), "bind");
+	must(!listen(rig->listener, BACKLOG), "listen");
+	must(!getsockname(rig->listener, (void *)&rig->address, &size), "getsockname");
+}
+
+void close_rig(struct rig *rig) {
+	io_uring_queue_exit(&rig->ring);
+	close(rig->listener);
+}
+
+int dial(const struct rig *rig) {
+	int peer = socket(AF_INET, SOCK_STREAM, 0);
+	must(peer >= 0 && !connect(peer, (const void *)&rig->address, sizeof rig->address), "connect");
+	return peer;
+}
+
+int sees_the_end(int peer, int milliseconds) {
+	struct pollfd polled = { peer, POLLIN, 0 };
+	char byte;
+	return poll(&polled, 1, milliseconds) > 0 && recv(peer, &byte, 1, MSG_DONTWAIT) <= 0;
+}
+
+static void submit(struct rig *rig, struct io_uring_sqe *sqe, unsigned long long data) {
+	sqe->user_data = data;
+	must(io_uring_submit(&rig->ring) == 1, "io_uring_submit");
+}
+
+void accept_at(struct rig *rig, int slot, unsigned long long data) {
+	struct io_uring_sqe *sqe = io_uring_get_sqe(&rig->ring);
+	io_uring_prep_accept(sqe, rig->listener, NULL, NULL, 0);
+	sqe->file_index = slot < 0 ? IORING_FILE_INDEX_ALLOC : (unsigned)slot + 1;
+	submit(rig, sqe, data);
+}
+
+void accept_many(struct rig *rig, unsigned long long data) {
+	struct io_uring_sqe *sqe = io_uring_get_sqe(&rig->ring);
+	io_uring_prep_multishot_accept_direct(sqe, rig->listener, NULL, NULL, 0);
+	submit(rig, sqe, data);
+}
+
+void receive(struct rig *rig, int slot, char *buffer, unsigned long long data) {
+	struct io_uring_sqe *sqe = io_uring_get_sqe(&rig->ring);
+	io_uring_prep_recv(sqe, slot, buffer, BUFFER_BYTES, 0);
+	sqe->flags |= IOSQE_FIXED_FILE;
+	submit(rig, sqe, data);
+}
+
+void shut_down(struct rig *rig, int slot, unsigned long long data) {
+	struct io_uring_sqe *sqe = io_uring_get_sqe(&rig->ring);
+	io_uring_prep_shutdown(sqe, slot, SHUT_RDWR);
+	sqe->flags |= IOSQE_FIXED_FILE;
+	submit(rig, sqe, data);
+}
+
+void close_slot(struct rig *rig, int slot, unsigned long long data) {
+	struct io_uring_sqe *sqe = io_uring_get_sqe(&rig->ring);
+	io_uring_prep_close(sqe, 0);
+	sqe->file_index = (unsigned)slot + 1;
+	submit(rig, sqe, data);
+}
+
+void cancel_at(struct rig *rig, int slot, unsigned long long data) {
+	struct io_uring_sqe *sqe = io_uring_get_sqe(&rig->ring);
+	io_uring_prep_cancel_fd(sqe, slot, IORING_ASYNC_CANCEL_FD_FIXED);
+	submit(rig, sqe, data);
+}
+
+void cancel_data(struct rig *rig, unsigned long long which, unsigned long long data) {
+	struct io_uring_sqe *sqe = io_uring_get_sqe(&rig->ring);
+	io_uring_prep_cancel64(sqe, which, 0);
+	submit(rig, sqe, data);
+}
+
+struct answer next(struct rig *rig, int milliseconds) {
+	struct __kernel_timespec time = { milliseconds / 1000, milliseconds % 1000 * 1000000L };
+	struct io_uring_cqe *cqe;
+	int error = io_uring_wait_cqe_timeout(&rig->ring, &cqe, &time);
+	if (error == -ETIME)
+		return (struct answer){ 0 };
+	must(!error, "io_uring_wait_cqe_timeout");
+	struct answer it = { 1, cqe->res, !!(cqe->flags & IORING_CQE_F_MORE), cqe->user_data };
+	io_uring_cqe_seen(&rig->ring, cqe);
+	return it;
+}
+
+int result_of(struct rig *rig, unsigned long long data) {
+	struct answer it;
+	do {
+		it = next(rig, LONG);
+		must(it.is_there, "waiting for a completion");
+	} while (it.data != data);
+	return it.res;
+}

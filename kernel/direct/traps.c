@@ -1,0 +1,249 @@
+/* Plays, on the io_uring of the running kernel, what the author of a server with direct descriptors
+ * may not expect, and prints a line for each trap: `as on Linux 6.18`, or `differs`, with what was
+ * seen. Each trap has a ring and sockets of its own. All are played twice: on a ring as it is set
+ * up without flags, and on one with IORING_SETUP_SINGLE_ISSUER and IORING_SETUP_DEFER_TASKRUN.
+ *
+ * What must not come is waited for during 150 ms. So on a machine that is stopped for longer, a
+ * line may say that nothing came where something comes. */
+#include <errno.h>
+#include <fcntl.h>
+#include <pthread.h>
+#include <stdarg.h>
+#include <stdio.h>
+#include <stdlib.h>
+#include <string.h>
+#include <sys/socket.h>
+#include <unistd.h>
+
+#include "rings.h"
+
+#ifndef IORING_SETUP_DEFER_TASKRUN
+#define IORING_SETUP_DEFER_TASKRUN (1U << 13)
+#endif
+#ifndef IORING_SETUP_SINGLE_ISSUER
+#define IORING_SETUP_SINGLE_ISSUER (1U << 12)
+#endif
+
+enum { SEEN_BYTES = 256 };
+
+/* The user data of the requests of a row: of the first connection, of the next one, and others. */
+enum { FIRST = 1, NEXT, ACCEPTS, CLOSES, CANCELS, SHUTS };
+
+static char seen[SEEN_BYTES];
+
+static void saw(const char *format, ...) {
+	size_t length = strlen(seen);
+	va_list given;
+	va_start(given, format);
+	vsnprintf(seen + length, sizeof seen - length, format, given);
+	va_end(given);
+}
+
+/* Accepts a connection at slot 0, and returns its peer. */
+static int connection(struct rig *rig) {
+	int peer = dial(rig);
+	accept_at(rig, 0, ACCEPTS);
+	must(result_of(rig, ACCEPTS) == 0, "accept");
+	return peer;
+}
+
+/* Accepts a connection at slot 0, and closes the slot while a receive is in flight. */
+static int closed_connection(struct rig *rig, char *buffer) {
+	int peer = connection(rig);
+	receive(rig, 0, buffer, FIRST);
+	close_slot(rig, 0, CLOSES);
+	must(result_of(rig, CLOSES) == 0, "close");
+	return peer;
+}
+
+static void close_leaves_a_receive(struct rig *rig) {
+	char buffer[BUFFER_BYTES];
+	int peer = connection(rig);
+	receive(rig, 0, buffer, FIRST);
+	close_slot(rig, 0, CLOSES);
+	saw("the close answers %d", result_of(rig, CLOSES));
+	saw("; the peer sees %s", sees_the_end(peer, SHORT) ? "the end" : "no end");
+	saw("; the receive %s", next(rig, SHORT).is_there ? "ends" : "waits");
+	close(peer);
+	result_of(rig, FIRST);
+}
+
+static void closed_slot_is_free_at_once(struct rig *rig) {
+	char buffer[BUFFER_BYTES];
+	int peer = closed_connection(rig, buffer), other = dial(rig);
+	accept_at(rig, -1, ACCEPTS);
+	int slot = result_of(rig, ACCEPTS);
+	saw("with the receive in flight the next accept takes %s", slot == 0 ? "the same slot" : "no such slot");
+	close(peer);
+	close(other);
+	result_of(rig, FIRST);
+}
+
+static void old_buffer_is_written_later(struct rig *rig) {
+	char buffer[BUFFER_BYTES] = "";
+	int peer = closed_connection(rig, buffer);
+	must(write(peer, "late", 4) == 4, "write");
+	saw("after the close the receive answers %d", result_of(rig, FIRST));
+	saw(", and its buffer has \"%s\"", buffer);
+	saw("; then the peer sees %s", sees_the_end(peer, LONG) ? "the end" : "no end");
+	close(peer);
+}
+
+/* Two connections, one after the other, have had slot 0; a receive of each is in flight. */
+static void two_lives(struct rig *rig, int peers[2], char buffers[2][BUFFER_BYTES]) {
+	peers[0] = closed_connection(rig, buffers[0]);
+	peers[1] = connection(rig);
+	receive(rig, 0, buffers[1], NEXT);
+}
+
+/* Prints which receive of two lives a cancel has ended. */
+static void saw_canceled(struct rig *rig, int peers[2]) {
+	struct answer it;
+	while ((it = next(rig, SHORT)).is_there)
+		if (it.data == CANCELS)
+			saw("the cancel answers %d; ", it.res);
+		else
+			saw("the receive of the %s connection answers %d; ", it.data == FIRST ? "first" : "next", it.res);
+	saw("%s", "nothing else comes");
+	for (int at = 0; at < 2; at++)
+		close(peers[at]);
+}
+
+static void cancel_by_slot_hits_the_next(struct rig *rig) {
+	char buffers[2][BUFFER_BYTES];
+	int peers[2];
+	two_lives(rig, peers, buffers);
+	cancel_at(rig, 0, CANCELS);
+	saw_canceled(rig, peers);
+}
+
+static void cancel_by_user_data_is_exact(struct rig *rig) {
+	char buffers[2][BUFFER_BYTES];
+	int peers[2];
+	two_lives(rig, peers, buffers);
+	cancel_data(rig, FIRST, CANCELS);
+	saw_canceled(rig, peers);
+}
+
+static void shutdown_then_close_ends_it(struct rig *rig) {
+	char buffer[BUFFER_BYTES];
+	int peer = connection(rig);
+	receive(rig, 0, buffer, FIRST);
+	shut_down(rig, 0, SHUTS);
+	saw("the receive answers %d", result_of(rig, FIRST));
+	close_slot(rig, 0, CLOSES);
+	saw(", the close %d", result_of(rig, CLOSES));
+	saw("; the peer sees %s", sees_the_end(peer, LONG) ? "the end" : "no end");
+	close(peer);
+}
+
+static void multishot_accept_ends_at_a_full_table(struct rig *rig) {
+	int peers[3];
+	accept_many(rig, ACCEPTS);
+	for (int at = 0; at < 3; at++) {
+		peers[at] = dial(rig);
+		struct answer it = next(rig, LONG);
+		saw("%s%d, %s", at ? "; " : "", it.res, it.has_more ? "more" : "the last");
+	}
+	saw("; the third peer sees %s", sees_the_end(peers[2], LONG) ? "the end" : "no end");
+	for (int at = 0; at < 3; at++)
+		close(peers[at]);
+}
+
+static void *update_elsewhere(void *rig) {
+	int none = -1;
+	return (void *)(intptr_t)io_uring_register_files_update(&((struct rig *)rig)->ring, 0, &none, 1);
+}
+
+static void update_by_another_thread(struct rig *rig) {
+	pthread_t thread;
+	void *answer;
+	int peer = connection(rig);
+	must(!pthread_create(&thread, NULL, update_elsewhere, rig) && !pthread_join(thread, &answer), "pthread_create");
+	saw("it answers %d", (int)(intptr_t)answer);
+	saw("; the peer sees %s", sees_the_end(peer, SHORT) ? "the end" : "no end");
+	close(peer);
+}
+
+static void accept_over_a_tag(struct rig *rig) {
+	int file = open("/dev/null", O_RDONLY);
+	__u64 tag = 777;
+	must(file >= 0 && io_uring_register_files_update_tag(&rig->ring, 0, &file, &tag, 1) == 1, "io_uring_register_files_update_tag");
+	int peer = dial(rig);
+	accept_at(rig, 0, ACCEPTS);
+	int has_tag = 0;
+	for (struct answer it; (it = next(rig, SHORT)).is_there;)
+		has_tag |= it.data == tag;
+	saw("the old file's tag %s", has_tag ? "comes" : "doesn't come");
+	close_slot(rig, 0, CLOSES);
+	must(result_of(rig, CLOSES) == 0, "close");
+	saw("; after the close of the accepted one %s", next(rig, SHORT).is_there ? "another comes" : "none comes");
+	close(peer);
+	close(file);
+}
+
+static void accept_at_a_full_slot(struct rig *rig) {
+	int peer = connection(rig), other = dial(rig);
+	accept_at(rig, 0, ACCEPTS);
+	saw("it answers %d", result_of(rig, ACCEPTS));
+	saw("; the first peer sees %s", sees_the_end(peer, LONG) ? "the end" : "no end");
+	close(peer);
+	close(other);
+}
+
+/* A trap, and what Linux 6.18 shows: on a ring without flags, and on one with a single issuer if
+ * that is something else. */
+struct row {
+	const char *name;
+	void (*play)(struct rig *);
+	const char *shown, *shown_to_single;
+};
+
+static const struct row rows[] = {
+	{ "close_leaves_a_receive", close_leaves_a_receive, "the close answers 0; the peer sees no end; the receive waits", NULL },
+	{ "closed_slot_is_free_at_once", closed_slot_is_free_at_once, "with the receive in flight the next accept takes the same slot", NULL },
+	{ "old_buffer_is_written_later", old_buffer_is_written_later,
+	  "after the close the receive answers 4, and its buffer has \"late\"; then the peer sees the end", NULL },
+	{ "cancel_by_slot_hits_the_next", cancel_by_slot_hits_the_next,
+	  "the cancel answers 0; the receive of the next connection answers -125; nothing else comes", NULL },
+	{ "cancel_by_user_data_is_exact", cancel_by_user_data_is_exact,
+	  "the cancel answers 0; the receive of the first connection answers -125; nothing else comes", NULL },
+	{ "shutdown_then_close_ends_it", shutdown_then_close_ends_it, "the receive answers 0, the close 0; the peer sees the end", NULL },
+	{ "multishot_accept_ends_at_a_full_table", multishot_accept_ends_at_a_full_table,
+	  "0, more; 1, more; -23, the last; the third peer sees the end", NULL },
+	{ "update_by_another_thread", update_by_another_thread, "it answers 1; the peer sees the end", "it answers -17; the peer sees no end" },
+	{ "accept_over_a_tag", accept_over_a_tag, "the old file's tag comes; after the close of the accepted one none comes", NULL },
+	{ "accept_at_a_full_slot", accept_at_a_full_slot, "it answers 0; the first peer sees the end", NULL },
+};
+
+/* Plays a trap, prints its line, and returns whether it differs. */
+static int differs(const struct row *row, unsigned flags) {
+	const char *shown = flags && row->shown_to_single ? row->shown_to_single : row->shown;
+	struct rig rig;
+	*seen = 0;
+	open_rig(&rig, flags, 2);
+	row->play(&rig);
+	close_rig(&rig);
+	int is_other = strcmp(seen, shown);
+	printf("%s%s: %s: %s\n", row->name, flags ? ", single issuer" : "", is_other ? "differs" : "as on Linux 6.18", seen);
+	return !!is_other;
+}
+
+int main(void) {
+	const unsigned flags[] = { 0, IORING_SETUP_SINGLE_ISSUER | IORING_SETUP_DEFER_TASKRUN };
+	int played = 0, different = 0;
+	for (int at = 0; at < 2; at++) {
+		struct io_uring ring;
+		if (io_uring_queue_init(2, &ring, flags[at])) {
+			if (!at)
+				return NO_IO_URING;
+			printf("left out: this kernel has no IORING_SETUP_DEFER_TASKRUN\n");
+			break;
+		}
+		io_uring_queue_exit(&ring);
+		for (const struct row *row = rows; row < rows + sizeof rows / sizeof *rows; row++)
+			played++, different += differs(row, flags[at]);
+	}
+	printf("traps: %d played, %d differ from Linux 6.18\n", played, different);
+	return 0;
+}
