@@ -28,7 +28,7 @@ endif
 help:
 	@echo 'Use:'
 	@echo '  make run SCRIPT=path          proves and builds fixfiles, then runs a script (default: examples/open_read_close.script)'
-	@echo '  make try SCRIPT=path          runs a script in half a minute without proving anything; with ASK=--all asks fixcheck about it'
+	@echo '  make try SCRIPT=path          runs a script in two or three minutes without proving anything; with ASK=--all asks fixcheck about it'
 	@echo '  make kernel SCRIPT=path       runs a script on the io_uring of this machine; needs no toolchain'
 	@echo '  make check SCRIPT=a.script    says whether the rules allow a.text for the script, or TEXT=path'
 	@echo '  make conform                  says in KTAP which rules of docs/MODEL.md the kernel of this machine follows; N=number random scripts'

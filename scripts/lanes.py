@@ -1,5 +1,7 @@
 """lanes.py CRATE NAME: proves the crates that a program depends on, builds the program, and leaves it at bin/NAME, for
 scripts/build-program.
+lanes.py --plan CRATE NAME..: prints how long that takes of several programs, before the first one begins, or nothing if each of them is
+newer than all sources.
 
 Crates that don't depend on each other are proved in parallel, as far as memory goes. The crates on the longest paths to the program
 share the processors; each other crate has one job at a lower priority. The toolchain locks the folders of a crate and of its
@@ -110,13 +112,16 @@ class Job:
 
 
 class Lanes:
-    def __init__(self, root, name):
-        self.root, self.name, self.below = root, name, crates()
-        self.those = needed(root, self.below)
+    """The crates of a program, or of several, which are proved in lanes. The last root is the program that is built."""
+
+    def __init__(self, *roots):
+        self.root, self.below = roots[-1], crates()
+        wanted = {it for root in roots for it in needed(root, self.below)}
+        self.those = [it for it in self.below if it in wanted]
         self.lanes = max(min(PROCESSORS, memory() // ROOM_OF_ONE), 1)
         known, self.kept, self.seconds = measured(), set(), {}
         for it in self.those:
-            if it != root and is_kept(it, self.below, self.kept):
+            if it not in roots and is_kept(it, self.below, self.kept):
                 self.kept.add(it)
             self.seconds[it] = KEPT if it in self.kept else known.get(it, (UNMEASURED,))[0]
         self.weight = behind(self.those, self.below, self.seconds)
@@ -218,8 +223,26 @@ class Lanes:
             job.end()
 
 
+def is_built(name):
+    """Checks whether a program is newer than all sources, as scripts/build-program does."""
+    built = f"bin/{name}"
+    if not os.path.exists(built):
+        return False
+    files = [it for crate in crates() for it in files_of(crate, *SOURCES)]
+    return all(os.path.getmtime(it) <= os.path.getmtime(built) for it in ["crates.txt", "HANDLES", *files])
+
+
+def plan(words):
+    roots = [crate for crate, name in zip(words[::2], words[1::2]) if not is_built(name)]
+    if len(roots) > 1 and shutil.which("rt"):
+        lanes = Lanes(*roots)
+        those = f"{', '.join(roots[:-1])} and {roots[-1]} need {len(lanes.those) - len(lanes.kept)} crates that are not proved"
+        lanes.tell(f"Proving and building {len(roots)} programs, one after another: {those}. That takes {lanes.expected()} here.")
+    return 0
+
+
 def main(root, name):
-    lanes = Lanes(root, name)
+    lanes = Lanes(root)
 
     def interrupt(*_):
         lanes.is_interrupted = True
@@ -241,4 +264,4 @@ def main(root, name):
 
 if __name__ == "__main__":
     os.chdir(ROOT)
-    sys.exit(main(*sys.argv[1:]))
+    sys.exit(plan(sys.argv[2:]) if sys.argv[1] == "--plan" else main(*sys.argv[1:]))
