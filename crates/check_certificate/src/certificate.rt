@@ -1,0 +1,187 @@
+//! The points in time of a flight, the orders between them, and the steps of a certificate.
+
+use fx_base::Closed as File;
+
+/// A point in time of a flight. Positions of events and numbers of accesses are from 0.
+#[derive(Clone, Copy, Debug, PartialEq, Eq)]
+pub enum Point {
+    /// The event at a position of the log.
+    Event(usize),
+    /// An access of the member, or of the look, that the event at a position answers. The second
+    /// number counts the accesses of that member.
+    Access(usize, usize),
+    /// The access that installs the file; the end of the flight if no access does.
+    Put(File),
+    /// The last time at which the file is at the slot, which is the access that removes it; the end
+    /// of the flight if the file stays there, and its start if it is never there.
+    Gone(File, u32),
+}
+
+/// One point comes before another one.
+#[derive(Clone, Copy, Debug, PartialEq, Eq)]
+pub struct PointOrder {
+    /// The earlier point.
+    pub from: Point,
+    /// The later point.
+    pub to: Point,
+    /// True if the points differ in time; otherwise they may be at the same time.
+    pub strict: bool,
+}
+
+/// A step of a certificate: a rule, and what it is applied to. Each step adds one order to those
+/// that are known. A field named for an order is the number of the earlier step that added it, from
+/// 0. `call` is the position of the event that begins the call which the event at `answer` answers.
+#[derive(Clone, Copy, Debug)]
+pub enum Step {
+    /// An event comes before a later event.
+    Events {
+        /// The position of the first event.
+        earlier: usize,
+        /// The position of the second event.
+        later: usize,
+    },
+    /// A call comes before its accesses: `Event(call) < Access(answer, access)`.
+    Begins {
+        /// The position of the call.
+        call: usize,
+        /// The position of the answer.
+        answer: usize,
+        /// The number of the access.
+        access: usize,
+    },
+    /// An access comes before the answer of its member: `Access(answer, access) < Event(answer)`.
+    Ends {
+        /// The position of the call.
+        call: usize,
+        /// The position of the answer.
+        answer: usize,
+        /// The number of the access.
+        access: usize,
+    },
+    /// A call comes before it installs a file: `Event(call) < Put(file)`.
+    Calls {
+        /// The position of the call.
+        call: usize,
+        /// A file with the mark of one of the call's members.
+        file: File,
+    },
+    /// An answered request has installed the file of one of its accesses:
+    /// `Put(file) < Event(answer)`.
+    Installs {
+        /// The position of the call.
+        call: usize,
+        /// The position of the answer.
+        answer: usize,
+        /// The number of the access that installs the file.
+        access: usize,
+    },
+    /// The file that an answered request installed is then at its slot:
+    /// `Put(file) < Gone(file, slot)`.
+    Places {
+        /// The position of the call.
+        call: usize,
+        /// The position of the answer.
+        answer: usize,
+        /// The number of the access that installs the file.
+        access: usize,
+    },
+    /// A file was installed before a look found it: `Put(file) < Access(answer, 0)`.
+    Follows {
+        /// The position of the call of the look.
+        call: usize,
+        /// The position of the look's answer.
+        answer: usize,
+    },
+    /// A look found a file before it left its slot: `Access(answer, 0) < Gone(file, slot)`.
+    Finds {
+        /// The position of the call of the look.
+        call: usize,
+        /// The position of the look's answer.
+        answer: usize,
+    },
+    /// A file left its slot before it was closed: `Gone(file, slot) < Event(close)`.
+    Closes {
+        /// The position of the close.
+        close: usize,
+        /// The slot.
+        slot: u32,
+    },
+    /// A file that was installed before all was settled, and not closed, was still at its slot:
+    /// `Event(settled) < Gone(file, slot)`.
+    Settles {
+        /// The position of the event `Settled`.
+        settled: usize,
+        /// The order `Put(file) < Event(settled)`.
+        installed: usize,
+        /// The order `Put(file) < Gone(file, slot)`.
+        placed: usize,
+    },
+    /// An access that leaves a slot without a file comes after the file left it:
+    /// `Gone(file, slot) <= Access(answer, access)`. It empties the slot, finds it empty, or finds
+    /// another file.
+    Empties {
+        /// The position of the call.
+        call: usize,
+        /// The position of the answer.
+        answer: usize,
+        /// The number of the access.
+        access: usize,
+        /// The order `Put(file) <= Access(answer, access)`.
+        installed: usize,
+    },
+    /// The same access, if the file is at the slot later: `Access(answer, access) < Put(file)`.
+    Precedes {
+        /// The position of the call.
+        call: usize,
+        /// The position of the answer.
+        answer: usize,
+        /// The number of the access.
+        access: usize,
+        /// The order `Access(answer, access) < Gone(file, slot)`.
+        there: usize,
+    },
+    /// A file leaves its slot when another one is installed there:
+    /// `Gone(file, slot) <= Put(other)`.
+    Displaces {
+        /// The order `Put(file) <= Put(other)`.
+        installed: usize,
+        /// The order `Put(other) < Gone(other, slot)`.
+        placed: usize,
+    },
+    /// A file that is at a slot after another one was installed there was installed after it:
+    /// `Put(other) < Put(file)`.
+    Outlives {
+        /// The order `Put(other) < Gone(file, slot)`.
+        there: usize,
+        /// The order `Put(other) < Gone(other, slot)`.
+        placed: usize,
+    },
+    /// An order from the first point of one order to the second point of another one.
+    Then {
+        /// The first order.
+        first: usize,
+        /// The second order. It begins at the point at which the first one ends.
+        second: usize,
+    },
+    /// A contradiction: a look's answer is a file that was closed before.
+    FindsClosed {
+        /// The position of the close.
+        close: usize,
+        /// The position of the look's answer.
+        answer: usize,
+    },
+    /// A contradiction: a file was closed twice.
+    ClosesTwice {
+        /// The position of the first close.
+        first: usize,
+        /// The position of the second close.
+        second: usize,
+    },
+    /// A contradiction: a file was closed while a look held it.
+    ClosesHeld {
+        /// The position of the look's answer.
+        answer: usize,
+        /// The position of the close.
+        close: usize,
+    },
+}
