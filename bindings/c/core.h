@@ -8,7 +8,10 @@
 #include <stddef.h>
 #include <stdint.h>
 
-typedef struct yacht_core yacht_core;
+/* a worker of the core, which its place in memory owns: one pointer, or NULL if there is none */
+typedef struct yacht_core {
+    void *worker;
+} yacht_core;
 
 /* the tag and the number of the value that a look-up found, and the tag of one that it dropped */
 typedef struct yacht_label {
@@ -24,8 +27,8 @@ typedef struct yacht_placed {
     uint64_t closed;
 } yacht_placed;
 
-int64_t yacht_core_open(uint32_t slots, uint32_t installing, yacht_core **workers, size_t count);
-void yacht_core_close(yacht_core *worker);
+int64_t yacht_core_open(uint32_t slots, uint32_t installing, yacht_core *workers, size_t count);
+void yacht_core_close(yacht_core worker);
 int64_t yacht_core_look(yacht_core *worker, uint32_t slot, yacht_label *label);
 int64_t yacht_core_release(yacht_core *worker, uint64_t *closed);
 int64_t yacht_core_put(yacht_core *worker, uint32_t slot, uint64_t tag, yacht_placed *placed);

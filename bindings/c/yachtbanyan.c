@@ -28,8 +28,8 @@ static void release(void *value) {
 }
 
 struct yacht_handle {
-    yacht_core *core;
-    yacht_core *holds; /* of a handle that installs: its second worker */
+    yacht_core core;
+    yacht_core holds; /* of a handle that installs: its second worker */
     yacht_table *table;
     void *held;      /* or NULL */
     uint64_t number; /* of what it holds */
@@ -63,9 +63,9 @@ static void drop_value(yacht_table *table, void *value) {
 }
 
 /* closes the workers that the core has opened so far, and frees the table */
-static int give_up(yacht_table *table, yacht_core **cores, uint32_t count, int error) {
+static int give_up(yacht_table *table, yacht_core *cores, uint32_t count, int error) {
     for (uint32_t i = 0; cores && i < count; i++)
-        if (cores[i]) yacht_core_close(cores[i]);
+        if (cores[i].worker) yacht_core_close(cores[i]);
     free(cores);
     free(table);
     return error;
@@ -78,7 +78,7 @@ int yacht_open(yacht_table **table, uint32_t slots, uint32_t handles, uint32_t r
     if (readers > YACHT_MOST_IN_ALL - 2 * handles) return YACHT_BAD_ARGUMENT;
     uint32_t count = 2 * handles + readers;
     yacht_table *it = calloc(1, sizeof *it + (handles + readers) * sizeof *it->all);
-    yacht_core **cores = calloc(count, sizeof *cores);
+    yacht_core *cores = calloc(count, sizeof *cores);
     if (!it || !cores) return give_up(it, cores, count, YACHT_NO_MEMORY);
     int64_t answer = yacht_core_open(slots, handles, cores, count);
     if (answer != YACHT_DONE) return give_up(it, cores, count, (int)answer);
@@ -109,7 +109,7 @@ void yacht_free(yacht_table *table) {
     while (empty(table)) continue;
     for (uint32_t i = 0; i < table->handles + table->readers; i++) {
         yacht_core_close(table->all[i].core);
-        if (table->all[i].holds) yacht_core_close(table->all[i].holds);
+        if (table->all[i].holds.worker) yacht_core_close(table->all[i].holds);
     }
     free(table);
 }
@@ -158,11 +158,11 @@ static int keep(yacht_handle *handle, found it, uint32_t slot, void **value) {
 }
 
 int yacht_get_at(yacht_handle *handle, uint32_t slot, void **value) {
-    return keep(handle, look(handle->core, slot), slot, value);
+    return keep(handle, look(&handle->core, slot), slot, value);
 }
 
 int yacht_get(yacht_handle *handle, yacht_key key, void **value) {
-    found it = look(handle->core, key.slot);
+    found it = look(&handle->core, key.slot);
     if (!it.label.tag || is_of(it, key)) return keep(handle, it, key.slot, value);
     end(handle, it);
     return YACHT_STALE;
@@ -170,7 +170,7 @@ int yacht_get(yacht_handle *handle, yacht_key key, void **value) {
 
 int yacht_release(yacht_handle *handle) {
     if (!handle->held) return YACHT_IDLE;
-    found it = {.core = handle->core, .label = {.tag = tag_of(handle->held)}};
+    found it = {.core = &handle->core, .label = {.tag = tag_of(handle->held)}};
     handle->held = NULL;
     end(handle, it);
     return YACHT_DONE;
@@ -186,7 +186,7 @@ int yacht_key_of(yacht_handle *handle, yacht_key *key) {
 static int prepare(yacht_handle *handle, void *value) {
     if (!value) return YACHT_BAD_ARGUMENT;
     if (handle->held) return YACHT_BUSY;
-    if (!handle->holds) return YACHT_READER;
+    if (!handle->holds.worker) return YACHT_READER;
     release(value);
     return YACHT_DONE;
 }
@@ -196,10 +196,10 @@ static int insert(yacht_handle *handle, void *value, yacht_key *key, int once) {
     uint64_t number = 0;
     int error = key ? prepare(handle, value) : YACHT_BAD_ARGUMENT;
     if (error) return error;
-    int64_t answer = yacht_core_put_any(handle->core, tag_of(value), &number);
+    int64_t answer = yacht_core_put_any(&handle->core, tag_of(value), &number);
     while (answer == YACHT_AGAIN && !once) {
         sched_yield();
-        answer = yacht_core_put_any(handle->core, tag_of(value), &number);
+        answer = yacht_core_put_any(&handle->core, tag_of(value), &number);
     }
     if (answer >= 0) *key = (yacht_key){number, (uint32_t)answer};
     return (int)answer;
@@ -228,7 +228,7 @@ static uint32_t find_empty(yacht_handle *handle) {
     uint32_t slots = handle->table->slots;
     for (uint32_t i = 0; i < slots; i++) {
         uint32_t slot = (handle->begin + i) % slots;
-        found it = look(handle->core, slot);
+        found it = look(&handle->core, slot);
         end(handle, it);
         if (!it.label.tag) return slot;
     }
@@ -237,20 +237,20 @@ static uint32_t find_empty(yacht_handle *handle) {
 
 int yacht_insert_with(yacht_handle *handle, yacht_make *make, void *with, yacht_key *key) {
     if (!make || !key) return YACHT_BAD_ARGUMENT;
-    if (!handle->holds) return YACHT_READER;
+    if (!handle->holds.worker) return YACHT_READER;
     if (handle->held) return YACHT_BUSY;
     for (;;) {
         yacht_key its = {.slot = find_empty(handle)};
         if (its.slot == handle->table->slots) {
-            if (yacht_core_full(handle->core) == YACHT_FULL) return YACHT_FULL;
+            if (yacht_core_full(&handle->core) == YACHT_FULL) return YACHT_FULL;
             sched_yield();
             continue;
         }
-        yacht_core_draw(handle->core, &its.number);
+        yacht_core_draw(&handle->core, &its.number);
         void *value = make(its, with);
         if (!value) return YACHT_BAD_ARGUMENT;
         release(value);
-        if (yacht_core_put_empty(handle->core, its.slot, tag_of(value), its.number) == YACHT_DONE) {
+        if (yacht_core_put_empty(&handle->core, its.slot, tag_of(value), its.number) == YACHT_DONE) {
             handle->begin = (its.slot + 1) % handle->table->slots;
             *key = its;
             return (int)its.slot;
@@ -263,15 +263,15 @@ int yacht_replace_at(yacht_handle *handle, uint32_t slot, void *value) {
     yacht_placed placed;
     int error = slot < handle->table->slots ? prepare(handle, value) : YACHT_NO_SLOT;
     if (error) return error;
-    int64_t answer = yacht_core_put(handle->core, slot, tag_of(value), &placed);
+    int64_t answer = yacht_core_put(&handle->core, slot, tag_of(value), &placed);
     if (answer == YACHT_DROPPED) drop_value(handle->table, value_of(placed.closed));
     return (int)answer;
 }
 
 int yacht_remove_at(yacht_handle *handle, uint32_t slot) {
     uint64_t closed = 0;
-    if (!handle->holds) return YACHT_READER;
-    int64_t answer = yacht_core_take(handle->core, slot, &closed);
+    if (!handle->holds.worker) return YACHT_READER;
+    int64_t answer = yacht_core_take(&handle->core, slot, &closed);
     if (answer >= 0) handle->begin = slot;
     if (answer == YACHT_DROPPED) drop_value(handle->table, value_of(closed));
     return (int)answer;
@@ -279,9 +279,9 @@ int yacht_remove_at(yacht_handle *handle, uint32_t slot) {
 
 /* holds the value of a key by the second worker; returns YACHT_DONE, or why not */
 static int hold(yacht_handle *handle, yacht_key key, found *it) {
-    if (!handle->holds) return YACHT_READER;
+    if (!handle->holds.worker) return YACHT_READER;
     if (handle->held) return YACHT_BUSY;
-    *it = look(handle->holds, key.slot);
+    *it = look(&handle->holds, key.slot);
     if (it->label.tag && is_of(*it, key)) return YACHT_DONE;
     end(handle, *it);
     return it->label.tag ? YACHT_STALE : (int)it->answer;
@@ -301,7 +301,7 @@ int yacht_remove(yacht_handle *handle, yacht_key key) {
     int error = hold(handle, key, &it);
     if (error) return error;
     for (;;) {
-        int64_t answer = yacht_core_take_if(handle->core, key.slot, (uint32_t)it.answer, &closed);
+        int64_t answer = yacht_core_take_if(&handle->core, key.slot, (uint32_t)it.answer, &closed);
         if (answer >= 0) handle->begin = key.slot;
         if (answer != YACHT_AGAIN) return end_hold(handle, it, answer);
         sched_yield();
@@ -318,7 +318,7 @@ int yacht_replace(yacht_handle *handle, yacht_key *key, void *value) {
     int64_t answer = prepare(handle, value);
     while (answer == YACHT_DONE || answer == YACHT_AGAIN) {
         if (answer == YACHT_AGAIN) sched_yield();
-        answer = yacht_core_put_if(handle->core, slot, node, tag_of(value), &placed);
+        answer = yacht_core_put_if(&handle->core, slot, node, tag_of(value), &placed);
     }
     if (answer > 0) key->number = placed.number;
     return end_hold(handle, it, answer);

@@ -1,13 +1,12 @@
 //! The proved table that never has to be closed, by the exports for C that the Rust crate calls.
 //! A file is known to it by its tag.
 use crate::table::{read_entry, File, Shape, Table, FILE};
+use std::ffi::c_void;
 use std::sync::atomic::{AtomicPtr, Ordering::Relaxed};
 
-/// A worker, which is one pass of the table.
+/// A worker, which is one pass of the table: one pointer, or null if there is none.
 #[repr(C)]
-pub struct Worker {
-    _private: [u8; 0],
-}
+pub struct Worker(*mut c_void);
 
 /// The tag and the number of the file that a look-up found, and the tag of one that it closed.
 #[allow(dead_code)]
@@ -35,9 +34,8 @@ const AGAIN: i64 = -7;
 pub const WORKERS: usize = 16;
 
 extern "C" {
-    fn yacht_core_open(slots: u32, installing: u32, workers: *mut *mut Worker, count: usize)
-        -> i64;
-    fn yacht_core_close(worker: *mut Worker);
+    fn yacht_core_open(slots: u32, installing: u32, workers: *mut Worker, count: usize) -> i64;
+    fn yacht_core_close(worker: Worker);
     fn yacht_core_look(worker: *mut Worker, slot: u32, label: *mut Label) -> i64;
     fn yacht_core_release(worker: *mut Worker, closed: *mut u64) -> i64;
     fn yacht_core_put(worker: *mut Worker, slot: u32, tag: u64, placed: *mut Placed) -> i64;
@@ -47,7 +45,7 @@ extern "C" {
 
 /// A table with a worker for each thread, and as many more as it takes to have 16. Its allocation
 /// range is all its slots.
-pub struct Core(Vec<AtomicPtr<Worker>>);
+pub struct Core(Vec<AtomicPtr<c_void>>);
 
 fn tag_of(file: File) -> u64 {
     file.mark + 1
@@ -71,13 +69,14 @@ impl Table for Core {
     type Pass = *mut Worker;
 
     fn open(shape: Shape) -> Core {
-        let mut workers = vec![std::ptr::null_mut(); shape.threads.max(WORKERS)];
-        let (slots, count) = (shape.slots as u32, workers.len());
+        let count = shape.threads.max(WORKERS);
+        let mut workers: Vec<Worker> = (0..count).map(|_| Worker(std::ptr::null_mut())).collect();
+        let slots = shape.slots as u32;
         // SAFETY: there are `count` places.
         let installing = shape.threads as u32;
         let answer = unsafe { yacht_core_open(slots, installing, workers.as_mut_ptr(), count) };
         assert_eq!(answer, 0, "memory");
-        let table = Core(workers.into_iter().map(AtomicPtr::new).collect());
+        let table = Core(workers.into_iter().map(|it| AtomicPtr::new(it.0)).collect());
         for slot in 0..shape.full {
             table.put(&mut table.pass(0), slot, FILE);
         }
@@ -85,7 +84,7 @@ impl Table for Core {
     }
 
     fn pass(&self, thread: usize) -> *mut Worker {
-        self.0[thread].load(Relaxed)
+        self.0[thread].as_ptr().cast()
     }
 
     fn look(&self, worker: &mut *mut Worker, slot: usize) -> u64 {
@@ -132,7 +131,7 @@ impl Drop for Core {
     fn drop(&mut self) {
         for worker in &self.0 {
             // SAFETY: no thread uses the workers any more.
-            unsafe { yacht_core_close(worker.load(Relaxed)) };
+            unsafe { yacht_core_close(Worker(worker.load(Relaxed))) };
         }
     }
 }

@@ -5,3 +5,4 @@ pub mod FileNumbers
 pub mod FromEnd
 pub mod Keyed
 pub mod Looking
+pub mod Sending

@@ -114,6 +114,7 @@ pub record LooksAs (w : TableWorker) (slot : ℕ) (answer : ℤ) (label : CoreLa
     (w' : TableWorker) : Type 0 where
   pub look : LookAnswer
   pub good : IsGood w'
+  pub table : w'.shared ≡ w.shared
   pub looked : LooksUp w slot look w'
   pub numbers : DrawsNone w w'
   pub its_answer : answer ≡ found_node look.found
@@ -124,6 +125,7 @@ pub record ReleasesAs (w : TableWorker) (answer : ℤ) (closed : ℕ) (w' : Tabl
     : Type 0 where
   pub result : Result (Option ℕ) ServerRefusal
   pub good : IsGood w'
+  pub table : w'.shared ≡ w.shared
   pub released : ReleasesHeld w result w'
   pub numbers : DrawsNone w w'
   pub its_answer : answer ≡ release_number result
@@ -134,6 +136,7 @@ pub record PutsAs (w : TableWorker) (slot tag : ℕ) (answer : ℤ) (out : CoreP
     (w' : TableWorker) : Type 0 where
   pub result : Result Placed ServerRefusal
   pub good : IsGood w'
+  pub table : w'.shared ≡ w.shared
   pub placed : PutsNext w slot tag result w'
   pub its_answer : answer ≡ placed_number result
   pub its_file : out ≡ placed_in result
@@ -143,6 +146,7 @@ pub record PutsAnyAs (w : TableWorker) (tag : ℕ) (answer : ℤ) (number : ℕ)
     : Type 0 where
   pub result : Result PlacedAt ServerRefusal
   pub good : IsGood w'
+  pub table : w'.shared ≡ w.shared
   pub allocated : PutsAnyNext w tag result w'
   pub its_answer : answer ≡ slot_placed result
   pub its_number : number ≡ slot_number result
@@ -152,6 +156,7 @@ pub record RemovesAs (w : TableWorker) (slot : ℕ) (answer : ℤ) (closed : ℕ
     : Type 0 where
   pub result : Result Removal ServerRefusal
   pub good : IsGood w'
+  pub table : w'.shared ≡ w.shared
   pub removed : RemovesFrom w slot result w'
   pub numbers : DrawsNone w w'
   pub its_answer : answer ≡ removal_number result
@@ -162,6 +167,7 @@ pub record RemovesIfAs (w : TableWorker) (slot node : ℕ) (answer : ℤ) (close
     (w' : TableWorker) : Type 0 where
   pub result : Result Removal ServerRefusal
   pub good : IsGood w'
+  pub table : w'.shared ≡ w.shared
   pub removed : RemovesIf w slot node result w'
   pub numbers : DrawsNone w w'
   pub its_answer : answer ≡ removal_number result
@@ -172,6 +178,7 @@ pub record PutsIfAs (w : TableWorker) (slot node tag : ℕ) (answer : ℤ) (out 
     (w' : TableWorker) : Type 0 where
   pub result : Result Placed ServerRefusal
   pub good : IsGood w'
+  pub table : w'.shared ≡ w.shared
   pub placed : PutsIfNext w slot node tag result w'
   pub its_answer : answer ≡ placed_number result
   pub its_file : out ≡ placed_in result
@@ -180,6 +187,7 @@ pub record PutsIfAs (w : TableWorker) (slot node tag : ℕ) (answer : ℤ) (out 
 pub record DrawsAs (w : TableWorker) (answer : ℤ) (number : ℕ) (w' : TableWorker) : Type 0 where
   pub result : Result ℕ ServerRefusal
   pub good : IsGood w'
+  pub table : w'.shared ≡ w.shared
   pub drawn : DrawsOne w result w'
   pub its_answer : answer ≡ draw_number result
   pub its_number : number ≡ drawn_or_zero result
@@ -189,6 +197,7 @@ pub record PutsEmptyAs (w : TableWorker) (slot tag number : ℕ) (answer : ℤ) 
     : Type 0 where
   pub result : Result (Unit {0}) ServerRefusal
   pub good : IsGood w'
+  pub table : w'.shared ≡ w.shared
   pub placed : PutsEmpty w slot tag number result w'
   pub numbers : DrawsNone w w'
   pub its_answer : answer ≡ done_number result
@@ -197,6 +206,7 @@ pub record PutsEmptyAs (w : TableWorker) (slot tag number : ℕ) (answer : ℤ) 
 pub record ReportsFullAs (w : TableWorker) (code : ℤ) (w' : TableWorker) : Type 0 where
   pub answer : ServerRefusal
   pub good : IsGood w'
+  pub table : w'.shared ≡ w.shared
   pub reports : ReportsFull w answer w'
   pub numbers : DrawsNone w w'
   pub its_code : code ≡ refusal_code answer

@@ -3,6 +3,7 @@ pub mod FileNumbers
 pub mod Files
 pub mod Handle
 pub mod Installing
+pub mod Lending
 pub mod Opened
 pub mod Places
 pub mod Workers

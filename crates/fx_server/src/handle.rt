@@ -27,7 +27,21 @@ impl Model for Handle {
     ghost also_owns = { λ s. handle_owns s.ptr s.worker };
 }
 
+unsafe impl Send for Handle {}
+
 impl Handle {
+    ghost use Rattle.std.specs.Borrow.{sem};
+    ghost use Rattle.fx_server.specs.Lending.{LendsWorker};
+
+    /// Lends the worker. What is done to it is done to the handle's.
+    #[inline(always)]
+    pub fn as_mut(&mut self) -> &mut TableWorker
+        ensures* writes_back { sem 𝓛 (LendsWorker self.entry result) }
+        ensures value { result.now ≡ self.old.worker }
+    {
+        unsafe { &mut *(self.ptr as *mut TableWorker) }
+    }
+
     // Returns the box's parts.
     fn into_parts(self) -> BoxParts<TableWorker, Global>
         ensures { result.value ≡ self.worker }
@@ -46,7 +60,8 @@ impl Handle {
         self.into_parts().into_box()
     }
 
-    /// Ends the worker.
+    /// Ends the worker, and with the last one the table. The memory is freed, which no clause says:
+    /// it is tested.
     pub fn end(self) {
         drop(self.into_box());
     }
@@ -65,6 +80,8 @@ pub struct WorkerPlace {
 impl Model for WorkerPlace {
     ghost also_owns = { λ p. place_owns p.ptr p.worker };
 }
+
+unsafe impl Send for WorkerPlace {}
 
 impl WorkerPlace {
     // Returns a place with the worker of these parts.

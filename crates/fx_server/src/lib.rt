@@ -5,18 +5,17 @@
 //! Each call's clause says which events it adds to the pass, as the table's own clauses do
 //! (`fx_table`, `specs/Calls.antt`): which file was at the slot, and which file is returned to be
 //! closed. Files are told apart by their tags. Begin reading at `worker.rt` and
-//! `specs/Workers.antt`, then `calls.rt` and `specs/Answers.antt`.
+//! `specs/Workers.antt`, then `handle.rt` and `specs/Answers.antt`.
 #![tactic(auto)]
 
 mod answers;
-pub mod calls;
 pub mod codes;
 mod crossing;
 mod file_numbers;
 mod handle;
 mod installing;
 pub mod laws;
-mod numbers;
+pub mod numbers;
 mod opening;
 mod parts;
 mod placing;

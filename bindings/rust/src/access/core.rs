@@ -4,11 +4,27 @@
 //! twice (`numbers_are_drawn_once`).
 #![allow(dead_code)]
 
-/// A worker of the core.
+/// A worker of the core, which its place in memory owns: one pointer, or null if there is none.
 #[repr(C)]
 pub(crate) struct Core {
-    _private: [u8; 0],
-    _marker: std::marker::PhantomData<(*mut u8, std::marker::PhantomPinned)>,
+    worker: *mut std::ffi::c_void,
+}
+
+impl Core {
+    /// Returns a place without a worker.
+    pub(crate) const fn none() -> Core {
+        Core::of(std::ptr::null_mut())
+    }
+
+    /// Returns a place of the worker at this address.
+    pub(crate) const fn of(worker: *mut std::ffi::c_void) -> Core {
+        Core { worker }
+    }
+
+    /// Returns the address of the worker, or null if there is none.
+    pub(crate) fn worker(&self) -> *mut std::ffi::c_void {
+        self.worker
+    }
 }
 
 /// The tag and the number of the value that a look-up found, and the tag of a removed value that it
@@ -72,10 +88,10 @@ unsafe extern "C" {
     pub(crate) fn yacht_core_open(
         slots: u32,
         installing: u32,
-        workers: *mut *mut Core,
+        workers: *mut Core,
         count: usize,
     ) -> i64;
-    pub(crate) fn yacht_core_close(worker: *mut Core);
+    pub(crate) fn yacht_core_close(worker: Core);
     pub(crate) fn yacht_core_look(worker: *mut Core, slot: u32, label: *mut Label) -> i64;
     pub(crate) fn yacht_core_release(worker: *mut Core, closed: *mut u64) -> i64;
     pub(crate) fn yacht_core_put(

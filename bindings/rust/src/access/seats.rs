@@ -2,23 +2,22 @@
 use super::core::{self, Core};
 use crate::errors::{NoSeat, OpenError};
 use crate::options::Options;
-use std::cell::Cell;
-use std::ptr::NonNull;
+use std::cell::{Cell, UnsafeCell};
 use std::sync::atomic::{AtomicU32, AtomicU64, AtomicUsize, Ordering};
 
 /// A worker of the core, which this value owns. The seats of two threads share no cache line.
 #[repr(align(128))]
 pub(super) struct Seat {
-    core: NonNull<Core>,
+    core: UnsafeCell<Core>,
     /// The neighbours of this seat in the list of guards of one reader.
     pub(super) next: Cell<Option<u32>>,
     pub(super) previous: Cell<Option<u32>>,
 }
 
 impl Seat {
-    fn new(core: NonNull<Core>) -> Seat {
+    fn new(core: Core) -> Seat {
         Seat {
-            core,
+            core: UnsafeCell::new(core),
             next: Cell::new(None),
             previous: Cell::new(None),
         }
@@ -26,14 +25,15 @@ impl Seat {
 
     #[inline]
     pub(super) fn core(&self) -> *mut Core {
-        self.core.as_ptr()
+        self.core.get()
     }
 }
 
 impl Drop for Seat {
     fn drop(&mut self) {
+        let core = std::mem::replace(self.core.get_mut(), Core::none());
         // SAFETY: the core's worker came from `yacht_core_open`, and nobody uses it after this.
-        unsafe { core::yacht_core_close(self.core()) }
+        unsafe { core::yacht_core_close(core) }
     }
 }
 
@@ -147,14 +147,14 @@ impl Seats {
     /// Opens a table of the core, with the seats that the options name.
     pub(super) fn open(options: &Options) -> Result<Seats, OpenError> {
         let count = options.seats()?;
-        let mut cores = vec![std::ptr::null_mut(); count];
-        // SAFETY: there is room for `count` pointers; the numbers are in range.
+        let mut cores: Vec<Core> = (0..count).map(|_| Core::none()).collect();
+        // SAFETY: there is room for `count` workers; the numbers are in range.
         let answer = unsafe {
             core::yacht_core_open(options.slots, options.handles, cores.as_mut_ptr(), count)
         };
         let mut seats: Vec<Seat> = cores
             .into_iter()
-            .filter_map(NonNull::new)
+            .filter(|it| !it.worker().is_null())
             .map(Seat::new)
             .collect();
         if answer != core::DONE || seats.len() != count {

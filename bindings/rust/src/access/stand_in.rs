@@ -273,13 +273,13 @@ fn answer(closed: Option<u64>, kept: i64, out: &mut u64) -> i64 {
 // it.
 unsafe fn worker<'a>(handle: *mut Core) -> &'a mut Worker {
     // SAFETY: the handle came from `yacht_core_open`.
-    unsafe { &mut *handle.cast() }
+    unsafe { &mut *(*handle).worker().cast() }
 }
 
 pub(crate) unsafe fn yacht_core_open(
     slots: u32,
     installing: u32,
-    out: *mut *mut Core,
+    out: *mut Core,
     count: usize,
 ) -> i64 {
     let is_right = (1..=MOST_SLOTS).contains(&slots)
@@ -318,14 +318,14 @@ pub(crate) unsafe fn yacht_core_open(
             after_filled: 67 * (at + 1) % slots,
         };
         // SAFETY: there is room for `count` handles.
-        unsafe { *out.add(at) = Box::into_raw(Box::new(it)).cast() };
+        unsafe { *out.add(at) = Core::of(Box::into_raw(Box::new(it)).cast()) };
     }
     DONE
 }
 
-pub(crate) unsafe fn yacht_core_close(handle: *mut Core) {
+pub(crate) unsafe fn yacht_core_close(handle: Core) {
     // SAFETY: the handle is used no more.
-    drop(unsafe { Box::from_raw(handle.cast::<Worker>()) });
+    drop(unsafe { Box::from_raw(handle.worker().cast::<Worker>()) });
 }
 
 pub(crate) unsafe fn yacht_core_look(handle: *mut Core, slot: u32, label: *mut Label) -> i64 {
