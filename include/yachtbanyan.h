@@ -4,17 +4,19 @@
  *
  * Drops. A value that was replaced or removed is dropped by its last user, before the call that
  * ends this use returns. Its users are the handles that hold it, the call that replaced or removed
- * it, and each look-up (yacht_get_at, or a call by key) under way that first saw it. Such a look-up
- * is a user until it ends, even if it returns another value. So a look-up may drop a value that its
- * caller never got, and a thread that is stopped within one may delay a drop. While no call is
- * under way, each value that was replaced or removed, and that no handle holds, has been dropped.
+ * it, and each look-up (yacht_get_at, a call by key, or yacht_insert_with, which looks for an empty
+ * slot) under way that first saw it. Such a look-up is a user until it ends, even if it returns
+ * another value. So a look-up may drop a value that its caller never got, and a thread that is
+ * stopped within one may delay a drop. While no call is under way, each value that was replaced or
+ * removed, and that no handle holds, has been dropped.
  *
  * Keys. A key names one value: its slot, and a number that no other value of the table has or will
  * have. Once the value was replaced or removed, its key is stale: a call by it returns YACHT_STALE
  * if the slot has another value, and YACHT_EMPTY if it has none. Any numbers are a key: one of
  * another table, or one that no call returned, is stale, or is the key of some value. A key with
- * the number 0 is that of no value. A handle has 2^64 numbers divided by the number of handles: if
- * it uses them up, its further values have the number 0. No number is used again.
+ * the number 0 is that of no value. The first keys of two tables are equal, so a key in the wrong
+ * table often finds a value. A handle has 2^64 numbers divided by the number of handles: if it uses
+ * them up, its further values have the number 0. No number is used again.
  *
  * The caller must ensure the following, which nothing checks:
  * - A table or a handle comes from a function of this header, and its table is not yet freed.
@@ -43,6 +45,14 @@ extern "C" {
 #define YACHT_VERSION_MAJOR 5
 #define YACHT_VERSION_MINOR 0
 #define YACHT_VERSION_PATCH 0
+
+/* Returns the version of the library, as YACHT_VERSION is that of this header. The string is never
+ * freed. */
+const char *yacht_version(void);
+
+/* The library's name of yacht_open has the major version. So a program that was compiled with the
+ * header of another one doesn't link with the library. */
+#define yacht_open yacht_open_5
 
 /* The largest numbers of slots, of handles that install values, and of handles and readers
  * together, where each handle counts twice. */
@@ -79,13 +89,16 @@ typedef struct yacht_key {
 } yacht_key;
 
 /* Drops a value that has no users left. Any thread that uses the table may call it, within a
- * look-up, a replacement, a removal, yacht_release or yacht_free. It may use other handles of the
- * table; within yacht_free, any handle but the first. */
+ * look-up, a replacement, a removal, yacht_insert_with, yacht_release or yacht_free. It may use
+ * other handles of the table; within yacht_free, any handle but the first. It must not close a
+ * direct descriptor of io_uring: the descriptor's slot may be that of another connection by then
+ * (docs/BINDINGS.md, "Direct descriptors"). */
 typedef void yacht_drop(void *value, void *with);
 
 /* Opens a table of 1 to YACHT_MOST_SLOTS empty slots, with 1 to YACHT_MOST_HANDLES handles that
  * install values, and with readers: the readers, and twice the handles, are at most
- * YACHT_MOST_IN_ALL together. `drop` is called once for each value, with `with`.
+ * YACHT_MOST_IN_ALL together. `drop` is called once for each value, with `with`. While the table is
+ * opened, it takes twice its memory.
  * Returns YACHT_DONE and writes *table; or YACHT_BAD_ARGUMENT or YACHT_NO_MEMORY, and writes
  * nothing. */
 int yacht_open(yacht_table **table, uint32_t slots, uint32_t handles, uint32_t readers,
@@ -158,7 +171,8 @@ int yacht_replace_at(yacht_handle *handle, uint32_t slot, void *value);
 int yacht_remove_at(yacht_handle *handle, uint32_t slot);
 
 /* Installs a value, not NULL, in place of the one with the key *key, and writes the new value's key
- * to *key. It tries again while other threads look the same slot up.
+ * to *key, before a drop that the call runs. It tries again while other threads look the same slot
+ * up.
  * Returns YACHT_DROPPED or YACHT_IN_USE; or YACHT_STALE, YACHT_EMPTY, YACHT_NO_SLOT, YACHT_BUSY,
  * YACHT_READER or YACHT_BAD_ARGUMENT: then the caller still owns the value, and *key stays. */
 int yacht_replace(yacht_handle *handle, yacht_key *key, void *value);
@@ -168,10 +182,11 @@ int yacht_replace(yacht_handle *handle, yacht_key *key, void *value);
  * YACHT_READER. */
 int yacht_remove(yacht_handle *handle, yacht_key key);
 
-/* Returns a key in 64 bits, as for the data of epoll or io_uring: 0, a slot below 4,096 in 12 bits,
- * and above them the number in 51; or 1, another slot in 20 bits, and the number in 43. Returns 0,
- * which are the bits of no value's key, if the number has more bits: a handle installs 2^51 values,
- * or 2^43, divided by the number of handles before that. */
+/* Returns a key in 64 bits, as for the data of epoll or io_uring, of which a completion under a
+ * stale key is not ignored (docs/BINDINGS.md, "Direct descriptors"): 0, a slot below 4,096 in 12
+ * bits, and above them the number in 51; or 1, another slot in 20 bits, and the number in 43.
+ * Returns 0, which are the bits of no value's key, if the number has more bits: a handle installs
+ * 2^51 values, or 2^43, divided by the number of handles before that. */
 uint64_t yacht_key_to_bits(yacht_key key);
 
 /* Returns the key that has these bits. */

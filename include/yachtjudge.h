@@ -27,6 +27,10 @@ extern "C" {
 #define YACHT_JUDGE_VERSION_MINOR 0
 #define YACHT_JUDGE_VERSION_PATCH 0
 
+/* Returns the version of the library, as YACHT_JUDGE_VERSION is that of this header. The string is
+ * never freed. */
+const char *yacht_judge_version(void);
+
 /* What the functions return. */
 enum {
     YACHT_LEGAL = 0,       /* a judge: the script may print the text, or the log has a flight */

@@ -5,6 +5,8 @@ use std::path::{Path, PathBuf};
 use std::{env, fs, process::Command};
 
 const LIBRARY: &str = "libyachtbanyan.a";
+/// The version follows these bytes in the library.
+const MARK: &[u8] = b"@(#)yachtbanyan ";
 
 fn by_pkg_config() -> Option<PathBuf> {
     let mut asked = Command::new("pkg-config");
@@ -40,6 +42,32 @@ fn is_for_thread_sanitizer() -> bool {
     sanitizer == "thread" || flags.contains("sanitizer=thread")
 }
 
+/// Returns the version that a library names in itself, or `None` if it names none.
+fn version_in(library: &Path) -> Option<String> {
+    let bytes = fs::read(library).ok()?;
+    let at = bytes.windows(MARK.len()).position(|it| it == MARK)? + MARK.len();
+    let digits = bytes[at..]
+        .iter()
+        .take_while(|it| b"0123456789.".contains(it));
+    Some(digits.map(|it| char::from(*it)).collect())
+}
+
+/// Panics unless the folder has the library, and this is of the crate's version.
+fn check(folder: &Path, by: &str) {
+    let library = folder.join(LIBRARY);
+    if !library.exists() {
+        let folder = folder.display();
+        panic!("there is no {LIBRARY} in {folder}, the folder that {by} names");
+    }
+    let found = version_in(&library).unwrap_or_else(|| "before 5.0.0".to_string());
+    let wanted = env::var("CARGO_PKG_VERSION").expect("cargo sets it");
+    let library = library.display();
+    assert!(
+        found == wanted,
+        "{library} is of version {found}, and this crate needs the library of version {wanted}"
+    );
+}
+
 fn main() {
     println!("cargo:rerun-if-env-changed=YACHTBANYAN_LIB_DIR");
     let needs_no_library = ["CARGO_CFG_YACHTBANYAN_STAND_IN", "DOCS_RS"];
@@ -54,6 +82,11 @@ fn main() {
     let all = Path::new(&env::var("CARGO_MANIFEST_DIR").expect("cargo sets it")).join("lib");
     let own = all.join(&target);
     let given = env::var_os("YACHTBANYAN_LIB_DIR").map(PathBuf::from);
+    let by = if given.is_some() {
+        "YACHTBANYAN_LIB_DIR"
+    } else {
+        "pkg-config"
+    };
     let known = given.or_else(|| own.join(LIBRARY).exists().then_some(own));
     let Some(folder) = known.or_else(|| is_host.then(by_pkg_config).flatten()) else {
         panic!(
@@ -63,6 +96,7 @@ fn main() {
             targets_in(&all)
         );
     };
+    check(&folder, by);
     println!("cargo:rerun-if-changed={}", folder.join(LIBRARY).display());
     println!("cargo:rustc-link-search=native={}", folder.display());
     println!("cargo:rustc-link-lib=static=yachtbanyan");

@@ -18,6 +18,6 @@ int main() {
     yacht_free(table);
     is_right = is_right && drops == 1 && !std::strcmp(yacht_strerror(YACHT_FULL), "every slot has a value");
     is_right = is_right && yacht_judge(script, 9, text, 9, YACHT_STATES, YACHT_MEMORY, note, 0, &verdict) == YACHT_LEGAL;
-    std::printf("%s %s\n", YACHT_VERSION, YACHT_JUDGE_VERSION);
+    std::printf("%s %s %s %s\n", YACHT_VERSION, YACHT_JUDGE_VERSION, yacht_version(), yacht_judge_version());
     return !is_right;
 }

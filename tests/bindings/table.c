@@ -12,9 +12,14 @@ static yacht_table *const untouched = (yacht_table *)&other;
 static yacht_handle *again;
 static int more;
 
+/* a key that a replacement writes, and the number that a drop within the replacement finds there */
+static const yacht_key *written;
+static uint64_t number_at_drop;
+
 static void drop(void *value, void *with) {
     WANT(with == &drops);
     drops++;
+    if (written) number_at_drop = written->number;
     dropped[(int *)value - dropped]++;
     if (!more) return;
     more--;
@@ -190,8 +195,12 @@ static void made_from_keys(void) {
     WANT(yacht_remove_at(a, 0) == YACHT_DROPPED && dropped[14] == 1);
     /* b fills the last slot */
     WANT(yacht_insert_with(a, make, &last, &key) == YACHT_FULL && last.calls == 1 && last.keys[0].slot == 0 && dropped[12] == 2);
+    /* the new key is written before the old value is dropped */
+    written = &key;
+    WANT(yacht_replace(a, &key, &dropped[12]) == YACHT_DROPPED && dropped[13] == 1 && key.number != 5 && key.number == number_at_drop);
+    written = NULL;
     yacht_free(table);
-    WANT(drops == 5 && dropped[13] == 1 && dropped[14] == 2);
+    WANT(drops == 6 && dropped[12] == 3 && dropped[14] == 2);
 }
 
 static void bits(void) {

@@ -31,7 +31,18 @@ const WIDE_SLOT: u32 = MOST_SLOTS.ilog2();
 /// ```
 ///
 /// A key doesn't name its table. In another one it is stale, or happens to be the key of some
-/// value: a call finds that value, safely.
+/// value: a call finds that value, safely. The first keys of two tables are equal, so a key in the
+/// wrong table often finds a value.
+///
+/// ```
+/// use yachtbanyan::Table;
+///
+/// let (one, other) = (Table::<&str>::with_slots(1)?, Table::<&str>::with_slots(1)?);
+/// let key = one.insert("of one")?;
+/// other.insert("of the other")?;
+/// assert_eq!(*other.get_owned(key)?, "of the other");
+/// # Ok::<(), Box<dyn std::error::Error>>(())
+/// ```
 ///
 /// Keys are ordered by slot. The order of numbers means nothing. Each handle has 2^64 numbers
 /// divided by the number of handles. If a handle uses them up, its further values have no number,

@@ -5,8 +5,8 @@ use crate::errors::OpenError;
 /// The size of a table: its slots, and its seats.
 ///
 /// A handle takes two seats: one that installs, and one for its first living guard. A reader takes
-/// one, for its first living guard. Each other living guard takes one. A table has at most
-/// [`MOST_SEATS`](crate::MOST_SEATS) seats.
+/// one, for its first living guard. Each other living guard takes one, so a task that holds two
+/// values takes two. A table has at most [`MOST_SEATS`](crate::MOST_SEATS) seats.
 ///
 /// ```
 /// use yachtbanyan::Options;

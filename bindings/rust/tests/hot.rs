@@ -11,8 +11,8 @@ use yachtbanyan::{Handle, Key, Options};
 
 const THREADS: u32 = 4;
 const LOOKS: u32 = 63;
-/// The longest time of the test.
-const MOST: Duration = Duration::from_secs(10);
+/// The longest time of the test. On a machine with other work few look-ups overlap.
+const MOST: Duration = Duration::from_secs(120);
 /// More values than are alive at a time: the one at the slot, and three of each thread.
 const LOST: usize = 20;
 
