@@ -10,7 +10,7 @@ from typing import NamedTuple
 
 from model import CHAINS, REGISTRATIONS, SUBMISSIONS, Script, play
 from orders import TooManyOrders, ending_of
-from programs import LEGAL, NOT_LEGAL, UNDECIDED, given_time, run, verdict
+from programs import LEGAL, NOT_LEGAL, UNDECIDED, given_time, run, run_within, verdict
 from repository import BUILD, ROOT, read
 from rules import Linux
 
@@ -21,6 +21,8 @@ FIXCHECK = os.path.join(ROOT, "bin/fixcheck")
 CANT_SAY, NO_KERNEL = 78, 77
 # the limit of states for most texts, and for those that need more
 STATES, MOST_STATES = 1_000, 1_000_000
+# the most bytes of a play: 30 times those of the longest text of a script that is played here
+MOST_BYTES = 1 << 26
 AGREES, LEFT_OUT, UNSAID = "agrees", "left out", "unsaid"
 
 
@@ -88,9 +90,9 @@ def found(status, said, text, written, shown):
 
 def found_of_kernel(player, fixcheck, text, shown, seconds=120):
     """Plays a script for at most `seconds`, or longer on a busy machine, and compares its text with the rules and the differences
-    `shown`."""
+    `shown`. Raises TimeoutExpired, or TooLong if the player prints more than MOST_BYTES."""
     fault = play(text)[2]
-    status, written, complaint = run([player], text, given_time(seconds))
+    status, written, complaint = run_within(MOST_BYTES, [player], text, given_time(seconds))
     if status == CANT_SAY:
         return Found(UNSAID, written, complaint)
     if fault:
@@ -102,6 +104,6 @@ def found_of_kernel(player, fixcheck, text, shown, seconds=120):
 
 def text_of_kernel(player, text, nth, seconds=120):
     """Returns the text of the nth play of a script, or None if it failed. In every second play each request is started by a thread of
-    the kernel, so that chains run beside each other."""
-    status, written, complaint = run([player, *(["--async"] if nth % 2 else [])], text, given_time(seconds))
+    the kernel, so that chains run beside each other. Raises what `found_of_kernel` raises."""
+    status, written, complaint = run_within(MOST_BYTES, [player, *(["--async"] if nth % 2 else [])], text, given_time(seconds))
     return None if status or complaint else written

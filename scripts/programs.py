@@ -2,6 +2,7 @@
 import contextlib
 import os
 import resource
+import signal
 import subprocess
 import tempfile
 
@@ -19,6 +20,48 @@ def run_bytes(command, given=b"", seconds=120, **how):
     how = {"stdout": subprocess.PIPE, "stderr": subprocess.PIPE, "timeout": seconds, **how}
     it = subprocess.run(command, input=given, check=False, **how)
     return it.returncode, it.stdout, it.stderr
+
+
+class TooLong(Exception):
+    """A program printed more bytes than it may."""
+
+
+def run_within(most, command, given, seconds):
+    """The status, the text and the message of a program that may print `most` bytes of each. Raises TooLong as soon as it has printed more,
+    and TimeoutExpired if it hasn't ended in time. What it began ends with it."""
+    import threading
+
+    def kill():
+        with contextlib.suppress(ProcessLookupError):
+            os.killpg(begun.pid, signal.SIGKILL)
+
+    def kept(pipe):
+        data = bytearray()
+        while len(data) <= most and (part := pipe.read1(1 << 16)):
+            data += part
+        if len(data) > most:
+            kill()
+        written[pipe] = bytes(data)
+
+    def pass_on():
+        with contextlib.suppress(BrokenPipeError), begun.stdin as pipe:
+            pipe.write(given)
+
+    written, pipe = {}, subprocess.PIPE
+    with subprocess.Popen(command, stdin=pipe, stdout=pipe, stderr=pipe, start_new_session=True) as begun:
+        threads = [threading.Thread(target=kept, args=(it,)) for it in (begun.stdout, begun.stderr)] + [threading.Thread(target=pass_on)]
+        for it in threads:
+            it.start()
+        try:
+            status = begun.wait(seconds)
+        finally:
+            kill()
+            for it in threads:
+                it.join()
+        text, message = written[begun.stdout], written[begun.stderr]
+    if max(len(text), len(message)) > most:
+        raise TooLong(f"it printed more than {most:,} bytes")
+    return status, *(it.decode(errors="backslashreplace") for it in (text, message))
 
 
 def given_time(seconds):

@@ -12,6 +12,8 @@ from model import ECANCELED, EBADF, Player, Script, completion_line, play, sever
 RANDOM = 20
 # the examples for which a player hangs or fails
 HANGS, FAILS = "tag_at_the_teardown", "unregister_closes_every_file"
+# what a player prints that never ends by itself
+ENDLESS = "closed 1.1.1.0 a\n" * 4_096
 
 
 class Concurrent(Player):
@@ -79,6 +81,9 @@ def play_as(what, is_async):
     elif what == "hangs" and script == example(HANGS):
         # until conform ends it
         time.sleep(600)
+    elif what == "endless" and script == example(HANGS):
+        while True:
+            (sys.stderr if is_async else sys.stdout).write(ENDLESS)
     elif is_wrong_on(what, script, is_async):
         text = re.sub(r"^1\.1\.1 .*", "1.1.1 -77", text, count=1, flags=re.MULTILINE)
     sys.stdout.write(text)
