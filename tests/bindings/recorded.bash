@@ -18,6 +18,12 @@ records() {
     timeout "${limit:-120}" "$recorder/release/recorder" "$@" > "$room/log"
 }
 
+# refuses_arguments WORDS ARGUMENT..: the recorder prints these words and no log
+refuses_arguments() {
+    "$recorder/release/recorder" "${@:2}" > "$room/log" 2> "$room/found"
+    [ $? -eq 2 ] && [ ! -s "$room/log" ] && grep -qxF "recorder: $1" "$room/found"
+}
+
 # legal TABLE NUMBER..: the logs of three seeds are legal
 legal() {
     local seed
@@ -52,16 +58,21 @@ in_turns() {
 recorded() {
     want 'the recorder is not built' builds_recorder
     want 'a bound or a lifetime of the recorder is wrong' over_the_library "$room/bindings/recorder" "$recorder" --doc bounds
+    want 'a recorder without arguments says something else' refuses_arguments 'no table is given'
+    want 'a number of threads that is none is not refused' refuses_arguments "THREADS is a number from 1 to 64, not '0'" slots 1 0
+    want 'a table by keys with too few slots is not refused' refuses_arguments "SLOTS is a number from 600 to 1048576, not '64'" c-keys 1 3 2 100 64
+    want 'a table that there is none of is not refused' refuses_arguments \
+        "TABLE is yachtbanyan, c, keys, c-keys, slots, stale, early or walk, not 'none'" none 1
     want 'a log of the Rust crate is not legal' legal yachtbanyan 3 20 300 3
     want 'a log of the Rust crate with one slot is not legal' legal yachtbanyan 4 20 200 1
     want 'a log of the C library is not legal' legal c 3 20 300 3
     want 'a log of a table of std is not legal' legal slots 3 20 300 3
-    want 'a log of the Rust crate by keys is not legal' legal keys 3 2 100 1024
-    want 'a log of the C library by keys is not legal' legal c-keys 3 2 100 1024
+    want 'a log of the Rust crate by keys is not legal' legal keys
+    want 'a log of the C library by keys is not legal' legal c-keys
     want 'a log of the Rust crate in turns is not legal' in_turns yachtbanyan 2
     want 'a log of the C library in turns is not legal' in_turns c 2
-    want 'a log of the Rust crate by keys in turns is not legal' in_turns keys 64
-    want 'a log of the C library by keys in turns is not legal' in_turns c-keys 64
+    want 'a log of the Rust crate by keys in turns is not legal' in_turns keys 120
+    want 'a log of the C library by keys in turns is not legal' in_turns c-keys 120
 }
 
 wrong_recorded() {
@@ -77,7 +88,8 @@ slab_recorded() {
 
 slab_found() {
     local seed
-    (cd "$room/bindings/recorder/examples/sharded_slab" && CARGO_TARGET_DIR=$recorder YACHTBANYAN_LIB_DIR=$libraries cargo build --release --offline --quiet \
+    # it needs no library
+    (cd "$room/bindings/recorder/examples/sharded_slab" && CARGO_TARGET_DIR=$recorder YACHTBANYAN_LIB_DIR=/nonexistent cargo build --release --offline --quiet \
         --config 'source.crates-io.replace-with = "distribution"' --config 'source.distribution.directory = "/usr/share/cargo/registry"') || return 1
     for seed in {1..20}; do
         timeout 60 "$recorder/release/record_sharded_slab" "$seed" > "$room/log" || return 1

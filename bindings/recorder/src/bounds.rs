@@ -10,7 +10,8 @@
 //! | `CGuard` | no | no | its handle |
 //!
 //! ```
-//! use recorder::tables::{Fault, Keyed, KeyedHandle, Slots, SlotsHandle};
+//! use recorder::library::{Keyed, KeyedHandle};
+//! use recorder::tables::{Fault, Slots, SlotsHandle};
 //! use recorder::{Log, Plan, Value};
 //!
 //! fn shared<T: Send + Sync>() {}
@@ -36,14 +37,14 @@
 //! ```
 //!
 //! ```compile_fail,E0277
-//! # use recorder::tables::KeyedHandle;
+//! # use recorder::library::KeyedHandle;
 //! # fn send<T: Send>() {}
 //! # fn sync<T: Sync>() {}
 //! sync::<KeyedHandle>();
 //! ```
 //!
 //! ```
-//! # use recorder::tables::KeyedHandle;
+//! # use recorder::library::KeyedHandle;
 //! # fn send<T: Send>() {}
 //! # fn sync<T: Sync>() {}
 //! send::<KeyedHandle>();

@@ -188,7 +188,7 @@ impl Handle for CHandle<'_> {
     }
 }
 
-/// The table of the C library by the keys of its values, as [`Keyed`](crate::tables::Keyed).
+/// The table of the C library by the keys of its values, as [`Keyed`](crate::library::Keyed).
 pub struct CKeyed(pub CTable);
 
 /// A thread's access to [`CKeyed`].

@@ -3,15 +3,17 @@
 //!
 //! To record a table of your own, implement [`Table`] and [`Handle`] for it: four calls.
 //! `src/tables.rs` has a table of std in 60 lines, and `examples/sharded_slab` one that chooses
-//! its slots by itself.
+//! its slots by itself. Without its default feature `yachtbanyan` this crate needs no library.
 //!
 //! A ticket of one shared counter orders the lines of all threads. A call's ticket is taken before
 //! it begins, and its answer's after it returned, so a call whose answer is before another call in
 //! the log had returned when that one began.
-#[cfg(all(doctest, not(yachtbanyan_stand_in)))]
+#[cfg(all(doctest, feature = "yachtbanyan", not(yachtbanyan_stand_in)))]
 mod bounds;
-#[cfg(not(yachtbanyan_stand_in))]
+#[cfg(all(feature = "yachtbanyan", not(yachtbanyan_stand_in)))]
 pub mod c;
+#[cfg(feature = "yachtbanyan")]
+pub mod library;
 mod log;
 mod play;
 pub mod tables;

@@ -2,58 +2,116 @@
 //! table, and prints the log (docs/FLIGHT.md). TABLE is `yachtbanyan`, `c` (that of the C library),
 //! `keys` and `c-keys` (the same two by the keys of their values), `slots` (a table of std), or a
 //! wrong one: `stale`, `early` or `walk`.
-use recorder::tables::{Fault, Keyed, Slots};
+//!
+//! Each of THREADS (3) makes CALLS (50) calls in each of ROUNDS (20), after which all rest. The
+//! table has SLOTS: 3, or by keys as many as all calls, since each call may keep its value.
+use recorder::tables::{Fault, Slots};
 use recorder::{record, Log, Plan};
 use std::io::Write;
 use std::process::ExitCode;
 
-fn log_of(table: &str, plan: Plan) -> Option<Log> {
-    let fault = match table {
-        "yachtbanyan" | "keys" => {
-            let options = yachtbanyan::Options::new(plan.slots as u32);
-            let opened = options.handles(plan.threads as u32).open();
-            let opened = opened.expect("a table");
-            return Some(match table {
-                "keys" => record(Keyed(opened), plan),
-                _ => record(opened, plan),
-            });
-        }
+const USAGE: &str = "usage: recorder TABLE SEED [THREADS [ROUNDS [CALLS [SLOTS]]]]";
+const TABLES: &str = "yachtbanyan, c, keys, c-keys, slots, stale, early or walk";
+/// The largest numbers of threads and of slots.
+const MOST: (usize, usize) = (64, 1_048_576);
+
+/// Reads the arguments: the table, and what is played.
+fn plan_of(words: &[String]) -> Result<(&str, Plan), String> {
+    let number = |at: usize, name: &str, or: usize, least: usize, most: usize| {
+        let Some(word) = words.get(at) else {
+            return Ok(or);
+        };
+        let number = word.parse().ok().filter(|it| (least..=most).contains(it));
+        number.ok_or_else(|| format!("{name} is a number from {least} to {most}, not '{word}'"))
+    };
+    let Some(table) = words.first() else {
+        return Err("no table is given".into());
+    };
+    if words.len() > 6 {
+        return Err(format!("'{}' is an argument too many", words[6]));
+    }
+    let seed = number(1, "SEED", 1, 0, u32::MAX as usize)? as u64;
+    let threads = number(2, "THREADS", 3, 1, MOST.0)?;
+    let rounds = number(3, "ROUNDS", 20, 1, 1_000_000)?;
+    let calls = number(4, "CALLS", 50, 1, 1_000_000)?;
+    let all = threads * rounds * calls;
+    let is_keyed = table.ends_with("keys");
+    if is_keyed && all > MOST.1 {
+        let most = MOST.1;
+        return Err(format!(
+            "by keys at most {most} calls are recorded, not {all}"
+        ));
+    }
+    let least = if is_keyed { all } else { 1 };
+    let slots = number(5, "SLOTS", least.max(3), least, MOST.1)?;
+    let plan = Plan {
+        seed,
+        threads,
+        rounds,
+        calls,
+        slots,
+    };
+    Ok((table, plan))
+}
+
+/// Records a table of the library libyachtbanyan, or returns `None` for another name.
+#[cfg(feature = "yachtbanyan")]
+fn log_of_library(table: &str, plan: Plan) -> Option<Result<Log, String>> {
+    let options = yachtbanyan::Options::new(plan.slots as u32);
+    let opened = || {
+        let opened = options.handles(plan.threads as u32).open();
+        opened.map_err(|fault| format!("the table was not opened: {fault}"))
+    };
+    match table {
+        "yachtbanyan" => Some(opened().map(|it| record(it, plan))),
+        "keys" => Some(opened().map(|it| record(recorder::library::Keyed(it), plan))),
         #[cfg(not(yachtbanyan_stand_in))]
         "c" | "c-keys" => {
             let opened = recorder::c::CTable::new(plan.slots, plan.threads);
-            return Some(match table {
+            Some(Ok(match table {
                 "c-keys" => record(recorder::c::CKeyed(opened), plan),
                 _ => record(opened, plan),
-            });
+            }))
         }
+        _ => None,
+    }
+}
+
+/// Says that this recorder was built without the library.
+#[cfg(not(feature = "yachtbanyan"))]
+fn log_of_library(table: &str, _: Plan) -> Option<Result<Log, String>> {
+    let needed = ["yachtbanyan", "keys", "c", "c-keys"].contains(&table);
+    needed.then(|| Err(format!("{table} needs the feature yachtbanyan")))
+}
+
+fn log_of(table: &str, plan: Plan) -> Result<Log, String> {
+    let fault = match table {
         "slots" => Fault::None,
         "stale" => Fault::Stale,
         "early" => Fault::Early,
         "walk" => Fault::OneWalk,
-        _ => return None,
+        _ => {
+            let found = log_of_library(table, plan);
+            return found.unwrap_or_else(|| Err(format!("TABLE is {TABLES}, not '{table}'")));
+        }
     };
-    Some(record(Slots::new(plan.slots, fault), plan))
+    Ok(record(Slots::new(plan.slots, fault), plan))
 }
 
 fn main() -> ExitCode {
     let words: Vec<String> = std::env::args().skip(1).collect();
-    let number = |at: usize, or: usize| words.get(at).map_or(Some(or), |word| word.parse().ok());
-    let plan = (|| {
-        Some(Plan {
-            seed: number(1, 1)? as u64,
-            threads: number(2, 3)?,
-            rounds: number(3, 20)?,
-            calls: number(4, 50)?,
-            slots: number(5, 3)?,
-        })
-    })();
-    let table = words.first().map_or("", String::as_str);
-    let Some(log) = plan.and_then(|plan| log_of(table, plan)) else {
-        eprintln!("usage: recorder TABLE SEED [THREADS [ROUNDS [CALLS [SLOTS]]]]");
-        return ExitCode::from(2);
-    };
-    match write!(std::io::stdout().lock(), "{log}") {
-        Ok(()) => ExitCode::SUCCESS,
-        Err(_) => ExitCode::from(4),
+    if words.first().is_some_and(|it| it == "--help" || it == "-h") {
+        println!("{USAGE}\nTABLE is {TABLES}");
+        return ExitCode::SUCCESS;
+    }
+    match plan_of(&words).and_then(|(table, plan)| log_of(table, plan)) {
+        Ok(log) => match write!(std::io::stdout().lock(), "{log}") {
+            Ok(()) => ExitCode::SUCCESS,
+            Err(_) => ExitCode::from(4),
+        },
+        Err(fault) => {
+            eprintln!("recorder: {fault}\n{USAGE}");
+            ExitCode::from(2)
+        }
     }
 }
