@@ -53,8 +53,11 @@ def recorded(program, words, seed):
 
 
 def complaint_of(yachtlog, log, is_whole=False):
-    """Returns what the judge says of a log that is not legal, and whether it is undecided."""
-    verdict = yachtlog.Log(log).judge(is_whole=is_whole)
+    """Returns what the judge says of a log that is not legal, or is none, and whether it is undecided."""
+    try:
+        verdict = yachtlog.Log(log).judge(is_whole=is_whole)
+    except yachtlog.BadLog as fault:
+        return f"not a log: {fault}", False
     if verdict.word == "not legal":
         line = log.splitlines()[verdict.line - 1]
         return f"not legal: line {verdict.line} of the log: {line}", False

@@ -7,12 +7,12 @@ from collections.abc import Sequence
 from typing import TYPE_CHECKING
 
 if TYPE_CHECKING:
-    import yachtlog
+    from yachtlines import Event, Lines, Mark, Request
 
 EVENT_CALL, EVENT_DONE, EVENT_LOOK, EVENT_FOUND, EVENT_EMPTY, EVENT_FREE, EVENT_CLOSED, EVENT_SETTLED = range(1, 9)
 REQUEST_OPEN, REQUEST_OPEN_ANY, REQUEST_OPEN_MISSING, REQUEST_READ, REQUEST_CLOSE, REQUEST_UPDATE = range(1, 7)
 # the flags of a request, and the result of a look that finds no file
-FIXED_FILE, LINKS, EBADF = 1, {"link": 4, "hardlink": 8}, -9
+FIXED_FILE, LINKS, EBADF = 1, {"": 0, "link": 4, "hardlink": 8}, -9
 # a struct ends as its widest number is aligned
 EVENT = struct.Struct("@3Ii6IB0I")
 REQUEST = struct.Struct("@4I2B0I")
@@ -36,7 +36,7 @@ class Events:
     """The events, the requests of their chains, the entries of their updates, and the bytes that their reads returned. Calls are numbered
     from 1 in the order of their events. Raises BadEvent if an event says what no call can."""
 
-    def __init__(self, log: yachtlog.Log, events: Sequence[yachtlog.Event]) -> None:
+    def __init__(self, log: Lines, events: Sequence[Event]) -> None:
         self._log = log
         self.events, self.requests, self.entries, self.bytes = bytearray(), bytearray(), bytearray(), bytearray()
         calls = (it.call for it in events if it.word == "call")
@@ -60,63 +60,56 @@ class Events:
         its number in the catalogue."""
         self.events += EVENT.pack(kind, self._numbers.get(call, 0), *answer, slot, *part, *file)
 
-    def _file(self, mark: str) -> tuple[int, int, int, int]:
+    def _file(self, mark: Mark) -> tuple[int, int, int, int]:
         """Returns the file that the request of a mark installs. No file has the mark of another request, whatever its number."""
-        by, member, entry = map(int, mark.split("."))
-        words = self._log.chains[by][member - 1]
-        file = -1
-        if words[0] == "open":
-            file = self._log.names.get(words[1], -1)
-        elif words[0] in ("update", "regupdate") and entry < len(words[2].split(",")):
-            file = int(words[2].split(",")[entry])
-        return self._numbers.get(by, 0), member, entry, file if 0 <= file < len(self._log.contents) else 0
+        by, member, entry = mark
+        return self._numbers.get(by, 0), member, entry, max(self._log.file_of(mark), 0)
 
-    def _add_request(self, words: list[str]) -> None:
-        flags = LINKS.get(words[-1], 0)
+    def _add_request(self, it: Request) -> None:
+        flags, slot = LINKS[it.link], it.slot or 0
         row: tuple[int, ...]
-        if words[0] == "open":
-            file, is_at = self._log.names.get(words[1], -1), words[2] == "at"
-            kind = REQUEST_OPEN_MISSING if file < 0 else REQUEST_OPEN if is_at else REQUEST_OPEN_ANY
-            row = kind, int(words[3]) if is_at else 0, 0, 0, flags, max(file, 0)
-        elif words[0] == "read":
-            row = REQUEST_READ, *map(int, words[1:4]), flags | FIXED_FILE, 0
-        elif words[0] == "close":
-            row = REQUEST_CLOSE, int(words[1]), 0, 0, flags, 0
-        elif words[0] in ("update", "regupdate"):
-            entries = words[2].split(",")
-            row = REQUEST_UPDATE, int(words[1]), len(self.entries) // ENTRY.size, len(entries), flags, 0
-            self.entries += b"".join(ENTRY.pack(int(it)) for it in entries)
+        if it.kind == "open":
+            file = self._log.names.get(it.name, -1)
+            kind = REQUEST_OPEN_MISSING if file < 0 else REQUEST_OPEN_ANY if it.slot is None else REQUEST_OPEN
+            row = kind, slot, 0, 0, flags, max(file, 0)
+        elif it.kind == "read":
+            row = REQUEST_READ, slot, it.first, it.count, flags | FIXED_FILE, 0
+        elif it.kind == "close":
+            row = REQUEST_CLOSE, slot, 0, 0, flags, 0
+        elif it.kind == "update":
+            row = REQUEST_UPDATE, slot, len(self.entries) // ENTRY.size, len(it.entries), flags, 0
+            self.entries += b"".join(map(ENTRY.pack, it.entries))
         else:
-            raise ValueError(f"a {words[0]} is not a request of a chain")
+            raise ValueError(f"a {it.kind} is not a request of a chain")
         self.requests += REQUEST.pack(*row)
 
-    def _call(self, event: yachtlog.Event) -> None:
+    def _call(self, event: Event) -> None:
         chain = self._log.chains[event.call]
-        if [it[0] for it in chain] == ["look"]:
-            self._add(EVENT_LOOK, event.call, slot=int(chain[0][1]))
+        if chain[0].kind == "look":
+            self._add(EVENT_LOOK, event.call, slot=chain[0].slot or 0)
             return
         self._add(EVENT_CALL, event.call, part=(len(self.requests) // REQUEST.size, len(chain)))
-        for words in chain:
-            self._add_request(words)
+        for it in chain:
+            self._add_request(it)
 
-    def _done(self, event: yachtlog.Event) -> None:
+    def _done(self, event: Event) -> None:
         answer = self._log.answers[event.call, event.member]
-        if self._log.chains[event.call][0][0] != "look":
+        if isinstance(answer.found, str) and self._log.chains[event.call][0].kind != "look":
             found = bytes.fromhex(answer.found)
             self._add(EVENT_DONE, event.call, (event.member, answer.result), part=(len(self.bytes), len(found)))
             self.bytes += found
-        elif answer.result == 0 and answer.found:
+        elif answer.result == 0 and not isinstance(answer.found, str):
             self._add(EVENT_FOUND, event.call, file=self._file(answer.found))
-        elif answer.result == EBADF and not answer.found:
+        elif answer.result == EBADF:
             self._add(EVENT_EMPTY, event.call)
         else:
             raise ValueError("a look finds a file, or answers -9")
 
-    def _free(self, event: yachtlog.Event) -> None:
+    def _free(self, event: Event) -> None:
         self._add(EVENT_FREE, event.call)
 
-    def _closed(self, event: yachtlog.Event) -> None:
+    def _closed(self, event: Event) -> None:
         self._add(EVENT_CLOSED, file=self._file(event.mark))
 
-    def _settled(self, event: yachtlog.Event) -> None:
+    def _settled(self, event: Event) -> None:
         self._add(EVENT_SETTLED)

@@ -166,15 +166,30 @@ def _paths() -> Iterator[Path]:
         yield above / "lib" / name
 
 
+def _version(library: ctypes.CDLL) -> str:
+    """Returns the version that a library has, or that it has none."""
+    try:
+        version = library.yacht_judge_version
+    except AttributeError:
+        return "no version"
+    version.restype = ctypes.c_char_p
+    return f"the version {(version() or b'').decode(errors='replace')}"
+
+
 def _load() -> ctypes.CDLL:
     paths = list(_paths())
-    found = next((str(it) for it in paths if it.exists()), paths[0].name)
+    there = next((str(it) for it in paths if it.exists()), "")
+    # a folder that was given is the only one, and else the system looks in its own
+    found = there or (str(paths[0]) if os.environ.get("YACHTBANYAN_LIB_DIR") else paths[0].name)
     try:
-        return ctypes.CDLL(found)
+        library = ctypes.CDLL(found)
     except OSError as fault:
-        is_missing = found == paths[0].name
-        why = "was not found" if is_missing else f"can't be loaded: {fault}"
+        why = f"can't be loaded: {fault}" if there else "was not found"
         raise ImportError(f"The library {found} {why}. Set YACHTBANYAN_LIB_DIR to the folder that has it.") from fault
+    version, major = _version(library), __version__.split(".")[0]
+    if not version.startswith(f"the version {major}."):
+        raise ImportError(f"The library {found} has {version}, and this module needs {major}. Set YACHTBANYAN_LIB_DIR to the folder that has it.")
+    return library
 
 
 _library = _load()

@@ -4,12 +4,17 @@ from __future__ import annotations
 
 from bisect import bisect_left
 from collections.abc import Callable, Iterator
-from typing import TYPE_CHECKING, Literal, NamedTuple
+from typing import TYPE_CHECKING, Literal, NamedTuple, Optional
+
+from yachtlines import Answer, Event, Mark, Request
 
 if TYPE_CHECKING:
-    from yachtlog import Log
+    from yachtlines import Lines
 
-EBADF, ENFILE, EINVAL, ECANCELED, ENOENT = -9, -23, -22, -125, -2
+EBADF, ENOMEM, ENFILE, EINVAL, ECANCELED, ENOENT = -9, -12, -23, -22, -125, -2
+File = tuple[Mark, int]
+# the slots after an access, the files that left them, the entries of a list that are done, and the answer, or None if accesses are left
+Access = tuple[tuple[Optional[File], ...], frozenset[Mark], int, Optional[Answer]]
 
 
 class Verdict(NamedTuple):
@@ -20,30 +25,13 @@ class Verdict(NamedTuple):
     line: int = 0
 
 
-class Answer(NamedTuple):
-    """An answer: its result, and the bytes of a read, or the mark of the file that a look found."""
-
-    result: int
-    found: str = ""
-
-
-class Event(NamedTuple):
-    """An event: its line, its word, and the call and the member that it is of, or the mark of the file that was closed."""
-
-    line: int
-    word: str
-    call: int = 0
-    member: int = 0
-    mark: str = ""
-
-
 class State(NamedTuple):
     """A state that a flight may have reached. `at` has for each slot the mark and the entry of its file, or None; `left` the marks of files
     that left their slots and aren't closed; and `open` for each call that isn't over its number, its next member, and how many entries of
     that member's list are done."""
 
-    at: tuple[tuple[str, int] | None, ...]
-    left: frozenset[str]
+    at: tuple[File | None, ...]
+    left: frozenset[Mark]
     open: tuple[tuple[int, int, int], ...]
 
 
@@ -52,13 +40,13 @@ class Judge:
     answer, the close or the `settled` that needs them. With `is_whole` an update makes all its accesses in one step, as an observer may have
     seen it, where the rules allow a step for each entry."""
 
-    def __init__(self, log: Log, events: list[Event], states: int, is_whole: bool) -> None:
+    def __init__(self, log: Lines, events: list[Event], states: int, is_whole: bool) -> None:
         self.log, self.events, self.most, self.is_whole = log, events, states, is_whole
         self.answers = {(it.call, it.member): log.answers[it.call, it.member] for it in events if it.word == "done"}
         # for each file the line of its close, and the looks that hold it
-        self.closes: dict[str, int] = {}
-        self.held: dict[str, list[int]] = {}
-        self.closed: set[str] = set()
+        self.closes: dict[Mark, int] = {}
+        self.held: dict[Mark, list[int]] = {}
+        self.closed: set[Mark] = set()
         # the line up to which the log was judged
         self.now = 0
         for it in events:
@@ -97,7 +85,7 @@ class Judge:
 
     def after_answer(self, event: Event, front: set[State]) -> set[State]:
         answer = self.answers[event.call, event.member]
-        if self.log.chains[event.call][event.member - 1][0] == "look" and answer.found:
+        if self.log.chains[event.call][event.member - 1].kind == "look" and answer.found:
             if answer.found in self.closed:
                 return set()
             self.held.setdefault(answer.found, []).append(event.call)
@@ -125,9 +113,9 @@ class Judge:
     def steps(self, state: State, nth: int) -> Iterator[State]:
         """Yields the states after the next access of an open call."""
         call, member, done = state.open[nth]
-        words = self.log.chains[call][member - 1]
+        request = self.log.chains[call][member - 1]
         known = self.answers.get((call, member))
-        for at, left, entries, answer in self.accesses(state, words, f"{call}.{member}", done):
+        for at, left, entries, answer in self.accesses(state, request, (call, member), done, known):
             if answer is not None and known is not None and answer != known:
                 continue
             if not all(self.may_leave(it) for it in left):
@@ -135,7 +123,7 @@ class Judge:
             place: tuple[tuple[int, int, int], ...] = ((call, member, entries),)
             if answer is not None:
                 is_over = member == len(self.log.chains[call])
-                if not is_over and severs(words, answer):
+                if not is_over and severs(request, answer):
                     is_over = True
                     rest = (self.answers.get((call, it)) for it in range(member + 1, len(self.log.chains[call]) + 1))
                     if any(it is not None and it.result != ECANCELED for it in rest):
@@ -143,48 +131,55 @@ class Judge:
                 place = () if is_over else ((call, member + 1, 0),)
             yield State(at, state.left | left, (*state.open[:nth], *place, *state.open[nth + 1 :]))
 
-    def may_leave(self, mark: str) -> bool:
+    def may_leave(self, mark: Mark) -> bool:
         """Checks whether a file that leaves its slot now is closed later, and by the next `settled`."""
         nth = bisect_left(self.settled, self.now)
         return mark not in self.closed and (nth == len(self.settled) or mark in self.closes and self.closes[mark] < self.settled[nth])
 
-    def put(self, state: State, slot: int, file: tuple[str, int] | None) -> tuple[tuple[tuple[str, int] | None, ...], frozenset[str]]:
+    def put(self, state: State, slot: int, file: File | None) -> tuple[tuple[File | None, ...], frozenset[Mark]]:
         old = state.at[slot]
         return (*state.at[:slot], file, *state.at[slot + 1 :]), frozenset([old[0]] if old else [])
 
-    def accesses(
-        self, state: State, words: list[str], mark: str, done: int
-    ) -> Iterator[tuple[tuple[tuple[str, int] | None, ...], frozenset[str], int, Answer | None]]:
-        """Yields the ways of a request's next access: the slots after it, the files that left them, the entries done, and the answer, or
-        None if accesses are left."""
-        none: frozenset[str] = frozenset()
-        kind, size = words[0], len(state.at)
-        slot = int(words[3]) if kind == "open" and words[2] == "at" else int(words[1]) if kind != "open" else -1
-        file = state.at[slot] if 0 <= slot < size else None
-        if kind == "look":
-            yield state.at, none, 0, Answer(0, file[0]) if file else Answer(EBADF)
-        elif kind == "read":
-            found = self.log.contents[file[1]][2 * int(words[2]) : 2 * (int(words[2]) + int(words[3]))] if file else ""
-            yield state.at, none, 0, Answer(len(found) // 2, found) if file else Answer(EBADF)
-        elif kind in ("update", "regupdate"):
-            yield self.update(state, slot, list(map(int, words[2].split(","))), mark, done)
-        elif kind == "open" and words[1] not in self.log.names:
-            yield state.at, none, 0, Answer(ENOENT)
-        elif slot >= size:
-            yield state.at, none, 0, Answer(EINVAL)
-        elif kind == "close":
-            yield (*self.put(state, slot, None), 0, Answer(0)) if file else (state.at, none, 0, Answer(EBADF))
-        elif slot >= 0:
-            yield (*self.put(state, slot, (f"{mark}.0", self.log.names[words[1]])), 0, Answer(0))
-        elif None not in state.at:
-            yield state.at, none, 0, Answer(ENFILE)
+    def accesses(self, state: State, it: Request, place: tuple[int, int], done: int, known: Answer | None) -> Iterator[Access]:
+        """Yields the ways of a request's next access. A read that answers -12 makes none."""
+        none: frozenset[Mark] = frozenset()
+        if it.kind in ("read", "look") and known is not None and known.result == ENOMEM:
+            yield state.at, none, 0, Answer(ENOMEM)
+        elif it.slot is None:
+            yield from self.open_any(state, it, place)
+        elif it.kind == "update":
+            yield self.update(state, it.slot, it.entries, place, done)
+        elif it.kind == "open":
+            yield self.open_at(state, it, it.slot, place)
         else:
-            for it in (it for it in range(size) if state.at[it] is None):
-                yield (*self.put(state, it, (f"{mark}.0", self.log.names[words[1]])), 0, Answer(it))
+            file = state.at[it.slot] if it.slot < len(state.at) else None
+            if it.kind == "look":
+                yield state.at, none, 0, Answer(0, file[0]) if file else Answer(EBADF)
+            elif it.kind == "read":
+                found = self.log.contents[file[1]][2 * it.first : 2 * (it.first + it.count)] if file else ""
+                yield state.at, none, 0, Answer(len(found) // 2, found) if file else Answer(EBADF)
+            elif it.slot >= len(state.at):
+                yield state.at, none, 0, Answer(EINVAL)
+            else:
+                yield (*self.put(state, it.slot, None), 0, Answer(0)) if file else (state.at, none, 0, Answer(EBADF))
 
-    def update(
-        self, state: State, slot: int, entries: list[int], mark: str, done: int
-    ) -> tuple[tuple[tuple[str, int] | None, ...], frozenset[str], int, Answer | None]:
+    def open_at(self, state: State, it: Request, slot: int, place: tuple[int, int]) -> Access:
+        if it.name not in self.log.names:
+            return state.at, frozenset(), 0, Answer(ENOENT)
+        if slot >= len(state.at):
+            return state.at, frozenset(), 0, Answer(EINVAL)
+        return *self.put(state, slot, ((*place, 0), self.log.names[it.name])), 0, Answer(0)
+
+    def open_any(self, state: State, it: Request, place: tuple[int, int]) -> Iterator[Access]:
+        if it.name not in self.log.names:
+            yield state.at, frozenset(), 0, Answer(ENOENT)
+        elif None not in state.at:
+            yield state.at, frozenset(), 0, Answer(ENFILE)
+        else:
+            for slot in (nth for nth, file in enumerate(state.at) if file is None):
+                yield *self.put(state, slot, ((*place, 0), self.log.names[it.name])), 0, Answer(slot)
+
+    def update(self, state: State, slot: int, entries: tuple[int, ...], place: tuple[int, int], done: int) -> Access:
         if slot + len(entries) > len(state.at):
             return state.at, frozenset(), 0, Answer(EINVAL)
         if any(it < -2 or it >= len(self.log.contents) for it in entries):
@@ -192,14 +187,14 @@ class Judge:
         left = [it for it in range(done, len(entries)) if entries[it] != -2]
         if not left:
             return state.at, frozenset(), 0, Answer(len(entries))
-        gone: frozenset[str] = frozenset()
+        gone: frozenset[Mark] = frozenset()
         for nth in left if self.is_whole else left[:1]:
-            file = None if entries[nth] == -1 else (f"{mark}.{nth}", entries[nth])
+            file = None if entries[nth] == -1 else ((*place, nth), entries[nth])
             at, old = self.put(state, slot + nth, file)
             state, gone = state._replace(at=at), gone | old
         return state.at, gone, nth + 1, Answer(len(entries)) if nth == left[-1] else None
 
 
-def severs(words: list[str], answer: Answer) -> bool:
-    """Checks whether an answer severs the chain behind it."""
-    return words[-1] == "link" and (answer.result < 0 or (words[0] == "read" and answer.result < int(words[3])))
+def severs(request: Request, answer: Answer) -> bool:
+    """Checks whether an answer severs the chain after its request."""
+    return request.link == "link" and (answer.result < 0 or (request.kind == "read" and answer.result < request.count))

@@ -85,20 +85,33 @@ want(between.judge() == outcome(lambda: between.judge(is_proved=True)) == ("lega
 want(between.judge(is_whole=True) == ("not legal", 9), "a request comes between two entries of an update of one step")
 want(log("call 2 update 0 0,-2,0", "done 2.1 -22", "call 3 update 0 0,-1", "done 3.1 2").judge(is_whole=True).word == "legal", "an update isn't one step")
 
-# faults, and what can't be passed
-raises(yachtjudge.BadEvent, "line 7: not-held", lambda: judge_events(log("call 2 look 0", "done 2.1 -9", "free 2")))
-raises(yachtlog.BadLog, "line 7: not-held", lambda: log("call 2 look 0", "done 2.1 -9", "free 2").judge(is_proved=True))
-raises(yachtjudge.BadEvent, "line 5: not-one-chain", lambda: judge_events(log("call 2 read 0 0 4097", "done 2.1 -9")))
-raises(yachtjudge.BadEvent, "line 6: a look finds a file, or answers -9", lambda: judge_events(log("call 2 look 0", "done 2.1 1 61")))
-raises(yachtjudge.BadEvent, "line 6: non-hexadecimal number", lambda: judge_events(log("call 2 read 0 0 1", "done 2.1 0 2.1.0")))
-raises(yachtjudge.BadEvent, "line 5: ", lambda: judge_events(log("call 2 close 4294967296")))
-raises(yachtjudge.BadEvent, "line 6: ", lambda: judge_events(log("call 2 close 0", "done 2.1 4294967296")))
-raises(yachtjudge.BadEvent, "line 5: a look is not a request of a chain", lambda: judge_events(log("call 2 close 0 link ; look 0")))
-raises(yachtjudge.BadEvent, "line 3: unknown-file", lambda: judge_events(log("call 2 close 0", "closed 2.1.0 a", head="call 1 sparse 2\n")))
-raises(yachtjudge.BadScript, "line 2: bad-name", lambda: judge_events(log(head="file a 61\nfile b/b 62\n")))
-raises(ValueError, "two files have one name", lambda: judge_events(log(head="file a 61\nfile a 62\n")))
-raises(ValueError, "too many slots: 1048577", lambda: judge_events(log(head="call 1 sparse 1048577\n")))
-raises(ValueError, "too many slots: 4294967297", lambda: judge_events(log(head="call 1 sparse 4294967297\n")))
+# faults: what is not a log isn't read (tests/log_lines.py); other events, or those of another
+# table, are named by their lines
+def changed(**fields):
+    it = log("call 2 look 0", "done 2.1 -9", "call 3 close 0", "done 3.1 -9")
+    vars(it).update(fields)
+    return it
+
+
+raises(yachtlog.BadLog, "line 5: a read has at most 4096 bytes, not 4097", lambda: log("call 2 read 0 0 4097", "done 2.1 -9"))
+events = changed().events
+raises(yachtjudge.BadEvent, "line 6: not-called", lambda: judge_events(changed(), [events[1], events[0]]))
+raises(yachtjudge.BadEvent, "line 8: not-called", lambda: judge_events(changed(), [events[0], events[3]]))
+raises(yachtjudge.BadEvent, "line 8: answered-twice", lambda: judge_events(changed(), [*events, events[3]]))
+freed = yachtlog.Event(9, "free", 2)
+raises(yachtjudge.BadEvent, "line 9: not-held", lambda: judge_events(changed(), [*events, freed]))
+raises(yachtlog.BadLog, "line 9: not-held", lambda: changed(events=[*events, freed]).judge(is_proved=True))
+long = {**changed().chains, 3: [yachtlog.Request("read", 0, count=4097)]}
+raises(yachtjudge.BadEvent, "line 7: not-one-chain", lambda: judge_events(changed(chains=long)))
+raises(yachtjudge.BadEvent, "line 6: a look finds a file, or answers -9", lambda: judge_events(changed(answers={(2, 1): yachtlog.Answer(1, "61")})))
+raises(yachtjudge.BadEvent, "line 6: ", lambda: judge_events(changed(answers={(2, 1): yachtlog.Answer(0, (2, 2**32, 0))})))
+raises(yachtjudge.BadEvent, "line 7: a look is not a request of a chain", lambda: judge_events(changed(chains={**long, 3: [*long[3], long[2][0]]})))
+closed = yachtlog.Event(9, "closed", mark=(3, 1, 0))
+raises(yachtjudge.BadEvent, "line 9: unknown-file", lambda: judge_events(changed(names={}, contents=[]), [*events, closed]))
+raises(yachtjudge.BadScript, "line 1: bad-name", lambda: judge_events(changed(names={"b/b": 0}, contents=["61"])))
+raises(ValueError, "two files have one name", lambda: judge_events(changed(contents=["61", "62", "63"])))
+raises(ValueError, "too many slots: 1048577", lambda: judge_events(changed(slots=1_048_577)))
+raises(ValueError, "too many slots: 4294967297", lambda: judge_events(changed(slots=2**32 + 1)))
 
 # the structs of a look, by their fields
 said = log("call 2 update 1 -1,1", "call 3 look 1", "done 3.1 0 2.1.1", "free 3", "call 4 look 0", "done 4.1 -9", "done 2.1 2", "settled")

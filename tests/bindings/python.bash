@@ -28,17 +28,26 @@ judges_rows() {
 proved_logs() {
     printf 'call 1 sparse 1\ndone 1.1 0\ncall 2 close 0\ndone 2.1 %s\n' -9 > "$room/right"
     printf 'call 1 sparse 1\ndone 1.1 0\ncall 2 close 0\ndone 2.1 %s\n' 0 > "$room/wrong"
-    printf 'call 1 sparse 1\ncall 2 read 0 0 4097\n' > "$room/none"
+    printf 'call 1 sparse 1\ndone 1.1 0\ncall 2 read 0 0 4097\n' > "$room/none"
     [ "$(python $module/yachtlog.py --proved "$room/right")" = "$room/right: legal" ] || return 1
     [ "$(python $module/yachtlog.py --proved "$room/right" "$room/wrong")" = "$room/right: legal
 $room/wrong: not legal: line 4: done 2.1 0" ] || return 1
     python $module/yachtlog.py --proved "$room/right" "$room/wrong" > /dev/null
     [ $? -eq 1 ] || return 1
     python $module/yachtlog.py --proved "$room/none" > "$room/found"
-    [ $? -eq 3 ] && grep -qx "$room/none: not a log: line 2: not-one-chain" "$room/found" || return 1
+    [ $? -eq 3 ] && grep -qx "$room/none: not a log: line 3: a read has at most 4096 bytes, not 4097" "$room/found" || return 1
     [ "$(python $module/yachtlog.py --whole-updates "$room/right")" = "$room/right: legal" ] || return 1
     library=$room/without python $module/yachtlog.py --proved "$room/right" 2> "$room/found"
-    [ $? -eq 2 ] && grep -qF 'Set YACHTBANYAN_LIB_DIR to the folder that has it.' "$room/found"
+    [ $? -eq 4 ] && grep -qF 'Set YACHTBANYAN_LIB_DIR to the folder that has it.' "$room/found"
+}
+
+# another_version WORDS C..: a library with these lines of C, which finds everything legal, is
+# refused
+another_version() {
+    printf '%s\n' 'unsigned yacht_judge(void) { return 0; }' 'unsigned yacht_outcomes(void) { return 0; }' \
+        'unsigned yacht_judge_events(void) { return 0; }' "${@:2}" > "$room/stub.c"
+    gcc -shared -fPIC -o "$room/libyachtjudge.so.5" "$room/stub.c" || return 1
+    without_library "$room" "$room/libyachtjudge.so.5 has $1, and this module needs 5."
 }
 
 # without_library FOLDER WORDS: the module says in a sentence that its library is missing there
@@ -60,11 +69,13 @@ wrong_module() {
 in_python() {
     want 'the judge from Python is wrong over the examples' judges_examples
     want 'the judge from Python is wrong' judges_rows judge_rows 41
-    want 'the judge of logs from Python is wrong' judges_rows log_rows 82
+    want 'the judge of logs from Python is wrong' judges_rows log_rows 84
     want 'the verified judge of yachtlog is wrong' proved_logs
-    want 'a missing library is not explained' without_library "$room" 'libyachtjudge.so.5 was not found.'
+    want 'a missing library is not explained' without_library "$room" "$room/libyachtjudge.so.5 was not found."
     echo > "$room/libyachtjudge.so.5"
     want 'a library that does not load is not explained' without_library "$room" "$room/libyachtjudge.so.5 can't be loaded: "
+    want 'a library without a version is not refused' another_version 'no version'
+    want 'a library of another version is not refused' another_version 'the version 4.9.1' 'const char *yacht_judge_version(void) { return "4.9.1"; }'
 }
 
 # wrong_modules ROWS: takes modules with wrong changes, which the rows must refuse
@@ -98,7 +109,7 @@ yachtjudge s/        raise TypeError(f"{name} must/        of = bytes(of)\n    i
 yachtjudge s/    numbers = operator.index(states), operator.index(memory)/    numbers = int(states), int(memory)/
 yachtjudge s/        if not 0 <= number <= MOST:/        if number > MOST:/
 yachtjudge s/        if not 0 <= number <= MOST:/        if number < 0:/
-yachtjudge s/__version__ = "4/__version__ = "3/
+yachtjudge s/__version__ = "5.0/__version__ = "5.1/
 END
 }
 
@@ -117,8 +128,8 @@ yachtevents s/flags | FIXED_FILE/flags/
 yachtevents s/REQUEST_OPEN_MISSING if file < 0 else //
 yachtevents s/else REQUEST_OPEN_ANY/else REQUEST_OPEN/
 yachtevents s/len(self.bytes), len(found)/0, len(found)/
-yachtevents s/return self._numbers.get(by, 0), member, entry, file/return by, member, entry, file/
-yachtevents s/file if 0 <= file < len(self._log.contents) else 0/0/
-yachtevents s/answer.result == EBADF and not answer.found/True/
+yachtevents s/return self._numbers.get(by, 0), member/return by, member/
+yachtevents s/max(self._log.file_of(mark), 0)/0/
+yachtevents s/elif answer.result == EBADF:/elif True:/
 END
 }

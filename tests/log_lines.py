@@ -1,0 +1,260 @@
+"""log_lines.py FOLDER: rows for bindings/python/yachtlog.py in a folder: what is a log, the faults of a text, arguments and exit statuses.
+Each row was derived by hand from docs/FLIGHT.md. Prints each wrong row, and their number. tests/check-flights runs it on the modules and
+on wrong ones (WRONG), each of which must fail."""
+import contextlib
+import io
+import os
+import re
+import sys
+import tempfile
+
+ROOT = os.path.dirname(os.path.dirname(os.path.abspath(__file__)))
+LEGAL, NOT_LEGAL, USAGE, NOT_A_LOG, MISSING, UNDECIDED = 0, 1, 2, 3, 4, 6
+TABLE = "call 1 sparse 2\ndone 1.1 0\n"
+# the first line after it has the number 5
+HEAD = f"file a 61\nfile b 6262\n{TABLE}"
+# the first line after it has the number 4
+PIPE = f"pipe p\n{TABLE}"
+OPENED = f"{HEAD}call 2 open a at 0\ndone 2.1 0\n"
+LOOKED = f"{OPENED}call 3 look 0\ndone 3.1 0 2.1.0\n"
+FED = f"{PIPE}call 2 update 0 0\ndone 2.1 1\ncall 3 read 0 0 1\nfed p 41\n"
+INSTALLS = " link ; ".join(["update 0 0,0,0,0,0,0,0,0,0,0,0,0,0"] * 5)
+# a text, the status, and a pattern of what is printed after the path
+ROWS = [
+    ("", NOT_A_LOG, "not a log: line 1: the log is empty"),
+    ("\n", NOT_A_LOG, "line 1: no line of a log begins with ''"),
+    ("file a 61\n", NOT_A_LOG, "line 2: no call registers the table"),
+    (TABLE, LEGAL, "legal$"),
+    ("call 1 sparse 2\n", LEGAL, "legal$"),
+    (b"\x00\xff\x80\n", NOT_A_LOG, r"line 1: no line of a log begins with '\\x00\\xff\\x80'"),
+    (b"file \xe9 61\n", NOT_A_LOG, "line 1: a name has 1 to 32 letters"),
+    (HEAD.encode() + b"settled\xe9\n", NOT_A_LOG, "line 5: no line"),
+    (f"{HEAD}\u2028settled\n", NOT_A_LOG, "line 5: no line"),
+    (f"{HEAD}settled\x0csettled\n", NOT_A_LOG, "line 5: no line"),
+    (f"{HEAD}settled\r\n", NOT_A_LOG, "line 5: no line"),
+    (f"{HEAD}settled", NOT_A_LOG, "line 5: the last line has no end: 'settled'"),
+    (f"{HEAD}settled \n", NOT_A_LOG, "line 5: the line ends with a space"),
+    (f"{HEAD}settled 3\n", NOT_A_LOG, "line 5: nothing follows"),
+    # the catalogue
+    ("file a\n", NOT_A_LOG, "line 1: the line has the form `file NAME BYTES`"),
+    ("file a 6\n", NOT_A_LOG, "line 1: the bytes of a file are pairs"),
+    ("file a 6g\n", NOT_A_LOG, "line 1: the bytes of a file are pairs"),
+    ("file a/b -\n", NOT_A_LOG, "line 1: a name has 1 to 32"),
+    (f"file {33 * 'n'} -\n", NOT_A_LOG, "line 1: a name has 1 to 32"),
+    ("file a 61\nfile a 62\n", NOT_A_LOG, "line 2: two files have the name a"),
+    (f"file a {4097 * '61'}\n", NOT_A_LOG, "line 1: a file has at most 4096 bytes, not 4097"),
+    (f"file a {4096 * '61'}\n{TABLE}", LEGAL, "legal"),
+    ("".join(f"file n{it} -\n" for it in range(257)), NOT_A_LOG, "line 257: a catalogue has at most 256 files"),
+    (f"{TABLE}file a 61\n", NOT_A_LOG, "line 3: the files come before the first call"),
+    ("file a 61\npipe p\n", NOT_A_LOG, "line 2: a catalogue has files or pipes"),
+    ("pipe p\nfile a 61\n", NOT_A_LOG, "line 2: a catalogue has files or pipes"),
+    # the first call
+    ("call 1 sparse 99999999999\n", NOT_A_LOG, "line 1: the number of slots is a number from 0 to 4294967295"),
+    ("call 1 sparse 1048577\n", NOT_A_LOG, "line 1: a table has 1 to 1048576 slots, not 1048577"),
+    ("call 1 sparse 1048576\ndone 1.1 0\n", LEGAL, "legal"),
+    ("call 1 sparse 0\ndone 1.1 -22\n", NOT_A_LOG, "line 1: a table has 1 to 1048576 slots, not 0"),
+    ("call 1 sparse\n", NOT_A_LOG, "line 1: the number of slots"),
+    ("call 1 sparse 2\ndone 1.1 -12\n", NOT_A_LOG, "line 2: the first call did not register the table"),
+    ("call 1 sparse 2\ncall 2 close 0\n", NOT_A_LOG, "line 2: the registration of the table is not answered yet"),
+    ("call 1 sparse 2\nsettled\n", NOT_A_LOG, "line 2: the table is not registered yet"),
+    (f"{TABLE}done 1.1 0\n", NOT_A_LOG, "line 3: call 1 is answered already"),
+    ("call 1 close 0\n", NOT_A_LOG, "line 1: the first call registers the table"),
+    (f"{TABLE}call 2 sparse 2\n", NOT_A_LOG, "line 3: no request has the words 'sparse 2'"),
+    # requests
+    (f"{HEAD}call 2\n", NOT_A_LOG, "line 5: no request has the words ''"),
+    (f"{HEAD}call x close 0\n", NOT_A_LOG, "line 5: a call is a number from 0 to 4294967295, not 'x'"),
+    (f"{HEAD}call 1 close 0\n", NOT_A_LOG, "line 5: an earlier call has the number 1"),
+    (f"{HEAD}call 2 close -1\n", NOT_A_LOG, "line 5: a slot is a number from 0 to 4294967295, not '-1'"),
+    (f"{HEAD}call 2 look -1\n", NOT_A_LOG, "line 5: a slot is"),
+    (f"{HEAD}call 2 close 00\n", NOT_A_LOG, "line 5: a slot is"),
+    (f"{HEAD}call 2 close 4294967296\n", NOT_A_LOG, "line 5: a slot is"),
+    (f"{HEAD}call 2 close 4294967295\ndone 2.1 -22\n", LEGAL, "legal"),
+    (f"{HEAD}call 2 close  0\n", NOT_A_LOG, "line 5: words are separated by one space"),
+    (f"{HEAD}call 2 close 0 1\n", NOT_A_LOG, "line 5: no request"),
+    (f"{HEAD}call 2 open a on 0\n", NOT_A_LOG, "line 5: no request"),
+    (f"{HEAD}call 2 open a any 0\n", NOT_A_LOG, "line 5: no request"),
+    (f"{HEAD}call 2 open a\n", NOT_A_LOG, "line 5: no request"),
+    (f"{HEAD}call 2 open a/b any\n", NOT_A_LOG, "line 5: a name has"),
+    (f"{HEAD}call 2 read 0 0 4097\n", NOT_A_LOG, "line 5: a read has at most 4096 bytes, not 4097"),
+    (f"{HEAD}call 2 read 0 0 4096\ndone 2.1 -9\n", LEGAL, "legal"),
+    (f"{HEAD}call 2 update 0 \n", NOT_A_LOG, "line 5: the line ends with a space"),
+    (f"{HEAD}call 2 update 0\n", NOT_A_LOG, "line 5: no request"),
+    (f"{HEAD}call 2 update 0 0,\n", NOT_A_LOG, "line 5: an entry is a number from -2147483648 to 2147483647, not ''"),
+    (f"{HEAD}call 2 update 0 -0\n", NOT_A_LOG, "line 5: an entry is"),
+    (f"{HEAD}call 2 update 0 -2147483649\n", NOT_A_LOG, "line 5: an entry is"),
+    (f"{HEAD}call 2 update 0 -2147483648\ndone 2.1 -9\n", LEGAL, "legal"),
+    (f"{HEAD}call 2 update 0 {','.join(['-2'] * 17)}\n", NOT_A_LOG, "line 5: an update has at most 16 entries, not 17"),
+    (f"{HEAD}call 2 update 0 {','.join(['-2'] * 16)}\ndone 2.1 -22\n", LEGAL, "legal"),
+    (f"{HEAD}call 2 close 0 ; close 1\n", NOT_A_LOG, "line 5: member 1 has no link"),
+    (f"{HEAD}call 2 close 0 link ; close 1 ; close 0\n", NOT_A_LOG, "line 5: member 2 has no link"),
+    (f"{HEAD}call 2 close 0 link\ndone 2.1 -9\n", LEGAL, "legal"),
+    (f"{HEAD}call 2 {' hardlink ; '.join(['close 0'] * 17)}\n", NOT_A_LOG, "line 5: a chain has at most 16 requests, not 17"),
+    (f"{HEAD}call 2 {' hardlink ; '.join(['close 0'] * 16)}\ndone 2.1 -9\n", LEGAL, "legal"),
+    (f"{HEAD}call 2 {INSTALLS}\n", NOT_A_LOG, "line 5: a chain installs at most 64 files, not 65"),
+    (f"{HEAD}call 2 {INSTALLS[:-2]}\ndone 2.1 -22\n", LEGAL, "legal"),
+    (f"{HEAD}call 2 look 0 link\n", NOT_A_LOG, "line 5: a look is a call of its own"),
+    (f"{HEAD}call 2 close 0 link ; look 0\n", NOT_A_LOG, "line 5: a look is a call of its own"),
+    # answers
+    (f"{HEAD}done 2.1 0\n", NOT_A_LOG, "line 5: no call has the number 2"),
+    (f"{HEAD}done 31\n", NOT_A_LOG, "line 5: an answer is of a call and a member, such as 2.1, not of '31'"),
+    (f"{OPENED}done 2.1 0\n", NOT_A_LOG, "line 7: call 2 is answered already"),
+    (f"{HEAD}call 2 close 0 link ; close 1\ndone 2.2 -125\n", NOT_A_LOG, "line 6: the next answer of call 2 is that of member 1"),
+    (f"{HEAD}call 2 close 0\ndone 2.1\n", NOT_A_LOG, "line 6: a result is a number from -2147483648 to 2147483647, not ''"),
+    (f"{HEAD}call 2 close 0\ndone 2.1 2147483648\n", NOT_A_LOG, "line 6: a result is"),
+    (f"{HEAD}call 2 close 0\ndone 2.1 -0\n", NOT_A_LOG, "line 6: a result is"),
+    (f"{HEAD}call 2 close 0\ndone 2.1 0 2.1.0\n", NOT_A_LOG, "line 6: the bytes of an answer are pairs of hexadecimal digits"),
+    (f"{OPENED}call 3 read 0 0 1\ndone 3.1 1 6\n", NOT_A_LOG, "line 8: the bytes of an answer are pairs"),
+    (f"{OPENED}call 3 read 0 0 1\ndone 3.1 1 61\n", LEGAL, "legal"),
+    (f"{OPENED}call 3 read 0 0 1\ndone 3.1 1 62\n", NOT_LEGAL, "not legal: line 8: done 3.1 1 62"),
+    (f"{OPENED}call 3 look 0\ndone 3.1 0\n", NOT_A_LOG, "line 8: a look finds a file, as in 0 2.1.0, or answers -9"),
+    (f"{OPENED}call 3 look 0\ndone 3.1 -9 2.1.0\n", NOT_A_LOG, "line 8: a look finds a file"),
+    (f"{OPENED}call 3 look 0\ndone 3.1 0 2.1\n", NOT_A_LOG, "line 8: a file is named by its call, member and entry, such as 2.1.0, not by '2.1'"),
+    (f"{TABLE}call 3 look 0\ndone 3.1 0 2.1.0\n", NOT_A_LOG, "line 4: a look finds a file, and the catalogue has none"),
+    (f"{OPENED}call 3 look 0\ndone 3.1 0 9.1.0\n", NOT_LEGAL, "not legal: line 8"),
+    # holds and closes
+    (f"{LOOKED}free 3\ncall 4 close 0\ndone 4.1 0\nclosed 2.1.0 a\nsettled\n", LEGAL, "legal"),
+    (f"{LOOKED}free 3\nfree 3\n", NOT_A_LOG, "line 10: call 3 holds no file"),
+    (f"{HEAD}call 2 look 0\ndone 2.1 -9\nfree 2\n", NOT_A_LOG, "line 7: call 2 holds no file"),
+    (f"{HEAD}call 2 look 0\nfree 2\n", NOT_A_LOG, "line 6: call 2 holds no file"),
+    (f"{OPENED}free 2\n", NOT_A_LOG, "line 7: call 2 holds no file"),
+    (f"{HEAD}free\n", NOT_A_LOG, "line 5: a call is a number"),
+    (f"{OPENED}closed 2.1.0\n", NOT_A_LOG, "line 7: the line has the form `closed CALL.MEMBER.ENTRY NAME`"),
+    (f"{OPENED}closed 2.1.0 c\n", NOT_A_LOG, "line 7: no file has the name 'c'"),
+    (f"{OPENED}closed r1.0 a\n", NOT_A_LOG, "line 7: a file is named by"),
+    (f"{OPENED}call 3 close 0\ndone 3.1 0\nclosed 2.1.0 b\n", NOT_LEGAL, "not legal: line 9: closed 2.1.0 b"),
+    (f"{HEAD}closed 2.1.0 a\n", NOT_LEGAL, "not legal: line 5"),
+    (f"{OPENED}call 3 close 0\nsettled\n", NOT_A_LOG, "line 8: call 3 is not answered"),
+    (f"{TABLE}tag 2.1.0\n", NOT_A_LOG, "line 3: a file has a tag, and the catalogue has none"),
+    # pipes
+    (f"{FED}done 3.1 1 41\n", LEGAL, "legal"),
+    (f"{FED}done 3.1 1 42\n", NOT_LEGAL, "not legal: line 8"),
+    (f"{FED}done 3.1 0\n", NOT_LEGAL, "not legal: line 8"),
+    (f"{FED}fed p 41\n", NOT_A_LOG, "line 8: a pipe was fed the byte 41 before"),
+    (f"{FED}fed q 42\n", NOT_A_LOG, "line 8: no pipe has the name 'q'"),
+    (f"{FED}fed p 4142\n", NOT_A_LOG, "line 8: a pipe is fed one byte, not '4142'"),
+    (f"{FED}free 3\n", NOT_A_LOG, "line 8: call 3 holds no file"),
+    (f"{FED}call 4 update 1 0\ndone 3.1 1 41\n", NOT_A_LOG, "line 9: a pipe that is read is installed once, and p 2 times"),
+    (f"{PIPE}call 2 read 0 0 1 link ; close 0\n", NOT_A_LOG, "line 4: a read of a pipe is a call of its own"),
+]
+# a read that finds no memory: the rules allow it, and the verified judge doesn't decide it
+NO_MEMORY = f"{OPENED}call 3 read 0 0 1 link ; close 0\ndone 3.1 -12\n"
+LACKING = [
+    (f"{NO_MEMORY}done 3.2 -125\n", LEGAL, "legal", UNDECIDED, "undecided: line 8: done 3.1 -12"),
+    (f"{NO_MEMORY}done 3.2 0\n", NOT_LEGAL, "not legal: line 9", UNDECIDED, "undecided: line 8"),
+    (f"{OPENED}call 3 close 0\ndone 3.1 -12\n", NOT_LEGAL, "not legal: line 8", UNDECIDED, "undecided: line 8"),
+    (f"{OPENED}settled\nclosed 2.1.0 a\ncall 3 read 1 0 1\ndone 3.1 -12\n", NOT_LEGAL, "not legal: line 8", NOT_LEGAL, "not legal: line 8"),
+    (f"{FED}done 3.1 -12\n", LEGAL, "legal", UNDECIDED, "undecided: line 8"),
+]
+# arguments, in which these words are paths; the status; and a pattern of what is printed
+FILES = {"right": OPENED, "wrong": OPENED.replace("done 2.1 0", "done 2.1 7"), "none": "x\n"}
+ARGUMENTS = [
+    ([], USAGE, "usage: yachtlog.py"),
+    (["--help"], LEGAL, "usage: yachtlog.py"),
+    (["--prove", "right", "--bad"], USAGE, "unrecognized arguments: --bad"),
+    (["right", "--whole-updates"], LEGAL, "right: legal"),
+    (["--proved", "--whole-updates", "right"], USAGE, "not allowed with"),
+    (["right", "right"], LEGAL, "right: legal\n.*right: legal\n$"),
+    (["right", "wrong", "none", "/nonexistent"], NOT_LEGAL, "right: legal\n.*wrong: not legal: line 6: done 2.1 7\n.*none: not a log: line 1: "),
+    (["none", "/nonexistent", "wrong"], NOT_LEGAL, "not legal"),
+    (["/nonexistent", "right"], MISSING, "/nonexistent can't be read: No such file or directory\n"),
+    (["none", "/nonexistent"], MISSING, "not a log"),
+    (["none", "right"], NOT_A_LOG, "legal"),
+    ([ROOT], MISSING, "can't be read: Is a directory"),
+]
+# wrong changes of the modules, of each kind of row
+WRONG = [
+    ("yachtlines", '_want(self.chains, "no call registers', '_want(True, "no call registers'),
+    ("yachtlines", 'text.split("\\n")', "[*text.splitlines(), '']"),
+    ("yachtlines", '_want(not rest, f"the last', '_want(True, f"the last'),
+    ("yachtlines", 'number <= LARGEST:', "True:"),
+    ("yachtlines", 'NUMBER.fullmatch(word)', 'INTEGER.fullmatch(word)'),
+    ("yachtlines", 're.compile(r"0|[1-9]', 're.compile(r"[0-9]'),
+    ("yachtlines", "<= number <= LARGEST_INT", "<= number"),
+    ("yachtlines", "_want(1 <= number <= SLOTS", "_want(number <= SLOTS"),
+    ("yachtlines", "_want(1 <= number <= SLOTS", "_want(1 <= number"),
+    ("yachtlines", '_want((member, words) == (1, ["0"])', "_want(member == 1"),
+    ("yachtlines", "_want(self._is_registered, \"the registration", "_want(True, \"the registration"),
+    ("yachtlines", "not in self.names, f\"two files", "or True, f\"two files"),
+    ("yachtlines", "count <= READ_BYTES", "True"),
+    ("yachtlines", "len(entries) <= UPDATE_ENTRIES", "True"),
+    ("yachtlines", "len(chain) <= MEMBERS", "True"),
+    ("yachtlines", "installs <= INSTALLS", "True"),
+    ("yachtlines", "_want(it.link, f", "_want(True, f"),
+    ("yachtlines", "chain[:-1], 1)", "chain, 1)"),
+    ("yachtlines", "_want(call in self._held", "_want((call, 1) in self.answers"),
+    ("yachtlines", "        self._held.remove(call)\n", ""),
+    ("yachtlines", "_want(not self._open, f", "_want(True, f"),
+    ("yachtlines", "_want(self._open[call] == member", "_want(self._open[call] <= member"),
+    ("yachtlines", "mark=installed if self.file_of(installed) == self.names[name] else NO_FILE", "mark=installed"),
+    ("yachtlines", "_want(name in self.names, f\"no file", "_want(True, f\"no file"),
+    ("yachtlines", "_want(len(marks) <= 1", "_want(True"),
+    ("yachtlines", 'if result == 1 else ""', 'or "p"'),
+    ("yachtlines", "if result == ENOMEM and not self.lacking", "if False"),
+    ("yachtstates", "known.result == ENOMEM", "False"),
+    ("yachtlog", "found = {status_of(it, options) for it in options.logs}\n    return next((it for it in ORDER if it in found), 0)",
+     "return max(status_of(it, options) for it in options.logs)"),
+    ("yachtlog", "NO_MEMORY, MISSING, NOT_A_LOG = 5, 4, 3", "NO_MEMORY, MISSING, NOT_A_LOG = 5, 1, 3"),
+    ("yachtlog", "except OSError as fault", "except ZeroDivisionError as fault"),
+    ("yachtlog", 'nargs="+"', 'nargs="*"'),
+    ("yachtlog", "except BadLog as fault:\n        print", "except BadLog as fault:\n        return 0\n        print"),
+]
+
+
+def ran(yachtlog, words):
+    """Runs the command in this process. Returns its status, or None if it raised something, and all that it printed."""
+    written, sys.argv = io.StringIO(), ["yachtlog.py", *words]
+    with contextlib.redirect_stdout(written), contextlib.redirect_stderr(written):
+        try:
+            status = yachtlog.main()
+        except SystemExit as ended:
+            status = ended.code
+        except Exception as fault:
+            status = None
+            written.write(repr(fault))
+    return status, written.getvalue()
+
+
+def judged(yachtlog, room, text, *words):
+    """Runs the command on a text. Returns its status, and what it prints after the path."""
+    path = os.path.join(room, "log")
+    with open(path, "wb") as file:
+        file.write(text.encode() if isinstance(text, str) else text)
+    status, written = ran(yachtlog, [*words, path])
+    return status, written.replace(f"{path}: ", "")
+
+
+def wrong_rows(yachtlog, room):
+    """Yields the rows that are wrong: what they are, the status and what is printed."""
+    both = [(text, *told, *told) for text, *told in ROWS]
+    for text, status, words, proved_status, proved_words in both + LACKING:
+        for option, wanted, pattern in ((), status, words), (("--proved",), proved_status, proved_words):
+            found, written = judged(yachtlog, room, text, *option)
+            if found != wanted or not re.match(f"(not a log: )?{pattern}", written):
+                yield text[-80:], option, found, written
+    for name, text in FILES.items():
+        with open(os.path.join(room, name), "w", encoding="ascii") as file:
+            file.write(text)
+    for words, wanted, pattern in ARGUMENTS:
+        found, written = ran(yachtlog, [os.path.join(room, it) if it in FILES else it for it in words])
+        if found != wanted or not re.search(pattern, written, re.DOTALL):
+            yield words, (), found, written
+
+
+def count():
+    """Returns the number of rows."""
+    return 2 * (len(ROWS) + len(LACKING)) + len(ARGUMENTS)
+
+
+def main(folder):
+    sys.path.insert(0, folder)
+    import yachtlog
+
+    with tempfile.TemporaryDirectory() as room:
+        wrong = list(wrong_rows(yachtlog, room))
+    for it in wrong:
+        print(*map(repr, it))
+    print(f"log_lines: {count()} looked at, {len(wrong)} wrong")
+
+
+if __name__ == "__main__":
+    main(sys.argv[1])
