@@ -43,7 +43,7 @@ help:
 
 help-all: help
 	@echo 'Use, further:'
-	@echo '  make dist                     makes archives of programs and libraries in build, for users without the toolchain'
+	@echo '  make dist                     makes archives and packages of programs and libraries in build, for users without the toolchain'
 	@echo '  make libraries                proves and builds the libraries for C, Rust and Python'
 	@echo '  make install                  copies programs, libraries, manual pages, completions and examples to PREFIX (/usr/local), below DESTDIR'
 	@echo '  make uninstall                removes the installed files'

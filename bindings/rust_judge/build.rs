@@ -1,5 +1,5 @@
-//! Links the verified judge: the library in the folder YACHTBANYAN_LIB_DIR, or where pkg-config
-//! finds it.
+//! Links the verified judge: the library in the folder YACHTBANYAN_LIB_DIR; or in `lib/TARGET` of
+//! this folder; or where pkg-config finds it.
 use std::path::{Path, PathBuf};
 use std::{env, fs, process::Command};
 
@@ -51,11 +51,15 @@ fn main() {
     if env::var_os("DOCS_RS").is_some() {
         return;
     }
+    let target = env::var("TARGET").expect("cargo sets it");
+    let all = Path::new(&env::var("CARGO_MANIFEST_DIR").expect("cargo sets it")).join("lib");
+    let own = all.join(target);
     let given = env::var_os("YACHTBANYAN_LIB_DIR").map(PathBuf::from);
     let by = given
         .as_ref()
         .map_or("pkg-config", |_| "YACHTBANYAN_LIB_DIR");
-    let Some(folder) = given.or_else(by_pkg_config) else {
+    let known = given.or_else(|| own.join(LIBRARY).exists().then_some(own));
+    let Some(folder) = known.or_else(by_pkg_config) else {
         panic!("there is no {LIBRARY}. Set YACHTBANYAN_LIB_DIR to its folder");
     };
     check(&folder, by);
