@@ -1,7 +1,9 @@
 """Counts results, parses arguments, and reports timeouts, for all checks.
 
-checks.py NAME SEEN WRONG [WHAT]: prints the last line of a check that is written in bash, and ends with its status.
-checks.py --ended LOG..: checks that each check of tests/cases.txt has ended in one of the logs, with its number of cases."""
+A check ends with its cases in the Test Anything Protocol, which prove(1) reads: the plan, which is the number of cases in
+tests/cases.txt, and a line for each case. Complaints, and the last line, which is for people, are comments of that protocol.
+
+checks.py NAME SEEN WRONG [NUMBER:TOOL..]: ends a check that is written in bash. NUMBER cases were left out, since TOOL is missing."""
 import argparse
 import os
 import re
@@ -22,22 +24,43 @@ def kept_numbers():
     return {name: (least != "", int(number)) for name, least, number in lines}
 
 
+def comment(text):
+    """Returns a text as a comment of the protocol."""
+    return "# " + text.replace("\n", "\n# ")
+
+
 def fits(seen, is_least, number):
     return seen == number or is_least and seen > number
 
 
 def name_of(key):
-    return re.split(r" (?=-|\d|without )", key)[0]
+    return re.split(r" (?=-|\d)", key)[0]
 
 
-def last_line(key, seen, wrong, what="looked at"):
-    """Prints the last line of a check, and returns its status: 1 if a case is wrong, or if their number isn't the kept one. `key` has
-    the check's name, its options, and the tools that this machine lacks. Options without a kept number must have some case."""
-    is_least, number = kept_numbers().get(key, (True, 1 if key != name_of(key) else sys.maxsize))
-    is_kept = fits(seen, is_least, number)
+def protocol(seen, wrong, left_out, is_least, number):
+    """Yields the plan, and a line for each case: first those of the wrong ones. If `number` is the least number of cases, the plan has one
+    case more, which stands for all further ones. So a check that looks at fewer cases than it should doesn't fulfil its plan."""
+    each = [("not ok", "")] * wrong + [("ok", "")] * (seen - wrong) + [("ok", f" # SKIP no {tool}") for count, tool in left_out for _ in range(count)]
+    yield f"1..{number + is_least}"
+    for nth, (word, why) in enumerate(each[:number] if is_least else each, 1):
+        yield f"{word} {nth}{why}"
+    if is_least and len(each) >= number:
+        yield f"{'not ok' if wrong > number else 'ok'} {number + 1} - {len(each) - number} further cases"
+
+
+def last_line(key, seen, wrong, what="looked at", left_out=()):
+    """Prints the end of a check, and returns its status: 1 if a case is wrong, or if their number isn't the kept one. `key` has the
+    check's name and its options. Options without a kept number must have some case. `left_out` has numbers of cases that are left out,
+    each with the missing tool."""
+    cases = seen + sum(count for count, _ in left_out)
+    is_least, number = kept_numbers().get(key, (False, max(cases, 1) if key != name_of(key) else sys.maxsize))
+    if "HARNESS_ACTIVE" in os.environ or not sys.stdout.isatty():
+        print(*protocol(seen, wrong, left_out, is_least, number), sep="\n")
+    is_kept = number > 0 and fits(cases, is_least, number)
     if not is_kept:
-        print(f"{key}: {seen} cases were looked at, which is another number than {CASES} has")
-    print(f"{name_of(key)}: {seen} {what}, {wrong} wrong", flush=True)
+        print(f"# {key}: {cases} cases were looked at, and {CASES} has {'at least ' if is_least else ''}{number}")
+    also = f" and {cases - seen} left out" if cases > seen else ""
+    print(f"# {name_of(key)}: {seen} {what}{also}, {wrong} wrong", flush=True)
     return 0 if is_kept and not wrong else 1
 
 
@@ -45,18 +68,22 @@ class Counted:
     """The number of cases of a check and of wrong ones, which are printed under its name."""
 
     def __init__(self, name):
-        self.name, self.seen, self.wrong = name, 0, 0
+        self.name, self.seen, self.wrong, self.left_out = name, 0, 0, []
 
     def want(self, holds, what):
         self.seen += 1
         if not holds:
             self.wrong += 1
-            print(f"{self.name}: {what}", flush=True)
+            print(comment(f"{self.name}: {what}"), flush=True)
 
-    def end(self, what="looked at", lacks=()):
-        """Prints the last line, and returns the status. `lacks` has the tools that this machine lacks."""
-        key = " ".join([self.name, *WORDS, *(["without", " and ".join(lacks)] if lacks else [])])
-        return last_line(key, self.seen, self.wrong, what)
+    def skip(self, count, tool, why=""):
+        """Leaves out as many cases, since a tool is missing."""
+        self.left_out.append((count, tool))
+        print(comment(f"{self.name}: {count} cases are left out: there is no {tool}{why and f': {why}'}"), flush=True)
+
+    def end(self, what="looked at"):
+        """Prints the end of the check, and returns the status."""
+        return last_line(" ".join([self.name, *WORDS]), self.seen, self.wrong, what, self.left_out)
 
 
 def arguments(usage, paths="", flags="", numbers=None, options=None, words=()):
@@ -86,28 +113,14 @@ def status_of(name, main, *given):
     except subprocess.TimeoutExpired as hang:
         command = [hang.cmd] if isinstance(hang.cmd, str) else hang.cmd
         shown = " ".join([os.path.basename(command[0]), *map(str, command[1:])])
-        print(f"{name}: {shown} didn't end within {hang.timeout:g} s")
+        print(f"# {name}: {shown} didn't end within {hang.timeout:g} s")
         return 1
 
 
-def not_ended(logs):
-    """Returns the names of the checks that have not ended in these texts, with no wrong case and a kept number of cases."""
-    ended, kept = re.findall(r"^([^:\n]+): (\d+) .*, 0 wrong$", "\n".join(logs), re.MULTILINE), {}
-    for name, number in kept_numbers().items():
-        if name.split(" without ")[0] == name_of(name):
-            kept.setdefault(name_of(name), []).append(number)
-    return [name for name, numbers in kept.items() if not any(it == name and any(fits(int(seen), *one) for one in numbers) for it, seen in ended)]
-
-
-def main(words):
-    if words[0] == "--ended":
-        missed = not_ended([read(os.path.abspath(it)) for it in words[1:]])
-        for it in missed:
-            print(f"test: {it} has not ended well with the number of cases in {CASES}")
-        return 1 if missed else 0
-    key, seen, wrong, *what = words
-    return last_line(key, int(seen), int(wrong), *what)
+def main(name, seen, wrong, *left_out):
+    pairs = [it.partition(":") for it in left_out]
+    return last_line(name, int(seen), int(wrong), left_out=[(int(count), tool) for count, _, tool in pairs])
 
 
 if __name__ == "__main__":
-    sys.exit(main(sys.argv[1:]))
+    sys.exit(main(*sys.argv[1:]))

@@ -1,6 +1,12 @@
-# Counts the cases of a check in bash, which sets its name, `check`, and a folder, `room`.
+# Counts the cases of a check in bash, which sets its name, `check`, and a folder, `room`. It ends
+# by `scripts/checks.py "$check" "$looked" "$wrong" "${left[@]}"`.
 
-looked=0 wrong=0
+looked=0 wrong=0 left=()
+
+# say TEXT: prints a text as a comment of the Test Anything Protocol
+say() {
+    echo "# $check: ${1//$'\n'/$'\n'# }"
+}
 
 # want COMPLAINT COMMAND..: the command ends with status 0
 want() {
@@ -9,5 +15,11 @@ want() {
     wrong=$((wrong + 1))
     local said
     said=$(tail -n 8 "$room/said")
-    echo "$check: $1${said:+: $said}"
+    say "$1${said:+: $said}"
+}
+
+# skip NUMBER TOOL: leaves out as many cases, since a tool is missing
+skip() {
+    left+=("$1:$2")
+    say "$1 cases are left out: there is no $2"
 }
