@@ -165,14 +165,17 @@ int yacht_insert_with(yacht_handle *handle, yacht_make *make, void *with, yacht_
  * YACHT_BUSY, YACHT_READER or YACHT_BAD_ARGUMENT: then the caller still owns the value. */
 int yacht_replace_at(yacht_handle *handle, uint32_t slot, void *value);
 
+/* Installs a value as yacht_replace_at, and writes its key to *key; key is not NULL.
+ * Returns the same. If that is an error, it writes nothing. */
+int yacht_replace_at_key(yacht_handle *handle, uint32_t slot, void *value, yacht_key *key);
+
 /* Removes the value at a slot.
  * Returns YACHT_DROPPED or YACHT_IN_USE; or YACHT_EMPTY, YACHT_NO_SLOT, YACHT_BUSY or
  * YACHT_READER. */
 int yacht_remove_at(yacht_handle *handle, uint32_t slot);
 
 /* Installs a value, not NULL, in place of the one with the key *key, and writes the new value's key
- * to *key, before a drop that the call runs. It tries again while other threads look the same slot
- * up.
+ * to *key, before it drops a value. It tries again while other threads look the same slot up.
  * Returns YACHT_DROPPED or YACHT_IN_USE; or YACHT_STALE, YACHT_EMPTY, YACHT_NO_SLOT, YACHT_BUSY,
  * YACHT_READER or YACHT_BAD_ARGUMENT: then the caller still owns the value, and *key stays. */
 int yacht_replace(yacht_handle *handle, yacht_key *key, void *value);
@@ -191,6 +194,13 @@ uint64_t yacht_key_to_bits(yacht_key key);
 
 /* Returns the key that has these bits. */
 yacht_key yacht_key_from_bits(uint64_t bits);
+
+/* Returns a key in the lowest `width` bits of 64, as yacht_key_to_bits, or 0 if it has more bits.
+ * The other bits are the caller's, as for the kind of a request. */
+uint64_t yacht_key_to_bits_below(yacht_key key, unsigned width);
+
+/* Returns the key that has the lowest `width` of these bits. */
+yacht_key yacht_key_from_bits_below(uint64_t bits, unsigned width);
 
 /* Returns a number of this header in words, such as "the slot is empty". The string is never freed.
  * A slot that yacht_insert returned is no such number. */

@@ -1,15 +1,15 @@
-/* The C part, included (PART), over a core whose look-ups return no number, as those of values of a
- * worker that has used its numbers up. */
+/* The C part, included (PART), over a core whose look-ups at a slot return no number, as those of
+ * values of a worker that has used its numbers up. */
 #include "core.h"
 #include "refusing.h"
 
-static int64_t look_without_number(yacht_core *worker, uint32_t slot, yacht_label *label) {
-    int64_t answer = yacht_core_look(worker, slot, label);
-    label->number = 0;
+static int64_t get_at_without_number(yacht_core *worker, uint32_t slot, yacht_outcome *out) {
+    int64_t answer = yacht_core_get_at(worker, slot, out);
+    out->number = 0;
     return answer;
 }
 
-#define yacht_core_look look_without_number
+#define yacht_core_get_at get_at_without_number
 #include PART
 
 static int values[5], drops;

@@ -156,6 +156,10 @@ static void calls_by_key(yacht_handle *a, yacht_handle *b, yacht_handle *reader)
     finds_none(a, reader, third, YACHT_STALE);
     WANT(yacht_get_at(a, 0, &value) == YACHT_DONE && yacht_key_of(a, &third) == YACHT_DONE && yacht_release(a) == YACHT_DONE);
     WANT(yacht_remove(b, third) == YACHT_DROPPED && dropped[11] == 1);
+    WANT(yacht_replace_at_key(a, 0, &dropped[7], NULL) == YACHT_BAD_ARGUMENT && yacht_replace_at_key(a, 1, &dropped[7], &third) == YACHT_NO_SLOT);
+    WANT(yacht_replace_at_key(a, 0, &dropped[7], &third) == YACHT_DONE && third.slot == 0);
+    WANT(yacht_get(b, third, &value) == YACHT_DONE && value == &dropped[7] && yacht_release(b) == YACHT_DONE);
+    WANT(yacht_remove(b, third) == YACHT_DROPPED && dropped[7] == 2);
 }
 
 /* what `make` returns first and then, and what it does first */
@@ -219,6 +223,12 @@ static void bits(void) {
     key.number = 1, key.slot = YACHT_MOST_SLOTS;
     WANT(yacht_key_to_bits(key) == 0);
     WANT(yacht_key_from_bits(0).number == 0 && yacht_key_from_bits(8190).number == 0);
+    /* beside the kind of a request */
+    key = (yacht_key){5, 3};
+    WANT(yacht_key_to_bits_below(key, 16) == (5 << 13 | 3 << 1) && yacht_key_to_bits_below(key, 15) == 0);
+    WANT(yacht_key_to_bits_below(key, 64) == (5 << 13 | 3 << 1) && yacht_key_from_bits_below(UINT64_MAX, 64).slot == 1048575);
+    key = yacht_key_from_bits_below(9ull << 60 | 5 << 13 | 3 << 1, 60);
+    WANT(key.slot == 3 && key.number == 5);
 }
 
 static void keys(void) {
@@ -227,7 +237,7 @@ static void keys(void) {
     calls_by_key(yacht_handle_of(table, 0), yacht_handle_of(table, 1), yacht_reader_of(table, 0));
     bits();
     yacht_free(table);
-    WANT(drops == 12 && dropped[10] == 1 && !dropped[15]);
+    WANT(drops == 13 && dropped[10] == 1 && !dropped[15]);
 }
 
 static void leave(void *value, void *with) { (void)value, (void)with; }

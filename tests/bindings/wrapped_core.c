@@ -1,26 +1,25 @@
-/* The C part over a core whose calls are wrapped
- * (-Wl,--wrap=yacht_core_look,--wrap=yacht_core_put,--wrap=yacht_core_put_any,
- * --wrap=yacht_core_take_if,--wrap=yacht_core_put_if), so that what only a race reaches happens
- * each time: a look-up is overtaken, and the core returns the tag of a value to drop to it; another
- * handle looks a slot up before the call that installed its value returns; the core has changed
- * slots during a round; another handle changes the slot within a call by key, or counts look-ups
- * there. */
+/* The C part over a core whose calls are wrapped (-Wl,--wrap=yacht_core_get_at,
+ * --wrap=yacht_core_get, --wrap=yacht_core_replace_at, --wrap=yacht_core_insert,
+ * --wrap=yacht_core_remove, --wrap=yacht_core_replace), so that what only a race reaches happens
+ * each time: a look-up is overtaken, and the core returns the tag of a value to drop to it; a call
+ * by key is the last to use another value; another handle looks a slot up before the call that
+ * installed its value returns; the core has changed slots during a round, or look-ups were counted
+ * at the slot of a key. */
 #include "refusing.h"
 #include <stdint.h>
 #include <yachtbanyan.h>
 #include "core.h"
 
-int64_t __real_yacht_core_look(yacht_core *, uint32_t, yacht_label *);
-int64_t __real_yacht_core_put(yacht_core *, uint32_t, uint64_t, yacht_placed *);
-int64_t __real_yacht_core_put_any(yacht_core *, uint64_t, uint64_t *);
-int64_t __real_yacht_core_take_if(yacht_core *, uint32_t, uint32_t, uint64_t *);
-int64_t __real_yacht_core_put_if(yacht_core *, uint32_t, uint32_t, uint64_t, yacht_placed *);
+int64_t __real_yacht_core_get_at(yacht_core *, uint32_t, yacht_outcome *);
+int64_t __real_yacht_core_get(yacht_core *, uint32_t, uint64_t, yacht_outcome *);
+int64_t __real_yacht_core_replace_at(yacht_core *, uint32_t, uint64_t, yacht_outcome *);
+int64_t __real_yacht_core_insert(yacht_core *, uint64_t, uint64_t *);
+int64_t __real_yacht_core_remove(yacht_core *, uint32_t, uint64_t, yacht_outcome *);
+int64_t __real_yacht_core_replace(yacht_core *, uint32_t, uint64_t, uint64_t, yacht_outcome *);
 
 static int values[8], dropped[8], rounds_to_refuse, calls_to_refuse;
 static yacht_handle *a, *b, *c;
-static int *overtaken, *expected;
-/* what handle `c` puts at the slot within a call by key, or removes if it is `values` */
-static int *meanwhile;
+static int *overtaken, *used_last, *expected;
 
 static void drop(void *value, void *with) {
     (void)with;
@@ -36,44 +35,59 @@ static void look_from_b(uint32_t slot) {
     WANT(yacht_release(b) == YACHT_DONE);
 }
 
-int64_t __wrap_yacht_core_look(yacht_core *worker, uint32_t slot, yacht_label *label) {
-    int64_t answer = __real_yacht_core_look(worker, slot, label);
-    if (overtaken) label->freed = (uint64_t)(uintptr_t)overtaken;
-    overtaken = NULL;
+/* returns the values that the call was the last to use */
+static void hand_over(yacht_outcome *out) {
+    if (overtaken) out->freed = (uint64_t)(uintptr_t)overtaken;
+    if (used_last) out->released = (uint64_t)(uintptr_t)used_last;
+    overtaken = used_last = NULL;
+}
+
+/* a call by key that finds the slot's word changed at each try */
+static int is_refused(yacht_outcome *out) {
+    if (!calls_to_refuse) return 0;
+    calls_to_refuse--;
+    *out = (yacht_outcome){0};
+    hand_over(out);
+    return 1;
+}
+
+int64_t __wrap_yacht_core_get_at(yacht_core *worker, uint32_t slot, yacht_outcome *out) {
+    int64_t answer = __real_yacht_core_get_at(worker, slot, out);
+    hand_over(out);
     return answer;
 }
 
-int64_t __wrap_yacht_core_put(yacht_core *worker, uint32_t slot, uint64_t tag, yacht_placed *placed) {
-    int64_t answer = __real_yacht_core_put(worker, slot, tag, placed);
+int64_t __wrap_yacht_core_get(yacht_core *worker, uint32_t slot, uint64_t number, yacht_outcome *out) {
+    int64_t answer = __real_yacht_core_get(worker, slot, number, out);
+    hand_over(out);
+    return answer;
+}
+
+int64_t __wrap_yacht_core_replace_at(yacht_core *worker, uint32_t slot, uint64_t tag, yacht_outcome *out) {
+    int64_t answer = __real_yacht_core_replace_at(worker, slot, tag, out);
     look_from_b(slot);
     return answer;
 }
 
-int64_t __wrap_yacht_core_put_any(yacht_core *worker, uint64_t tag, uint64_t *number) {
+int64_t __wrap_yacht_core_insert(yacht_core *worker, uint64_t tag, uint64_t *number) {
     if (rounds_to_refuse && rounds_to_refuse--) return YACHT_AGAIN;
-    int64_t answer = __real_yacht_core_put_any(worker, tag, number);
+    int64_t answer = __real_yacht_core_insert(worker, tag, number);
     if (answer >= 0) look_from_b((uint32_t)answer);
     return answer;
 }
 
-static void changes_the_slot(uint32_t slot) {
-    int *value = meanwhile;
-    meanwhile = NULL;
-    if (value == values) WANT(yacht_remove_at(c, slot) == YACHT_IN_USE);
-    else if (value) WANT(yacht_replace_at(c, slot, value) == YACHT_IN_USE);
+int64_t __wrap_yacht_core_remove(yacht_core *worker, uint32_t slot, uint64_t number, yacht_outcome *out) {
+    if (is_refused(out)) return YACHT_AGAIN;
+    int64_t answer = __real_yacht_core_remove(worker, slot, number, out);
+    hand_over(out);
+    return answer;
 }
 
-int64_t __wrap_yacht_core_take_if(yacht_core *worker, uint32_t slot, uint32_t node, uint64_t *closed) {
-    changes_the_slot(slot);
-    if (calls_to_refuse && calls_to_refuse--) return YACHT_AGAIN;
-    return __real_yacht_core_take_if(worker, slot, node, closed);
-}
-
-int64_t __wrap_yacht_core_put_if(yacht_core *worker, uint32_t slot, uint32_t node, uint64_t tag, yacht_placed *placed) {
-    changes_the_slot(slot);
-    if (calls_to_refuse && calls_to_refuse--) return YACHT_AGAIN;
-    int64_t answer = __real_yacht_core_put_if(worker, slot, node, tag, placed);
+int64_t __wrap_yacht_core_replace(yacht_core *worker, uint32_t slot, uint64_t number, uint64_t tag, yacht_outcome *out) {
+    if (is_refused(out)) return YACHT_AGAIN;
+    int64_t answer = __real_yacht_core_replace(worker, slot, number, tag, out);
     if (answer >= 0) look_from_b(slot);
+    hand_over(out);
     return answer;
 }
 
@@ -85,34 +99,31 @@ static yacht_key key_at(uint32_t slot) {
     return key;
 }
 
-/* slot 1 has `values[1]`; values 4 to 7 come and go */
+/* slot 1 has `values[1]`; the other values come and go, and 4 and 7 are what a call used last */
 static void calls_by_key(void) {
     yacht_key key = key_at(1), old = key;
-    meanwhile = &values[4];
-    WANT(yacht_remove(a, key) == YACHT_STALE && !meanwhile && dropped[1] == 2 && !dropped[4]);
-    key = key_at(1), meanwhile = &values[5];
-    WANT(yacht_replace(a, &key, &values[6]) == YACHT_STALE && !meanwhile && dropped[4] == 1 && !dropped[5]);
-    WANT(!dropped[6]);
-    key = key_at(1), calls_to_refuse = 3, expected = &values[6];
-    WANT(yacht_replace(a, &key, &values[6]) == YACHT_DROPPED && !calls_to_refuse && dropped[5] == 1);
-    WANT(!expected && key.number == key_at(1).number);
-    meanwhile = values;
-    WANT(yacht_replace(a, &key, &values[7]) == YACHT_EMPTY && dropped[6] == 1 && !dropped[7]);
-    WANT(yacht_insert_key(a, &values[7], &key) == (int)key.slot);
-    meanwhile = values;
-    WANT(yacht_remove(a, key) == YACHT_EMPTY && dropped[7] == 1);
-    WANT(yacht_insert_key(a, &values[7], &key) == (int)key.slot);
-    calls_to_refuse = 3;
-    WANT(yacht_remove(a, key) == YACHT_DROPPED && !calls_to_refuse && dropped[7] == 2);
-    WANT(yacht_insert_key(c, &values[1], &key) >= 0 && yacht_get(b, old, &(void *){NULL}) < 0);
-    /* what an overtaken look-up of a call by key has to drop */
+    calls_to_refuse = 3, expected = &values[5], overtaken = &values[4];
+    WANT(yacht_replace(a, &key, &values[5]) == YACHT_DROPPED && !calls_to_refuse && dropped[1] == 2);
+    WANT(dropped[4] == 1 && !expected && key.number == key_at(1).number && key.number != old.number);
+    overtaken = &values[4], used_last = &values[7];
+    WANT(yacht_replace(a, &old, &values[6]) == YACHT_STALE && dropped[4] == 2 && dropped[7] == 1 && !dropped[6]);
+    overtaken = &values[4], used_last = &values[7];
+    WANT(yacht_get(a, old, &(void *){NULL}) == YACHT_STALE && dropped[4] == 3 && dropped[7] == 2);
+    overtaken = &values[4], used_last = &values[7];
+    WANT(yacht_remove(a, old) == YACHT_STALE && dropped[4] == 4 && dropped[7] == 3 && !dropped[5]);
     overtaken = &values[4];
-    WANT(yacht_get(a, old, &(void *){NULL}) < 0 && dropped[4] == 2);
+    WANT(yacht_get(a, key, &(void *){NULL}) == YACHT_DONE && dropped[4] == 5);
+    WANT(yacht_release(a) == YACHT_DONE && !dropped[5]);
+    WANT(yacht_get(c, key, &(void *){NULL}) == YACHT_DONE);
     overtaken = &values[4];
-    WANT(yacht_get(a, key, &(void *){NULL}) == YACHT_DONE && dropped[4] == 3);
-    WANT(yacht_release(a) == YACHT_DONE);
+    WANT(yacht_replace(a, &key, &values[6]) == YACHT_IN_USE && dropped[4] == 6 && !dropped[5]);
+    WANT(yacht_release(c) == YACHT_DONE && dropped[5] == 1);
+    calls_to_refuse = 3, overtaken = &values[4];
+    WANT(yacht_remove(a, key) == YACHT_DROPPED && !calls_to_refuse && dropped[6] == 1 && dropped[4] == 7);
+    WANT(yacht_remove(a, key) == YACHT_EMPTY && dropped[6] == 1);
+    WANT(yacht_insert_key(c, &values[1], &key) >= 0 && dropped[1] == 2);
     overtaken = &values[4];
-    WANT(yacht_remove(a, key) == YACHT_DROPPED && dropped[4] == 4 && dropped[1] == 3);
+    WANT(yacht_remove(a, key) == YACHT_DROPPED && dropped[4] == 8 && dropped[1] == 3);
 }
 
 static void installs(void) {

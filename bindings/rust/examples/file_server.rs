@@ -40,9 +40,9 @@ fn serve(listener: &TcpListener, files: &Reader<Text>) -> Result<()> {
 /// Reads a file again. Returns what became of the old text.
 fn reload(files: &Handle<Text>, slot: u32) -> Result<Old<Text>> {
     let path = files.get_at(slot).map_err(Error::other)?.path.clone();
-    files
-        .replace_at(slot, load(path)?)
-        .map_err(|it| Error::other(it.to_string()))
+    let replaced = files.replace_at(slot, load(path)?);
+    let (_, old) = replaced.map_err(|it| Error::other(it.to_string()))?;
+    Ok(old)
 }
 
 fn fetch(address: SocketAddr, request: &str) -> Result<String> {

@@ -17,7 +17,7 @@ pub enum OpenError {
     Slots(u32),
     /// The number of handles is out of range.
     Handles(u32),
-    /// The number of seats, two for each handle and one for each reader and each guard, is out of
+    /// The number of seats, three for each handle and one for each reader and each guard, is out of
     /// range.
     Seats(u64),
     /// An allocation of the core failed.
@@ -238,8 +238,8 @@ impl fmt::Display for NoSeat {
     fn fmt(&self, f: &mut fmt::Formatter<'_>) -> fmt::Result {
         let (in_use, kind, most) = match *self {
             NoSeat::Handle { in_use } => (in_use, "handle", MOST_INSTALLING),
-            NoSeat::Reader { in_use } => (in_use, "reader", MOST_WORKERS - 2),
-            NoSeat::Guard { in_use } => (in_use, "guard", MOST_WORKERS - 2),
+            NoSeat::Reader { in_use } => (in_use, "reader", MOST_WORKERS - 3),
+            NoSeat::Guard { in_use } => (in_use, "guard", MOST_WORKERS - 3),
         };
         let are = if in_use == 1 { " is" } else { "s are" };
         write!(

@@ -77,12 +77,6 @@ impl Key {
         self.slot
     }
 
-    /// Checks whether this is the key of a value with this number at its slot.
-    #[inline]
-    pub(crate) fn is_of(self, number: Option<NonZeroU64>) -> bool {
-        self.number.is_some() && self.bits_of_number() == number.map_or(0, NonZeroU64::get)
-    }
-
     /// Returns the key in 64 bits, as for the data of `epoll` or `io_uring`: a slot below 4,096 in
     /// 12 of them and the number in 51, or a slot in 20 and the number in 43. Returns `None` if the
     /// number has more bits. A handle installs 2^51 values, or 2^43, divided by the number of
@@ -128,6 +122,45 @@ impl Key {
         let slot = (bits >> 1) as u32 & ((1 << width) - 1);
         Key::new(slot, NonZeroU64::new(bits >> (width + 1)))
     }
+
+    /// Returns the key in the lowest `width` bits of 64, which leaves the others to the caller, as
+    /// for the kind of a request: [`Key::from_bits_below`] ignores them. Returns `None` if the key
+    /// has more bits. With a width of 60 a handle installs 2^47 values at slots below 4,096, or
+    /// 2^39 at others, divided by the number of handles before that.
+    ///
+    /// ```
+    /// use yachtbanyan::{Key, Table};
+    ///
+    /// const WRITE: u64 = 2;
+    ///
+    /// let table = Table::<u64>::with_slots(4)?;
+    /// let key = table.insert(7)?;
+    /// let data = key.to_bits_below(60).ok_or("the key has more bits")? | WRITE << 60;
+    /// assert_eq!((Key::from_bits_below(data, 60), data >> 60), (key, WRITE));
+    /// # Ok::<(), Box<dyn std::error::Error>>(())
+    /// ```
+    pub fn to_bits_below(self, width: u32) -> Option<u64> {
+        self.to_bits().filter(|&bits| bits & !low(width) == 0)
+    }
+
+    /// Returns the key of the lowest `width` of these bits, as [`Key::from_bits`].
+    ///
+    /// ```
+    /// use yachtbanyan::{Key, Table};
+    ///
+    /// let key = Table::<u64>::with_slots(4)?.insert(7)?;
+    /// let bits = key.to_bits_below(32).ok_or("the key has more bits")?;
+    /// assert_eq!(Key::from_bits_below(bits | 1 << 32, 32), key);
+    /// # Ok::<(), Box<dyn std::error::Error>>(())
+    /// ```
+    pub fn from_bits_below(bits: u64, width: u32) -> Key {
+        Key::from_bits(bits & low(width))
+    }
+}
+
+/// Returns the lowest `width` bits of 64.
+fn low(width: u32) -> u64 {
+    1u64.checked_shl(width).map_or(u64::MAX, |bit| bit - 1)
 }
 
 /// Prints the slot and the number, as `3#17`.

@@ -63,7 +63,10 @@ fn a_key_of_a_value_that_is_gone_finds_nothing() {
     let (table, handle) = one_slot();
     let mut keys = vec![handle.insert(1).unwrap()];
     // each way in which a value goes, and another one comes
-    assert_eq!(handle.replace_at(0, 2), Ok(Old::Unused(1)));
+    assert_eq!(
+        handle.replace_at(0, 2).map(|(_, old)| old),
+        Ok(Old::Unused(1))
+    );
     keys.push(handle.get_at(0).unwrap().key());
     keys.push(handle.replace(keys[1], 3).unwrap().0);
     keys.push(table.replace(keys[2], 4).unwrap().0);
@@ -185,20 +188,22 @@ fn a_removed_value_in_use_is_dropped_by_its_last_user() {
     assert_eq!(DROPS.load(SeqCst), 0);
     drop(own);
     assert_eq!(DROPS.load(SeqCst), 1);
-    // while a guard of the handle is alive, a call by key needs a guard's seat
+    // a call by key needs no seat beside the handle's, whose guard is alive
     let key = handle.insert(Noted).unwrap();
     let guard = handle.get(key).unwrap();
-    let (new, old) = handle.replace(key, Noted).unwrap();
+    let (first, old) = handle.replace(key, Noted).unwrap();
     assert!(matches!(old, Old::InUse));
-    let own = table.get_owned(new).unwrap();
-    let none = NoSeat::Guard { in_use: 1 };
-    assert_eq!(handle.remove(new).unwrap_err(), RemoveError::NoSeat(none));
-    let refused = handle.replace(new, Noted).unwrap_err();
-    assert_eq!(refused.reason, Reason::NoSeat(none));
-    drop(refused);
+    let own = table.get_owned(first).unwrap();
+    let (second, old) = handle.replace(first, Noted).unwrap();
+    assert!(matches!(old, Old::InUse));
+    drop(own);
     assert_eq!(DROPS.load(SeqCst), 2);
-    assert!(matches!(guard.remove(), Err(RemoveError::Stale { .. })));
+    assert!(matches!(handle.remove(second), Ok(Old::Unused(_))));
     assert_eq!(DROPS.load(SeqCst), 3);
+    assert!(matches!(guard.remove(), Err(RemoveError::Empty { .. })));
+    assert_eq!(DROPS.load(SeqCst), 4);
+    let new = handle.insert(Noted).unwrap();
+    let own = table.get_owned(new).unwrap();
     // all seats that install have handles
     let none = NoSeat::Handle { in_use: 1 };
     assert!(matches!(own.remove(), Err(RemoveError::NoSeat(it)) if it == none));
@@ -207,8 +212,9 @@ fn a_removed_value_in_use_is_dropped_by_its_last_user() {
         table.replace(new, Noted).unwrap_err().reason,
         Reason::NoSeat(none)
     );
-    assert!(matches!(handle.remove(new), Ok(Old::Unused(_))));
     assert_eq!(DROPS.load(SeqCst), 5);
+    assert!(matches!(handle.remove(new), Ok(Old::Unused(_))));
+    assert_eq!(DROPS.load(SeqCst), 6);
 }
 
 #[test]

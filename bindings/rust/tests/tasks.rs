@@ -60,7 +60,9 @@ fn a_thousand_tasks_hold_owned_guards() {
         .guards(1_000)
         .open()
         .unwrap();
-    (0..4).for_each(|slot| assert!(table.replace_at(slot, slot + 1) == Ok(Old::None)));
+    (0..4).for_each(|slot| {
+        assert!(table.replace_at(slot, slot + 1).map(|(_, old)| old) == Ok(Old::None))
+    });
     let sum = Arc::new(AtomicU32::new(0));
     // each guard is alive before the first task runs
     let task = |number: u32| -> Task {
@@ -68,7 +70,7 @@ fn a_thousand_tasks_hold_owned_guards() {
     };
     let tasks: Vec<Task> = (0..1_000).map(task).collect();
     assert!(table.get_owned_at(0).is_err());
-    assert_eq!(table.replace_at(0, 100), Ok(Old::InUse));
+    assert_eq!(table.replace_at(0, 100).map(|(_, old)| old), Ok(Old::InUse));
     run(tasks, 4);
     assert_eq!(sum.load(SeqCst), 250 * (1 + 2 + 3 + 4));
     assert_eq!(*table.get_owned_at(0).unwrap(), 100);

@@ -57,7 +57,7 @@ fn a_handle_uses_the_storage_of_a_removed_value_again() {
     let (slot, again) = insert(2);
     assert!(storage == again && removed.number == 1 && notes.drops() == 0);
     // so does one that replaces a value, or whose value comes back
-    let replaced = handle.replace_at(slot, notes.value(3)).unwrap().unused();
+    let replaced = handle.replace_at(slot, notes.value(3)).unwrap().1.unused();
     assert!(handle.replace_at(4, notes.value(4)).is_err() && notes.drops() == 1);
     assert_eq!(replaced.map(|it| it.number), Some(2));
     assert_eq!(insert(5).1, storage);
@@ -70,9 +70,12 @@ fn a_replaced_value_is_dropped_by_its_last_guard() {
     let notes = Notes::default();
     let table = Options::new(4).handles(2).guards(2).open().unwrap();
     let (a, b) = (table.handle().unwrap(), table.handle().unwrap());
-    assert!(a.replace_at(3, notes.value(7)).unwrap().is_none());
+    assert!(a.replace_at(3, notes.value(7)).unwrap().1.is_none());
     let (first, second) = (a.get_at(3).unwrap(), b.get_at(3).unwrap());
-    assert!(matches!(b.replace_at(3, notes.value(8)), Ok(Old::InUse)));
+    assert!(matches!(
+        b.replace_at(3, notes.value(8)).map(|(_, old)| old),
+        Ok(Old::InUse)
+    ));
     assert_eq!((first.number, second.number, notes.drops()), (7, 7, 0));
     drop(first);
     assert_eq!(notes.drops(), 0);
@@ -127,7 +130,10 @@ fn one_handle_has_several_guards() {
     let table = Options::new(8).handles(1).guards(2).open().unwrap();
     let handle = table.handle().unwrap();
     for slot in 0..8 {
-        assert_eq!(handle.replace_at(slot, slot * 10), Ok(Old::None));
+        assert_eq!(
+            handle.replace_at(slot, slot * 10).map(|(_, old)| old),
+            Ok(Old::None)
+        );
     }
     let guards: Vec<Guard<'_, u32>> = (2..5).map(|slot| handle.get_at(slot).unwrap()).collect();
     assert_eq!(
@@ -138,7 +144,7 @@ fn one_handle_has_several_guards() {
     assert_eq!(handle.get_at(5).unwrap_err(), none);
     assert_eq!(table.get_owned_at(5).unwrap_err(), none);
     // a handle installs and removes while it has guards
-    assert_eq!(handle.replace_at(2, 21), Ok(Old::InUse));
+    assert_eq!(handle.replace_at(2, 21).map(|(_, old)| old), Ok(Old::InUse));
     assert_eq!(handle.remove_at(7), Ok(Old::Unused(70)));
     drop(guards);
     assert_eq!(*handle.get_at(2).unwrap(), 21);
@@ -164,12 +170,15 @@ fn each_error_has_its_numbers_and_gives_the_value_back() {
         (refused.value, refused.reason),
         ("a", Reason::NoSlot(no_slot))
     );
-    assert_eq!(handle.replace_at(0, "b"), Ok(Old::None));
+    assert_eq!(handle.replace_at(0, "b").map(|(_, old)| old), Ok(Old::None));
     assert_eq!(handle.try_insert("c").unwrap().slot(), 1);
     let full = Reason::Full { slots: 2 };
     let refused = [handle.insert("d"), handle.try_insert("d")].map(Result::unwrap_err);
     assert_eq!(refused.map(|it| (it.value, it.reason)), [("d", full); 2]);
-    assert_eq!(handle.replace_at(1, "e"), Ok(Old::Unused("c")));
+    assert_eq!(
+        handle.replace_at(1, "e").map(|(_, old)| old),
+        Ok(Old::Unused("c"))
+    );
     let texts = [refused[0].to_string(), no_slot.to_string()];
     assert_eq!(texts[0], "all 2 slots have values");
     assert_eq!(
@@ -245,14 +254,14 @@ fn a_table_that_is_too_large_or_too_small_is_refused() {
         );
     }
     let most = Options::new(MOST_SLOTS).handles(64).readers(400);
-    assert_eq!(refused(most.guards(497)), OpenError::Seats(1_025));
+    assert_eq!(refused(most.guards(433)), OpenError::Seats(1_025));
     assert_eq!(
         refused(most.guards(u32::MAX)),
-        OpenError::Seats((1 << 32) + 527)
+        OpenError::Seats((1 << 32) + 591)
     );
-    let largest = most.guards(496).open::<u8>().unwrap();
+    let largest = most.guards(432).open::<u8>().unwrap();
     let (handle, reader) = (largest.handle().unwrap(), largest.reader().unwrap());
-    assert_eq!(handle.replace_at(0, 1), Ok(Old::None));
+    assert_eq!(handle.replace_at(0, 1).map(|(_, old)| old), Ok(Old::None));
     let handles: Vec<Handle<u8>> = (1..64).map(|_| largest.handle().unwrap()).collect();
     let error = largest.handle().unwrap_err().to_string();
     assert_eq!(
@@ -260,14 +269,14 @@ fn a_table_that_is_too_large_or_too_small_is_refused() {
         "64 handles are in use; Options::handles sets at most 64"
     );
     drop(handles);
-    let guards: Vec<OwnedGuard<u8>> = (0..496).map(|_| largest.get_owned_at(0).unwrap()).collect();
+    let guards: Vec<OwnedGuard<u8>> = (0..432).map(|_| largest.get_owned_at(0).unwrap()).collect();
     assert_eq!(
         (*handle.get_at(0).unwrap(), *reader.get_at(0).unwrap()),
         (1, 1)
     );
     assert_eq!(
         largest.get_owned_at(0).unwrap_err(),
-        GetError::NoSeat(NoSeat::Guard { in_use: 496 })
+        GetError::NoSeat(NoSeat::Guard { in_use: 432 })
     );
     drop(guards);
 }
@@ -281,7 +290,7 @@ fn a_forgotten_guard_keeps_its_value_until_its_handle_is_dropped() {
     // by the handle's own seat, and by one of the table
     std::mem::forget((handle.get_at(0).unwrap(), handle.get_at(0).unwrap()));
     assert!(matches!(
-        handle.replace_at(0, notes.value(2)),
+        handle.replace_at(0, notes.value(2)).map(|(_, old)| old),
         Ok(Old::InUse)
     ));
     let guard = handle.get_at(0).unwrap();
@@ -378,7 +387,7 @@ fn a_drop_that_panics_leaves_each_seat_usable() {
         let mut own = (round == 1).then(|| table.get_owned_at(0).unwrap());
         let mut other = (round == 2).then(|| reader.get_at(0).unwrap());
         assert!(matches!(
-            handle.replace_at(0, Fragile(false)),
+            handle.replace_at(0, Fragile(false)).map(|(_, old)| old),
             Ok(Old::InUse)
         ));
         panics(&mut || drop((guard.take(), own.take(), other.take())));
@@ -512,7 +521,10 @@ fn values_without_bytes_are_counted() {
     let handle = table.handle().unwrap();
     handle.replace_at(0, Empty).unwrap();
     let guard = handle.get_at(0).unwrap();
-    assert!(matches!(handle.replace_at(0, Empty), Ok(Old::InUse)));
+    assert!(matches!(
+        handle.replace_at(0, Empty).map(|(_, old)| old),
+        Ok(Old::InUse)
+    ));
     drop(guard);
     assert_eq!(DROPS.load(SeqCst), 1);
     drop((handle, table));

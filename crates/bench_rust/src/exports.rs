@@ -8,25 +8,19 @@ use std::sync::atomic::{AtomicPtr, Ordering::Relaxed};
 #[repr(C)]
 pub struct Worker(*mut c_void);
 
-/// The tag and the number of the file that a look-up found, and the tag of one that it closed.
+/// The number and the tag of the file that a call found or installed, and the tags of those that it
+/// closed.
 #[allow(dead_code)]
 #[repr(C)]
 #[derive(Default)]
-pub(crate) struct Label {
+pub(crate) struct Outcome {
+    pub(crate) number: u64,
     pub(crate) tag: u64,
-    pub(crate) number: u64,
     pub(crate) freed: u64,
+    pub(crate) released: u64,
 }
 
-/// The number of the file that a call installed, and the tag of one that it closed.
-#[allow(dead_code)]
-#[repr(C)]
-#[derive(Default)]
-pub(crate) struct Placed {
-    pub(crate) number: u64,
-    pub(crate) closed: u64,
-}
-
+const DONE: i64 = 0;
 const AGAIN: i64 = -7;
 
 /// The fewest workers of a table. A stock has a node for each worker. After the first 4,096 nodes
@@ -36,11 +30,11 @@ pub const WORKERS: usize = 16;
 extern "C" {
     fn yacht_core_open(slots: u32, installing: u32, workers: *mut Worker, count: usize) -> i64;
     fn yacht_core_close(worker: Worker);
-    fn yacht_core_look(worker: *mut Worker, slot: u32, label: *mut Label) -> i64;
-    fn yacht_core_release(worker: *mut Worker, closed: *mut u64) -> i64;
-    fn yacht_core_put(worker: *mut Worker, slot: u32, tag: u64, placed: *mut Placed) -> i64;
-    fn yacht_core_put_any(worker: *mut Worker, tag: u64, number: *mut u64) -> i64;
-    fn yacht_core_take(worker: *mut Worker, slot: u32, closed: *mut u64) -> i64;
+    fn yacht_core_get_at(worker: *mut Worker, slot: u32, out: *mut Outcome) -> i64;
+    fn yacht_core_release(worker: *mut Worker, dropped: *mut u64) -> i64;
+    fn yacht_core_replace_at(worker: *mut Worker, slot: u32, tag: u64, out: *mut Outcome) -> i64;
+    fn yacht_core_insert(worker: *mut Worker, tag: u64, number: *mut u64) -> i64;
+    fn yacht_core_remove_at(worker: *mut Worker, slot: u32, out: *mut Outcome) -> i64;
 }
 
 /// A table with a worker for each thread, and as many more as it takes to have 16. Its allocation
@@ -52,15 +46,15 @@ fn tag_of(file: File) -> u64 {
 }
 
 impl Core {
-    // Looks a slot up and releases its file. Returns the node of the file, if there is one.
+    // Looks a slot up and releases its file. Returns the tag of the file, if there is one.
     fn see(&self, worker: *mut Worker, slot: usize) -> Option<u64> {
-        let (mut label, mut closed) = (Label::default(), 0);
+        let (mut out, mut dropped) = (Outcome::default(), 0);
         // SAFETY: one thread uses this worker.
-        let node = unsafe { yacht_core_look(worker, slot as u32, &mut label) };
-        (node >= 0).then(|| {
+        let answer = unsafe { yacht_core_get_at(worker, slot as u32, &mut out) };
+        (answer == DONE).then(|| {
             // SAFETY: as above.
-            unsafe { yacht_core_release(worker, &mut closed) };
-            node as u64
+            unsafe { yacht_core_release(worker, &mut dropped) };
+            out.tag
         })
     }
 }
@@ -104,16 +98,16 @@ impl Table for Core {
     }
 
     fn put(&self, worker: &mut *mut Worker, slot: usize, file: File) {
-        let mut placed = Placed::default();
+        let mut out = Outcome::default();
         // SAFETY: one thread uses this worker.
-        unsafe { yacht_core_put(*worker, slot as u32, tag_of(file), &mut placed) };
+        unsafe { yacht_core_replace_at(*worker, slot as u32, tag_of(file), &mut out) };
     }
 
     fn put_any(&self, worker: &mut *mut Worker, file: File) -> Option<usize> {
         let (tag, mut number) = (tag_of(file), 0);
         loop {
             // SAFETY: one thread uses this worker.
-            let slot = unsafe { yacht_core_put_any(*worker, tag, &mut number) };
+            let slot = unsafe { yacht_core_insert(*worker, tag, &mut number) };
             if slot != AGAIN {
                 return usize::try_from(slot).ok();
             }
@@ -121,9 +115,9 @@ impl Table for Core {
     }
 
     fn take(&self, worker: &mut *mut Worker, slot: usize) {
-        let mut closed = 0;
+        let mut out = Outcome::default();
         // SAFETY: one thread uses this worker.
-        unsafe { yacht_core_take(*worker, slot as u32, &mut closed) };
+        unsafe { yacht_core_remove_at(*worker, slot as u32, &mut out) };
     }
 }
 

@@ -1,7 +1,7 @@
 -- A call of a worker, after which the worker draws a number: its pass stays as it is.
 use Rattle.std.proofs.Common.{ℕ, Ok}
 use Rattle.fx_server.specs.FileNumbers.{after_draw}
-use Rattle.fx_server.specs.Workers.{IsGood, Puts, PutsAny, PutsIf}
+use Rattle.fx_server.specs.Workers.{IsGood, Puts, PutsAny}
 use Rattle.fx_server.specs.declared.answers.Removal.{Removal}
 use Rattle.fx_server.specs.declared.worker.TableWorker.{TableWorker}
 
@@ -10,7 +10,7 @@ abbrev pub drawn : TableWorker → TableWorker
 drawn w = record w { numbers = after_draw w.numbers }
 
 pub good_drawn : {w : TableWorker} → IsGood w → IsGood (drawn w)
-good_drawn good = record { fits = good.fits; does = good.does }
+good_drawn good = record { fits = good.fits; does = good.does; holder = good.holder }
 
 module _ (w m : TableWorker) (slot : ℕ) where
   pub puts_drawn : (tag number : ℕ) (removal : Removal) → Puts w slot tag number (Ok removal) m → Puts w slot tag number (Ok removal) (drawn m)
@@ -19,8 +19,3 @@ module _ (w m : TableWorker) (slot : ℕ) where
 
   pub any_drawn : (tag number : ℕ) → PutsAny w tag number (Ok slot) m → PutsAny w tag number (Ok slot) (drawn m)
   any_drawn tag number puts = puts
-
-  pub puts_if_drawn : (node tag number : ℕ) (removal : Removal) → PutsIf w slot node tag number (Ok removal) m
-      → PutsIf w slot node tag number (Ok removal) (drawn m)
-  puts_if_drawn node tag number removal puts =
-      record { retired = puts.retired; between = puts.between; placed = puts.placed; retires = puts.retires }

@@ -24,10 +24,9 @@ looks w w' slot found out result tag v same notes spent is looked = go found spe
         → LookedUp (its_opening w) (its_pass w) slot found out (its_pass w') → Finds w slot result tag w'
     go (Ok hold) spent notes looked = rw notes.1 (
       record { node = hold.node; entry = hold.entry },
-      sym notes.2,
-      notes.3,
+      notes.2,
       record { out = out; tag = is; looked = looked },
-      notes.4,
+      notes.3,
     )
     go (Err Empty) spent notes looked = rw notes.0 (notes.1, record { out = out; tag = is; looked = looked })
     go (Err Spent) spent notes looked = absurd (spent refl)
@@ -35,8 +34,8 @@ looks w w' slot found out result tag v same notes spent is looked = go found spe
 -- the worker's hold is that of its pass
 pub does_as_held : (o : Opening) (u v : PassView) (slot : ℕ) (found : Result Hold TableFault) (out : Option Identity) (result : Result FoundFile ServerRefusal)
     (held : Option Held) → Notes v found result held → found ≢ Err Spent → LookedUp o u slot found out v → DoesAsHeld v held
-does_as_held o u v slot (Ok hold) None result held notes spent looked = rw notes.3 (looked.0, looked.2.now)
-does_as_held o u v slot (Ok hold) (Some file) result held notes spent looked = rw notes.3 (looked.2.0, looked.2.2.now)
+does_as_held o u v slot (Ok hold) None result held notes spent looked = rw notes.2 (looked.0, looked.2.now)
+does_as_held o u v slot (Ok hold) (Some file) result held notes spent looked = rw notes.2 (looked.2.0, looked.2.2.now)
 does_as_held o u v slot (Err Empty) None result held notes spent looked = rw notes.1 looked.now
 does_as_held o u v slot (Err Empty) (Some file) result held notes spent looked = rw notes.1 looked.2.now
 does_as_held o u v slot (Err Spent) out result held notes spent looked = absurd (spent refl)

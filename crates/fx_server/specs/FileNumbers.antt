@@ -14,11 +14,20 @@ number_after step number = if number == 0 then 0
 abbrev pub after_draw : FileNumbers → FileNumbers
 after_draw numbers = record numbers { next = number_after numbers.step numbers.next }
 
+-- the same, and the number is kept for a file that is not installed yet
+abbrev pub after_keep : FileNumbers → FileNumbers
+after_keep numbers = record (after_draw numbers) { kept = numbers.next }
+
+-- no number is kept
+abbrev pub without_kept : FileNumbers → FileNumbers
+without_kept numbers = record numbers { kept = 0 }
+
 -- the numbers of a new worker, by its place from 1
 abbrev pub first_numbers : (installing place : ℕ) → FileNumbers
 first_numbers installing place = record {
   next = if nat_lt installing place then 0 else place;
   step = installing;
+  kept = 0;
 }
 
 -- those of the first `workers` workers, in their order

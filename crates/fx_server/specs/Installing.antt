@@ -1,11 +1,11 @@
 -- The calls of a worker that draw the number of the file that they install.
 use Rattle.std.specs.Prelude.{◌≡◌, ℕ, Result, Ok, Err}
-use Rattle.fx_server.specs.FileNumbers.{after_draw}
-use Rattle.fx_server.specs.Workers.{HasNoBlock, Puts, PutsAny, PutsIf}
+use Rattle.fx_server.specs.FileNumbers.{after_draw, after_keep, without_kept}
+use Rattle.fx_server.specs.Workers.{IsReader, Puts, PutsAny, PutsEmpty}
 use Rattle.fx_server.specs.declared.answers.Placed.{Placed}
 use Rattle.fx_server.specs.declared.answers.PlacedAt.{PlacedAt}
 use Rattle.fx_server.specs.declared.answers.ServerRefusal.{ServerRefusal}
-use Rattle.fx_server.specs.declared.answers.ServerRefusal.TheVariants.{NoBlock}
+use Rattle.fx_server.specs.declared.answers.ServerRefusal.TheVariants.{Reader}
 use Rattle.fx_server.specs.declared.worker.TableWorker.{TableWorker}
 
 -- the worker has drawn this number, its next one, and nothing else
@@ -33,17 +33,20 @@ PutsAnyNext w tag (Ok placed) w' = UsesNumber w placed.number w'
 PutsAnyNext w tag (Err reason) w' = DrawsNone w w'
     × PutsAny w tag w.numbers.next (Err reason) w'
 
--- a replacement of the file of a node
-abbrev pub PutsIfNext : TableWorker → (slot node tag : ℕ) → Result Placed ServerRefusal
-    → TableWorker → Type 0
-PutsIfNext w slot node tag (Ok placed) w' = UsesNumber w placed.number w'
-    × PutsIf w slot node tag placed.number (Ok placed.removal) w'
-PutsIfNext w slot node tag (Err reason) w' = DrawsNone w w'
-    × PutsIf w slot node tag w.numbers.next (Err reason) w'
-
--- a number is drawn for a file that is installed later
+-- a number is drawn, and kept for a file that is installed later
 abbrev pub DrawsOne : TableWorker → Result ℕ ServerRefusal → TableWorker → Type 0
 DrawsOne w (Ok number) w' = (number ≡ w.numbers.next)
-    × (w' ≡ record w { numbers = after_draw w.numbers })
-DrawsOne w (Err NoBlock) w' = HasNoBlock w w'
+    × (w' ≡ record w { numbers = after_keep w.numbers })
+DrawsOne w (Err Reader) w' = IsReader w w'
 DrawsOne w (Err _) w' = ⊥
+
+-- the worker that keeps no number
+abbrev pub having_spent : TableWorker → TableWorker
+having_spent w = record w { numbers = without_kept w.numbers }
+
+-- an installation at an empty slot, whose file has the number that the worker kept, and keeps no
+-- longer
+abbrev pub PutsEmptyKept : TableWorker → (slot tag : ℕ) → Result (Unit {0}) ServerRefusal
+    → TableWorker → Type 0
+PutsEmptyKept w slot tag result w' = (w'.numbers ≡ without_kept w.numbers)
+    × PutsEmpty (having_spent w) slot tag w.numbers.kept result w'

@@ -1,9 +1,11 @@
 pub mod Answers
+pub mod ByKey
 pub mod FileNumbers
 pub mod Files
 pub mod Handle
 pub mod Installing
 pub mod Lending
 pub mod Opened
+pub mod Outcomes
 pub mod Places
 pub mod Workers

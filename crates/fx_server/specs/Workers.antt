@@ -1,6 +1,6 @@
 -- The calls of a worker: the events that each adds to its pass.
-use Rattle.std.specs.Prelude.{◌≡◌, ℕ, ◌≤◌, ◌<◌, true, [], Option, Some, None, option_map, is_some}
-use Rattle.std.specs.Prelude.{Result, Ok, Err}
+use Rattle.std.specs.Prelude.{◌≡◌, ℕ, ◌+◌, ◌≤◌, ◌<◌, true, [], Option, Some, None, option_map}
+use Rattle.std.specs.Prelude.{is_some, Result, Ok, Err}
 use Rattle.std.specs.Arc.{arc_value}
 use Rattle.fx_base.specs.Identity.{Identity}
 use Rattle.fx_plain.specs.History.{◌▷◌}
@@ -16,17 +16,13 @@ use Rattle.fx_table.specs.declared.values.Hold.{Hold}
 use Rattle.fx_table.specs.declared.values.LookFault.{LookFault as TableFault}
 use Rattle.fx_table.specs.declared.values.LookFault.TheVariants as fault
 use Rattle.fx_table.specs.declared.values.Retired.{Retired}
-use Rattle.fx_lasting.specs.Keyed.{HasMissed, HasPutIf, HasTakenIf, HasTriedIf}
 use Rattle.fx_lasting.specs.Laws.{IsInRange as IsAllocated}
 use Rattle.fx_lasting.specs.Labels.{number_of_mark}
 use Rattle.fx_lasting.specs.declared.layout.TheConstants.{MOST_SLOTS, MOST_PASSES, MOST_INSTALLING}
-use Rattle.fx_lasting.specs.Tables.{view_of, steps_taken, opening_of_table, IsPassOfTable}
-use Rattle.fx_lasting.specs.declared.answers.Miss.{Miss}
-use Rattle.fx_lasting.specs.declared.answers.Miss.TheVariants as miss
+use Rattle.fx_lasting.specs.Tables.{view_of, opening_of_table, IsPassOfTable}
 use Rattle.fx_lasting.specs.declared.answers.PutEmpty.{PutEmpty}
 use Rattle.fx_lasting.specs.declared.answers.PutEmpty.TheVariants as empty
-use Rattle.fx_lasting.specs.declared.answers.PutIf.TheVariants.{Replaced}
-use Rattle.fx_lasting.specs.declared.answers.TakenIf.TheVariants.{Removed}
+use Rattle.fx_lasting.specs.declared.pass.LastingPass.{LastingPass}
 use Rattle.fx_lasting.specs.declared.table.LastingTable.{LastingTable}
 use Rattle.fx_lasting.specs.Vacant.{HasPutEmpty}
 use Rattle.fx_lasting.specs.declared.view.Start.{Start}
@@ -35,17 +31,18 @@ use Rattle.fx_server.specs.declared.answers.FoundFile.{FoundFile}
 use Rattle.fx_server.specs.declared.answers.LookAnswer.{LookAnswer}
 use Rattle.fx_server.specs.declared.answers.ServerRefusal.{ServerRefusal}
 use Rattle.fx_server.specs.declared.answers.ServerRefusal.TheVariants.{Empty, NoSlot, Busy}
-use Rattle.fx_server.specs.declared.answers.ServerRefusal.TheVariants.{Idle, NoBlock, Again, Other}
+use Rattle.fx_server.specs.declared.answers.ServerRefusal.TheVariants.{Idle, Reader, Again, Stale}
 use Rattle.fx_server.specs.declared.answers.ServerRefusal.TheVariants.{Full as NoFree}
 use Rattle.fx_server.specs.declared.answers.Removal.{Removal}
 use Rattle.fx_server.specs.declared.answers.Removal.TheVariants.{Nothing, InUse, Closed}
 use Rattle.fx_server.specs.declared.worker.Held.{Held}
 use Rattle.fx_server.specs.declared.worker.TableWorker.{TableWorker}
 
--- a table can have this many slots and workers, and workers that install files
-abbrev pub IsInRange : ℕ → ℕ → ℕ → Type 0
+-- a table can have this many slots and workers, and workers that install files, each of which has
+-- two passes
+abbrev pub IsInRange : (slots workers installing : ℕ) → Type 0
 IsInRange slots workers installing = (1 ≤ slots) × (slots ≤ MOST_SLOTS) × (1 ≤ workers)
-    × (workers ≤ MOST_PASSES) × (1 ≤ installing) × (installing ≤ MOST_INSTALLING)
+    × (workers + installing ≤ MOST_PASSES) × (1 ≤ installing) × (installing ≤ MOST_INSTALLING)
     × (installing ≤ workers)
 
 abbrev pub its_table : TableWorker → LastingTable
@@ -66,10 +63,17 @@ abbrev pub DoesAsHeld : PassView → Option Held → Type 0
 DoesAsHeld v None = IsIdle v
 DoesAsHeld v (Some held) = IsHoldOf v (hold_in held)
 
--- between two calls: the pass is one of the table, and is idle or holds by the worker's hold
+-- the second pass of a worker, if it has one, is one of the table, and idle
+abbrev pub HolderIsIdle : LastingTable → Option LastingPass → Type 0
+HolderIsIdle table None = Unit {0}
+HolderIsIdle table (Some pass) = IsPassOfTable table pass × IsIdle (view_of pass)
+
+-- between two calls: the pass is one of the table, and is idle or holds by the worker's hold; and
+-- so is its second pass, which is idle
 pub record IsGood (w : TableWorker) : Type 0 where
   pub fits : IsPassOfTable (its_table w) w.pass
   pub does : DoesAsHeld (its_pass w) w.held
+  pub holder : HolderIsIdle (its_table w) w.holder
 
 -- the tag of a file that came out
 abbrev pub tag_in : Option Identity → Option ℕ
@@ -91,8 +95,8 @@ abbrev pub HasNoSlot : TableWorker → ℕ → TableWorker → Type 0
 HasNoSlot w slot w' = (size_of (its_opening w) ≤ slot) × (w' ≡ w)
 
 -- the worker is unchanged, since it doesn't install files
-abbrev pub HasNoBlock : TableWorker → TableWorker → Type 0
-HasNoBlock w w' = ((its_pass w).numbers_left ≡ 0) × (w' ≡ w)
+abbrev pub IsReader : TableWorker → TableWorker → Type 0
+IsReader w w' = ((its_pass w).numbers_left ≡ 0) × (w' ≡ w)
 
 -- the file that the pass holds by this hold has this tag and this number
 abbrev pub HasLabel : PassView → Hold → FoundFile → Type 0
@@ -102,16 +106,16 @@ HasLabel v hold found = (f : File) → v.doing ≡ Holding f hold
 -- the hold that a look-up returned is noted, and its file is returned
 abbrev pub Notes : PassView → Result Hold TableFault → Result FoundFile ServerRefusal → Option Held
     → Type 0
-Notes v (Ok hold) result held = (found : FoundFile) × (result ≡ Ok found) × (found.node ≡ hold.node)
+Notes v (Ok hold) result held = (found : FoundFile) × (result ≡ Ok found)
     × (held ≡ Some (record { node = hold.node; entry = hold.entry })) × HasLabel v hold found
 Notes v (Err _) result held = (result ≡ Err Empty) × (held ≡ None)
 
--- a look-up: the node that is returned is that of the hold that the worker has now, and the tag and
--- the number are those of the file that it holds
+-- a look-up: the tag and the number that are returned are those of the file that the worker holds
+-- from now on
 abbrev pub Finds : TableWorker → ℕ → Result FoundFile ServerRefusal → Option ℕ → TableWorker
     → Type 0
-Finds w slot (Ok found) freed w' = (held : Held) × (held.node ≡ found.node)
-    × (w'.held ≡ Some held) × LooksAt w slot (Ok (hold_in held)) freed w'
+Finds w slot (Ok found) freed w' = (held : Held) × (w'.held ≡ Some held)
+    × LooksAt w slot (Ok (hold_in held)) freed w'
     × HasLabel (its_pass w') (hold_in held) found
 Finds w slot (Err Empty) freed w' =
     (w'.held ≡ None) × LooksAt w slot (Err fault.Empty) freed w'
@@ -120,7 +124,7 @@ Finds w slot (Err Busy) freed w' = (freed ≡ None) × IsBusy w w'
 Finds w slot (Err _) freed w' = ⊥
 
 abbrev pub LooksUp : TableWorker → ℕ → LookAnswer → TableWorker → Type 0
-LooksUp w slot look w' = Finds w slot look.found look.freed w'
+LooksUp w slot look w' = Finds w slot look.found look.freed w' × (look.released ≡ None)
 
 -- a release: the tag that is returned is that of the file, if it came out
 abbrev pub ReleasesHeld : TableWorker → Result (Option ℕ) ServerRefusal → TableWorker → Type 0
@@ -155,7 +159,7 @@ abbrev pub Puts : TableWorker → (slot tag number : ℕ) → Result Removal Ser
 Puts w slot tag number (Ok removal) w' = PutsAt w slot tag number removal w'
 Puts w slot tag number (Err Busy) w' = IsBusy w w'
 Puts w slot tag number (Err NoSlot) w' = HasNoSlot w slot w'
-Puts w slot tag number (Err NoBlock) w' = HasNoBlock w w'
+Puts w slot tag number (Err Reader) w' = IsReader w w'
 Puts w slot tag number (Err _) w' = ⊥
 
 -- one round of an installation: the file is at the slot; or every slot had a file at one step, or
@@ -170,7 +174,7 @@ PutsAny w tag number (Err NoFree) w' =
 PutsAny w tag number (Err Again) w' =
     Adds (its_opening w) (its_pass w) [] DoesNothing no_use (its_pass w')
 PutsAny w tag number (Err Busy) w' = IsBusy w w'
-PutsAny w tag number (Err NoBlock) w' = HasNoBlock w w'
+PutsAny w tag number (Err Reader) w' = IsReader w w'
 PutsAny w tag number (Err _) w' = ⊥
 
 -- the file of a slot is taken out and retired
@@ -186,60 +190,12 @@ RemovesFrom w slot (Ok removal) w' = TakesFrom w slot removal w'
 RemovesFrom w slot (Err Empty) w' =
     (empty : NoFile) × Taken (its_opening w) (its_pass w) slot (Err empty) (its_pass w')
 RemovesFrom w slot (Err NoSlot) w' = HasNoSlot w slot w'
+RemovesFrom w slot (Err Reader) w' = IsReader w w'
 RemovesFrom w slot (Err Busy) w' = IsBusy w w'
 RemovesFrom w slot (Err _) w' = ⊥
 
 abbrev pub its_start : TableWorker → Start
 its_start w = (its_table w).table.shared.key
-
--- the refusal of a call that names a node, if the slot is left as it is
-abbrev pub refusal_for : Miss → ServerRefusal
-refusal_for miss.Empty = Empty
-refusal_for miss.Other = Other
-refusal_for miss.Again = Again
-
--- the slot is left as it is, for this reason, and by `Again` only after four tries
-abbrev pub Misses : TableWorker → ℕ → ℕ → Miss → TableWorker → Type 0
-Misses w slot node why w' = HasMissed (its_start w) (its_pass w) slot node why (its_pass w')
-    × HasTriedIf why (steps_taken w.pass) (steps_taken w'.pass)
-
--- the file of a slot is taken out, since it is on the node, and retired
-pub record TakesFromIf (w : TableWorker) (slot node : ℕ) (removal : Removal) (w' : TableWorker)
-    : Type 0 where
-  pub retired : Retired
-  pub between : PassView
-  pub taken : HasTakenIf (its_start w) (its_pass w) slot node (Removed retired) between
-  pub retires : RetiresAs (its_opening w) between retired removal (its_pass w')
-
-abbrev pub RemovesIf : TableWorker → ℕ → ℕ → Result Removal ServerRefusal → TableWorker → Type 0
-RemovesIf w slot node (Ok removal) w' = TakesFromIf w slot node removal w'
-RemovesIf w slot node (Err Empty) w' = Misses w slot node miss.Empty w'
-RemovesIf w slot node (Err Other) w' = Misses w slot node miss.Other w'
-RemovesIf w slot node (Err Again) w' = Misses w slot node miss.Again w'
-RemovesIf w slot node (Err NoSlot) w' = HasNoSlot w slot w'
-RemovesIf w slot node (Err Busy) w' = IsBusy w w'
-RemovesIf w slot node (Err _) w' = ⊥
-
--- a file with this tag and number is put at a slot, in place of the file there, since that is on
--- the node; and what was there is retired
-pub record PutsAtIf (w : TableWorker) (slot node tag number : ℕ) (removal : Removal)
-    (w' : TableWorker) : Type 0 where
-  pub retired : Retired
-  pub between : PassView
-  pub placed : HasPutIf (its_start w) (its_pass w) slot node (file_with tag number)
-      (Replaced retired) between
-  pub retires : RetiresAs (its_opening w) between retired removal (its_pass w')
-
-abbrev pub PutsIf : TableWorker → (slot node tag number : ℕ) → Result Removal ServerRefusal
-    → TableWorker → Type 0
-PutsIf w slot node tag number (Ok removal) w' = PutsAtIf w slot node tag number removal w'
-PutsIf w slot node tag number (Err Empty) w' = Misses w slot node miss.Empty w'
-PutsIf w slot node tag number (Err Other) w' = Misses w slot node miss.Other w'
-PutsIf w slot node tag number (Err Again) w' = Misses w slot node miss.Again w'
-PutsIf w slot node tag number (Err NoSlot) w' = HasNoSlot w slot w'
-PutsIf w slot node tag number (Err NoBlock) w' = HasNoBlock w w'
-PutsIf w slot node tag number (Err Busy) w' = IsBusy w w'
-PutsIf w slot node tag number (Err _) w' = ⊥
 
 -- the worker is unchanged, since the slot isn't in the allocation range
 abbrev pub HasNoSuchSlot : TableWorker → ℕ → TableWorker → Type 0
@@ -255,12 +211,12 @@ TriesEmpty w slot tag number answer w' =
 abbrev pub PutsEmpty : TableWorker → (slot tag number : ℕ) → Result (Unit {0}) ServerRefusal
     → TableWorker → Type 0
 PutsEmpty w slot tag number (Ok _) w' = TriesEmpty w slot tag number empty.Installed w'
-PutsEmpty w slot tag number (Err Other) w' =
+PutsEmpty w slot tag number (Err Stale) w' =
     TriesEmpty w slot tag number (empty.HasFile (file_with tag number)) w'
 PutsEmpty w slot tag number (Err Again) w' =
     TriesEmpty w slot tag number (empty.Lost (file_with tag number)) w'
 PutsEmpty w slot tag number (Err NoSlot) w' = HasNoSuchSlot w slot w'
-PutsEmpty w slot tag number (Err NoBlock) w' = HasNoBlock w w'
+PutsEmpty w slot tag number (Err Reader) w' = IsReader w w'
 PutsEmpty w slot tag number (Err Busy) w' = IsBusy w w'
 PutsEmpty w slot tag number (Err _) w' = ⊥
 
@@ -271,5 +227,5 @@ ReportsFull w NoFree w' =
 ReportsFull w Again w' =
     Adds (its_opening w) (its_pass w) [] DoesNothing no_use (its_pass w')
 ReportsFull w Busy w' = IsBusy w w'
-ReportsFull w NoBlock w' = HasNoBlock w w'
+ReportsFull w Reader w' = IsReader w w'
 ReportsFull w _ w' = ⊥

@@ -1,10 +1,12 @@
 //! The results of a worker's calls. A file is named by its tag.
 ghost use Rattle.std.specs.Prelude.{◌≡◌};
-ghost use Rattle.fx_server.specs.Answers.{refusal_code};
+ghost use Rattle.fx_server.specs.Outcomes.{refusal_code};
 
-use crate::codes::{AGAIN, BAD, BUSY, EMPTY, FULL, IDLE, NO_BLOCK, NO_MEMORY, NO_SLOT, OTHER};
+use crate::codes::{
+    AGAIN, BAD_ARGUMENT, BUSY, EMPTY, FULL, IDLE, NO_MEMORY, NO_SLOT, READER, STALE,
+};
 
-/// The reason why a call is not done. `Empty`, `Full`, `Again` and `Other` are answers of the
+/// The reason why a call is not done. `Empty`, `Full`, `Again` and `Stale` are answers of the
 /// table; after any other reason nothing has changed.
 #[derive(Clone, Copy)]
 pub enum ServerRefusal {
@@ -16,20 +18,20 @@ pub enum ServerRefusal {
     Busy,
     /// The worker holds no file.
     Idle,
-    /// The worker doesn't install files.
-    NoBlock,
+    /// The worker only looks files up.
+    Reader,
     /// At one step every slot had a file.
     Full,
     /// The round installed nothing, and found no step at which every slot had a file. Or the slot's
-    /// word changed at each try of a call that names a node, or at the try of one that fills only
-    /// an empty slot.
+    /// word changed at each try of a call by key, or at the try of one that fills only an empty
+    /// slot.
     Again,
     /// A number is out of its range.
-    Bad,
+    BadArgument,
     /// An allocation failed.
     NoMemory,
-    /// The file at the slot is on another node, or the call fills only an empty slot.
-    Other,
+    /// The slot has another file than that of the key, or the call fills only an empty slot.
+    Stale,
 }
 
 impl ServerRefusal {
@@ -43,12 +45,12 @@ impl ServerRefusal {
             ServerRefusal::NoSlot => NO_SLOT,
             ServerRefusal::Busy => BUSY,
             ServerRefusal::Idle => IDLE,
-            ServerRefusal::NoBlock => NO_BLOCK,
+            ServerRefusal::Reader => READER,
             ServerRefusal::Full => FULL,
             ServerRefusal::Again => AGAIN,
-            ServerRefusal::Bad => BAD,
+            ServerRefusal::BadArgument => BAD_ARGUMENT,
             ServerRefusal::NoMemory => NO_MEMORY,
-            ServerRefusal::Other => OTHER,
+            ServerRefusal::Stale => STALE,
         }
     }
 }
@@ -56,8 +58,6 @@ impl ServerRefusal {
 /// The file that a look-up found.
 #[derive(Clone, Copy)]
 pub struct FoundFile {
-    /// Its node.
-    pub node: u32,
     /// Its tag.
     pub tag: u64,
     /// The number that it was installed with.
@@ -67,44 +67,46 @@ pub struct FoundFile {
 /// The result of a look-up.
 #[derive(Clone, Copy)]
 pub struct LookAnswer {
-    /// The file at the slot, which the worker holds from now on; or `Empty`, `NoSlot` or `Busy`.
+    /// The file that the worker holds from now on, or the reason why it holds no file.
     pub found: Result<FoundFile, ServerRefusal>,
     /// The tag of a removed file that this look-up was the last to use.
     pub freed: Option<u64>,
+    /// The tag of another file than that of the key, which the call held and was the last to use.
+    pub released: Option<u64>,
 }
 
-/// The label of the file that a look-up found, and the tag of one that it closed, for C.
-#[repr(C)]
-#[derive(Clone, Copy, Drop)]
-pub struct CoreLabel {
-    /// The tag of the file that was found, or 0.
-    pub tag: u64,
-    /// The number of that file, or 0.
-    pub number: u64,
-    /// The tag of a removed file that this look-up was the last to use, or 0.
-    pub freed: u64,
-}
-
-/// The number of the file that a call installed, and the tag of one that it closed, for C.
-#[repr(C)]
-#[derive(Clone, Copy, Drop)]
-pub struct CorePlaced {
-    /// The number of the file that was installed, or 0.
-    pub number: u64,
-    /// The tag of the file that was closed, or 0.
-    pub closed: u64,
+/// The result of a removal.
+#[derive(Clone, Copy)]
+pub struct RemoveAnswer {
+    /// The fate of the file, or the reason why it was not removed.
+    pub removal: Result<Removal, ServerRefusal>,
+    /// The tag of a removed file that the call's look-up was the last to use.
+    pub freed: Option<u64>,
+    /// The tag of a file that the call held and was the last to use.
+    pub released: Option<u64>,
 }
 
 /// The result of an installation at a slot.
 #[derive(Clone, Copy)]
+pub struct PlaceAnswer {
+    /// The fate of the old file, and the number of the new one; or why that was not installed.
+    pub placed: Result<Placed, ServerRefusal>,
+    /// The tag of a removed file that the call's look-up was the last to use.
+    pub freed: Option<u64>,
+    /// The tag of a file that the call held and was the last to use.
+    pub released: Option<u64>,
+}
+
+/// A file that was installed at a slot.
+#[derive(Clone, Copy)]
 pub struct Placed {
-    /// What was at the slot.
+    /// The fate of the file that was at the slot.
     pub removal: Removal,
     /// The number of the file that was installed.
     pub number: u64,
 }
 
-/// The result of an installation at any slot.
+/// A file that was installed at any slot.
 #[derive(Clone, Copy)]
 pub struct PlacedAt {
     /// The slot.
@@ -122,4 +124,18 @@ pub enum Removal {
     InUse,
     /// A file that nobody uses any more, by its tag.
     Closed(u64),
+}
+
+/// The numbers that C gets beside the answer of a call. Each is 0 if there is no such file.
+#[repr(C)]
+#[derive(Clone, Copy, Drop)]
+pub struct CoreOutcome {
+    /// The number of the file that was found or installed.
+    pub number: u64,
+    /// The tag of the file that was found, or that was removed and nobody uses any more.
+    pub tag: u64,
+    /// The tag of a removed file that the call's look-up was the last to use.
+    pub freed: u64,
+    /// The tag of a file that the call held and was the last to use.
+    pub released: u64,
 }

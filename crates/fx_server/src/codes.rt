@@ -4,7 +4,7 @@
 pub const DONE: i64 = 0;
 
 /// The call is done, and it returned the tag of a file that nobody uses any more.
-pub const CLOSED: i64 = 1;
+pub const DROPPED: i64 = 1;
 
 /// The call is done, and the file that was at the slot is still used.
 pub const IN_USE: i64 = 2;
@@ -21,20 +21,21 @@ pub const BUSY: i64 = -3;
 /// The worker holds no file.
 pub const IDLE: i64 = -4;
 
-/// The worker doesn't install files.
-pub const NO_BLOCK: i64 = -5;
+/// The worker only looks files up.
+pub const READER: i64 = -5;
 
 /// At one step every slot had a file.
 pub const FULL: i64 = -6;
 
-/// The round installed nothing, and found no step at which every slot had a file.
+/// The round installed nothing, and found no step at which every slot had a file; or the slot's
+/// word changed at each try of the call.
 pub const AGAIN: i64 = -7;
 
 /// An argument is out of range.
-pub const BAD: i64 = -8;
+pub const BAD_ARGUMENT: i64 = -8;
 
 /// An allocation failed.
 pub const NO_MEMORY: i64 = -9;
 
-/// The file at the slot is on another node, or the call fills only an empty slot.
-pub const OTHER: i64 = -10;
+/// The slot has another file than that of the key, or the call fills only an empty slot.
+pub const STALE: i64 = -10;

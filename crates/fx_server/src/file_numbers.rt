@@ -1,14 +1,16 @@
 //! The numbers of the files that a worker installs. A key of the bindings is a slot and the number
 //! of its file.
 ghost use Rattle.std.specs.Prelude.{◌≡◌};
-ghost use Rattle.fx_server.specs.FileNumbers.{first_numbers, after_draw};
+ghost use Rattle.fx_server.specs.FileNumbers.{first_numbers, after_draw, after_keep, without_kept};
 
 /// The next number of a worker, or 0 if it has used all its numbers or doesn't install files. The
-/// number after it is `step` greater.
+/// number after it is `step` greater. `kept` was drawn for a file that is not installed yet, or is
+/// 0.
 #[derive(Clone, Copy, Drop)]
 pub struct FileNumbers {
     pub next: u64,
     pub step: u64,
+    pub kept: u64,
 }
 
 impl FileNumbers {
@@ -19,7 +21,11 @@ impl FileNumbers {
     {
         let next = if installing < place { 0 } else { place as u64 };
         let step = installing as u64;
-        FileNumbers { next, step }
+        FileNumbers {
+            next,
+            step,
+            kept: 0,
+        }
     }
 
     /// Returns the next number, or 0 if there is none.
@@ -34,6 +40,27 @@ impl FileNumbers {
         } else {
             number + self.step
         };
+        number
+    }
+
+    /// Draws the next number and keeps it. Returns it.
+    #[inline(always)]
+    pub fn keep(&mut self) -> u64
+        ensures number { result ≡ self.old.next }
+        ensures kept { self.new ≡ after_keep self.old }
+    {
+        self.kept = self.draw();
+        self.kept
+    }
+
+    /// Returns the number that was kept, or 0, and keeps it no longer.
+    #[inline(always)]
+    pub fn spend_kept(&mut self) -> u64
+        ensures number { result ≡ self.old.kept }
+        ensures spent { self.new ≡ without_kept self.old }
+    {
+        let number = self.kept;
+        self.kept = 0;
         number
     }
 }

@@ -1,9 +1,10 @@
-//! The installations of a worker. Each file that is installed gets the next number of the worker.
-ghost use Rattle.std.specs.Prelude.{◌≡◌};
-ghost use Rattle.fx_server.specs.Installing.{DrawsOne, PutsAnyNext, PutsIfNext, PutsNext};
+//! The installations of a worker. Each file that is installed gets the next number of the worker,
+//! or the one that the worker drew before and kept.
+ghost use Rattle.std.specs.Prelude.{◌≡◌, None};
+ghost use Rattle.fx_server.specs.Installing.{DrawsOne, PutsAnyNext, PutsEmptyKept, PutsNext};
 ghost use Rattle.fx_server.specs.Workers.{IsGood};
 
-use crate::answers::{Placed, PlacedAt, ServerRefusal};
+use crate::answers::{PlaceAnswer, Placed, PlacedAt, ServerRefusal};
 use crate::worker::TableWorker;
 
 impl TableWorker {
@@ -11,69 +12,83 @@ impl TableWorker {
     /// there, and the number.
     ///
     /// # Errors
-    /// `Busy`, `NoSlot`, `NoBlock`, in this order.
+    /// `Busy`, `NoSlot`, `Reader`, in this order.
     #[inline(always)]
-    pub fn put(&mut self, slot: u32, tag: u64) -> Result<Placed, ServerRefusal>
+    pub fn replace_at(&mut self, slot: u32, tag: u64) -> PlaceAnswer
         requires good { IsGood self.old }
         ensures good { IsGood self.new }
         ensures table { self.new.shared ≡ self.old.shared }
-        ensures placed { PutsNext self.old slot tag result self.new }
+        ensures holder { self.new.holder ≡ self.old.holder }
+        ensures placed { PutsNext self.old slot tag result.placed self.new }
+        ensures no_tags { (result.freed ≡ None) × (result.released ≡ None) }
     {
-        let removal = self.put_as(slot, tag, self.numbers.next)?;
-        let number = self.numbers.draw();
-        Ok(Placed { removal, number })
+        let placed = match self.replace_at_as(slot, tag, self.numbers.next) {
+            Ok(removal) => {
+                let number = self.numbers.draw();
+                Ok(Placed { removal, number })
+            }
+            Err(refusal) => Err(refusal),
+        };
+        PlaceAnswer {
+            placed,
+            freed: None,
+            released: None,
+        }
     }
 
     /// Makes one round to install a file with this tag and the worker's next number at a free slot.
     /// Returns the slot, and the number.
     ///
     /// # Errors
-    /// `Busy`, `NoBlock`, in this order; `Full` if at one step every slot had a file; `Again` if
+    /// `Busy`, `Reader`, in this order; `Full` if at one step every slot had a file; `Again` if
     /// the round installed nothing, and found no such step.
     #[inline(always)]
-    pub fn put_any(&mut self, tag: u64) -> Result<PlacedAt, ServerRefusal>
+    pub fn insert(&mut self, tag: u64) -> Result<PlacedAt, ServerRefusal>
         requires good { IsGood self.old }
         ensures good { IsGood self.new }
         ensures table { self.new.shared ≡ self.old.shared }
+        ensures holder { self.new.holder ≡ self.old.holder }
         ensures allocated { PutsAnyNext self.old tag result self.new }
     {
-        let slot = self.put_any_as(tag, self.numbers.next)?;
+        let slot = self.insert_as(tag, self.numbers.next)?;
         let number = self.numbers.draw();
         Ok(PlacedAt { slot, number })
     }
 
-    /// If the file of a slot is on this node, replaces it by one with this tag and the worker's
-    /// next number. Returns what was there, which is not `Nothing`, and the number.
+    /// Draws the next number, and keeps it for the file that `put_empty` installs. So a value can
+    /// be made from its key.
     ///
     /// # Errors
-    /// `Busy`, `NoSlot`, `NoBlock`, in this order; `Empty`, `Other`, `Again` as of `take_if`.
-    #[inline(always)]
-    pub fn put_if(&mut self, slot: u32, node: u32, tag: u64) -> Result<Placed, ServerRefusal>
-        requires good { IsGood self.old }
-        ensures good { IsGood self.new }
-        ensures table { self.new.shared ≡ self.old.shared }
-        ensures placed { PutsIfNext self.old slot node tag result self.new }
-    {
-        let removal = self.put_if_as(slot, node, tag, self.numbers.next)?;
-        let number = self.numbers.draw();
-        Ok(Placed { removal, number })
-    }
-
-    /// Draws the next number, for a file that `put_empty` installs. So a value can be made from its
-    /// key.
-    ///
-    /// # Errors
-    /// `NoBlock` if the worker doesn't install files.
+    /// `Reader` if the worker doesn't install files.
     #[inline(always)]
     pub fn draw(&mut self) -> Result<u64, ServerRefusal>
         requires good { IsGood self.old }
         ensures good { IsGood self.new }
         ensures table { self.new.shared ≡ self.old.shared }
+        ensures holder { self.new.holder ≡ self.old.holder }
         ensures drawn { DrawsOne self.old result self.new }
     {
         if !self.shared.table.installs(&self.pass) {
-            return Err(ServerRefusal::NoBlock);
+            return Err(ServerRefusal::Reader);
         }
-        Ok(self.numbers.draw())
+        Ok(self.numbers.keep())
+    }
+
+    /// Installs a file with this tag at a slot if it is empty. The file gets the number that the
+    /// worker kept, which it keeps no longer.
+    ///
+    /// # Errors
+    /// `Busy`, `NoSlot` if the slot isn't in the allocation range, `Reader`, in this order;
+    /// `Stale` if the slot had a file, `Again` if it was empty and its word changed meanwhile.
+    #[inline(always)]
+    pub fn put_empty(&mut self, slot: u32, tag: u64) -> Result<(), ServerRefusal>
+        requires good { IsGood self.old }
+        ensures good { IsGood self.new }
+        ensures table { self.new.shared ≡ self.old.shared }
+        ensures holder { self.new.holder ≡ self.old.holder }
+        ensures placed { PutsEmptyKept self.old slot tag result self.new }
+    {
+        let number = self.numbers.spend_kept();
+        self.put_empty_as(slot, tag, number)
     }
 }

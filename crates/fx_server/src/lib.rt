@@ -9,21 +9,23 @@
 #![tactic(auto)]
 
 mod answers;
+mod by_key;
 pub mod codes;
 mod crossing;
 mod file_numbers;
 mod handle;
 mod installing;
 pub mod laws;
-pub mod numbers;
 mod opening;
+pub mod outcomes;
 mod parts;
 mod placing;
+mod putting;
 mod seeing;
 mod shared;
 mod worker;
 
-pub use answers::{CoreLabel, CorePlaced};
+pub use answers::CoreOutcome;
 pub use handle::{Handle, Opaque, WorkerPlace};
 pub use placing::open_places;
 pub use worker::TableWorker;

@@ -3,10 +3,10 @@ ghost use Rattle.std.specs.Prelude.{◌≡◌, ◌≢◌, ◌⊎◌, Some, lengt
 ghost use Rattle.fx_server.specs.Opened.{workers_in};
 ghost use Rattle.fx_server.specs.Places.{OpensAs, workers_at};
 ghost use Rattle.fx_server.specs.Workers.{IsInRange};
-ghost use Rattle.fx_server.specs.declared.codes.TheConstants.{DONE, BAD, NO_MEMORY};
+ghost use Rattle.fx_server.specs.declared.codes.TheConstants.{DONE, BAD_ARGUMENT, NO_MEMORY};
 
 use crate::answers::ServerRefusal;
-use crate::codes::{BAD, DONE, NO_MEMORY};
+use crate::codes::{BAD_ARGUMENT, DONE, NO_MEMORY};
 use crate::handle::WorkerPlace;
 use crate::opening::open;
 use crate::worker::TableWorker;
@@ -22,24 +22,24 @@ pub fn place_all(mut workers: Vec<Box<TableWorker, Global>>, places: &mut [Worke
     }
 }
 
-/// Opens a table of 1 to 1,048,576 empty slots, with a worker for each place of `workers`, 1 to
-/// 1,024, of which the first `installing`, 1 to 64, install files. It returns `DONE`; or `BAD` or
-/// `NO_MEMORY`, and writes nothing.
+/// Opens a table of 1 to 1,048,576 empty slots, with a worker for each place of `workers`. The
+/// first `installing` of them, 1 to 64, install files, and count twice: with them the workers are
+/// at most 1,024. It returns `DONE`; or `BAD_ARGUMENT` or `NO_MEMORY`, and writes nothing.
 pub fn open_places(alloc: Global, slots: u32, installing: u32, workers: &mut [WorkerPlace]) -> i64
     ensures opened { result ≡ DONE → OpensAs slots installing workers.new }
     ensures nothing { result ≢ DONE → workers.new ≡ workers.old }
-    ensures out_of_range { result ≡ BAD → IsInRange slots (length workers.old) installing → ⊥ }
-    ensures numbers { (result ≡ DONE) ⊎ (result ≡ BAD) ⊎ (result ≡ NO_MEMORY) }
+    ensures out_of_range { result ≡ BAD_ARGUMENT → IsInRange slots (length workers.old) installing → ⊥ }
+    ensures numbers { (result ≡ DONE) ⊎ (result ≡ BAD_ARGUMENT) ⊎ (result ≡ NO_MEMORY) }
 {
     if workers.len() > 1024 {
-        return BAD;
+        return BAD_ARGUMENT;
     }
     match open(alloc, slots, workers.len() as u32, installing) {
         Ok(list) => {
             place_all(list, workers);
             DONE
         }
-        Err(ServerRefusal::Bad) => BAD,
+        Err(ServerRefusal::BadArgument) => BAD_ARGUMENT,
         Err(_) => NO_MEMORY,
     }
 }

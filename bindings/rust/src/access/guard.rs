@@ -25,7 +25,7 @@ use std::ops::Deref;
 /// let handle = table.handle()?;
 /// handle.insert("first".to_string())?;
 /// let guard = handle.get_at(0)?;
-/// assert_eq!(handle.replace_at(0, "second".to_string())?, Old::InUse);
+/// assert_eq!(handle.replace_at(0, "second".to_string())?.1, Old::InUse);
 /// assert_eq!((guard.as_str(), guard.slot()), ("first", 0));
 /// drop(guard); // drops "first"
 /// assert_eq!(*handle.get_at(0)?, "second");
@@ -34,7 +34,6 @@ use std::ops::Deref;
 #[must_use = "the value is released when the guard is dropped"]
 pub struct Guard<'r, T> {
     value: *const T,
-    node: u32,
     number: Option<NonZeroU64>,
     pub(super) reader: &'r Reader<T>,
     place: Place,
@@ -55,7 +54,6 @@ impl<'r, T> Guard<'r, T> {
     ) -> Guard<'r, T> {
         Guard {
             value: held.value,
-            node: held.node,
             number: held.number,
             reader,
             place,
@@ -67,11 +65,6 @@ impl<'r, T> Guard<'r, T> {
     #[inline]
     pub fn slot(&self) -> u32 {
         self.slot
-    }
-
-    /// Returns the node of the value's file.
-    pub(super) fn node(&self) -> u32 {
-        self.node
     }
 
     /// Returns the key of the value, by which others find it while it is at its slot.
@@ -89,21 +82,6 @@ impl<'r, T> Guard<'r, T> {
         Key::new(self.slot, self.number)
     }
 
-    /// Checks whether the value has this key.
-    #[inline]
-    pub(super) fn is_of(&self, key: Key) -> bool {
-        key.is_of(self.number)
-    }
-
-    /// Drops the guard, by a call that isn't inlined: it is seldom made.
-    #[inline]
-    pub(super) fn drop_apart(self) {
-        let guard = ManuallyDrop::new(self);
-        let (reader, value, place) = (guard.reader, guard.value, guard.place);
-        // SAFETY: the guard isn't dropped.
-        unsafe { release_and_drop(reader, value, place) }
-    }
-
     /// Ends the hold, and gives its seat back. Returns the value if this closed it.
     #[inline]
     pub(super) fn end(self) -> Option<Box<T>> {
@@ -117,33 +95,17 @@ impl<'r, T> Guard<'r, T> {
     // SAFETY of a call: the guard is used no more.
     #[inline]
     unsafe fn release(&self) -> Option<Box<T>> {
-        // SAFETY: as the caller ensures.
-        unsafe { release(self.reader, self.value, self.place) }
+        // SAFETY: the seat is the reader's (one user), on whose thread the guard is. It holds the
+        // guard's value, and every reference to the value borrowed the guard.
+        let freed = unsafe {
+            self.reader
+                .table()
+                .values()
+                .release(self.place.core, self.value)
+        };
+        self.reader.give_back(self.place.number);
+        freed
     }
-}
-
-// Ends the hold of a guard with these parts, and gives its seat back.
-//
-// SAFETY of a call: the guard is used no more.
-#[inline]
-unsafe fn release<T>(reader: &Reader<T>, value: *const T, place: Place) -> Option<Box<T>> {
-    // SAFETY: the seat is the reader's (one user), on whose thread the guard is. It holds the
-    // guard's value, and every reference to the value borrowed the guard.
-    let freed = unsafe { reader.table().values().release(place.core, value) };
-    reader.give_back(place.number);
-    freed
-}
-
-// Ends the hold of a guard with these parts, gives its seat back, and drops the value if this
-// closed it.
-//
-// SAFETY of a call: as of `release`.
-#[cold]
-#[inline(never)]
-unsafe fn release_and_drop<T>(reader: &Reader<T>, value: *const T, place: Place) {
-    // SAFETY: as the caller ensures.
-    let freed = unsafe { release(reader, value, place) };
-    drop_last(freed);
 }
 
 impl<T> Deref for Guard<'_, T> {
@@ -199,7 +161,6 @@ impl<T: fmt::Display> fmt::Display for Guard<'_, T> {
 #[must_use = "the value is released when the guard is dropped"]
 pub struct OwnedGuard<T> {
     value: *const T,
-    node: u32,
     number: Option<NonZeroU64>,
     place: Place,
     slot: u32,
@@ -219,7 +180,6 @@ impl<T> OwnedGuard<T> {
     pub(super) fn new(table: Table<T>, held: Held<T>, place: Place, slot: u32) -> OwnedGuard<T> {
         OwnedGuard {
             value: held.value,
-            node: held.node,
             number: held.number,
             place,
             slot,
@@ -240,11 +200,6 @@ impl<T> OwnedGuard<T> {
         self.slot
     }
 
-    /// Returns the node of the value's file.
-    pub(super) fn node(&self) -> u32 {
-        self.node
-    }
-
     /// Returns the key of the value, by which others find it while it is at its slot.
     ///
     /// ```
@@ -256,11 +211,6 @@ impl<T> OwnedGuard<T> {
     #[inline]
     pub fn key(&self) -> Key {
         Key::new(self.slot, self.number)
-    }
-
-    /// Checks whether the value has this key.
-    pub(super) fn is_of(&self, key: Key) -> bool {
-        key.is_of(self.number)
     }
 
     /// Ends the hold, and gives its seat back. Returns the value if this closed it.

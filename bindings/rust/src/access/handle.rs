@@ -175,8 +175,8 @@ impl<T> Handle<T> {
         }
     }
 
-    /// Installs a value at a slot. Returns what became of the old value. An old value that is in
-    /// use is dropped by its last user.
+    /// Installs a value at a slot. Returns its key, and what became of the old value. An old value
+    /// that is in use is dropped by its last user.
     ///
     /// # Errors
     /// `NoSlot` with the value if the table has no such slot.
@@ -186,19 +186,20 @@ impl<T> Handle<T> {
     ///
     /// let table = Table::<&str>::with_slots(1)?;
     /// let handle = table.handle()?;
-    /// assert_eq!(handle.replace_at(0, "first")?, Old::None);
-    /// assert_eq!(handle.replace_at(0, "second")?, Old::Unused("first"));
-    /// let guard = handle.get_at(0)?;
-    /// assert_eq!(handle.replace_at(0, "third")?, Old::InUse);
+    /// assert_eq!(handle.replace_at(0, "first")?.1, Old::None);
+    /// let (key, old) = handle.replace_at(0, "second")?;
+    /// assert_eq!(old, Old::Unused("first"));
+    /// let guard = handle.get(key)?;
+    /// assert_eq!(handle.replace_at(0, "third")?.1, Old::InUse);
     /// assert_eq!(*guard, "second");
     /// # Ok::<(), Box<dyn std::error::Error>>(())
     /// ```
     #[inline]
-    pub fn replace_at(&self, slot: u32, value: T) -> Result<Old<T>, Refused<T>> {
+    pub fn replace_at(&self, slot: u32, value: T) -> Result<(Key, Old<T>), Refused<T>> {
         let (values, core) = self.parts();
         // SAFETY: the seat is this handle's (one user), and holds nothing between two calls.
         match unsafe { values.replace_at(core, slot, self.store(value)) } {
-            Ok(old) => Ok(old.map(|it| storage::take(&self.spare, it))),
+            Ok((key, old)) => Ok((key, old.map(|it| storage::take(&self.spare, it)))),
             Err(value) => Err(self.refuse(value, Reason::NoSlot(values.no_slot(slot)))),
         }
     }
@@ -242,8 +243,8 @@ impl<T> Handle<T> {
     pub fn contains(&self, slot: u32) -> bool {
         let (values, core) = self.parts();
         // SAFETY: the seat is this handle's (one user), and holds nothing between two calls.
-        let (sees, freed) = unsafe { values.sees(core, slot) };
-        drop(freed);
+        let (sees, unused) = unsafe { values.sees(core, slot) };
+        drop(unused);
         sees
     }
 

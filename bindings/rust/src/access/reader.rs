@@ -2,9 +2,10 @@
 use super::guard::Guard;
 use super::seats::{Installer, Place};
 use super::table::Table;
-use super::values::{drop_last, Looked};
+use super::values::{drop_unused, Looked, Wanted};
 use crate::errors::{GetError, NoSeat};
 use crate::iter::Iter;
+use crate::key::Key;
 use std::cell::Cell;
 use std::fmt;
 
@@ -95,33 +96,58 @@ impl<T> Reader<T> {
     /// ```
     #[inline]
     pub fn get_at(&self, slot: u32) -> Result<Guard<'_, T>, GetError> {
+        self.find(Wanted::At(slot))
+    }
+
+    /// Returns a guard of the value with this key. It is a look-up, as [`Reader::get_at`].
+    ///
+    /// # Errors
+    /// `Stale` if the slot has another value, and as of [`Reader::get_at`].
+    ///
+    /// ```
+    /// let table = yachtbanyan::Table::<u64>::with_slots(2)?;
+    /// let reader = table.reader()?;
+    /// let key = table.insert(7)?;
+    /// assert_eq!(*reader.get(key)?, 7);
+    /// table.replace_at(key.slot(), 8)?;
+    /// let error = reader.get(key).unwrap_err();
+    /// assert_eq!(error.to_string(), format!("slot {} has another value", key.slot()));
+    /// # Ok::<(), Box<dyn std::error::Error>>(())
+    /// ```
+    #[inline]
+    pub fn get(&self, key: Key) -> Result<Guard<'_, T>, GetError> {
+        self.find(Wanted::With(key))
+    }
+
+    #[inline(always)]
+    fn find(&self, wanted: Wanted) -> Result<Guard<'_, T>, GetError> {
         if self.is_busy.get() {
-            return self.get_by_another(slot);
+            return self.find_by_another(wanted);
         }
         let values = self.table.values();
         // SAFETY: the seat is this reader's (one user), and no guard uses it.
-        let looked = unsafe { values.look(self.own.core, slot) };
+        let looked = unsafe { values.look(self.own.core, wanted) };
         match looked {
             Looked {
                 found: Ok(held),
-                freed: None,
+                unused: None,
             } => {
                 self.is_busy.set(true);
-                Ok(Guard::new(self, held, self.own, slot))
+                Ok(Guard::new(self, held, self.own, wanted.slot()))
             }
-            other => self.finish(self.own, slot, other),
+            other => self.finish(self.own, wanted.slot(), other),
         }
     }
 
-    // Looks a slot up by a seat of the table. This and `finish` aren't inlined, so that a look-up
-    // that needs neither is small enough to be inlined.
+    // Looks up by a seat of the table. This and `finish` aren't inlined, so that a look-up that
+    // needs neither is small enough to be inlined.
     #[inline(never)]
-    fn get_by_another(&self, slot: u32) -> Result<Guard<'_, T>, GetError> {
+    fn find_by_another(&self, wanted: Wanted) -> Result<Guard<'_, T>, GetError> {
         let values = self.table.values();
         let place = values.seats.claim_guard().map_err(GetError::NoSeat)?;
         // SAFETY: the seat is this call's (one user).
-        let looked = unsafe { values.look(place.core, slot) };
-        self.finish(place, slot, looked)
+        let looked = unsafe { values.look(place.core, wanted) };
+        self.finish(place, wanted.slot(), looked)
     }
 
     // Turns the result of a look-up into a guard, which has the look-up's seat, or into an error.
@@ -137,7 +163,7 @@ impl<T> Reader<T> {
                 Ok(Guard::new(self, held, place, slot))
             }
         };
-        drop_last(looked.freed);
+        drop_unused(looked.unused);
         guard
     }
 

@@ -146,7 +146,7 @@ pub(super) struct Seats {
 impl Seats {
     /// Opens a table of the core, with the seats that the options name.
     pub(super) fn open(options: &Options) -> Result<Seats, OpenError> {
-        let count = options.seats()?;
+        let count = options.workers()?;
         let mut cores: Vec<Core> = (0..count).map(|_| Core::none()).collect();
         // SAFETY: there is room for `count` workers; the numbers are in range.
         let answer = unsafe {
@@ -264,11 +264,6 @@ impl Call<'_> {
     /// Returns the core's worker that installs.
     pub(super) fn core(&self) -> *mut Core {
         self.seats.installing[self.number as usize].core()
-    }
-
-    /// Returns the core's worker that holds a value for the call.
-    pub(super) fn looker(&self) -> *mut Core {
-        self.seats.looking[self.number as usize].core()
     }
 }
 

@@ -9,8 +9,8 @@
 //! After that it is 1 and the number of holds. If a worker keeps the node of a closed file, the
 //! takes of the next file begin with the releases that the node's word has lost.
 use super::core::{
-    Core, Label, Placed, AGAIN, BAD, BUSY, CLOSED, DONE, EMPTY, FULL, IDLE, IN_USE, NO_BLOCK,
-    NO_SLOT, OTHER,
+    Core, Outcome, AGAIN, BAD_ARGUMENT, BUSY, DONE, DROPPED, EMPTY, FULL, IDLE, IN_USE, NO_SLOT,
+    READER, STALE,
 };
 use super::core::{MOST_INSTALLING, MOST_SLOTS, MOST_WORKERS};
 use std::cell::UnsafeCell;
@@ -19,7 +19,6 @@ use std::sync::atomic::{AtomicU64, Ordering::SeqCst};
 use std::sync::Arc;
 
 const BORN: u64 = (1 << 32) + 1;
-const NAME: u64 = !0 << 32;
 const FILE: u64 = 1 << 31;
 const TAKES: u64 = FILE - 1;
 // the most releases that the word of a kept node has lost
@@ -45,9 +44,11 @@ unsafe impl Send for Table {}
 
 struct Worker {
     table: Arc<Table>,
-    // the number of the next file, or 0 if all were used, and the distance to the one after it
+    // the number of the next file, or 0 if all were used, the distance to the one after it, and the
+    // number that was drawn for the next file at an empty slot
     number: u64,
     step: u64,
+    kept: u64,
     // the worker's nodes, as many as the table has workers, or none if it doesn't install; the
     // entry that it found free last; and the flag that it keeps the node there for its next file
     stock: Vec<usize>,
@@ -121,10 +122,10 @@ impl Table {
 }
 
 // Returns why a word isn't one of a slot that has this node's file.
-fn unless_named(node: u32) -> impl Fn(u64) -> Option<i64> {
+fn unless_named(node: usize) -> impl Fn(u64) -> Option<i64> {
     move |word| match has_file(word) {
         false => Some(EMPTY),
-        true => (node_of(word) != node as usize).then_some(OTHER),
+        true => (node_of(word) != node).then_some(STALE),
     }
 }
 
@@ -202,7 +203,7 @@ impl Worker {
         if slot as usize >= self.table.slots.len() {
             return Err(NO_SLOT);
         }
-        self.begin(tag, number).ok_or(NO_BLOCK)
+        self.begin(tag, number).ok_or(READER)
     }
 
     // Makes the node of a word that was not installed free again. The worker's next file gets it.
@@ -210,20 +211,38 @@ impl Worker {
         self.table.nodes[node_of(word)].store(0, SeqCst);
     }
 
-    fn look(&mut self, slot: usize) -> i64 {
+    // Takes the file at a slot. Returns its node, or the number of the reason why it can't.
+    fn look(&mut self, slot: u32) -> Result<usize, i64> {
+        if self.held.is_some() {
+            return Err(BUSY);
+        }
         self.settle();
-        let Some(word) = self.table.slots.get(slot) else {
-            return NO_SLOT;
-        };
+        let word = self.table.slots.get(slot as usize).ok_or(NO_SLOT)?;
         if !has_file(word.load(SeqCst)) {
-            return EMPTY;
+            return Err(EMPTY);
         }
         let found = word.fetch_add(1, SeqCst);
-        if !has_file(found) {
-            return EMPTY;
+        has_file(found).then_some(node_of(found)).ok_or(EMPTY)
+    }
+
+    // Takes the file with this number at a slot, as `look`.
+    fn look_key(&mut self, slot: u32, number: u64, out: &mut Outcome) -> Result<usize, i64> {
+        let node = self.look(slot)?;
+        // SAFETY: the worker took the node, whose label was written before it was installed.
+        let (_, its_number) = unsafe { *self.table.labels[node].get() };
+        if number != 0 && its_number == number {
+            return Ok(node);
         }
-        self.held = Some(node_of(found));
-        node_of(found) as i64
+        out.released = self.table.subtract(node, 1).unwrap_or(0);
+        Err(STALE)
+    }
+
+    // Holds the file of a node, and returns its label.
+    fn hold(&mut self, node: usize, out: &mut Outcome) -> i64 {
+        self.held = Some(node);
+        // SAFETY: the worker holds the node, whose label was written before it was installed.
+        (out.tag, out.number) = unsafe { *self.table.labels[node].get() };
+        DONE
     }
 
     // Notes that this worker emptied a slot.
@@ -231,6 +250,19 @@ impl Worker {
         self.emptied.push_back(slot as usize);
         if self.emptied.len() > EMPTIED {
             self.emptied.pop_front();
+        }
+    }
+
+    // Ends a call by key, which holds the file of a node and has exchanged the word of its slot, or
+    // not. The hold ends before the file is retired.
+    fn end_by_key(&mut self, node: usize, done: Result<u64, i64>, out: &mut Outcome) -> i64 {
+        if let Ok(old) = done {
+            self.end(old);
+        }
+        out.released = self.table.subtract(node, 1).unwrap_or(0);
+        match done {
+            Ok(old) => answer(self.retire(old), IN_USE, &mut out.tag),
+            Err(number) => number,
         }
     }
 
@@ -263,7 +295,7 @@ fn answer(closed: Option<u64>, kept: i64, out: &mut u64) -> i64 {
     match closed {
         Some(tag) => {
             *out = tag;
-            CLOSED
+            DROPPED
         }
         None => kept,
     }
@@ -284,9 +316,9 @@ pub(crate) unsafe fn yacht_core_open(
 ) -> i64 {
     let is_right = (1..=MOST_SLOTS).contains(&slots)
         && (1..=MOST_INSTALLING.min(count as u32)).contains(&installing)
-        && count <= MOST_WORKERS as usize;
+        && count + installing as usize <= MOST_WORKERS as usize;
     if !is_right {
-        return BAD;
+        return BAD_ARGUMENT;
     }
     // each slot names a node, and each stock has one for each worker
     let slots = slots as usize;
@@ -309,6 +341,7 @@ pub(crate) unsafe fn yacht_core_open(
                 0
             },
             step: installing.into(),
+            kept: 0,
             stock: (first..nodes.min(first + count)).collect(),
             free: 0,
             keeps: false,
@@ -328,59 +361,46 @@ pub(crate) unsafe fn yacht_core_close(handle: Core) {
     drop(unsafe { Box::from_raw(handle.worker().cast::<Worker>()) });
 }
 
-pub(crate) unsafe fn yacht_core_look(handle: *mut Core, slot: u32, label: *mut Label) -> i64 {
-    let it = unsafe { worker(handle) };
-    let label = unsafe { &mut *label };
-    *label = Label::default();
-    if it.held.is_some() {
-        return BUSY;
+pub(crate) unsafe fn yacht_core_get_at(handle: *mut Core, slot: u32, out: *mut Outcome) -> i64 {
+    let (it, out) = unsafe { (worker(handle), &mut *out) };
+    *out = Outcome::default();
+    match it.look(slot) {
+        Ok(node) => it.hold(node, out),
+        Err(number) => number,
     }
-    let answer = it.look(slot as usize);
-    if answer >= 0 {
-        // SAFETY: the worker holds the node, whose label was written before it was installed.
-        (label.tag, label.number) = unsafe { *it.table.labels[answer as usize].get() };
-    }
-    answer
 }
 
-pub(crate) unsafe fn yacht_core_release(handle: *mut Core, closed: *mut u64) -> i64 {
-    let it = unsafe { worker(handle) };
+pub(crate) unsafe fn yacht_core_get(
+    handle: *mut Core,
+    slot: u32,
+    number: u64,
+    out: *mut Outcome,
+) -> i64 {
+    let (it, out) = unsafe { (worker(handle), &mut *out) };
+    *out = Outcome::default();
+    match it.look_key(slot, number, out) {
+        Ok(node) => it.hold(node, out),
+        Err(number) => number,
+    }
+}
+
+pub(crate) unsafe fn yacht_core_release(handle: *mut Core, dropped: *mut u64) -> i64 {
+    let (it, dropped) = unsafe { (worker(handle), &mut *dropped) };
+    *dropped = 0;
     let Some(node) = it.held.take() else {
         return IDLE;
     };
-    answer(it.table.subtract(node, 1), DONE, unsafe { &mut *closed })
+    answer(it.table.subtract(node, 1), DONE, dropped)
 }
 
-pub(crate) unsafe fn yacht_core_put(
-    handle: *mut Core,
-    slot: u32,
-    tag: u64,
-    placed: *mut Placed,
-) -> i64 {
-    let (it, placed) = unsafe { (worker(handle), &mut *placed) };
-    *placed = Placed::default();
-    let word = match it.begin_at(slot, tag, it.number) {
-        Ok(word) => word,
-        Err(number) => return number,
-    };
-    placed.number = it.draw();
-    it.table.changes.fetch_add(1, SeqCst);
-    let old = it.table.slots[slot as usize].swap(word, SeqCst);
-    it.end(old);
-    if !has_file(old) {
-        return DONE;
-    }
-    answer(it.retire(old), IN_USE, &mut placed.closed)
-}
-
-pub(crate) unsafe fn yacht_core_put_any(handle: *mut Core, tag: u64, number: *mut u64) -> i64 {
+pub(crate) unsafe fn yacht_core_insert(handle: *mut Core, tag: u64, number: *mut u64) -> i64 {
     let (it, number) = unsafe { (worker(handle), &mut *number) };
     *number = 0;
     if it.held.is_some() {
         return BUSY;
     }
     let Some(word) = it.begin(tag, it.number) else {
-        return NO_BLOCK;
+        return READER;
     };
     let slot = it.round(word);
     if slot >= 0 {
@@ -391,13 +411,117 @@ pub(crate) unsafe fn yacht_core_put_any(handle: *mut Core, tag: u64, number: *mu
     slot
 }
 
+pub(crate) unsafe fn yacht_core_replace_at(
+    handle: *mut Core,
+    slot: u32,
+    tag: u64,
+    out: *mut Outcome,
+) -> i64 {
+    let (it, out) = unsafe { (worker(handle), &mut *out) };
+    *out = Outcome::default();
+    let word = match it.begin_at(slot, tag, it.number) {
+        Ok(word) => word,
+        Err(number) => return number,
+    };
+    out.number = it.draw();
+    it.table.changes.fetch_add(1, SeqCst);
+    let old = it.table.slots[slot as usize].swap(word, SeqCst);
+    it.end(old);
+    if !has_file(old) {
+        return DONE;
+    }
+    answer(it.retire(old), IN_USE, &mut out.tag)
+}
+
+pub(crate) unsafe fn yacht_core_replace(
+    handle: *mut Core,
+    slot: u32,
+    number: u64,
+    tag: u64,
+    out: *mut Outcome,
+) -> i64 {
+    let (it, out) = unsafe { (worker(handle), &mut *out) };
+    *out = Outcome::default();
+    if it.held.is_some() {
+        return BUSY;
+    }
+    if it.stock.is_empty() {
+        return READER;
+    }
+    let node = match it.look_key(slot, number, out) {
+        Ok(node) => node,
+        Err(number) => return number,
+    };
+    #[cfg(test)]
+    super::tests::meanwhile();
+    let exchanged = it.begin_at(slot, tag, it.number).and_then(|word| {
+        let done = it.table.exchange(slot, unless_named(node), |_| word);
+        done.inspect_err(|_| it.take_back(word))
+    });
+    if exchanged.is_ok() {
+        out.number = it.draw();
+    }
+    it.end_by_key(node, exchanged, out)
+}
+
+pub(crate) unsafe fn yacht_core_remove_at(handle: *mut Core, slot: u32, out: *mut Outcome) -> i64 {
+    let (it, out) = unsafe { (worker(handle), &mut *out) };
+    *out = Outcome::default();
+    if it.held.is_some() {
+        return BUSY;
+    }
+    if slot as usize >= it.table.slots.len() {
+        return NO_SLOT;
+    }
+    it.settle();
+    let Some(own) = it.stock.get(it.free) else {
+        return READER;
+    };
+    let old = it.table.slots[slot as usize].swap((*own as u64) << 32, SeqCst);
+    it.end(old);
+    if !has_file(old) {
+        return EMPTY;
+    }
+    it.note_emptied(slot);
+    answer(it.retire(old), IN_USE, &mut out.tag)
+}
+
+pub(crate) unsafe fn yacht_core_remove(
+    handle: *mut Core,
+    slot: u32,
+    number: u64,
+    out: *mut Outcome,
+) -> i64 {
+    let (it, out) = unsafe { (worker(handle), &mut *out) };
+    *out = Outcome::default();
+    if it.held.is_some() {
+        return BUSY;
+    }
+    let Some(own) = it.stock.get(it.free).copied() else {
+        return READER;
+    };
+    let node = match it.look_key(slot, number, out) {
+        Ok(node) => node,
+        Err(number) => return number,
+    };
+    #[cfg(test)]
+    super::tests::meanwhile();
+    let word = |_| (own as u64) << 32;
+    let exchanged = it.table.exchange(slot, unless_named(node), word);
+    if exchanged.is_ok() {
+        it.note_emptied(slot);
+    }
+    it.end_by_key(node, exchanged, out)
+}
+
 pub(crate) unsafe fn yacht_core_draw(handle: *mut Core, number: *mut u64) -> i64 {
     let (it, number) = unsafe { (worker(handle), &mut *number) };
     *number = 0;
     if it.stock.is_empty() {
-        return NO_BLOCK;
+        return READER;
     }
-    *number = it.draw();
+    it.kept = it.draw();
+    *number = it.kept;
     DONE
 }
 
@@ -410,96 +534,14 @@ pub(super) unsafe fn draw_next(handle: *mut Core, number: u64) {
     unsafe { worker(handle) }.number = number;
 }
 
-pub(crate) unsafe fn yacht_core_take(handle: *mut Core, slot: u32, closed: *mut u64) -> i64 {
+pub(crate) unsafe fn yacht_core_put_empty(handle: *mut Core, slot: u32, tag: u64) -> i64 {
     let it = unsafe { worker(handle) };
-    if it.held.is_some() {
-        return BUSY;
-    }
-    it.settle();
-    let Some(word) = it.table.slots.get(slot as usize) else {
-        return NO_SLOT;
-    };
-    let old = match it.stock.get_mut(it.free) {
-        None => word.fetch_and(NAME, SeqCst),
-        Some(node) => {
-            let old = word.swap((*node as u64) << 32, SeqCst);
-            *node = node_of(old);
-            old
-        }
-    };
-    if !has_file(old) {
-        return EMPTY;
-    }
-    it.note_emptied(slot);
-    answer(it.retire(old), IN_USE, unsafe { &mut *closed })
-}
-
-pub(crate) unsafe fn yacht_core_take_if(
-    handle: *mut Core,
-    slot: u32,
-    node: u32,
-    closed: *mut u64,
-) -> i64 {
-    let it = unsafe { worker(handle) };
-    if it.held.is_some() {
-        return BUSY;
-    }
-    if slot as usize >= it.table.slots.len() {
-        return NO_SLOT;
-    }
-    it.settle();
-    let own = it.stock.get(it.free).map(|own| (*own as u64) << 32);
-    let word = |old| own.unwrap_or(old & NAME);
-    match it.table.exchange(slot, unless_named(node), word) {
-        Err(number) => number,
-        Ok(old) => {
-            if own.is_some() {
-                it.end(old);
-            }
-            it.note_emptied(slot);
-            answer(it.retire(old), IN_USE, unsafe { &mut *closed })
-        }
-    }
-}
-
-pub(crate) unsafe fn yacht_core_put_if(
-    handle: *mut Core,
-    slot: u32,
-    node: u32,
-    tag: u64,
-    placed: *mut Placed,
-) -> i64 {
-    let (it, placed) = unsafe { (worker(handle), &mut *placed) };
-    *placed = Placed::default();
-    let word = match it.begin_at(slot, tag, it.number) {
-        Ok(word) => word,
-        Err(number) => return number,
-    };
-    match it.table.exchange(slot, unless_named(node), |_| word) {
-        Err(number) => {
-            it.take_back(word);
-            number
-        }
-        Ok(old) => {
-            it.end(old);
-            placed.number = it.draw();
-            answer(it.retire(old), IN_USE, &mut placed.closed)
-        }
-    }
-}
-
-pub(crate) unsafe fn yacht_core_put_empty(
-    handle: *mut Core,
-    slot: u32,
-    tag: u64,
-    number: u64,
-) -> i64 {
-    let it = unsafe { worker(handle) };
+    let number = std::mem::take(&mut it.kept);
     let word = match it.begin_at(slot, tag, number) {
         Ok(word) => word,
         Err(answer) => return answer,
     };
-    let unless_empty = |word| has_file(word).then_some(OTHER);
+    let unless_empty = |word| has_file(word).then_some(STALE);
     match it.table.exchange(slot, unless_empty, |_| word) {
         Err(number) => {
             it.take_back(word);
@@ -519,7 +561,7 @@ pub(crate) unsafe fn yacht_core_full(handle: *mut Core) -> i64 {
         return BUSY;
     }
     if it.stock.is_empty() {
-        return NO_BLOCK;
+        return READER;
     }
     it.table.full()
 }

@@ -2,7 +2,7 @@
 use super::guard::OwnedGuard;
 use super::handle::Handle;
 use super::reader::Reader;
-use super::values::{drop_last, Looked, Values};
+use super::values::{drop_unused, Looked, Values, Wanted};
 use crate::errors::{GetError, NoSeat, OpenError, Reason, Refused, RemoveError};
 use crate::key::Key;
 use crate::old::Old;
@@ -106,7 +106,7 @@ impl<T> Table<T> {
     /// let table = yachtbanyan::Options::new(4).readers(100).open::<u64>()?;
     /// let readers: Vec<_> = (0..100).map(|_| table.reader().unwrap()).collect();
     /// let error = table.reader().unwrap_err();
-    /// assert_eq!(error.to_string(), "100 readers are in use; Options::readers sets at most 1022");
+    /// assert_eq!(error.to_string(), "100 readers are in use; Options::readers sets at most 1021");
     /// # Ok::<(), Box<dyn std::error::Error>>(())
     /// ```
     pub fn reader(&self) -> Result<Reader<T>, NoSeat> {
@@ -138,10 +138,14 @@ impl<T> Table<T> {
     /// # Ok::<(), Box<dyn std::error::Error>>(())
     /// ```
     pub fn get_owned_at(&self, slot: u32) -> Result<OwnedGuard<T>, GetError> {
-        let seats = &self.values.seats;
+        self.find_owned(Wanted::At(slot))
+    }
+
+    pub(super) fn find_owned(&self, wanted: Wanted) -> Result<OwnedGuard<T>, GetError> {
+        let (seats, slot) = (&self.values.seats, wanted.slot());
         let place = seats.claim_guard().map_err(GetError::NoSeat)?;
         // SAFETY: the seat is this call's (one user).
-        let Looked { found, freed } = unsafe { self.values.look(place.core, slot) };
+        let Looked { found, unused } = unsafe { self.values.look(place.core, wanted) };
         let guard = match found {
             Err(answer) => {
                 seats.give_back(place.number);
@@ -149,7 +153,7 @@ impl<T> Table<T> {
             }
             Ok(held) => Ok(OwnedGuard::new(self.clone(), held, place, slot)),
         };
-        drop_last(freed);
+        drop_unused(unused);
         guard
     }
 
@@ -179,9 +183,9 @@ impl<T> Table<T> {
         }
     }
 
-    /// Installs a value at a slot, by a seat for this call. Returns what became of the old value. A
-    /// value that is in use is dropped by its last user. The call waits while others of the table
-    /// use all seats that no handle has.
+    /// Installs a value at a slot, by a seat for this call. Returns its key, and what became of the
+    /// old value. A value that is in use is dropped by its last user. The call waits while others
+    /// of the table use all seats that no handle has.
     ///
     /// # Errors
     /// `NoSlot` with the value if the table has no such slot, `NoSeat` with the value if all seats
@@ -191,18 +195,20 @@ impl<T> Table<T> {
     /// use yachtbanyan::{Old, Table};
     ///
     /// let table = Table::<u64>::with_slots(4)?;
-    /// assert_eq!(table.replace_at(2, 7)?, Old::None);
-    /// assert_eq!(table.replace_at(2, 8)?, Old::Unused(7));
+    /// let (first, none) = table.replace_at(2, 7)?;
+    /// let (second, old) = table.replace_at(2, 8)?;
+    /// assert_eq!((none, old), (Old::None, Old::Unused(7)));
+    /// assert!(table.get_owned(first).is_err() && *table.get_owned(second)? == 8);
     /// # Ok::<(), Box<dyn std::error::Error>>(())
     /// ```
-    pub fn replace_at(&self, slot: u32, value: T) -> Result<Old<T>, Refused<T>> {
+    pub fn replace_at(&self, slot: u32, value: T) -> Result<(Key, Old<T>), Refused<T>> {
         let call = match self.values.seats.claim_call() {
             Ok(call) => call,
             Err(error) => return Err(Refused::new(value, Reason::NoSeat(error))),
         };
         // SAFETY: the seat is this call's (one user).
         match unsafe { self.values.replace_at(call.core(), slot, Box::new(value)) } {
-            Ok(old) => Ok(old.map(|it| *it)),
+            Ok((key, old)) => Ok((key, old.map(|it| *it))),
             Err(value) => {
                 let reason = Reason::NoSlot(self.values.no_slot(slot));
                 Err(Refused::new(*value, reason))
@@ -249,9 +255,9 @@ impl<T> Table<T> {
     pub fn contains(&self, slot: u32) -> Result<bool, NoSeat> {
         let call = self.values.seats.claim_call()?;
         // SAFETY: the seat is this call's (one user).
-        let (sees, freed) = unsafe { self.values.sees(call.core(), slot) };
+        let (sees, unused) = unsafe { self.values.sees(call.core(), slot) };
         drop(call);
-        freed.into_iter().for_each(drop_last);
+        drop_unused(Some(unused));
         Ok(sees)
     }
 }

@@ -1,5 +1,5 @@
 //! The values of a table, and the calls of the core on them.
-use super::core::{self, Core, Label, Placed};
+use super::core::{self, Core, Outcome};
 use super::seats::Seats;
 use crate::errors::{Full, GetError, NoSlot, OpenError, Reason};
 use crate::key::Key;
@@ -19,18 +19,37 @@ pub(super) struct Values<T> {
     _takes_and_gives: PhantomData<fn(T) -> T>,
 }
 
-/// A value that a seat holds: its address, the node of its file, and its number.
+/// A value that a seat holds: its address and its number.
 pub(super) struct Held<T> {
     pub(super) value: *const T,
-    pub(super) node: u32,
     pub(super) number: Option<NonZeroU64>,
 }
 
+/// What a look-up looks for: the value at a slot, or the one with a key.
+#[derive(Clone, Copy)]
+pub(super) enum Wanted {
+    At(u32),
+    With(Key),
+}
+
+impl Wanted {
+    #[inline]
+    pub(super) fn slot(self) -> u32 {
+        match self {
+            Wanted::At(slot) => slot,
+            Wanted::With(key) => key.slot(),
+        }
+    }
+}
+
+/// Values that a call was the last to use, to be dropped at its end.
+pub(super) type Unused<T> = Vec<Box<T>>;
+
 /// The result of a look-up: the value that the seat holds now, or the core's number of the reason
-/// why there is none; and a value that this look-up was the last to use.
+/// why there is none; and the values that this look-up was the last to use, if there are any.
 pub(super) struct Looked<T> {
     pub(super) found: Result<Held<T>, i64>,
-    pub(super) freed: Option<Box<T>>,
+    pub(super) unused: Option<Unused<T>>,
 }
 
 /// The reason why a round of an installation at any slot installed nothing.
@@ -50,6 +69,21 @@ pub(super) fn drop_last<T>(freed: Option<Box<T>>) {
 
     if let Some(value) = freed {
         drop_value(value);
+    }
+}
+
+/// Drops the values that a call was the last to use. A call does this last, since a drop may panic:
+/// the others are dropped then, too.
+#[inline]
+pub(super) fn drop_unused<T>(unused: Option<Unused<T>>) {
+    #[cold]
+    #[inline(never)]
+    fn drop_all<T>(unused: Unused<T>) {
+        drop(unused);
+    }
+
+    if let Some(unused) = unused {
+        drop_all(unused);
     }
 }
 
@@ -106,37 +140,44 @@ impl<T> Values<T> {
         Full { slots: self.slots }
     }
 
-    /// Looks a slot up. If it finds a value, the seat holds that value until `release`.
+    /// Looks up a slot or a key. If it finds a value, the seat holds that value until `release`.
     ///
     /// # Safety
     /// The core's worker is of a seat that the caller has (one user). It holds nothing.
-    #[inline]
-    pub(super) unsafe fn look(&self, core: *mut Core, slot: u32) -> Looked<T> {
-        let mut label = Label::default();
+    #[inline(always)]
+    pub(super) unsafe fn look(&self, core: *mut Core, wanted: Wanted) -> Looked<T> {
+        let mut out = Outcome::default();
         // SAFETY: no other call uses the core's worker meanwhile.
-        let answer = unsafe { core::yacht_core_look(core, slot, &mut label) };
-        // SAFETY: this look-up was overtaken, and the core closed this file in it (`looked`).
-        let freed = (label.freed != 0).then(|| unsafe { value_of(label.freed) });
-        let found = if answer < 0 {
-            Err(answer)
-        } else {
-            order::acquire(label.tag);
-            // The tag and the number are those of the file that the worker holds (`looked`).
-            Ok(Held {
-                value: label.tag as usize as *const T,
-                node: answer as u32,
-                number: NonZeroU64::new(label.number),
-            })
+        let answer = unsafe {
+            match wanted {
+                Wanted::At(slot) => core::yacht_core_get_at(core, slot, &mut out),
+                Wanted::With(key) => {
+                    let (slot, number) = (key.slot(), key.bits_of_number());
+                    core::yacht_core_get(core, slot, number, &mut out)
+                }
+            }
         };
-        Looked { found, freed }
+        let found = if answer == core::DONE {
+            order::acquire(out.tag);
+            // The tag and the number are those of the file that the worker holds (`found`).
+            Ok(Held {
+                value: out.tag as usize as *const T,
+                number: NonZeroU64::new(out.number),
+            })
+        } else {
+            Err(answer)
+        };
+        // SAFETY: the core closed these files in this call (`found`).
+        let unused = (out.freed | out.released != 0).then(|| unsafe { unused_of(&out) });
+        Looked { found, unused }
     }
 
-    /// Returns the error of a look-up that has this number of the core.
+    /// Returns the error of a call that has this number of the core.
     pub(super) fn get_error(&self, number: i64, slot: u32) -> GetError {
-        if number == core::EMPTY {
-            GetError::Empty { slot }
-        } else {
-            GetError::NoSlot(self.no_slot(slot))
+        match number {
+            core::EMPTY => GetError::Empty { slot },
+            core::STALE => GetError::Stale { slot },
+            _ => GetError::NoSlot(self.no_slot(slot)),
         }
     }
 
@@ -153,26 +194,27 @@ impl<T> Values<T> {
         // SAFETY: no other call uses the core's worker meanwhile.
         let answer = unsafe { core::yacht_core_release(core, &mut closed) };
         // SAFETY: the core closed this file in this call (`released`).
-        (answer == core::CLOSED).then(|| unsafe { value_of(closed) })
+        (answer == core::DROPPED).then(|| unsafe { value_of(closed) })
     }
 
     /// Looks a slot up and releases what is there. Returns whether there was a value, and the
-    /// values that these calls closed.
+    /// values that these calls were the last to use.
     ///
     /// # Safety
     /// As of `look`.
-    pub(super) unsafe fn sees(&self, core: *mut Core, slot: u32) -> (bool, [Option<Box<T>>; 2]) {
+    pub(super) unsafe fn sees(&self, core: *mut Core, slot: u32) -> (bool, Unused<T>) {
         // SAFETY: as the caller ensures.
-        let Looked { found, freed } = unsafe { self.look(core, slot) };
-        let Ok(Held { value, .. }) = found else {
-            return (false, [None, freed]);
-        };
-        // SAFETY: the seat holds this value, to which there is no reference.
-        (true, [unsafe { self.release(core, value) }, freed])
+        let Looked { found, unused } = unsafe { self.look(core, Wanted::At(slot)) };
+        let mut unused = unused.unwrap_or_default();
+        if let Ok(held) = &found {
+            // SAFETY: the seat holds this value, to which there is no reference.
+            unused.extend(unsafe { self.release(core, held.value) });
+        }
+        (found.is_ok(), unused)
     }
 
-    /// Installs a value at a slot. Returns what was there, or `Err` with the value if there is no
-    /// such slot.
+    /// Installs a value at a slot. Returns its key, and what was there, or `Err` with the value if
+    /// there is no such slot.
     ///
     /// # Safety
     /// The core's worker is of a seat that the caller has (one user). It installs, and holds
@@ -183,21 +225,17 @@ impl<T> Values<T> {
         core: *mut Core,
         slot: u32,
         value: Box<T>,
-    ) -> Result<Old<Box<T>>, Box<T>> {
-        if slot >= self.slots {
-            return Err(value);
-        }
-        let tag = tag_of(value);
-        let mut placed = Placed::default();
+    ) -> Result<(Key, Old<Box<T>>), Box<T>> {
+        let (tag, mut out) = (tag_of(value), Outcome::default());
         // SAFETY: no other call uses the core's worker meanwhile.
-        match unsafe { core::yacht_core_put(core, slot, tag, &mut placed) } {
-            // SAFETY: the core closed this file in this call (`placed`).
-            core::CLOSED => Ok(Old::Unused(unsafe { value_of(placed.closed) })),
-            core::IN_USE => Ok(Old::InUse),
-            core::DONE => Ok(Old::None),
+        let answer = unsafe { core::yacht_core_replace_at(core, slot, tag, &mut out) };
+        if answer < 0 {
             // SAFETY: the core refused the file, so the value was never installed (`placed`).
-            _ => Err(unsafe { value_of(tag) }),
+            return Err(unsafe { value_of(tag) });
         }
+        let key = Key::new(slot, NonZeroU64::new(out.number));
+        // SAFETY: this is the answer of the call (`placed`).
+        Ok((key, unsafe { old_of(answer, &out) }))
     }
 
     /// Makes one round to install a value at a free slot. Returns its key, or the value and the
@@ -212,7 +250,7 @@ impl<T> Values<T> {
     ) -> Result<Key, (Box<T>, Round)> {
         let (tag, mut number) = (tag_of(value), 0);
         // SAFETY: no other call uses the core's worker meanwhile.
-        let answer = unsafe { core::yacht_core_put_any(core, tag, &mut number) };
+        let answer = unsafe { core::yacht_core_insert(core, tag, &mut number) };
         if answer >= 0 {
             return Ok(Key::new(answer as u32, NonZeroU64::new(number)));
         }
@@ -235,7 +273,7 @@ impl<T> Values<T> {
         let (tag, mut number) = (tag_of(value), 0);
         loop {
             // SAFETY: no other call uses the core's worker meanwhile.
-            let answer = unsafe { core::yacht_core_put_any(core, tag, &mut number) };
+            let answer = unsafe { core::yacht_core_insert(core, tag, &mut number) };
             if answer >= 0 {
                 return Ok(Key::new(answer as u32, NonZeroU64::new(number)));
             }
@@ -259,20 +297,20 @@ impl<T> Values<T> {
         Key::new(slot, NonZeroU64::new(number))
     }
 
-    /// Installs a value at the slot of its key if that is empty. Returns the value if it isn't, or
-    /// if it changed meanwhile.
+    /// Installs a value at a slot if that is empty. The value has the key that was drawn last.
+    /// Returns the value if the slot isn't empty, or if it changed meanwhile.
     ///
     /// # Safety
-    /// As of `replace_at`. The slot is one of the table, and the key is of `draw`, for this call.
+    /// As of `replace_at`. The slot is one of the table, and a key was drawn for this call.
     pub(super) unsafe fn insert_at(
         &self,
         core: *mut Core,
-        key: Key,
+        slot: u32,
         value: Box<T>,
     ) -> Result<(), Box<T>> {
-        let (slot, number, tag) = (key.slot(), key.bits_of_number(), tag_of(value));
+        let tag = tag_of(value);
         // SAFETY: no other call uses the core's worker meanwhile.
-        match unsafe { core::yacht_core_put_empty(core, slot, tag, number) } {
+        match unsafe { core::yacht_core_put_empty(core, slot, tag) } {
             core::DONE => Ok(()),
             // SAFETY: the core installed nothing, so the value is still this call's (`placed`).
             _ => Err(unsafe { value_of(tag) }),
@@ -291,92 +329,125 @@ impl<T> Values<T> {
     /// Empties a slot. Returns what was there.
     ///
     /// # Safety
-    /// The core's worker is of a seat that the caller has (one user). It holds nothing.
+    /// As of `replace_at`.
     #[inline]
     pub(super) unsafe fn remove_at(
         &self,
         core: *mut Core,
         slot: u32,
     ) -> Result<Old<Box<T>>, NoSlot> {
-        let mut closed = 0;
+        let mut out = Outcome::default();
         // SAFETY: no other call uses the core's worker meanwhile.
-        match unsafe { core::yacht_core_take(core, slot, &mut closed) } {
-            // SAFETY: the core closed this file in this call (`removed`).
-            core::CLOSED => Ok(Old::Unused(unsafe { value_of(closed) })),
-            core::IN_USE => Ok(Old::InUse),
-            core::EMPTY => Ok(Old::None),
-            _ => Err(self.no_slot(slot)),
+        match unsafe { core::yacht_core_remove_at(core, slot, &mut out) } {
+            core::NO_SLOT => Err(self.no_slot(slot)),
+            // SAFETY: this is the answer of the call (`removed`).
+            answer => Ok(unsafe { old_of(answer, &out) }),
         }
     }
 
-    /// Empties a slot if it still has the value that another seat of the caller holds, on this
-    /// node. Returns an error if the slot is empty, or has another value. It tries again while
-    /// other threads count look-ups at the slot.
+    /// Removes the value with a key. Returns what became of it, or why nothing was removed, and the
+    /// values that the call was the last to use. It tries again while other threads count look-ups
+    /// at the slot.
     ///
     /// # Safety
-    /// The core's worker is of a seat that the caller has (one user). It holds nothing. Another
-    /// seat of the caller holds a file that it found at this slot on this node.
+    /// As of `replace_at`.
     #[inline]
-    pub(super) unsafe fn remove_held(
+    pub(super) unsafe fn remove(
         &self,
         core: *mut Core,
-        slot: u32,
-        node: u32,
-    ) -> Result<(), GetError> {
-        #[cfg(test)]
-        super::tests::meanwhile();
+        key: Key,
+    ) -> (Result<Old<Box<T>>, GetError>, Unused<T>) {
+        let (slot, number) = (key.slot(), key.bits_of_number());
+        let mut unused = Vec::new();
         loop {
-            let mut closed = 0;
+            let mut out = Outcome::default();
             // SAFETY: no other call uses the core's worker meanwhile.
-            let answer = unsafe { core::yacht_core_take_if(core, slot, node, &mut closed) };
+            let answer = unsafe { core::yacht_core_remove(core, slot, number, &mut out) };
+            // SAFETY: the core closed these files in this call (`removed`).
+            unsafe { add_unused(&mut unused, &out) };
+            if answer >= 0 {
+                // SAFETY: this is the answer of the call (`removed`).
+                return (Ok(unsafe { old_of(answer, &out) }), unused);
+            }
             if answer != core::AGAIN {
-                return of_held(answer, slot);
+                return (Err(self.get_error(answer, slot)), unused);
             }
             std::thread::yield_now();
         }
     }
 
-    /// Installs a value at a slot if it still has the value that another seat of the caller holds,
-    /// on this node. Returns the new value's key; or the value and an error if the slot is empty,
-    /// or has another value. It tries again while other threads count look-ups at the slot.
+    /// Installs a value in place of the one with a key. Returns its key and what became of the old
+    /// value, or the value and why it isn't installed; and the values that the call was the last to
+    /// use. It tries again while other threads count look-ups at the slot.
     ///
     /// # Safety
-    /// As of `remove_held`, and the core's worker installs.
+    /// As of `replace_at`.
     #[inline]
-    pub(super) unsafe fn replace_held(
+    #[allow(clippy::type_complexity)]
+    pub(super) unsafe fn replace(
         &self,
         core: *mut Core,
-        slot: u32,
-        node: u32,
+        key: Key,
         value: Box<T>,
-    ) -> Result<Key, (Box<T>, GetError)> {
-        let tag = tag_of(value);
-        #[cfg(test)]
-        super::tests::meanwhile();
+    ) -> (Result<(Key, Old<Box<T>>), (Box<T>, GetError)>, Unused<T>) {
+        let (slot, number, tag) = (key.slot(), key.bits_of_number(), tag_of(value));
+        let mut unused = Vec::new();
         loop {
-            let mut placed = Placed::default();
+            let mut out = Outcome::default();
             // SAFETY: no other call uses the core's worker meanwhile.
-            let answer = unsafe { core::yacht_core_put_if(core, slot, node, tag, &mut placed) };
+            let answer = unsafe { core::yacht_core_replace(core, slot, number, tag, &mut out) };
+            // SAFETY: the core closed these files in this call (`placed`).
+            unsafe { add_unused(&mut unused, &out) };
+            if answer >= 0 {
+                let fresh = Key::new(slot, NonZeroU64::new(out.number));
+                // SAFETY: this is the answer of the call (`placed`).
+                return (Ok((fresh, unsafe { old_of(answer, &out) })), unused);
+            }
             if answer != core::AGAIN {
-                return match of_held(answer, slot) {
-                    Ok(()) => Ok(Key::new(slot, NonZeroU64::new(placed.number))),
-                    // SAFETY: the core refused the file, so it was never installed (`placed`).
-                    Err(error) => Err((unsafe { value_of(tag) }, error)),
-                };
+                // SAFETY: the core refused the file, so it was never installed (`placed`).
+                let value = unsafe { value_of(tag) };
+                return (Err((value, self.get_error(answer, slot))), unused);
             }
             std::thread::yield_now();
         }
     }
 }
 
-// Returns the result of a call on the file at a slot that another seat of the caller holds. That
-// file is not closed by the call (`no_close_while_held`), and the slot exists.
+/// Returns what became of the old value of a call that is done, or found its slot empty.
+///
+/// # Safety
+/// The core returned this answer and this outcome, and the caller uses them once.
 #[inline]
-fn of_held(answer: i64, slot: u32) -> Result<(), GetError> {
+unsafe fn old_of<T>(answer: i64, out: &Outcome) -> Old<Box<T>> {
     match answer {
-        core::EMPTY => Err(GetError::Empty { slot }),
-        core::OTHER => Err(GetError::Stale { slot }),
-        _ => Ok(()),
+        // SAFETY: the core closed this file in the call.
+        core::DROPPED => Old::Unused(unsafe { value_of(out.tag) }),
+        core::IN_USE => Old::InUse,
+        _ => Old::None,
+    }
+}
+
+/// Returns the values that a call was the last to use.
+///
+/// # Safety
+/// The core returned this outcome, and the caller uses it once.
+#[cold]
+#[inline(never)]
+unsafe fn unused_of<T>(out: &Outcome) -> Unused<T> {
+    let tags = [out.freed, out.released].into_iter().filter(|&it| it != 0);
+    // SAFETY: the core closed these files in the call.
+    tags.map(|tag| unsafe { value_of(tag) }).collect()
+}
+
+/// Adds the values that a call was the last to use.
+///
+/// # Safety
+/// As of `unused_of`.
+#[inline]
+unsafe fn add_unused<T>(unused: &mut Unused<T>, out: &Outcome) {
+    if out.freed | out.released != 0 {
+        // SAFETY: as the caller ensures.
+        unused.extend(unsafe { unused_of(out) });
     }
 }
 

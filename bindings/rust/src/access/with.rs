@@ -58,7 +58,7 @@ impl<T> Handle<T> {
             let value = self.store(make(key));
             // SAFETY: as above. The slot was looked up, so it is one of the table, and the key was
             // drawn for this call.
-            match unsafe { values.insert_at(core, key, value) } {
+            match unsafe { values.insert_at(core, slot, value) } {
                 Ok(()) => {
                     self.begin.set((slot + 1) % values.slots());
                     return Ok(key);

@@ -1,9 +1,9 @@
-use Rattle.std.proofs.Common.{sym, subst}
+use Rattle.std.proofs.Common.{refl, sym, subst}
 use Rattle.fx_table.specs.Pass.{PassView}
 use Rattle.fx_lasting.specs.Tables.{view_of, opening_of_table}
 use Rattle.fx_server.specs.Workers.{DoesAsHeld}
 use Rattle.fx_server.proofs.Looking.{looks, does_as_held}
-use Rattle.fx_server.proofs.worker.TableWorker.look.Goals as goal
+use Rattle.fx_server.proofs.worker.TableWorker.get_at.Goals as goal
 
 pub returns-clause-good : goal.returns-clause-good
 returns-clause-good c =
@@ -15,13 +15,16 @@ returns-clause-good c =
       does = subst (λ (v : PassView). DoesAsHeld v c.note-found.new.held) (sym noted.same) (does_as_held (opening_of_table t) (view_of c.args.self.now.pass)
           (view_of call.new.pass) c.args.slot call.result.found call.result.freed c.note-found.result c.note-found.new.held noted.notes
           call.ensures.never_spent call.ensures.looked);
+      holder = c.requires.good.holder;
     }
 
 pub returns-clause-looked : goal.returns-clause-looked
 returns-clause-looked c =
     let w = c.args.self.now in
     let call = c.look_up-found in
-    let noted = c.note-found.ensures in
-    looks w (record { shared = w.shared; held = c.note-found.new.held; numbers = w.numbers; pass = c.note-found.new.pass }) c.args.slot call.result.found call.result.freed
-    c.note-found.result c.tag_of-freed.result (view_of call.new.pass) noted.same noted.notes call.ensures.never_spent c.tag_of-freed.ensures
-    (rw (← c.deref.ensures) call.ensures.looked)
+    let noted = c.note-found.ensures in (
+      looks w (record w { held = c.note-found.new.held; pass = c.note-found.new.pass }) c.args.slot call.result.found call.result.freed
+          c.note-found.result c.tag_of-freed.result (view_of call.new.pass) noted.same noted.notes call.ensures.never_spent c.tag_of-freed.ensures
+          (rw (← c.deref.ensures) call.ensures.looked),
+      refl,
+    )

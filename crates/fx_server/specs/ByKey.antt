@@ -1,0 +1,168 @@
+-- The calls of a worker by key: the slot of a file and its number. A second pass of the worker, its
+-- holder, holds the file of the key during a removal and a replacement.
+use Rattle.std.specs.Prelude.{◌≡◌, ◌⊎◌, ℕ, Option, Some, None, Result, Ok, Err}
+use Rattle.fx_base.specs.Identity.{Identity}
+use Rattle.fx_table.specs.Pass.{PassView}
+use Rattle.fx_table.specs.declared.values.Hold.{Hold}
+use Rattle.fx_table.specs.declared.values.Retired.{Retired}
+use Rattle.fx_lasting.specs.Keys.{LookedByKey, PutsOverKey, TakesByKey}
+use Rattle.fx_lasting.specs.Tables.{view_of}
+use Rattle.fx_lasting.specs.declared.key.Key.{Key}
+use Rattle.fx_lasting.specs.declared.key_answers.KeyFault.{KeyFault}
+use Rattle.fx_lasting.specs.declared.key_answers.KeyFault.TheVariants as fault
+use Rattle.fx_lasting.specs.declared.key_answers.PutOverKey.{PutOverKey}
+use Rattle.fx_lasting.specs.declared.key_answers.PutOverKey.TheVariants.{Replaced, Missed}
+use Rattle.fx_lasting.specs.declared.pass.LastingPass.{LastingPass}
+use Rattle.fx_server.specs.Files.{file_with}
+use Rattle.fx_server.specs.Installing.{DrawsNone, UsesNumber}
+use Rattle.fx_server.specs.Workers.{HasLabel, IsBusy, IsReader, RetiresAs, hold_in, its_opening}
+use Rattle.fx_server.specs.Workers.{its_pass, its_start, tag_in}
+use Rattle.fx_server.specs.declared.answers.FoundFile.{FoundFile}
+use Rattle.fx_server.specs.declared.answers.Placed.{Placed}
+use Rattle.fx_server.specs.declared.answers.Removal.{Removal}
+use Rattle.fx_server.specs.declared.answers.ServerRefusal.{ServerRefusal}
+use Rattle.fx_server.specs.declared.answers.ServerRefusal.TheVariants.{Again, Busy, Empty, NoSlot}
+use Rattle.fx_server.specs.declared.answers.ServerRefusal.TheVariants.{Reader, Stale}
+use Rattle.fx_server.specs.declared.worker.Held.{Held}
+use Rattle.fx_server.specs.declared.worker.TableWorker.{TableWorker}
+
+-- the key of a slot and a number
+abbrev pub key_of : (slot number : ℕ) → Key
+key_of slot number = record { slot = slot; number = number }
+
+-- the refusal of a call by key
+abbrev pub key_refusal : KeyFault → ServerRefusal
+key_refusal fault.NoSlot = NoSlot
+key_refusal fault.Empty = Empty
+key_refusal fault.Other = Stale
+key_refusal fault.Again = Again
+
+-- the tags of the files that a call by key was the last to use: one that its look-up saw first, and
+-- one that it held
+pub record LastUses (freed released : Option ℕ) (out back : Option Identity) : Type 0 where
+  pub its_freed : freed ≡ tag_in out
+  pub its_released : released ≡ tag_in back
+
+-- the worker's pass looked the key up
+pub record LooksKey (w : TableWorker) (key : Key) (found : Result Hold KeyFault)
+    (freed released : Option ℕ) (w' : TableWorker) : Type 0 where
+  pub out : Option Identity
+  pub back : Option Identity
+  pub tags : LastUses freed released out back
+  pub looked : LookedByKey (its_start w) (its_pass w) key found out back (its_pass w')
+
+-- the worker holds nothing, and found no file of the key, for this reason
+abbrev pub FindsNoKey : TableWorker → Key → KeyFault → (freed released : Option ℕ) → TableWorker
+    → Type 0
+FindsNoKey w key why freed released w' =
+    (w'.held ≡ None) × LooksKey w key (Err why) freed released w'
+
+-- a look-up by key: the worker holds the file of the key, whose tag and number are returned
+abbrev pub FindsByKey : TableWorker → Key → Result FoundFile ServerRefusal
+    → (freed released : Option ℕ) → TableWorker → Type 0
+FindsByKey w key (Ok found) freed released w' = (held : Held) × (w'.held ≡ Some held)
+    × LooksKey w key (Ok (hold_in held)) freed released w'
+    × HasLabel (its_pass w') (hold_in held) found
+FindsByKey w key (Err NoSlot) freed released w' = FindsNoKey w key fault.NoSlot freed released w'
+FindsByKey w key (Err Empty) freed released w' = FindsNoKey w key fault.Empty freed released w'
+FindsByKey w key (Err Stale) freed released w' = FindsNoKey w key fault.Other freed released w'
+FindsByKey w key (Err Busy) freed released w' = (freed ≡ None) × (released ≡ None) × IsBusy w w'
+FindsByKey w key (Err _) freed released w' = ⊥
+
+-- the holder of a worker before a call and after it
+pub record HasHolder (w w' : TableWorker) : Type 0 where
+  pub before : LastingPass
+  pub after : LastingPass
+  pub was : w.holder ≡ Some before
+  pub is : w'.holder ≡ Some after
+
+-- a removal by key from the table: the holder held the file meanwhile
+pub record TakesKey (w : TableWorker) (key : Key) (result : Result Retired KeyFault)
+    (freed released : Option ℕ) (w' : TableWorker) (v : PassView) : Type 0 where
+  pub holder : HasHolder w w'
+  pub out : Option Identity
+  pub back : Option Identity
+  pub tags : LastUses freed released out back
+  pub taken : TakesByKey (its_start w) (view_of holder.before) (its_pass w) key result out back
+      (view_of holder.after) v
+
+-- the file of the key was removed from its slot, and retired
+pub record RemovesFileOf (w : TableWorker) (key : Key) (removal : Removal)
+    (freed released : Option ℕ) (w' : TableWorker) : Type 0 where
+  pub retired : Retired
+  pub between : PassView
+  pub takes : TakesKey w key (Ok retired) freed released w' between
+  pub retires : RetiresAs (its_opening w) between retired removal (its_pass w')
+
+-- the slot was left as it was, for this reason
+abbrev pub RemovesNoKey : TableWorker → Key → KeyFault → (freed released : Option ℕ) → TableWorker
+    → Type 0
+RemovesNoKey w key why freed released w' = TakesKey w key (Err why) freed released w' (its_pass w')
+
+-- a removal by key
+abbrev pub RemovesByKey : TableWorker → Key → Result Removal ServerRefusal
+    → (freed released : Option ℕ) → TableWorker → Type 0
+RemovesByKey w key (Ok removal) freed released w' = RemovesFileOf w key removal freed released w'
+RemovesByKey w key (Err NoSlot) freed released w' =
+    RemovesNoKey w key fault.NoSlot freed released w'
+RemovesByKey w key (Err Empty) freed released w' =
+    RemovesNoKey w key fault.Empty freed released w'
+RemovesByKey w key (Err Stale) freed released w' =
+    RemovesNoKey w key fault.Other freed released w'
+RemovesByKey w key (Err Again) freed released w' =
+    RemovesNoKey w key fault.Again freed released w'
+RemovesByKey w key (Err Busy) freed released w' = (freed ≡ None) × (released ≡ None) × IsBusy w w'
+RemovesByKey w key (Err Reader) freed released w' =
+    (freed ≡ None) × (released ≡ None) × (w.holder ≡ None) × (w' ≡ w)
+RemovesByKey w key (Err _) freed released w' = ⊥
+
+-- a replacement by key in the table: the holder held the old file meanwhile
+pub record PutsKey (w : TableWorker) (key : Key) (file : Identity) (result : PutOverKey)
+    (freed released : Option ℕ) (w' : TableWorker) (v : PassView) : Type 0 where
+  pub holder : HasHolder w w'
+  pub out : Option Identity
+  pub back : Option Identity
+  pub tags : LastUses freed released out back
+  pub placed : PutsOverKey (its_start w) (view_of holder.before) (its_pass w) key file result out
+      back (view_of holder.after) v
+
+-- the file of the key was replaced by one with this tag and number, and retired
+pub record ReplacesFileOf (w : TableWorker) (key : Key) (tag number : ℕ) (removal : Removal)
+    (freed released : Option ℕ) (w' : TableWorker) : Type 0 where
+  pub retired : Retired
+  pub between : PassView
+  pub puts : PutsKey w key (file_with tag number) (Replaced retired) freed released w' between
+  pub retires : RetiresAs (its_opening w) between retired removal (its_pass w')
+
+-- the slot was left as it was, for this reason
+abbrev pub PutsNoKey : TableWorker → Key → (tag number : ℕ) → KeyFault
+    → (freed released : Option ℕ) → TableWorker → Type 0
+PutsNoKey w key tag number why freed released w' = PutsKey w key (file_with tag number)
+    (Missed why (file_with tag number)) freed released w' (its_pass w')
+
+-- a replacement by key
+abbrev pub ReplacesByKey : TableWorker → Key → (tag number : ℕ) → Result Removal ServerRefusal
+    → (freed released : Option ℕ) → TableWorker → Type 0
+ReplacesByKey w key tag number (Ok removal) freed released w' =
+    ReplacesFileOf w key tag number removal freed released w'
+ReplacesByKey w key tag number (Err NoSlot) freed released w' =
+    PutsNoKey w key tag number fault.NoSlot freed released w'
+ReplacesByKey w key tag number (Err Empty) freed released w' =
+    PutsNoKey w key tag number fault.Empty freed released w'
+ReplacesByKey w key tag number (Err Stale) freed released w' =
+    PutsNoKey w key tag number fault.Other freed released w'
+ReplacesByKey w key tag number (Err Again) freed released w' =
+    PutsNoKey w key tag number fault.Again freed released w'
+ReplacesByKey w key tag number (Err Busy) freed released w' =
+    (freed ≡ None) × (released ≡ None) × IsBusy w w'
+ReplacesByKey w key tag number (Err Reader) freed released w' = (freed ≡ None) × (released ≡ None)
+    × (((w.holder ≡ None) × (w' ≡ w)) ⊎ IsReader w w')
+ReplacesByKey w key tag number (Err _) freed released w' = ⊥
+
+-- the same with the next number of the worker, which only a file that is installed uses up
+abbrev pub ReplacesByKeyNext : TableWorker → Key → (tag : ℕ) → Result Placed ServerRefusal
+    → (freed released : Option ℕ) → TableWorker → Type 0
+ReplacesByKeyNext w key tag (Ok placed) freed released w' = UsesNumber w placed.number w'
+    × ReplacesByKey w key tag placed.number (Ok placed.removal) freed released w'
+ReplacesByKeyNext w key tag (Err reason) freed released w' = DrawsNone w w'
+    × ReplacesByKey w key tag w.numbers.next (Err reason) freed released w'

@@ -1,0 +1,175 @@
+//! The calls by key: the slot of a file and its number.
+ghost use Rattle.std.specs.Prelude.{◌≡◌, None, Err};
+ghost use Rattle.fx_server.specs.ByKey.{FindsByKey, RemovesByKey, ReplacesByKey, ReplacesByKeyNext, key_of};
+ghost use Rattle.fx_server.specs.ByKey.{key_refusal};
+ghost use Rattle.fx_server.specs.Workers.{IsGood};
+
+use crate::answers::{LookAnswer, PlaceAnswer, Placed, RemoveAnswer, ServerRefusal};
+use crate::shared::Shared;
+use crate::worker::{TableWorker, not_found, not_removed, note, retire, tag_of};
+use fx_lasting::{Key, KeyFault, KeyLook, KeyPut, KeyTaken, PutOverKey};
+
+impl TableWorker {
+    /// Looks up the file of a key. The worker holds it until `release`.
+    #[inline(always)]
+    pub fn get(&mut self, slot: u32, number: u64) -> LookAnswer
+        requires good { IsGood self.old }
+        ensures good { IsGood self.new }
+        ensures table { self.new.shared ≡ self.old.shared }
+        ensures numbers { self.new.numbers ≡ self.old.numbers }
+        ensures holder { self.new.holder ≡ self.old.holder }
+        ensures found { FindsByKey self.old (key_of slot number) result.found result.freed
+            result.released self.new }
+    {
+        if self.held.is_some() {
+            return not_found(ServerRefusal::Busy);
+        }
+        let table = &self.shared.table;
+        let KeyLook {
+            found,
+            freed,
+            released,
+        } = table.look_key(&mut self.pass, Key { slot, number });
+        let freed = tag_of(freed);
+        let released = tag_of(released);
+        let found = match found {
+            Ok(hold) => note(table, &mut self.pass, &mut self.held, Ok(hold)),
+            Err(fault) => Err(key_refusal(fault)),
+        };
+        LookAnswer {
+            found,
+            freed,
+            released,
+        }
+    }
+
+    /// Removes the file of a key. The worker's second pass holds it meanwhile.
+    ///
+    /// # Errors
+    /// `Busy`, `Reader`, `NoSlot`, in this order; `Empty` if the slot has no file, `Stale` if it
+    /// has another one, `Again` if look-ups changed the slot's word before each of four tries.
+    #[inline(always)]
+    pub fn remove(&mut self, slot: u32, number: u64) -> RemoveAnswer
+        requires good { IsGood self.old }
+        ensures good { IsGood self.new }
+        ensures table { self.new.shared ≡ self.old.shared }
+        ensures held { self.new.held ≡ self.old.held }
+        ensures numbers { self.new.numbers ≡ self.old.numbers }
+        ensures removed { RemovesByKey self.old (key_of slot number) result.removal result.freed
+            result.released self.new }
+    {
+        if self.held.is_some() {
+            return not_removed(ServerRefusal::Busy);
+        }
+        let Some(holder) = &mut self.holder else {
+            return not_removed(ServerRefusal::Reader);
+        };
+        let table = &self.shared.table;
+        let KeyTaken {
+            taken,
+            freed,
+            released,
+        } = table.take_key(holder, &mut self.pass, Key { slot, number });
+        let freed = tag_of(freed);
+        let released = tag_of(released);
+        let removal = match taken {
+            Ok(retired) => Ok(retire(table, &mut self.pass, retired)),
+            Err(fault) => Err(key_refusal(fault)),
+        };
+        RemoveAnswer {
+            removal,
+            freed,
+            released,
+        }
+    }
+
+    /// Replaces the file of a key by one with this tag and the worker's next number. The worker's
+    /// second pass holds the old file meanwhile. Returns what became of it, and the number.
+    ///
+    /// # Errors
+    /// As of `remove`.
+    #[inline(always)]
+    pub fn replace(&mut self, slot: u32, number: u64, tag: u64) -> PlaceAnswer
+        requires good { IsGood self.old }
+        ensures good { IsGood self.new }
+        ensures table { self.new.shared ≡ self.old.shared }
+        ensures held { self.new.held ≡ self.old.held }
+        ensures placed { ReplacesByKeyNext self.old (key_of slot number) tag result.placed
+            result.freed result.released self.new }
+    {
+        let RemoveAnswer {
+            removal,
+            freed,
+            released,
+        } = self.replace_as(slot, number, tag, self.numbers.next);
+        let placed = match removal {
+            Ok(removal) => {
+                let number = self.numbers.draw();
+                Ok(Placed { removal, number })
+            }
+            Err(refusal) => Err(refusal),
+        };
+        PlaceAnswer {
+            placed,
+            freed,
+            released,
+        }
+    }
+
+    // Replaces the file of a key by one with this tag and this number.
+    #[inline(always)]
+    fn replace_as(&mut self, slot: u32, number: u64, tag: u64, next: u64) -> RemoveAnswer
+        requires good { IsGood self.old }
+        ensures good { IsGood self.new }
+        ensures table { self.new.shared ≡ self.old.shared }
+        ensures held { self.new.held ≡ self.old.held }
+        ensures numbers { self.new.numbers ≡ self.old.numbers }
+        ensures placed { ReplacesByKey self.old (key_of slot number) tag next result.removal
+            result.freed result.released self.new }
+    {
+        if self.held.is_some() {
+            return not_removed(ServerRefusal::Busy);
+        }
+        let Some(holder) = &mut self.holder else {
+            return not_removed(ServerRefusal::Reader);
+        };
+        let shared: &Shared = &self.shared;
+        let table = &shared.table;
+        if !table.installs(&self.pass) {
+            return not_removed(ServerRefusal::Reader);
+        }
+        let file = shared.file(tag, next);
+        let KeyPut {
+            put,
+            freed,
+            released,
+        } = table.put_over_key(holder, &mut self.pass, Key { slot, number }, file);
+        let freed = tag_of(freed);
+        let released = tag_of(released);
+        let removal = match put {
+            PutOverKey::Replaced(retired) => Ok(retire(table, &mut self.pass, retired)),
+            PutOverKey::Missed(fault, file) => {
+                file.discard();
+                Err(key_refusal(fault))
+            }
+        };
+        RemoveAnswer {
+            removal,
+            freed,
+            released,
+        }
+    }
+}
+
+// Returns the refusal of a call by key.
+#[inline(always)]
+fn key_refusal(fault: KeyFault) -> ServerRefusal
+    ensures { result ≡ key_refusal fault }
+{
+    match fault {
+        KeyFault::NoSlot => ServerRefusal::NoSlot,
+        KeyFault::Empty => ServerRefusal::Empty,
+        KeyFault::Other => ServerRefusal::Stale,
+        KeyFault::Again => ServerRefusal::Again,
+    }
+}

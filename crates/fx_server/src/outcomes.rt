@@ -1,0 +1,191 @@
+//! The numbers and outcomes that C gets for the results of a worker's calls.
+ghost use Rattle.std.specs.Prelude.{◌≡◌};
+ghost use Rattle.fx_server.specs.Outcomes.{done_code, draw_code, drawn_or_zero, found_code, found_outcome, placed_code, placed_outcome, release_code, released_tag, removal_code, removal_tag, removed_outcome, slot_code, slot_number, tag_or_zero};
+
+use crate::answers::{
+    CoreOutcome, FoundFile, LookAnswer, PlaceAnswer, Placed, PlacedAt, Removal, RemoveAnswer,
+    ServerRefusal,
+};
+use crate::codes::{DONE, DROPPED, IN_USE};
+
+/// Returns a tag, or 0 if there is none.
+#[inline(always)]
+pub fn tag_or_zero(tag: Option<u64>) -> u64
+    ensures { result ≡ tag_or_zero tag }
+{
+    match tag {
+        None => 0,
+        Some(tag) => tag,
+    }
+}
+
+/// Returns the number of a call that returns nothing else: `DONE`, or the refusal's.
+#[inline(always)]
+pub fn done_code(done: Result<(), ServerRefusal>) -> i64
+    ensures { result ≡ done_code done }
+{
+    match done {
+        Ok(()) => DONE,
+        Err(refusal) => refusal.code(),
+    }
+}
+
+/// Returns the number of a draw: `DONE`, or the refusal's.
+#[inline(always)]
+pub fn draw_code(drawn: Result<u64, ServerRefusal>) -> i64
+    ensures { result ≡ draw_code drawn }
+{
+    match drawn {
+        Ok(_) => DONE,
+        Err(refusal) => refusal.code(),
+    }
+}
+
+/// Returns the number that was drawn, or 0.
+#[inline(always)]
+pub fn drawn_or_zero(drawn: Result<u64, ServerRefusal>) -> u64
+    ensures { result ≡ drawn_or_zero drawn }
+{
+    match drawn {
+        Ok(number) => number,
+        Err(_) => 0,
+    }
+}
+
+/// Returns the slot of an installation at any slot, or the refusal's number.
+#[inline(always)]
+pub fn slot_code(placed: Result<PlacedAt, ServerRefusal>) -> i64
+    ensures { result ≡ slot_code placed }
+{
+    match placed {
+        Ok(at) => at.slot as i64,
+        Err(refusal) => refusal.code(),
+    }
+}
+
+/// Returns the number of the file that an installation at any slot installed, or 0.
+#[inline(always)]
+pub fn slot_number(placed: Result<PlacedAt, ServerRefusal>) -> u64
+    ensures { result ≡ slot_number placed }
+{
+    match placed {
+        Ok(at) => at.number,
+        Err(_) => 0,
+    }
+}
+
+/// Returns the number of a release.
+#[inline(always)]
+pub fn release_code(released: Result<Option<u64>, ServerRefusal>) -> i64
+    ensures { result ≡ release_code released }
+{
+    match released {
+        Ok(None) => DONE,
+        Ok(Some(_)) => DROPPED,
+        Err(refusal) => refusal.code(),
+    }
+}
+
+/// Returns the tag that a release returned, or 0.
+#[inline(always)]
+pub fn released_tag(released: Result<Option<u64>, ServerRefusal>) -> u64
+    ensures { result ≡ released_tag released }
+{
+    match released {
+        Ok(tag) => tag_or_zero(tag),
+        Err(_) => 0,
+    }
+}
+
+/// Returns the number of a look-up: `DONE`, or the refusal's.
+#[inline(always)]
+pub fn found_code(found: Result<FoundFile, ServerRefusal>) -> i64
+    ensures { result ≡ found_code found }
+{
+    match found {
+        Ok(_) => DONE,
+        Err(refusal) => refusal.code(),
+    }
+}
+
+/// Returns the outcome of a look-up.
+#[inline(always)]
+pub fn found_outcome(look: LookAnswer) -> CoreOutcome
+    ensures { result ≡ found_outcome look }
+{
+    let (number, tag) = match look.found {
+        Ok(file) => (file.number, file.tag),
+        Err(_) => (0, 0),
+    };
+    CoreOutcome {
+        number,
+        tag,
+        freed: tag_or_zero(look.freed),
+        released: tag_or_zero(look.released),
+    }
+}
+
+/// Returns the number of a call that removes a file, or may do so.
+#[inline(always)]
+pub fn removal_code(removal: Result<Removal, ServerRefusal>) -> i64
+    ensures { result ≡ removal_code removal }
+{
+    match removal {
+        Ok(Removal::Nothing) => DONE,
+        Ok(Removal::InUse) => IN_USE,
+        Ok(Removal::Closed(_)) => DROPPED,
+        Err(refusal) => refusal.code(),
+    }
+}
+
+/// Returns the tag of the file that was removed and that nobody uses any more, or 0.
+#[inline(always)]
+pub fn removal_tag(removal: Result<Removal, ServerRefusal>) -> u64
+    ensures { result ≡ removal_tag removal }
+{
+    match removal {
+        Ok(Removal::Closed(tag)) => tag,
+        _ => 0,
+    }
+}
+
+/// Returns the outcome of a removal.
+#[inline(always)]
+pub fn removed_outcome(answer: RemoveAnswer) -> CoreOutcome
+    ensures { result ≡ removed_outcome answer }
+{
+    CoreOutcome {
+        number: 0,
+        tag: removal_tag(answer.removal),
+        freed: tag_or_zero(answer.freed),
+        released: tag_or_zero(answer.released),
+    }
+}
+
+/// Returns the number of an installation at a slot.
+#[inline(always)]
+pub fn placed_code(placed: Result<Placed, ServerRefusal>) -> i64
+    ensures { result ≡ placed_code placed }
+{
+    match placed {
+        Ok(it) => removal_code(Ok(it.removal)),
+        Err(refusal) => refusal.code(),
+    }
+}
+
+/// Returns the outcome of an installation at a slot.
+#[inline(always)]
+pub fn placed_outcome(answer: PlaceAnswer) -> CoreOutcome
+    ensures { result ≡ placed_outcome answer }
+{
+    let (number, tag) = match answer.placed {
+        Ok(it) => (it.number, removal_tag(Ok(it.removal))),
+        Err(_) => (0, 0),
+    };
+    CoreOutcome {
+        number,
+        tag,
+        freed: tag_or_zero(answer.freed),
+        released: tag_or_zero(answer.released),
+    }
+}
