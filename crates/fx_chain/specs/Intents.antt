@@ -1,7 +1,7 @@
 -- The accesses that each kind of request intends at the table, in order, each before it is known
 -- what it finds: their slots, the numbers and the room in a list of closes that they need, and the
 -- answer of the request by what they found.
-use Rattle.std.specs.Prelude.{◌≡◌, ℕ, zero, suc, ◌+◌, ◌<◌, ◌≤◌, Bool, true, false, ℤ, pos}
+use Rattle.std.specs.Prelude.{◌≡◌, ◌≢◌, ℕ, zero, suc, ◌+◌, ◌<◌, ◌≤◌, Bool, true, false, ℤ, pos}
 use Rattle.std.specs.Prelude.{negsuc, int_le, List, [], ◌∷◌, ◌++◌, length, filter, slice_get}
 use Rattle.std.specs.Prelude.{Option, Some, None, MatchOption, if◌then◌else◌}
 use Rattle.fx_base.specs.declared.errno.Errno.{Errno}
@@ -177,6 +177,12 @@ answer_at_table catalogue place (Reads slot off len) found =
     read_answer catalogue place off len found
 answer_at_table catalogue place (Closes slot) found = close_answer place found
 answer_at_table catalogue place (Updates off list) found = completed place (pos (length list)) []
+
+-- the result of a request that isn't refused depends on what the last one of its accesses found
+abbrev pub DependsOnFindings : List FileEntry → Place → Operation → Type 0
+DependsOnFindings catalogue place operation = (one : Option Finding) × (other : Option Finding)
+    × ((answer_at_table catalogue place operation one).res
+    ≢ (answer_at_table catalogue place operation other).res)
 
 -- this answer, but the error if there is one
 abbrev pub refusal_or : Place → Option Errno → Completed → Completed

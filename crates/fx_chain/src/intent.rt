@@ -5,7 +5,7 @@ ghost use Rattle.std.specs.Prelude.{◌≡◌, ◌<◌, ◌^◌, None, length, �
 ghost use Rattle.fx_base.specs.Catalogue.{FileEntry};
 ghost use Rattle.fx_chain.specs.Accepted.{IsWithinLimits};
 ghost use Rattle.fx_chain.specs.Completed.{completed_of};
-ghost use Rattle.fx_chain.specs.Intents.{answer_of, close_answer, open_answer, read_answer, InstallsAt, IsIntent, MayReach, answer_at_table, bytes_asked, bytes_read, count_of, intent_by, intents_of, is_read, open_intent, positions_of};
+ghost use Rattle.fx_chain.specs.Intents.{answer_of, close_answer, open_answer, read_answer, DependsOnFindings, InstallsAt, IsIntent, MayReach, answer_at_table, bytes_asked, bytes_read, count_of, intent_by, intents_of, is_read, open_intent, positions_of};
 ghost use Rattle.fx_chain.specs.Operation.{asked_of, operation_of};
 ghost use Rattle.fx_chain.specs.Refusal.{refusal_of};
 ghost use Rattle.fx_chain.specs.declared.completion.Place.{Place as In};
@@ -93,8 +93,10 @@ impl Request {
     /// Returns the first slot that the request may reach, and the one after the last. `range` is
     /// the allocation range: its first slot and its number of slots.
     pub fn slots(&self, range: (u32, u32)) -> (usize, usize)
-        ensures { (slot : ℕ) → MayReach range (operation_of self.now.op) slot
+        ensures all { (slot : ℕ) → MayReach range (operation_of self.now.op) slot
             → (result.0 ≤ slot) × (slot < result.1) }
+        ensures no_other { (slot : ℕ) → result.0 ≤ slot → slot < result.1
+            → MayReach range (operation_of self.now.op) slot }
     {
         match &self.op {
             Op::Open {
@@ -162,16 +164,24 @@ impl Request {
     /// Returns the result of the request, unless it is refused or canceled, if it doesn't depend on
     /// what its accesses find: 0 for an open at a slot, the length of the list for an update.
     pub fn fixed_result(&self) -> Option<i32>
-        ensures { IfSome result (λ res. (catalogue : List FileEntry) (place : In) (found : Option What)
+        ensures fixed { IfSome result (λ res. (catalogue : List FileEntry) (place : In) (found : Option What)
             → (answer_at_table catalogue place (operation_of self.now.op) found).res ≡ res) }
+        ensures none { IsWithinLimits (asked_of self.now) → result ≡ None
+            → (catalogue : List FileEntry) (place : In)
+            → DependsOnFindings catalogue place (operation_of self.now.op) }
     {
         match &self.op {
-            Op::Open {
-                name: _,
-                target: Target::Slot(_),
-            } => Some(0),
+            Op::Open { name: _, target } => match target {
+                Target::Slot(_) => Some(0),
+                Target::Any => None,
+            },
             Op::Update { off: _, list } => i32::try_from(list.len()).ok(),
-            _ => None,
+            Op::Read {
+                slot: _,
+                off: _,
+                len: _,
+            } => None,
+            Op::Close { slot: _ } => None,
         }
     }
 
