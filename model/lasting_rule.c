@@ -33,10 +33,13 @@ static const struct family families[] = {
     {"three passes, one slot in the range, a removal names a node", 3, 1, 1, 1, {LOOK, TAKE_IF, PUT_ANY | REMOVE}, false},
     {"three passes, one slot, calls name a node, another pass looks up", 3, 1, 1, 0, {LOOK, TAKE_IF | PUT_IF | PUT, LOOK}, false},
     {"three passes, one slot, calls name a node, another pass replaces", 3, 1, 1, 0, {LOOK, TAKE_IF | PUT_IF, PUT}, false},
+    {"three passes, two slots in the range, calls name a node, another pass allocates", 3, 2, 1, 1, {LOOK, TAKE_IF | PUT_IF, PUT_ANY}, false},
+    {"three passes, one slot, hot after 1 take, two name a node", 3, 1, 1, 0, {LOOK, TAKE_IF | PUT_IF | PUT, TAKE_IF | PUT_IF}, false},
+    {"three passes, one slot, hot after 3 takes, two name a node", 3, 1, 3, 0, {LOOK, TAKE_IF | PUT_IF | PUT, TAKE_IF | PUT_IF}, false},
 };
 
 /* The family with which the search for a wrong table begins. */
-enum { FIRST_OF_KEYS = sizeof families / sizeof families[0] - 3 };
+enum { FIRST_OF_KEYS = sizeof families / sizeof families[0] - 6 };
 
 static int first_family(int table) { return table < WRONG_KEYS ? 0 : FIRST_OF_KEYS; }
 

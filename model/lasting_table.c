@@ -522,17 +522,30 @@ static void exchange_empty(struct state *s, struct pass *it, int who) {
     }
 }
 
-/* A call that names a node: the node of the file that the pass before holds until the call has
+/* A call that names a node: the node of the file that an earlier pass holds until the call has
  * removed the file or hasn't. */
 
-static int key_of(const struct state *s, int who) {
-    bool holds = who && (s->pass[who - 1].step == GUARDED || s->pass[who - 1].step == COUNTED);
-    return holds ? s->pass[who - 1].holds : 0;
+/* Returns the last pass before this one that looks slots up, or -1. */
+static int holder_for(int who) {
+    do {
+        who--;
+    } while (who >= 0 && !(family->calls[who] & LOOK));
+    return who;
 }
 
-/* Returns whether the next pass has a call under way that names the file which this pass holds. */
+static int key_of(const struct state *s, int who) {
+    int holder = holder_for(who);
+    bool holds = holder >= 0 && (s->pass[holder].step == GUARDED || s->pass[holder].step == COUNTED);
+    return holds ? s->pass[holder].holds : 0;
+}
+
+/* Returns whether another pass has a call under way that names the file which this pass holds. */
 static bool is_kept(const struct state *s, int who) {
-    return who + 1 < family->passes && s->pass[who + 1].key && wrong != file_of_the_node_is_not_held;
+    bool kept = false;
+    for (int other = who + 1; other < family->passes; other++) {
+        kept |= s->pass[other].key && holder_for(other) == who;
+    }
+    return kept && wrong != file_of_the_node_is_not_held;
 }
 
 static void expect(const struct state *s, struct pass *it) {

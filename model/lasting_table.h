@@ -4,7 +4,7 @@
 
 /* A word of the list has the bits of PER_WORD passes, and not of 64, so that a round loads two
  * words. */
-enum { MOST_SLOTS = 4, MOST_GROUPS = 3, MOST_NODES = 11, PER_WORD = 2, MOST_WORDS = (MOST_PASSES + PER_WORD - 1) / PER_WORD };
+enum { MOST_SLOTS = 4, MOST_GROUPS = 3, MOST_NODES = 12, PER_WORD = 2, MOST_WORDS = (MOST_PASSES + PER_WORD - 1) / PER_WORD };
 
 /* The words of a node, where 64 is 2^32 + 1, and the mark of a hold word. */
 enum { FREE = 0, CLOSED = 1, LAST = 2, BORN = 64, MARK = 128 };
