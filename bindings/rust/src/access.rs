@@ -5,19 +5,20 @@
 //! The core counts holds and returns the tag to exactly one call, when nobody can hold the value
 //! any more; that call gets the box.
 //!
-//! The arguments in these files name what they rest on. Clauses of the core's worker
-//! (`fx_server::TableWorker`): `looked` (the look-up found a file of the slot, the worker holds it,
-//! and the tag and the number are the file's), `released`, `placed`, `allocated` and `removed`
-//! (which file is returned to be closed, by its tag, and that a call which names a node changes the
-//! slot only if its file is on that node). Laws of every history (`fx_plain::laws`):
-//! `no_close_while_held`, `closed_at_most_once`. They hold of what all workers do together, by
-//! `has_one_history`. Laws of every state of the table (`fx_lasting::laws`): `has_one_history`,
-//! `held_nodes_name_files`, `removed_files_have_users`.
+//! The arguments in these files name what they rest on. Clauses of the core's exports
+//! (`fx_server_c`, and the records of `specs/Answers.antt` in `fx_server`): `found` (the worker
+//! holds the file that was found, and the tag and the number are that file's), `released`,
+//! `placed`, `allocated` and `removed` (which file is returned to be closed, by its tag, and that a
+//! call by key changes the slot only if it has the key's file). Each says that the worker stays in
+//! its table (`StaysInTable`). So laws of every history (`fx_plain::laws`: `no_close_while_held`,
+//! `closed_at_most_once`) and of every state of the table (`fx_lasting::laws`: `has_one_history`,
+//! `removed_files_have_users`) hold of what all workers of a table do together.
 //!
 //! One rule of this crate is cited as well. *One user*: a seat (`seats.rs`) is used by one thread
 //! at a time. Its number is claimed by an exchange that acquires, and returned by an operation that
 //! releases. In between, one value has it: a reader, a handle, a guard, or a call of the table.
 mod core;
+mod exports;
 mod guard;
 mod handle;
 mod keys;

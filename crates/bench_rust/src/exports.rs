@@ -1,53 +1,25 @@
 //! The proved table that never has to be closed, by the exports for C that the Rust crate calls.
 //! A file is known to it by its tag.
+use crate::declared::*;
 use crate::table::{read_entry, File, Shape, Table, FILE};
 use std::ffi::c_void;
 use std::sync::atomic::{AtomicPtr, Ordering::Relaxed};
-
-/// A worker, which is one pass of the table: one pointer, or null if there is none.
-#[repr(C)]
-pub struct Worker(*mut c_void);
-
-/// The number and the tag of the file that a call found or installed, and the tags of those that it
-/// closed.
-#[allow(dead_code)]
-#[repr(C)]
-#[derive(Default)]
-pub(crate) struct Outcome {
-    pub(crate) number: u64,
-    pub(crate) tag: u64,
-    pub(crate) freed: u64,
-    pub(crate) released: u64,
-}
-
-const DONE: i64 = 0;
-const AGAIN: i64 = -7;
 
 /// The fewest workers of a table. A stock has a node for each worker. After the first 4,096 nodes
 /// two share a cache line, and so would those of small stocks.
 pub const WORKERS: usize = 16;
 
-extern "C" {
-    fn yacht_core_open(slots: u32, installing: u32, workers: *mut Worker, count: usize) -> i64;
-    fn yacht_core_close(worker: Worker);
-    fn yacht_core_get_at(worker: *mut Worker, slot: u32, out: *mut Outcome) -> i64;
-    fn yacht_core_release(worker: *mut Worker, dropped: *mut u64) -> i64;
-    fn yacht_core_replace_at(worker: *mut Worker, slot: u32, tag: u64, out: *mut Outcome) -> i64;
-    fn yacht_core_insert(worker: *mut Worker, tag: u64, number: *mut u64) -> i64;
-    fn yacht_core_remove_at(worker: *mut Worker, slot: u32, out: *mut Outcome) -> i64;
-}
-
 /// A table with a worker for each thread, and as many more as it takes to have 16. Its allocation
 /// range is all its slots.
-pub struct Core(Vec<AtomicPtr<c_void>>);
+pub struct Exports(Vec<AtomicPtr<c_void>>);
 
 fn tag_of(file: File) -> u64 {
     file.mark + 1
 }
 
-impl Core {
+impl Exports {
     // Looks a slot up and releases its file. Returns the tag of the file, if there is one.
-    fn see(&self, worker: *mut Worker, slot: usize) -> Option<u64> {
+    fn see(&self, worker: *mut Core, slot: usize) -> Option<u64> {
         let (mut out, mut dropped) = (Outcome::default(), 0);
         // SAFETY: one thread uses this worker.
         let answer = unsafe { yacht_core_get_at(worker, slot as u32, &mut out) };
@@ -59,51 +31,45 @@ impl Core {
     }
 }
 
-impl Table for Core {
-    type Pass = *mut Worker;
+impl Table for Exports {
+    type Pass = *mut Core;
 
-    fn open(shape: Shape) -> Core {
+    fn open(shape: Shape) -> Exports {
         let count = shape.threads.max(WORKERS);
-        let mut workers: Vec<Worker> = (0..count).map(|_| Worker(std::ptr::null_mut())).collect();
+        let mut workers: Vec<Core> = (0..count).map(|_| Core(std::ptr::null_mut())).collect();
         let slots = shape.slots as u32;
         // SAFETY: there are `count` places.
         let installing = shape.threads as u32;
         let answer = unsafe { yacht_core_open(slots, installing, workers.as_mut_ptr(), count) };
         assert_eq!(answer, 0, "memory");
-        let table = Core(workers.into_iter().map(|it| AtomicPtr::new(it.0)).collect());
+        let table = Exports(workers.into_iter().map(|it| AtomicPtr::new(it.0)).collect());
         for slot in 0..shape.full {
             table.put(&mut table.pass(0), slot, FILE);
         }
         table
     }
 
-    fn pass(&self, thread: usize) -> *mut Worker {
+    fn pass(&self, thread: usize) -> *mut Core {
         self.0[thread].as_ptr().cast()
     }
 
-    fn look(&self, worker: &mut *mut Worker, slot: usize) -> u64 {
+    fn look(&self, worker: &mut *mut Core, slot: usize) -> u64 {
         self.see(*worker, slot).unwrap_or(0)
     }
 
-    fn read(
-        &self,
-        worker: &mut *mut Worker,
-        slot: usize,
-        catalogue: &[Vec<u8>],
-        into: &mut Vec<u8>,
-    ) {
+    fn read(&self, worker: &mut *mut Core, slot: usize, catalogue: &[Vec<u8>], into: &mut Vec<u8>) {
         if self.see(*worker, slot).is_some() {
             read_entry(catalogue, 0, into);
         }
     }
 
-    fn put(&self, worker: &mut *mut Worker, slot: usize, file: File) {
+    fn put(&self, worker: &mut *mut Core, slot: usize, file: File) {
         let mut out = Outcome::default();
         // SAFETY: one thread uses this worker.
         unsafe { yacht_core_replace_at(*worker, slot as u32, tag_of(file), &mut out) };
     }
 
-    fn put_any(&self, worker: &mut *mut Worker, file: File) -> Option<usize> {
+    fn put_any(&self, worker: &mut *mut Core, file: File) -> Option<usize> {
         let (tag, mut number) = (tag_of(file), 0);
         loop {
             // SAFETY: one thread uses this worker.
@@ -114,18 +80,18 @@ impl Table for Core {
         }
     }
 
-    fn take(&self, worker: &mut *mut Worker, slot: usize) {
+    fn take(&self, worker: &mut *mut Core, slot: usize) {
         let mut out = Outcome::default();
         // SAFETY: one thread uses this worker.
         unsafe { yacht_core_remove_at(*worker, slot as u32, &mut out) };
     }
 }
 
-impl Drop for Core {
+impl Drop for Exports {
     fn drop(&mut self) {
         for worker in &self.0 {
             // SAFETY: no thread uses the workers any more.
-            unsafe { yacht_core_close(Worker(worker.load(Relaxed))) };
+            unsafe { yacht_core_close(Core(worker.load(Relaxed))) };
         }
     }
 }

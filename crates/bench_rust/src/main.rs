@@ -3,6 +3,7 @@
 //! sharded-slab and a lock of std, in turn in one process. Each line has the times of one round,
 //! for `bench/ratios.py`. With the argument `tails` it prints how long single calls take instead.
 mod bindings;
+mod declared;
 mod exports;
 mod lasting_words;
 mod locked;
@@ -16,7 +17,7 @@ mod words;
 mod work;
 
 use bindings::{Lasting, LastingKeys};
-use exports::{Core, WORKERS};
+use exports::{Exports, WORKERS};
 use lasting_words::LastingWords;
 use locked::Locked;
 use others::{Epochs, Swaps};
@@ -66,7 +67,7 @@ fn large_round(name: &str, _: &str, row: Row, threads: usize) {
         return;
     }
     let times = [
-        ("lasting", time::<Core>(row, threads)),
+        ("lasting", time::<Exports>(row, threads)),
         ("Rust crate", time::<Lasting>(row, threads)),
         ("Rust crate keys", time::<LastingKeys>(row, threads)),
         ("lasting words", time::<LastingWords<WORKERS>>(row, threads)),

@@ -1,0 +1,109 @@
+//! The exports of the verified core, and the numbers that they return. In the core's words a value
+//! is a file. `scripts/declare-core` writes this file from `crates/fx_server_c/src/exports.rt`,
+//! which describes each function.
+#![allow(dead_code)]
+use super::core::Core;
+
+/// The numbers that a call returns beside its answer. Each is 0 if there is no such file.
+#[repr(C)]
+#[derive(Clone, Copy, Default)]
+pub(crate) struct Outcome {
+    /// The number of the file that was found or installed.
+    pub(crate) number: u64,
+    /// The tag of the file that was found, or that was removed and nobody uses any more.
+    pub(crate) tag: u64,
+    /// The tag of a removed file that the call's look-up was the last to use.
+    pub(crate) freed: u64,
+    /// The tag of a file that the call held and was the last to use.
+    pub(crate) released: u64,
+}
+
+/// The call is done. If it installs a file, the slot was empty.
+pub(crate) const DONE: i64 = 0;
+/// The call is done, and it returned the tag of a file that nobody uses any more.
+pub(crate) const DROPPED: i64 = 1;
+/// The call is done, and the file that was at the slot is still used.
+pub(crate) const IN_USE: i64 = 2;
+/// The slot is empty.
+pub(crate) const EMPTY: i64 = -1;
+/// The table has no such slot.
+pub(crate) const NO_SLOT: i64 = -2;
+/// The worker holds a file.
+pub(crate) const BUSY: i64 = -3;
+/// The worker holds no file.
+pub(crate) const IDLE: i64 = -4;
+/// The worker only looks files up.
+pub(crate) const READER: i64 = -5;
+/// At one step every slot had a file.
+pub(crate) const FULL: i64 = -6;
+/// The round installed nothing, and found no step at which every slot had a file; or the slot's
+/// word changed at each try of the call.
+pub(crate) const AGAIN: i64 = -7;
+/// An argument is out of range.
+pub(crate) const BAD_ARGUMENT: i64 = -8;
+/// An allocation failed.
+pub(crate) const NO_MEMORY: i64 = -9;
+/// The slot has another file than that of the key, or the call fills only an empty slot.
+pub(crate) const STALE: i64 = -10;
+
+#[cfg(not(yachtbanyan_stand_in))]
+unsafe extern "C" {
+    pub(crate) fn yacht_core_open(
+        slots: u32,
+        installing: u32,
+        workers: *mut Core,
+        count: usize,
+    ) -> i64;
+    pub(crate) fn yacht_core_close(worker: Core);
+    pub(crate) fn yacht_core_get_at(worker: *mut Core, slot: u32, out: *mut Outcome) -> i64;
+    pub(crate) fn yacht_core_get(
+        worker: *mut Core,
+        slot: u32,
+        number: u64,
+        out: *mut Outcome,
+    ) -> i64;
+    pub(crate) fn yacht_core_release(worker: *mut Core, dropped: *mut u64) -> i64;
+    pub(crate) fn yacht_core_insert(worker: *mut Core, tag: u64, number: *mut u64) -> i64;
+    pub(crate) fn yacht_core_replace_at(
+        worker: *mut Core,
+        slot: u32,
+        tag: u64,
+        out: *mut Outcome,
+    ) -> i64;
+    pub(crate) fn yacht_core_replace(
+        worker: *mut Core,
+        slot: u32,
+        number: u64,
+        tag: u64,
+        out: *mut Outcome,
+    ) -> i64;
+    pub(crate) fn yacht_core_remove_at(worker: *mut Core, slot: u32, out: *mut Outcome) -> i64;
+    pub(crate) fn yacht_core_remove(
+        worker: *mut Core,
+        slot: u32,
+        number: u64,
+        out: *mut Outcome,
+    ) -> i64;
+    pub(crate) fn yacht_core_draw(worker: *mut Core, number: *mut u64) -> i64;
+    pub(crate) fn yacht_core_put_empty(worker: *mut Core, slot: u32, tag: u64) -> i64;
+    pub(crate) fn yacht_core_full(worker: *mut Core) -> i64;
+}
+
+// The stand-in has the same functions.
+#[cfg(yachtbanyan_stand_in)]
+const _: () = {
+    use super::stand_in;
+    let _: unsafe fn(u32, u32, *mut Core, usize) -> i64 = stand_in::yacht_core_open;
+    let _: unsafe fn(Core) = stand_in::yacht_core_close;
+    let _: unsafe fn(*mut Core, u32, *mut Outcome) -> i64 = stand_in::yacht_core_get_at;
+    let _: unsafe fn(*mut Core, u32, u64, *mut Outcome) -> i64 = stand_in::yacht_core_get;
+    let _: unsafe fn(*mut Core, *mut u64) -> i64 = stand_in::yacht_core_release;
+    let _: unsafe fn(*mut Core, u64, *mut u64) -> i64 = stand_in::yacht_core_insert;
+    let _: unsafe fn(*mut Core, u32, u64, *mut Outcome) -> i64 = stand_in::yacht_core_replace_at;
+    let _: unsafe fn(*mut Core, u32, u64, u64, *mut Outcome) -> i64 = stand_in::yacht_core_replace;
+    let _: unsafe fn(*mut Core, u32, *mut Outcome) -> i64 = stand_in::yacht_core_remove_at;
+    let _: unsafe fn(*mut Core, u32, u64, *mut Outcome) -> i64 = stand_in::yacht_core_remove;
+    let _: unsafe fn(*mut Core, *mut u64) -> i64 = stand_in::yacht_core_draw;
+    let _: unsafe fn(*mut Core, u32, u64) -> i64 = stand_in::yacht_core_put_empty;
+    let _: unsafe fn(*mut Core) -> i64 = stand_in::yacht_core_full;
+};
