@@ -2,6 +2,8 @@ pub mod AsBox
 pub mod ByKey
 pub mod Dealing
 pub mod Drawing
+pub mod EndingCalls
+pub mod EndsOfKeys
 pub mod FileNumbers
 pub mod FromEnd
 pub mod Looking

@@ -1,5 +1,6 @@
 pub mod Answers
 pub mod ByKey
+pub mod EndsOfKeys
 pub mod FileNumbers
 pub mod Files
 pub mod Handle

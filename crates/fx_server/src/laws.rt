@@ -1,4 +1,5 @@
-//! Laws of the numbers that workers draw.
+//! Laws of the numbers that workers draw, and of the keys that have them.
+ghost use Rattle.fx_server.specs.EndsOfKeys.{DoneRemovalsEndKeys, DoneReplacementsEndKeys, KeysEndOnce};
 ghost use Rattle.fx_server.specs.FileNumbers.{NumbersAreDrawnOnce, NumbersLast};
 
 /// States that no number but 0 is drawn twice by the workers of a table, so that no key names two
@@ -6,4 +7,13 @@ ghost use Rattle.fx_server.specs.FileNumbers.{NumbersAreDrawnOnce, NumbersLast};
 pub fn numbers_are_drawn_once()
     ensures once { NumbersAreDrawnOnce }
     ensures last { NumbersLast }
+{}
+
+/// States that of two calls which remove or replace one key, by whichever workers, one does. In the
+/// history of all passes (`fx_lasting::laws::has_one_history`) a key is ended by one event at most,
+/// if no two of its files have one number; and a call by key that is done has made such an event.
+pub fn a_key_ends_once()
+    ensures once { KeysEndOnce }
+    ensures removals { DoneRemovalsEndKeys }
+    ensures replacements { DoneReplacementsEndKeys }
 {}
