@@ -1,0 +1,14 @@
+mod Asking
+mod Calls
+mod Counting
+mod Listing
+mod Lives
+mod Mistakes
+mod Moves
+mod Orders
+mod Others
+mod Reach
+mod Rounds
+mod Sums
+mod Turns
+mod Words

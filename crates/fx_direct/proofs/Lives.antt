@@ -1,0 +1,182 @@
+-- Laws of a whole life.
+use Rattle.fx_direct.proofs.Words.{arith, ◌≡◌, ◌≢◌, ℕ, ◌+◌, ◌<◌, ◌≤◌, ◌⊎◌, inl, inr, true, false, List, [], ◌∷◌, length, refl, sym, ap, ◌∙◌, subst}
+use Rattle.fx_direct.proofs.Words.{Option, Some, None, cases_eq, cases_lt, ◌▷▷◌, Transition, LifeKey, Phase, Slot, Reserves, Opens, Starts, Finishes, Holds, Releases}
+use Rattle.fx_direct.proofs.Words.{Ends, Asks, Closes, FailsToClose, Free, Opening, Live, Ending, Closing, slot_numbered, phase_at, is_live, requests_in, users_in}
+use Rattle.fx_direct.proofs.Words.{key_concerned, HasLife, IsEnabled, phase_after, slots_with, AreEnabled, slots_left_by, Advances, AdvancesAndAsks}
+use Rattle.fx_direct.specs.Counts.{times, starts, finishes, holds, releases, ends, asks, fails, phase_of, IsBalanced}
+use Rattle.fx_direct.specs.Lives.{NoCloseIsDue, NeverAsks, NoCloseIsLate, EachCloseIsAskedForOnce, StaleKeysStayStale}
+use Rattle.fx_direct.proofs.Counting.{kept_always, Fits, fits_of, phase_else, phase_here}
+use Rattle.fx_direct.proofs.Moves.{after-here, after-else}
+use Rattle.fx_direct.proofs.Turns.{within}
+use Rattle.std.proofs.lemmas.List.{get_or_past}
+
+-- Each close is asked for once.
+
+asked : (h : List Transition) (k : LifeKey) (p : Phase) → IsBalanced h k p → (p ≡ Ending 0 0 → ⊥) → 0 < times (ends k) h
+    → times (starts k) h ≡ times (finishes k) h → times (holds k) h ≡ times (releases k) h → times (asks k) h ≡ 1 + times (fails k) h
+asked h k Free b due ended requests users = let f1 = b.ended in let f2 = b.asked in let f3 = b.opened in let f4 = b.once in omega arith
+asked h k Opening b due ended requests users = let f1 = b.ended in let f2 = b.asked in let f3 = b.opened in let f4 = b.once in omega arith
+asked h k Closing b due ended requests users = let f1 = b.ended in let f2 = b.asked in let f3 = b.opened in let f4 = b.once in omega arith
+asked h k (Live r u) b due ended requests users = let f1 = b.ended in let f3 = b.opened in let f4 = b.once in absurd (omega arith)
+asked h k (Ending r u) b due ended requests users =
+    let f1 = b.requests in let f2 = b.users in
+    let er : r ≡ 0 = omega arith in let eu : u ≡ 0 = omega arith in
+    absurd (due (ap (λ (x : ℕ). Ending x u) er ∙ ap (λ (x : ℕ). Ending 0 x) eu))
+
+due_here : (slots : List Slot) (k : LifeKey) → NoCloseIsDue slots → phase_of slots k ≡ Ending 0 0 → ⊥
+due_here slots k due e = elim (cases_eq (slot_numbered slots k.slot).number k.number) [
+  | inl same ↦ due k.slot (sym (phase_here slots k same) ∙ e)
+  | inr ne ↦ let f : Free ≡ Ending 0 0 = sym (phase_else slots k ne) ∙ e in cc
+]
+
+pub each_close_is_asked_for_once : EachCloseIsAskedForOnce
+each_close_is_asked_for_once start h k free can =
+    let b = (kept_always start h k free can).balance in
+    let f1 = b.ended in let f2 = b.asked in let f3 = b.opened in let f4 = b.once in let f5 = b.closed in (
+      omega arith,
+      omega arith,
+      omega arith,
+      λ due ended requests users. asked h k (phase_of (slots_left_by start h) k) b (due_here (slots_left_by start h) k due) ended requests users,
+    )
+
+-- No close is late.
+
+never : (t : Transition) (p : Phase) → NeverAsks t → Fits t p → phase_after t p ≡ Ending 0 0 → ⊥
+never (Reserves k) p calm fits e = cc
+never (Opens k true) p calm fits e = cc
+never (Opens k false) p calm fits e = cc
+never (Starts k) (Live r u) calm fits e = cc
+never (Starts k) _ calm fits e = cc
+never (Holds k) (Live r u) calm fits e = cc
+never (Holds k) _ calm fits e = cc
+never (Closes k) p calm fits e = cc
+never _ p calm fits e = calm
+
+-- after a transition no close is due, if none is due at its slot
+after_one : (old : List Slot) (t : Transition) → NoCloseIsDue old → (key_concerned t).slot < length old
+    → (phase_after t (phase_at old (key_concerned t).slot) ≡ Ending 0 0 → ⊥) → NoCloseIsDue (slots_with old t)
+after_one old t due inside here s e = elim (cases_eq s (key_concerned t).slot) [
+  | inl same ↦ here (sym (ap (λ (x : Slot). x.phase) (after-here old t inside)) ∙ ap (phase_at (slots_with old t)) (sym same) ∙ e)
+  | inr ne ↦ due s (sym (ap (λ (x : Slot). x.phase) (after-else old t s ne)) ∙ e)
+]
+
+after_calm : (old new : List Slot) (t : Transition) → NoCloseIsDue old → NeverAsks t → Advances old t new → NoCloseIsDue new
+after_calm old new t due calm turns =
+    subst NoCloseIsDue (sym turns.1)
+    (after_one old t due (within old t turns.0) (never t (phase_at old (key_concerned t).slot) calm (fits_of old t turns.0)))
+
+after_asking : (old new : List Slot) (t : Transition) (ask : Option ℕ) → NoCloseIsDue old → AdvancesAndAsks old t ask new → NoCloseIsDue new
+after_asking old new t None due turns =
+    let here = after-here old t (within old t turns.0.0) in
+    subst NoCloseIsDue (sym turns.0.1)
+    (after_one old t due (within old t turns.0.0)
+    (λ e. turns.1 (ap (λ (xs : List Slot). phase_at xs (key_concerned t).slot) turns.0.1 ∙ ap (λ (x : Slot). x.phase) here ∙ e)))
+after_asking old new t (Some slot) due turns =
+    let k = key_concerned t in let mid = slots_with old t in
+    subst NoCloseIsDue (sym turns.2.1) (λ s e. elim (cases_eq s k.slot) [
+      | inl same ↦
+          let f : Closing ≡ Ending 0 0 = sym (ap (λ (x : Slot). x.phase) (after-here mid (Asks k) turns.2.0.0.0)) ∙ ap (phase_at (slots_with mid (Asks k))) (sym same) ∙ e in
+          cc
+      | inr ne ↦ due s (sym (ap (λ (x : Slot). x.phase) (after-else mid (Asks k) s ne ∙ after-else old t s ne)) ∙ e)
+    ])
+
+pub no_close_is_late : NoCloseIsLate
+no_close_is_late = (
+  λ slots free s e. let f : Free ≡ Ending 0 0 = sym (free s) ∙ e in cc,
+  after_calm,
+  after_asking,
+)
+
+-- Stale keys stay stale.
+
+-- the life of the key is over
+abbrev IsOver : List Slot → LifeKey → Type 0
+IsOver slots k = (k.number ≤ (slot_numbered slots k.slot).number) × ((slot_numbered slots k.slot).number ≡ k.number → phase_at slots k.slot ≡ Free)
+
+-- a transition but a reservation is of a slot that isn't free
+busy : (t : Transition) (p : Phase) → Fits t p → ((k : LifeKey) → t ≡ Reserves k → ⊥) → p ≡ Free → ⊥
+busy (Reserves k) p fits new e = new k refl
+busy (Opens k b) p fits new e = let f : Free ≡ Opening = sym e ∙ fits in cc
+busy (Starts k) p fits new e = let f : is_live p ≡ is_live Free = ap is_live e in cc
+busy (Finishes k) p fits new e = let f : requests_in p ≡ requests_in Free = ap requests_in e in omega arith
+busy (Holds k) p fits new e = let f : is_live p ≡ is_live Free = ap is_live e in cc
+busy (Releases k) p fits new e = let f : users_in p ≡ users_in Free = ap users_in e in omega arith
+busy (Ends k) p fits new e = let f : is_live p ≡ is_live Free = ap is_live e in cc
+busy (Asks k) p fits new e = let f : Free ≡ Ending 0 0 = sym e ∙ fits in cc
+busy (Closes k) p fits new e = let f : Free ≡ Closing = sym e ∙ fits in cc
+busy (FailsToClose k) p fits new e = let f : Free ≡ Closing = sym e ∙ fits in cc
+
+-- the number of the transition's slot, which is its key's, and whose life isn't over; or a new one
+told : (slots : List Slot) (t : Transition) → IsEnabled slots t
+    → (((slot_numbered slots (key_concerned t).slot).number ≡ (key_concerned t).number) × (phase_at slots (key_concerned t).slot ≡ Free → ⊥))
+    ⊎ ((key_concerned t).number ≡ (slot_numbered slots (key_concerned t).slot).number + 1)
+told slots (Reserves k) can = inr can.1
+told slots (Opens k b) can = inl (can.0.1, busy (Opens k b) _ can.1 (λ j e. cc))
+told slots (Starts k) can = inl (can.0.1, busy (Starts k) _ can.1 (λ j e. cc))
+told slots (Finishes k) can = inl (can.0.1, busy (Finishes k) _ can.1 (λ j e. cc))
+told slots (Holds k) can = inl (can.0.1, busy (Holds k) _ can.1 (λ j e. cc))
+told slots (Releases k) can = inl (can.0.1, busy (Releases k) _ can.1 (λ j e. cc))
+told slots (Ends k) can = inl (can.0.1, busy (Ends k) _ can.1 (λ j e. cc))
+told slots (Asks k) can = inl (can.0.1, busy (Asks k) _ can.1 (λ j e. cc))
+told slots (Closes k) can = inl (can.0.1, busy (Closes k) _ can.1 (λ j e. cc))
+told slots (FailsToClose k) can = inl (can.0.1, busy (FailsToClose k) _ can.1 (λ j e. cc))
+
+refused : (slots : List Slot) (t : Transition) → IsOver slots (key_concerned t) → IsEnabled slots t → ⊥
+refused slots t over can = elim (told slots t can) [
+  | inl w ↦ w.1 (over.1 w.0)
+  | inr n ↦ omega (arith, n, over.0)
+]
+
+over_after : (slots : List Slot) (t : Transition) (k : LifeKey) → IsEnabled slots t → IsOver slots k → IsOver (slots_with slots t) k
+over_after slots t k can over = elim (cases_eq k.slot (key_concerned t).slot) [
+  | inl e ↦
+      let here = after-here slots t (within slots t can) in
+      let number : (slot_numbered (slots_with slots t) k.slot).number ≡ (key_concerned t).number =
+      ap (λ (s : ℕ). (slot_numbered (slots_with slots t) s).number) e ∙ ap (λ (x : Slot). x.number) here in
+      let before : (slot_numbered slots k.slot).number ≡ (slot_numbered slots (key_concerned t).slot).number = ap (λ (s : ℕ). (slot_numbered slots s).number) e in
+      elim (told slots t can) [
+        | inl w ↦ (
+          omega (arith, number, before, w.0, over.0),
+          λ same. absurd (w.1 (ap (phase_at slots) (sym e) ∙ over.1 (before ∙ w.0 ∙ sym number ∙ same))),
+        )
+        | inr n ↦ (omega (arith, number, before, n, over.0), λ same. absurd (omega (arith, number, before, n, over.0, same)))
+      ]
+  | inr ne ↦
+      let same = after-else slots t k.slot ne in
+      subst (λ (x : Slot). (k.number ≤ x.number) × (x.number ≡ k.number → x.phase ≡ Free)) (sym same) over
+]
+
+over_always : (start : List Slot) (earlier later : List Transition) (k : LifeKey) → AreEnabled start (earlier ▷▷ later)
+    → IsOver (slots_left_by start earlier) k → IsOver (slots_left_by start (earlier ▷▷ later)) k
+over_always start earlier [] k can over = over
+over_always start earlier (t ∷ later) k can over =
+    over_after (slots_left_by start (earlier ▷▷ later)) t k can.1 (over_always start earlier later k can.0 over)
+
+earlier_part : (start : List Slot) (earlier later : List Transition) → AreEnabled start (earlier ▷▷ later) → AreEnabled start earlier
+earlier_part start earlier [] can = can
+earlier_part start earlier (t ∷ later) can = earlier_part start earlier later can.0
+
+-- a phase that isn't free is that of a slot inside
+free_unless : (p : Phase) → (p ≢ Free → ⊥) → p ≡ Free
+free_unless Free busy = refl
+free_unless Opening busy = absurd (busy (λ e. cc))
+free_unless (Live a b) busy = absurd (busy (λ e. cc))
+free_unless (Ending a b) busy = absurd (busy (λ e. cc))
+free_unless Closing busy = absurd (busy (λ e. cc))
+
+pub over_now : (slots : List Slot) (k : LifeKey) → (HasLife slots k → ⊥) → (slot_numbered slots k.slot).number ≡ k.number → phase_at slots k.slot ≡ Free
+over_now slots k gone same = elim (cases_lt k.slot (length slots)) [
+  | inl lt ↦ free_unless (phase_at slots k.slot) (λ busy. gone ((lt, same), busy))
+  | inr le ↦ ap (λ (x : Slot). x.phase) (get_or_past slots k.slot _ le)
+]
+
+pub stale_keys_stay_stale : StaleKeysStayStale
+stale_keys_stay_stale start earlier later t free can given gone =
+    let k = key_concerned t in
+    let kept = kept_always start earlier k free (earlier_part start earlier later can) in
+    let number : k.number ≤ (slot_numbered (slots_left_by start earlier) k.slot).number = elim (cases_lt (slot_numbered (slots_left_by start earlier) k.slot).number k.number) [
+      | inl lt ↦ absurd (let none = kept.unborn lt in omega arith)
+      | inr le ↦ le
+    ] in
+    refused (slots_left_by start (earlier ▷▷ later)) t
+    (over_always start earlier later k can (number, over_now (slots_left_by start earlier) k gone))

@@ -1,0 +1,90 @@
+-- The worlds of a flight in which a close doesn't wait.
+use Rattle.fx_direct.proofs.Words.{arith, Bool, List, [], ◌∷◌, refl, true, false, Some, None, World, DirectMoment, Pending, pending, OpenAt, UseOf, CloseOf}
+use Rattle.fx_direct.proofs.Words.{Does, Accesses, Transition, Reserves, Opens, Starts, Ends, Asks, Closes, Put, Look, Take, Loses, slots_with, table_after, Action, DirectCall}
+use Rattle.fx_direct.specs.Round.{one_slot, some_file, first_key, second_key}
+use Rattle.fx_direct.specs.Flight.{ComesBy}
+use Rattle.fx_direct.specs.Haste.{IsEnabledInHaste, other_file, HasteIsWrong}
+
+abbrev done : World → Transition → List Pending → World
+done w d calls = record { slots = slots_with w.slots d; table = w.table; calls = calls }
+
+abbrev accessed : World → Action → List Pending → World
+accessed w a calls = record { slots = w.slots; table = table_after w.table a; calls = calls }
+
+abbrev Goes : World → DirectMoment → World → Type 0
+Goes w m v = ComesBy IsEnabledInHaste w m v
+
+abbrev use1 : Pending
+use1 = pending (UseOf first_key) false
+
+abbrev w1 : World
+w1 = done one_slot (Reserves first_key) (pending (OpenAt first_key) false ∷ [])
+
+abbrev w2 : World
+w2 = accessed w1 (Put 0 some_file None) (pending (OpenAt first_key) true ∷ [])
+
+abbrev w3 : World
+w3 = done w2 (Opens first_key true) []
+
+abbrev w4 : World
+w4 = done w3 (Starts first_key) (use1 ∷ [])
+
+abbrev w5 : World
+w5 = done w4 (Ends first_key) (use1 ∷ [])
+
+abbrev w6 : World
+w6 = done w5 (Asks first_key) (pending (CloseOf first_key) false ∷ use1 ∷ [])
+
+abbrev w7 : World
+w7 = accessed w6 (Take 0 (Some some_file)) (pending (CloseOf first_key) true ∷ use1 ∷ [])
+
+abbrev w8 : World
+w8 = done w7 (Closes first_key) (use1 ∷ [])
+
+abbrev w9 : World
+w9 = done w8 (Reserves second_key) (pending (OpenAt second_key) false ∷ use1 ∷ [])
+
+abbrev w10 : World
+w10 = accessed w9 (Put 0 other_file None) (pending (OpenAt second_key) true ∷ use1 ∷ [])
+
+abbrev w11 : World
+w11 = accessed w10 (Look 0 (Some other_file)) (pending (OpenAt second_key) true ∷ use1 ∷ [])
+
+only : (c : DirectCall) (made : Bool) (rest : List Pending) → Loses c made (pending c made ∷ rest) rest
+only c made rest = record { front = []; rest = rest; was = refl; is = refl }
+
+c1 : Goes one_slot (Does (Reserves first_key)) w1
+c1 = ((omega arith, refl, refl, omega arith), refl, refl)
+
+c2 : Goes w1 (Accesses (OpenAt first_key) (Put 0 some_file None)) w2
+c2 = ((omega arith, refl, refl), record { front = []; rest = []; earlier = false; later = true; was = refl; is = refl; may = (refl, refl, refl) }, refl)
+
+c3 : Goes w2 (Does (Opens first_key true)) w3
+c3 = (((omega arith, refl), refl), only (OpenAt first_key) true [], refl)
+
+c4 : Goes w3 (Does (Starts first_key)) w4
+c4 = (((omega arith, refl), refl), refl, refl)
+
+c5 : Goes w4 (Does (Ends first_key)) w5
+c5 = (((omega arith, refl), refl), refl, refl)
+
+c6 : Goes w5 (Does (Asks first_key)) w6
+c6 = (((omega arith, refl), 1, 0, refl), refl, refl)
+
+c7 : Goes w6 (Accesses (CloseOf first_key) (Take 0 (Some some_file))) w7
+c7 = ((omega arith, refl), record { front = []; rest = use1 ∷ []; earlier = false; later = true; was = refl; is = refl; may = (refl, refl, refl) }, refl)
+
+c8 : Goes w7 (Does (Closes first_key)) w8
+c8 = (((omega arith, refl), refl), only (CloseOf first_key) true (use1 ∷ []), refl)
+
+c9 : Goes w8 (Does (Reserves second_key)) w9
+c9 = ((omega arith, refl, refl, omega arith), refl, refl)
+
+c10 : Goes w9 (Accesses (OpenAt second_key) (Put 0 other_file None)) w10
+c10 = ((omega arith, refl, refl), record { front = []; rest = use1 ∷ []; earlier = false; later = true; was = refl; is = refl; may = (refl, refl, refl) }, refl)
+
+c11 : Goes w10 (Accesses (UseOf first_key) (Look 0 (Some other_file))) w11
+c11 = ((omega arith, refl), record { front = pending (OpenAt second_key) true ∷ []; rest = []; earlier = false; later = false; was = refl; is = refl; may = (refl, refl) }, refl)
+
+pub haste_is_wrong : HasteIsWrong
+haste_is_wrong = (w11, (w10, (w9, (w8, (w7, (w6, (w5, (w4, (w3, (w2, (w1, (one_slot, refl, c1), c2), c3), c4), c5), c6), c7), c8), c9), c10), c11))

@@ -1,0 +1,39 @@
+-- The counts of all slots, and one slot that is written.
+use Rattle.fx_direct.proofs.Words.{arith, ◌≡◌, ℕ, ◌+◌, ◌<◌, ◌≤◌, List, length, ap, LifeKey, Phase, Slot, unused, phase_at, with_phase}
+use Rattle.fx_direct.proofs.Words.{Free, Opening, Live, Ending, Closing, calls_in, lives_in}
+use Rattle.fx_direct.specs.Phases.{calls_in_flight, lives_of}
+use Rattle.std.specs.Prelude.{◌*◌, ◌^◌}
+use Rattle.std.proofs.lemmas.List.Sums.{sum_by-set, sum_by-le, get_or-le-sum_by}
+use Rattle.std.proofs.lemmas.List.{get_or_default}
+use Rattle.std.specs.Prelude.{slice_index_or}
+
+pub lives_step : (slots : List Slot) (k : LifeKey) (p : Phase) → k.slot < length slots
+    → lives_of (with_phase slots k p) + lives_in (phase_at slots k.slot) ≡ lives_of slots + lives_in p
+lives_step slots k p inside = sum_by-set (λ (s : Slot). lives_in s.phase) slots k.slot (record { number = k.number; phase = p }) unused inside
+
+pub calls_step : (slots : List Slot) (k : LifeKey) (p : Phase) → k.slot < length slots
+    → calls_in_flight (with_phase slots k p) + calls_in (phase_at slots k.slot) ≡ calls_in_flight slots + calls_in p
+calls_step slots k p inside = sum_by-set (λ (s : Slot). calls_in s.phase) slots k.slot (record { number = k.number; phase = p }) unused inside
+
+pub lives_low : (slots : List Slot) (slot : ℕ) → slot < length slots → lives_in (phase_at slots slot) ≤ lives_of slots
+lives_low slots slot inside = get_or-le-sum_by (λ (s : Slot). lives_in s.phase) slots slot unused inside
+
+pub calls_low : (slots : List Slot) (slot : ℕ) → slot < length slots → calls_in (phase_at slots slot) ≤ calls_in_flight slots
+calls_low slots slot inside = get_or-le-sum_by (λ (s : Slot). calls_in s.phase) slots slot unused inside
+
+pub one_life : (p : Phase) → lives_in p ≤ 1
+one_life Free = omega arith
+one_life Opening = omega arith
+one_life (Live a b) = omega arith
+one_life (Ending a b) = omega arith
+one_life Closing = omega arith
+
+pub lives_high : (slots : List Slot) → lives_of slots ≤ length slots
+lives_high slots =
+    let h : lives_of slots ≤ length slots * 1 = sum_by-le (λ (s : Slot). lives_in s.phase) 1 slots (λ k d lt. one_life _) in
+    omega arith
+
+pub calls_high : (slots : List Slot) → ((slot : ℕ) → calls_in (phase_at slots slot) < 2 ^ 32) → calls_in_flight slots ≤ length slots * 2 ^ 32
+calls_high slots each = sum_by-le (λ (s : Slot). calls_in s.phase) (2 ^ 32) slots (λ k d lt.
+    let e : calls_in (slice_index_or slots k d).phase ≡ calls_in (phase_at slots k) = ap (λ (s : Slot). calls_in s.phase) (get_or_default slots k d unused lt) in
+    let f = each k in omega arith)

@@ -1,0 +1,13 @@
+pub mod Counts
+pub mod Flight
+pub mod Haste
+pub mod Keys
+pub mod Laws
+pub mod Lives
+pub mod Living
+pub mod Machine
+pub mod Order
+pub mod Phases
+pub mod Refusals
+pub mod Round
+pub mod Transitions

@@ -1,0 +1,61 @@
+-- Laws of a whole life.
+use Rattle.std.specs.Prelude.{◌≡◌, ℕ, ◌+◌, ◌≤◌, ◌<◌, List, Option}
+use Rattle.fx_plain.specs.History.{◌▷▷◌}
+use Rattle.fx_direct.specs.Counts.{times, reserves, opens, starts, finishes, holds, releases, ends}
+use Rattle.fx_direct.specs.Counts.{asks, closes, fails}
+use Rattle.fx_direct.specs.Phases.{Ending, AllFree, phase_at}
+use Rattle.fx_direct.specs.Transitions.{Reserves, Opens, Starts, Holds, Closes, key_concerned}
+use Rattle.fx_direct.specs.Transitions.{HasLife}
+use Rattle.fx_direct.specs.Transitions.{IsEnabled, AreEnabled, slots_left_by, Advances}
+use Rattle.fx_direct.specs.Transitions.{AdvancesAndAsks}
+use Rattle.fx_direct.specs.declared.key.LifeKey.{LifeKey}
+use Rattle.fx_direct.specs.declared.phase.Slot.{Slot}
+use Rattle.fx_direct.specs.declared.transition.Transition.{Transition}
+
+-- no slot waits for its close to be asked for
+abbrev pub NoCloseIsDue : List Slot → Type 0
+NoCloseIsDue slots = (slot : ℕ) → phase_at slots slot ≡ Ending 0 0 → ⊥
+
+-- the calls of the machine that never ask for a close
+abbrev pub NeverAsks : Transition → Type 0
+NeverAsks (Reserves k) = Unit {0}
+NeverAsks (Opens k installed) = Unit {0}
+NeverAsks (Starts k) = Unit {0}
+NeverAsks (Holds k) = Unit {0}
+NeverAsks (Closes k) = Unit {0}
+NeverAsks t = ⊥
+
+-- no close is due when a machine begins, nor after any of its calls: none is asked for late
+abbrev pub NoCloseIsLate : Type 0
+NoCloseIsLate =
+    ((slots : List Slot) → AllFree slots → NoCloseIsDue slots)
+    × ((old new : List Slot) (t : Transition)
+    → NoCloseIsDue old → NeverAsks t → Advances old t new → NoCloseIsDue new)
+    × ((old new : List Slot) (t : Transition) (ask : Option ℕ)
+    → NoCloseIsDue old → AdvancesAndAsks old t ask new → NoCloseIsDue new)
+
+-- the close of a file that was installed is asked for at most once, and again each time that it
+-- failed. Once the life was ended and each request and each user came back, it has been asked for
+abbrev pub EachCloseIsAskedForOnce : Type 0
+EachCloseIsAskedForOnce =
+    (start : List Slot) (h : List Transition) (k : LifeKey)
+    → AllFree start
+    → AreEnabled start h
+    → (times (opens k) h ≤ 1)
+    × (times (asks k) h ≤ times (opens k) h + times (fails k) h)
+    × (times (closes k) h ≤ times (opens k) h)
+    × (NoCloseIsDue (slots_left_by start h)
+    → 0 < times (ends k) h
+    → times (starts k) h ≡ times (finishes k) h
+    → times (holds k) h ≡ times (releases k) h
+    → times (asks k) h ≡ 1 + times (fails k) h)
+
+-- once the life of a key that was given is over, no transition under the key is ever possible again
+abbrev pub StaleKeysStayStale : Type 0
+StaleKeysStayStale =
+    (start : List Slot) (earlier later : List Transition) (t : Transition)
+    → AllFree start
+    → AreEnabled start (earlier ▷▷ later)
+    → 0 < times (reserves (key_concerned t)) earlier
+    → (HasLife (slots_left_by start earlier) (key_concerned t) → ⊥)
+    → IsEnabled (slots_left_by start (earlier ▷▷ later)) t → ⊥

@@ -1,0 +1,37 @@
+-- The invariants of the machine's fields.
+use Rattle.std.specs.Prelude.{◌≡◌, ℕ, ◌+◌, ◌<◌, ◌≤◌, ◌&&◌, ◌^◌, Bool, nat_lt, List, length}
+use Rattle.std.specs.Prelude.{Option, Some, None}
+use Rattle.fx_direct.specs.Order.{Order, is_among_vacant}
+use Rattle.fx_direct.specs.Phases.{Ending, Closing, slot_numbered, phase_at, is_free, calls_in}
+use Rattle.fx_direct.specs.Phases.{calls_in_flight}
+use Rattle.fx_direct.specs.Phases.{lives_of}
+use Rattle.fx_direct.specs.Transitions.{with_phase}
+use Rattle.fx_direct.specs.declared.key.LifeKey.{LifeKey}
+use Rattle.fx_direct.specs.declared.key.TheConstants.{MOST_LIVES, MOST_SLOTS}
+use Rattle.fx_direct.specs.declared.phase.Slot.{Slot}
+
+-- these are the lives under way and the calls in flight
+pub record AreCounted (slots : List Slot) (lives calls : ℕ) : Type 0 where
+  pub few : length slots ≤ MOST_SLOTS
+  pub lives_are : lives ≡ lives_of slots
+  pub calls_are : calls ≡ calls_in_flight slots
+  pub each : (slot : ℕ) → calls_in (phase_at slots slot) < 2 ^ 32
+
+-- the slot may begin one more life
+abbrev pub is_vacant : Slot → Bool
+is_vacant slot = is_free slot.phase && nat_lt slot.number MOST_LIVES
+
+-- the order has exactly the vacant slots as its first ones, and each number fits a key's bits
+pub record IsMachine (slots : List Slot) (order : Order) : Type 0 where
+  pub few : length slots ≤ MOST_SLOTS
+  pub same : length order.place ≡ length slots
+  pub ordered : (slot : ℕ) → slot < length slots
+      → is_among_vacant order slot ≡ is_vacant (slot_numbered slots slot)
+  pub numbers : (slot : ℕ) → (slot_numbered slots slot).number ≤ MOST_LIVES
+
+-- the counts of an ending slot are written, or its close is asked for if both are 0
+abbrev pub WritesEnding : List Slot → LifeKey → ℕ → ℕ → Option ℕ → List Slot → Type 0
+WritesEnding old k requests users None new =
+    (new ≡ with_phase old k (Ending requests users)) × (0 < requests + users)
+WritesEnding old k requests users (Some slot) new =
+    (slot ≡ k.slot) × (requests ≡ 0) × (users ≡ 0) × (new ≡ with_phase old k Closing)

@@ -1,0 +1,57 @@
+-- A flight with all kinds of moments and transitions.
+use Rattle.std.specs.Prelude.{List, [], ◌∷◌, true, false, Some, None}
+use Rattle.fx_base.specs.declared.mark.Mark.TheVariants.{Registered}
+use Rattle.fx_plain.specs.History.{◌▷◌}
+use Rattle.fx_plain.specs.declared.event.Action.TheVariants.{Look, Release, Put, Take, Close}
+use Rattle.fx_plain.specs.declared.event.File.{File}
+use Rattle.fx_direct.specs.declared.key.LifeKey.{LifeKey}
+use Rattle.fx_direct.specs.Phases.{unused}
+use Rattle.fx_direct.specs.Transitions.{Reserves, Opens, Starts, Finishes, Holds, Releases, Ends}
+use Rattle.fx_direct.specs.Transitions.{Asks, Closes, FailsToClose}
+use Rattle.fx_direct.specs.Flight.{World, OpenAt, UseOf, CloseOf, DirectMoment, Does, Accesses}
+use Rattle.fx_direct.specs.Flight.{Others}
+use Rattle.fx_direct.specs.Flight.{IsDirectFlight}
+use Rattle.fx_direct.specs.Laws.{IsEmptyStart}
+
+-- one empty slot
+abbrev pub one_slot : World
+one_slot = record {
+  slots = unused ∷ [];
+  table = record {
+    size = 1;
+    range = (0, 1);
+    at = λ _. None;
+    removed = λ _. None;
+    holds = λ _. 0;
+    fresh = λ _. true;
+  };
+  calls = [];
+}
+
+abbrev pub some_file : File
+some_file = record {
+  number = 7;
+  identity = record { mark = Registered 1 0; entry = 0; tag = 0 };
+}
+
+abbrev pub first_key : LifeKey
+first_key = record { slot = 0; number = 1 }
+
+abbrev pub second_key : LifeKey
+second_key = record { slot = 0; number = 2 }
+
+-- a life with a request and a user, whose first close fails, and a second life, whose open fails
+abbrev pub round : List DirectMoment
+round =
+    [] ▷ Does (Reserves first_key) ▷ Accesses (OpenAt first_key) (Put 0 some_file None)
+    ▷ Does (Opens first_key true) ▷ Does (Starts first_key) ▷ Does (Holds first_key)
+    ▷ Accesses (UseOf first_key) (Look 0 (Some some_file)) ▷ Does (Ends first_key)
+    ▷ Accesses (UseOf first_key) (Release some_file) ▷ Does (Finishes first_key)
+    ▷ Does (Releases first_key) ▷ Does (Asks first_key) ▷ Does (FailsToClose first_key)
+    ▷ Does (Asks first_key)
+    ▷ Accesses (CloseOf first_key) (Take 0 (Some some_file)) ▷ Others (Close some_file)
+    ▷ Does (Closes first_key) ▷ Does (Reserves second_key) ▷ Does (Opens second_key false)
+
+-- there is a flight with these moments, from a start
+abbrev pub GoesRound : Type 0
+GoesRound = IsEmptyStart one_slot × (end : World) × IsDirectFlight one_slot round end

@@ -1,0 +1,86 @@
+//! The limits of the machine, and laws of its lives and flights, over definitions alone. Each is
+//! the contract of a function with an empty body.
+//!
+//! A flight assumes this of the kernel and of the program: a completion comes once and brings its
+//! user data back; an open succeeds if and only if it put its file at its slot, and a close if and
+//! only if it took a file from its slot; and nobody else writes these slots.
+ghost use Rattle.std.specs.Prelude.{◌≡◌, ◌-◌, ◌^◌};
+ghost use Rattle.fx_direct.specs.Counts.{EachKeyIsBalanced, NothingIsLeftOfALife, KeysAreGivenOnce};
+ghost use Rattle.fx_direct.specs.Haste.{HasteIsWrong};
+ghost use Rattle.fx_direct.specs.Keys.{KeyBitsComeBack};
+ghost use Rattle.fx_direct.specs.Laws.{EachAccessFindsItsOwn, NothingIsLeft};
+ghost use Rattle.fx_direct.specs.Lives.{EachCloseIsAskedForOnce, NoCloseIsLate, StaleKeysStayStale};
+ghost use Rattle.fx_direct.specs.Round.{GoesRound};
+ghost use Rattle.fx_direct.specs.declared.key.TheConstants.{KINDS, MOST_LIVES, MOST_SLOTS};
+
+/// States that a ring has at most 1,048,576 slots, that a slot has at most 2^40 - 1 lives, and that
+/// user data tells 16 kinds of calls apart.
+pub fn limits_are_numbers()
+    ensures most_slots { MOST_SLOTS ≡ 1048576 }
+    ensures most_lives { MOST_LIVES ≡ 2 ^ 40 - 1 }
+    ensures kinds { KINDS ≡ 16 }
+{}
+
+/// States that in every flight an open finds its slot empty, and that each request and each close
+/// finds the file that the open of its own key installed.
+pub fn each_access_finds_its_own()
+    ensures { EachAccessFindsItsOwn }
+{}
+
+/// States that where a slot may be handed out, the kernel's slot is empty and no call is in flight
+/// at it, and that where a close may be asked for, no call is in flight at its slot.
+pub fn nothing_is_left()
+    ensures { NothingIsLeft }
+{}
+
+/// States that each key is balanced whatever is done: each request that was started under it was
+/// finished once or is in flight, each user was released once or is one now, and the close of a
+/// file that was opened was asked for once, and again for each time that it failed, or the file is
+/// there.
+pub fn each_key_is_balanced()
+    ensures { EachKeyIsBalanced }
+{}
+
+/// States that the close of an installed file is asked for at most once, and again only after each
+/// failure. Once its life was ended, and all its requests and users came back, it was asked for.
+pub fn each_close_is_asked_for_once()
+    ensures { EachCloseIsAskedForOnce }
+{}
+
+/// States that no call of the machine leaves a close that is due and isn't asked for.
+pub fn no_close_is_late()
+    ensures { NoCloseIsLate }
+{}
+
+/// States that a slot is handed out only if nothing is left of any of its lives, and under a key
+/// that was never given before.
+pub fn nothing_is_left_of_a_life()
+    ensures { NothingIsLeftOfALife }
+{}
+
+/// States that no key is given twice.
+pub fn keys_are_given_once()
+    ensures { KeysAreGivenOnce }
+{}
+
+/// States that once a life is over, no transition under its key is ever possible again.
+pub fn stale_keys_stay_stale()
+    ensures { StaleKeysStayStale }
+{}
+
+/// States that a key and a kind come back from their bits.
+pub fn keys_come_back()
+    ensures { KeyBitsComeBack }
+{}
+
+/// States that a flight with all kinds of moments and transitions exists, so that the laws of
+/// flights are not about nothing.
+pub fn a_flight_goes_round()
+    ensures { GoesRound }
+{}
+
+/// States that if a close didn't wait for the requests, there would be a flight in which a request
+/// finds the file of another key.
+pub fn haste_is_wrong()
+    ensures { HasteIsWrong }
+{}

@@ -1,0 +1,88 @@
+//! The phases of a slot's life.
+ghost use Rattle.std.specs.Prelude.{◌≡◌};
+ghost use Rattle.fx_direct.specs.Phases.{calls_in, lives_in, requests_in, users_in};
+
+use std::fmt;
+
+/// The phase of a slot. The counts are those of the requests in flight, and of the other users.
+#[derive(Clone, Copy, Debug, PartialEq, Eq)]
+pub enum Phase {
+    /// The kernel's slot is empty, and no call is in flight for it.
+    Free,
+    /// An open at the slot is in flight.
+    Opening,
+    /// The slot has its file.
+    Live(u32, u32),
+    /// The slot has its file, which gets no new requests and users.
+    Ending(u32, u32),
+    /// A close of the slot is in flight.
+    Closing,
+}
+
+impl Phase {
+    // Returns the number of calls in flight at a slot in this phase.
+    #[inline(always)]
+    pub(crate) fn calls(self) -> u32
+        ensures { result ≡ calls_in self }
+    {
+        match self {
+            Phase::Free => 0,
+            Phase::Opening | Phase::Closing => 1,
+            Phase::Live(requests, _) | Phase::Ending(requests, _) => requests,
+        }
+    }
+
+    /// Returns the number of requests in flight.
+    #[inline(always)]
+    pub fn requests(self) -> u32
+        ensures { result ≡ requests_in self }
+    {
+        match self {
+            Phase::Live(requests, _) | Phase::Ending(requests, _) => requests,
+            _ => 0,
+        }
+    }
+
+    /// Returns the number of users that are not requests.
+    #[inline(always)]
+    pub fn users(self) -> u32
+        ensures { result ≡ users_in self }
+    {
+        match self {
+            Phase::Live(_, users) | Phase::Ending(_, users) => users,
+            _ => 0,
+        }
+    }
+
+    // Returns 1 if a life is under way in this phase, or 0.
+    #[inline(always)]
+    pub(crate) fn lives(self) -> u32
+        ensures { result ≡ lives_in self }
+    {
+        match self {
+            Phase::Free => 0,
+            _ => 1,
+        }
+    }
+}
+
+impl fmt::Display for Phase {
+    fn fmt<W: fmt::Write>(&self, f: &mut fmt::Formatter<W>) -> fmt::Result {
+        f.write_str(match self {
+            Phase::Free => "free",
+            Phase::Opening => "opening",
+            Phase::Live(_, _) => "live",
+            Phase::Ending(_, _) => "ending",
+            Phase::Closing => "closing",
+        })
+    }
+}
+
+/// A slot: the number of its last life, from 1, or 0 before its first one, and its phase.
+#[derive(Clone, Copy, Debug, PartialEq, Eq)]
+pub struct Slot {
+    /// The number of the slot's last life.
+    pub number: u64,
+    /// The phase of that life.
+    pub phase: Phase,
+}

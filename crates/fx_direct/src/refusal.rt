@@ -1,0 +1,43 @@
+//! The reasons why a call is refused. A call that is refused changes nothing.
+use crate::phase::Phase;
+use std::error::Error;
+use std::fmt;
+
+/// The reason why a call under a key is refused.
+#[derive(Clone, Copy, Debug, PartialEq, Eq)]
+pub enum LifeRefusal {
+    /// No life is under way under the key: its life is over, or no life had it.
+    Stale,
+    /// The key's life is in this phase, which doesn't allow the call.
+    Is(Phase),
+    /// 2^32 - 1 requests are in flight under the key.
+    TooManyRequests,
+    /// The key's file has 2^32 - 1 users that are not requests.
+    TooManyUsers,
+}
+
+impl fmt::Display for LifeRefusal {
+    fn fmt<W: fmt::Write>(&self, f: &mut fmt::Formatter<W>) -> fmt::Result {
+        match self {
+            LifeRefusal::Stale => f.write_str("no life is under way under the key"),
+            LifeRefusal::Is(phase) => write!(f, "the life of the key is {phase}"),
+            LifeRefusal::TooManyRequests => f.write_str("too many requests are in flight"),
+            LifeRefusal::TooManyUsers => f.write_str("the file has too many users"),
+        }
+    }
+}
+
+impl Error for LifeRefusal {}
+
+/// The reason why no slot can begin a life: each slot has a life under way, or has had its last
+/// one.
+#[derive(Clone, Copy, Debug, PartialEq, Eq)]
+pub struct Full;
+
+impl fmt::Display for Full {
+    fn fmt<W: fmt::Write>(&self, f: &mut fmt::Formatter<W>) -> fmt::Result {
+        f.write_str("no slot is free")
+    }
+}
+
+impl Error for Full {}
