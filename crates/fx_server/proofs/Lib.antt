@@ -2,9 +2,12 @@ pub mod AsBox
 pub mod ByKey
 pub mod Dealing
 pub mod Drawing
+pub mod DrawnByCalls
 pub mod EndingCalls
 pub mod EndsOfKeys
+pub mod ExportsNumbers
 pub mod FileNumbers
+pub mod FilesNumbers
 pub mod FromEnd
 pub mod Looking
 pub mod Sending

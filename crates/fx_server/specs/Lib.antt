@@ -3,6 +3,7 @@ pub mod ByKey
 pub mod EndsOfKeys
 pub mod FileNumbers
 pub mod Files
+pub mod FilesNumbers
 pub mod Handle
 pub mod Installing
 pub mod Lending

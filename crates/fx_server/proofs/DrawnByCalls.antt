@@ -1,0 +1,204 @@
+-- Each call installs files with the worker's own numbers, each for one file.
+use Rattle.std.proofs.Common.{◌≡◌, ◌≢◌, ◌⊎◌, inl, inr, ℕ, ℤ, suc, ◌<◌, ◌≤◌, ◌++◌, List, [], ◌∷◌, map, Option, Some, None, Result, Ok, Err, refl, sym, ap, subst, ◌∙◌, arith}
+use Rattle.fx_base.specs.Identity.{Identity}
+use Rattle.fx_plain.specs.History.{◌▷◌, ◌▷▷◌}
+use Rattle.fx_plain.specs.Laws.{IsInstalled, installed_by}
+use Rattle.fx_plain.specs.declared.event.Action.{Action}
+use Rattle.fx_plain.specs.declared.event.Event.{Event}
+use Rattle.fx_plain.specs.declared.event.File.{File}
+use Rattle.fx_table.specs.Calls.{Adds, LookedUp, PlacedFile, ReleasesFile, Use}
+use Rattle.fx_table.specs.Opening.{Opening}
+use Rattle.fx_table.specs.Pass.{PassView, event_of}
+use Rattle.fx_table.specs.declared.values.Doing.{Doing}
+use Rattle.fx_table.specs.declared.values.Hold.{Hold}
+use Rattle.fx_table.specs.declared.values.LookFault.{LookFault}
+use Rattle.fx_table.specs.declared.values.LookFault.TheVariants.{Empty as EmptySlot, Spent}
+use Rattle.fx_table.specs.declared.values.Retired.{Retired}
+use Rattle.fx_lasting.specs.Keys.{FailsByKey, HeldByKey, LookedByKey}
+use Rattle.fx_lasting.specs.Labels.{number_of_mark}
+use Rattle.fx_lasting.specs.Tables.{opening_of, view_of}
+use Rattle.fx_lasting.specs.declared.key.Key.{Key}
+use Rattle.fx_lasting.specs.declared.key_answers.KeyFault.{KeyFault}
+use Rattle.fx_lasting.specs.declared.key_answers.KeyFault.TheVariants as fault
+use Rattle.fx_lasting.specs.declared.layout.TheConstants.{MOST_INSTALLING}
+use Rattle.fx_lasting.specs.declared.pass.LastingPass.{LastingPass}
+use Rattle.fx_lasting.specs.declared.view.Start.{Start}
+use Rattle.fx_server.specs.FileNumbers.{after_draw, after_draws, after_keep, first_numbers, number_drawn, without_kept}
+use Rattle.fx_server.specs.Files.{file_with}
+use Rattle.fx_server.specs.FilesNumbers.{DrawsItsNumbers, HaveDrawnNumbers, InstallsNothing, KeepsItsNumbers, WasDrawn, number_of_file}
+use Rattle.fx_server.specs.Workers.{RetiresAs, its_pass}
+use Rattle.fx_server.specs.declared.answers.Removal.{Removal}
+use Rattle.fx_server.specs.declared.answers.Removal.TheVariants.{Closed, InUse, Nothing}
+use Rattle.fx_server.specs.declared.file_numbers.FileNumbers.{FileNumbers}
+use Rattle.fx_server.specs.declared.worker.TableWorker.{TableWorker}
+use Rattle.fx_server.proofs.FilesNumbers.{one_draw}
+
+-- no file more was installed, or only this one
+abbrev pub AddsNone : List Event → List Event → Type 0
+AddsNone own own' = (f : File) → IsInstalled own' f → IsInstalled own f
+
+abbrev pub AddsOne : List Event → List Event → File → Type 0
+AddsOne own own' new = (f : File) → IsInstalled own' f → IsInstalled own f ⊎ (f ≡ new)
+
+abbrev AllNone : List Action → Type 0
+AllNone [] = Unit {0}
+AllNone (a ∷ actions) = (installed_by a ≡ None) × AllNone actions
+
+nones : (v : PassView) (own : List Event) (actions : List Action) → AllNone actions → AddsNone own (own ▷▷ map (event_of v) actions)
+nones v own [] none f it = it
+nones v own (a ∷ actions) none f (inl was) = nones v own actions none.1 f was
+nones v own (a ∷ actions) none f (inr is) = let bad : None ≡ Some f = sym none.0 ∙ is in cc
+
+pub added_none : (o : Opening) (v : PassView) (actions : List Action) (doing : Doing) (use' : Use) (w : PassView) → Adds o v actions doing use' w → AllNone actions → AddsNone v.own w.own
+added_none o v actions doing use' w adds none f it = nones v v.own actions none f (subst (λ (own : List Event). IsInstalled own f) adds.own it)
+
+pub added_one : (o : Opening) (v : PassView) (a : Action) (doing : Doing) (use' : Use) (w : PassView) (new : File) → Adds o v ([] ▷ a) doing use' w → installed_by a ≡ Some new
+    → AddsOne v.own w.own new
+added_one o v a doing use' w new adds is f it = step (subst (λ (own : List Event). IsInstalled own f) adds.own it)
+  where
+    step : IsInstalled (v.own ▷ event_of v a) f → IsInstalled v.own f ⊎ (f ≡ new)
+    step (inl was) = inl was
+    step (inr its) = let e : Some f ≡ Some new = sym its ∙ is in inr cc
+
+pub same_none : (v w : PassView) → w ≡ v → AddsNone v.own w.own
+same_none v w same f it = subst (λ (p : PassView). IsInstalled p.own f) same it
+
+pub both_none : (a b c : List Event) → AddsNone a b → AddsNone b c → AddsNone a c
+both_none a b c one two f it = one f (two f it)
+
+pub one_then : (a b c : List Event) (new : File) → AddsOne a b new → AddsNone b c → AddsOne a c new
+one_then a b c new one two f it = one f (two f it)
+
+pub looked_none : (o : Opening) (v : PassView) (slot : ℕ) (found : Result Hold LookFault) (out : Option Identity) (w : PassView) → LookedUp o v slot found out w → AddsNone v.own w.own
+looked_none o v slot (Ok hold) None w it = added_none o v _ _ _ w it.2 (refl, tt)
+looked_none o v slot (Ok hold) (Some file) w it = added_none o v _ _ _ w it.2.2 (refl, (refl, tt))
+looked_none o v slot (Err EmptySlot) None w it = added_none o v _ _ _ w it (refl, tt)
+looked_none o v slot (Err EmptySlot) (Some file) w it = added_none o v _ _ _ w it.2 (refl, (refl, tt))
+looked_none o v slot (Err Spent) None w it = same_none v w it.1
+looked_none o v slot (Err Spent) (Some file) w it = same_none v w it.2.1
+
+pub released_none : (o : Opening) (v : PassView) (g : File) (out : Option Identity) (w : PassView) → ReleasesFile o v g out w → AddsNone v.own w.own
+released_none o v g None w it = added_none o v _ _ _ w it (refl, tt)
+released_none o v g (Some file) w it = added_none o v _ _ _ w it.1 (refl, (refl, tt))
+
+pub retired_none : (o : Opening) (v : PassView) (retired : Retired) (removal : Removal) (w : PassView) → RetiresAs o v retired removal w → AddsNone v.own w.own
+retired_none o v retired Nothing w it = absurd it
+retired_none o v retired InUse w it = added_none o v _ _ _ w it.2.1 tt
+retired_none o v retired (Closed tag) w it = added_none o v _ _ _ w it.2.2.1 (refl, tt)
+
+pub held_none : (k : Start) (v : PassView) (key : Key) (hold : Hold) (freed released : Option Identity) (w : PassView) → HeldByKey k v key hold freed released w → AddsNone v.own w.own
+held_none k v key hold freed released w it = both_none v.own it.between.own w.own (looked_none (opening_of k) v key.slot (Ok hold) freed it.between it.held.looked)
+    (released_none (opening_of k) it.between it.file released w it.releases)
+
+pub key_none : (k : Start) (v : PassView) (key : Key) (found : Result Hold KeyFault) (freed released : Option Identity) (w : PassView) → LookedByKey k v key found freed released w
+    → AddsNone v.own w.own
+key_none k v key (Ok hold) freed released w it = looked_none (opening_of k) v key.slot (Ok hold) freed w it.2.looked
+key_none k v key (Err fault.NoSlot) freed released w it = same_none v w it.1
+key_none k v key (Err fault.Empty) freed released w it = looked_none (opening_of k) v key.slot (Err EmptySlot) freed w it.0
+key_none k v key (Err fault.Other) freed released w it = both_none v.own it.between.own w.own
+    (looked_none (opening_of k) v key.slot (Ok it.hold) freed it.between it.held.looked) (released_none (opening_of k) it.between it.file released w it.releases)
+key_none k v key (Err fault.Again) freed released w it = absurd it
+
+pub fails_none : (k : Start) (vh v : PassView) (key : Key) (why : KeyFault) (freed released : Option Identity) (wh w : PassView) → FailsByKey k vh v key why freed released wh w
+    → AddsNone vh.own wh.own × AddsNone v.own w.own
+fails_none k vh v key why freed released wh w (inl (looked, same)) = (key_none k vh key (Err why) freed released wh looked, same_none v w same)
+fails_none k vh v key why freed released wh w (inr was) =
+    (held_none k vh key was.hold freed released wh was.holder, added_none (opening_of k) v _ _ _ w was.left.adds tt)
+
+-- the number of a file that a worker made
+pub number_of_new : (new : File) (tag number : ℕ) → new.identity ≡ file_with tag number → number_of_file new ≡ number
+number_of_new new tag number is =
+    let its : number_of_mark (file_with tag number).mark ≡ number = omega arith in ap (λ (it : Identity). number_of_mark it.mark) is ∙ its
+
+later : (installing place draws number : ℕ) → WasDrawn installing place draws number → WasDrawn installing place (suc draws) number
+later installing place draws number (inl none) = inl none
+later installing place draws number (inr (low, (draw, earlier, is))) = inr (low, (draw, omega (arith, earlier), is))
+
+module _ (installing place : ℕ) (some : installing ≤ MOST_INSTALLING) (low : 1 ≤ place) (w w' : TableWorker) (d : DrawsItsNumbers installing place w) (holder : InstallsNothing w'.holder) where
+  next_is : w.numbers.next ≡ number_drawn installing place d.draws
+  next_is = ap (λ (n : FileNumbers). n.next) d.numbers
+
+  -- a number that was drawn isn't the next one
+  not_next : (number : ℕ) → WasDrawn installing place d.draws number → number ≢ 0 → number ≡ w.numbers.next → ⊥
+  not_next number (inl none) is same = is none
+  not_next number (inr (low', (draw, earlier, one))) is same = one_draw installing place draw d.draws number some low earlier is one (same ∙ next_is)
+
+  pub stays : AddsNone (its_pass w).own (its_pass w').own → w'.numbers ≡ w.numbers → DrawsItsNumbers installing place w'
+  stays none same = let kept : w'.numbers.kept ≡ w.numbers.kept = ap (λ (n : FileNumbers). n.kept) same in record {
+    draws = d.draws;
+    numbers = ap without_kept same ∙ d.numbers;
+    files = record { drawn = λ f it. d.files.drawn f (none f it); apart = λ f g f_in g_in. d.files.apart f g (none f f_in) (none g g_in) };
+    kept = subst (λ (n : ℕ). WasDrawn installing place d.draws n) (sym kept) d.kept;
+    unused = λ f it is its. d.unused f (none f it) (λ zero'. is (kept ∙ zero')) (its ∙ kept);
+    holder = holder;
+  }
+
+  pub spends : AddsNone (its_pass w).own (its_pass w').own → w'.numbers ≡ without_kept w.numbers → DrawsItsNumbers installing place w'
+  spends none same = let kept : w'.numbers.kept ≡ 0 = ap (λ (n : FileNumbers). n.kept) same in record {
+    draws = d.draws;
+    numbers = ap without_kept same ∙ d.numbers;
+    files = record { drawn = λ f it. d.files.drawn f (none f it); apart = λ f g f_in g_in. d.files.apart f g (none f f_in) (none g g_in) };
+    kept = inl kept;
+    unused = λ f it is its. is kept;
+    holder = holder;
+  }
+
+  pub keeps : AddsNone (its_pass w).own (its_pass w').own → w'.numbers ≡ after_keep w.numbers → DrawsItsNumbers installing place w'
+  keeps none same = let kept : w'.numbers.kept ≡ w.numbers.next = ap (λ (n : FileNumbers). n.kept) same in record {
+    draws = suc d.draws;
+    numbers = ap without_kept same ∙ ap after_draw d.numbers;
+    files = record {
+      drawn = λ f it. later installing place d.draws (number_of_file f) (d.files.drawn f (none f it));
+      apart = λ f g f_in g_in. d.files.apart f g (none f f_in) (none g g_in);
+    };
+    kept = inr (low, (d.draws, omega arith, kept ∙ next_is));
+    unused = λ f it is its. not_next (number_of_file f) (d.files.drawn f (none f it)) (λ zero'. is (sym its ∙ zero')) (its ∙ kept);
+    holder = holder;
+  }
+
+  -- a new file with a number that no earlier one has
+  with_one : (new : File) → ((f : File) → IsInstalled (its_pass w).own f → number_of_file new ≢ 0 → number_of_file f ≢ number_of_file new)
+      → (f g : File) → IsInstalled (its_pass w).own f ⊎ (f ≡ new) → IsInstalled (its_pass w).own g ⊎ (g ≡ new) → number_of_file f ≢ 0 → number_of_file f ≡ number_of_file g → f ≡ g
+  with_one new fresh f g (inl f_in) (inl g_in) is same = d.files.apart f g f_in g_in is same
+  with_one new fresh f g (inl f_in) (inr g_is) is same =
+      let its : number_of_file f ≡ number_of_file new = same ∙ ap number_of_file g_is in absurd (fresh f f_in (λ zero'. is (its ∙ zero')) its)
+  with_one new fresh f g (inr f_is) (inl g_in) is same =
+      let its : number_of_file g ≡ number_of_file new = sym same ∙ ap number_of_file f_is in absurd (fresh g g_in (λ zero'. is (same ∙ (its ∙ zero'))) its)
+  with_one new fresh f g (inr f_is) (inr g_is) is same = f_is ∙ sym g_is
+
+  pub installs : (new : File) → AddsOne (its_pass w).own (its_pass w').own new → number_of_file new ≡ w.numbers.next → w'.numbers ≡ after_draw w.numbers
+      → DrawsItsNumbers installing place w'
+  installs new one its same = let kept : w'.numbers.kept ≡ w.numbers.kept = ap (λ (n : FileNumbers). n.kept) same in record {
+    draws = suc d.draws;
+    numbers = ap without_kept same ∙ ap after_draw d.numbers;
+    files = record {
+      drawn = λ f it. elim (one f it) [
+        | inl was ↦ later installing place d.draws (number_of_file f) (d.files.drawn f was)
+        | inr is ↦ inr (low, (d.draws, omega arith, ap number_of_file is ∙ (its ∙ next_is)))
+      ];
+      apart = λ f g f_in g_in. with_one new (λ h was is same'. not_next (number_of_file h) (d.files.drawn h was) (λ zero'. is (sym same' ∙ zero')) (same' ∙ its)) f g (one f f_in) (one g g_in);
+    };
+    kept = later installing place d.draws w'.numbers.kept (subst (λ (n : ℕ). WasDrawn installing place d.draws n) (sym kept) d.kept);
+    unused = λ f it is number. elim (one f it) [
+      | inl was ↦ d.unused f was (λ zero'. is (kept ∙ zero')) (number ∙ kept)
+      | inr new' ↦ not_next w.numbers.kept d.kept (λ zero'. is (kept ∙ zero')) (sym (number ∙ kept) ∙ (ap number_of_file new' ∙ its))
+    ];
+    holder = holder;
+  }
+
+  pub installs_kept : (new : File) → AddsOne (its_pass w).own (its_pass w').own new → number_of_file new ≡ w.numbers.kept → w'.numbers ≡ without_kept w.numbers
+      → DrawsItsNumbers installing place w'
+  installs_kept new one its same = let kept : w'.numbers.kept ≡ 0 = ap (λ (n : FileNumbers). n.kept) same in record {
+    draws = d.draws;
+    numbers = ap without_kept same ∙ d.numbers;
+    files = record {
+      drawn = λ f it. elim (one f it) [
+        | inl was ↦ d.files.drawn f was
+        | inr is ↦ subst (λ (n : ℕ). WasDrawn installing place d.draws n) (sym (ap number_of_file is ∙ its)) d.kept
+      ];
+      apart = λ f g f_in g_in. with_one new (λ h was is same'. d.unused h was (λ zero'. is (its ∙ zero')) (same' ∙ its)) f g (one f f_in) (one g g_in);
+    };
+    kept = inl kept;
+    unused = λ f it is number. is kept;
+    holder = holder;
+  }

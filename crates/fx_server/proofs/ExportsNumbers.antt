@@ -1,0 +1,289 @@
+-- Each export keeps the numbers of its worker's files.
+use Rattle.std.proofs.Common.{◌≡◌, ◌⊎◌, inl, inr, ℕ, ℤ, ◌++◌, List, [], ◌∷◌, Option, Some, None, Result, Ok, Err, refl, sym, ap, subst, ◌∙◌}
+use Rattle.fx_base.specs.Identity.{Identity}
+use Rattle.fx_plain.specs.History.{◌▷◌}
+use Rattle.fx_plain.specs.Laws.{IsInstalled}
+use Rattle.fx_plain.specs.declared.event.Action.TheVariants.{Allocate, Put}
+use Rattle.fx_plain.specs.declared.event.Event.{Event}
+use Rattle.fx_plain.specs.declared.event.File.{File}
+use Rattle.fx_table.specs.Calls.{Placed as PlacedAtSlot, PlacedFile, Taken}
+use Rattle.fx_table.specs.Opening.{Opening}
+use Rattle.fx_table.specs.Pass.{PassView}
+use Rattle.fx_table.specs.declared.values.Hold.{Hold}
+use Rattle.fx_table.specs.declared.values.LookFault.TheVariants.{Empty as EmptySlot}
+use Rattle.fx_table.specs.declared.values.Retired.{Retired}
+use Rattle.fx_lasting.specs.Tables.{opening_of, view_of}
+use Rattle.fx_lasting.specs.declared.key.Key.{Key}
+use Rattle.fx_lasting.specs.declared.key_answers.KeyFault.{KeyFault}
+use Rattle.fx_lasting.specs.declared.key_answers.KeyFault.TheVariants as fault
+use Rattle.fx_lasting.specs.declared.pass.LastingPass.{LastingPass}
+use Rattle.fx_server.specs.Answers.{DrawsAs, GetsAs, GetsAtAs, InsertsAs, PutsEmptyAs, ReleasesAs, RemovesAs, RemovesAtAs, ReplacesAs, ReplacesAtAs, ReportsFullAs, StaysInTable}
+use Rattle.fx_server.specs.ByKey.{FindsByKey, HasHolder, LooksKey, PutsNoKey, RemovesByKey, RemovesNoKey, ReplacesByKey, ReplacesByKeyNext}
+use Rattle.fx_server.specs.Files.{file_with}
+use Rattle.fx_server.specs.FilesNumbers.{DrawsItsNumbers, ExportsKeepNumbers, InstallsNothing, KeepsItsNumbers}
+use Rattle.fx_server.specs.Installing.{DrawsOne, PutsAnyNext, PutsEmptyKept, PutsNext, having_spent}
+use Rattle.fx_server.specs.Workers.{Finds, LooksAt, PutsAny, PutsEmpty, Puts, ReleasesHeld, RemovesFrom, ReportsFull, RetiresAny, RetiresAs, hold_in, its_opening, its_pass, its_start}
+use Rattle.fx_server.specs.declared.answers.CoreOutcome.{CoreOutcome}
+use Rattle.fx_server.specs.declared.answers.FoundFile.{FoundFile}
+use Rattle.fx_server.specs.declared.answers.Placed.{Placed}
+use Rattle.fx_server.specs.declared.answers.PlacedAt.{PlacedAt}
+use Rattle.fx_server.specs.declared.answers.Removal.{Removal}
+use Rattle.fx_server.specs.declared.answers.ServerRefusal.{ServerRefusal}
+use Rattle.fx_server.specs.declared.answers.ServerRefusal.TheVariants.{Again, BadArgument, Busy, Empty, Full as NoFree, Idle, NoMemory, NoSlot, Reader, Stale}
+use Rattle.fx_server.specs.declared.worker.TableWorker.{TableWorker}
+use Rattle.fx_server.proofs.DrawnByCalls.{AddsNone, AddsOne, added_none, added_one, both_none, fails_none, held_none, installs, installs_kept, keeps, key_none, looked_none, number_of_new, one_then, released_none, retired_none, same_none, spends, stays}
+
+-- the events of a worker's own pass
+abbrev its : TableWorker → List Event
+its w = (its_pass w).own
+
+same : (w w' : TableWorker) → w' ≡ w → AddsNone (its w) (its w')
+same w w' is f it = subst (λ (u : TableWorker). IsInstalled (its u) f) is it
+
+holder_same : (w w' : TableWorker) → w'.holder ≡ w.holder → InstallsNothing w.holder → InstallsNothing w'.holder
+holder_same w w' is nothing = subst InstallsNothing (sym is) nothing
+
+holder_more : (w w' : TableWorker) (h : HasHolder w w') → AddsNone (view_of h.before).own (view_of h.after).own → InstallsNothing w.holder → InstallsNothing w'.holder
+holder_more w w' h none nothing = let before : InstallsNothing (Some h.before) = subst InstallsNothing h.was nothing in
+    let after : InstallsNothing (Some h.after) = λ f it. before f (none f it) in subst InstallsNothing (sym h.is) after
+
+finds_none : (w w' : TableWorker) (slot : ℕ) (found : Result FoundFile ServerRefusal) (freed : Option ℕ) → Finds w slot found freed w' → AddsNone (its w) (its w')
+finds_none w w' slot (Ok found) freed it = looked_none (its_opening w) (its_pass w) slot (Ok (hold_in it.0)) it.2.out (its_pass w') it.2.looked
+finds_none w w' slot (Err Empty) freed it = looked_none (its_opening w) (its_pass w) slot (Err EmptySlot) it.1.out (its_pass w') it.1.looked
+finds_none w w' slot (Err NoSlot) freed it = same w w' it.1.1
+finds_none w w' slot (Err Busy) freed it = same w w' it.1.1
+finds_none w w' slot (Err Idle) freed it = absurd it
+finds_none w w' slot (Err Reader) freed it = absurd it
+finds_none w w' slot (Err NoFree) freed it = absurd it
+finds_none w w' slot (Err Again) freed it = absurd it
+finds_none w w' slot (Err BadArgument) freed it = absurd it
+finds_none w w' slot (Err NoMemory) freed it = absurd it
+finds_none w w' slot (Err Stale) freed it = absurd it
+
+by_key_none : (w w' : TableWorker) (key : Key) (found : Result Hold KeyFault) (freed released : Option ℕ) → LooksKey w key found freed released w' → AddsNone (its w) (its w')
+by_key_none w w' key found freed released it = key_none (its_start w) (its_pass w) key found it.out it.back (its_pass w') it.looked
+
+finds_key_none : (w w' : TableWorker) (key : Key) (found : Result FoundFile ServerRefusal) (freed released : Option ℕ) → FindsByKey w key found freed released w' → AddsNone (its w) (its w')
+finds_key_none w w' key (Ok found) freed released it = by_key_none w w' key (Ok (hold_in it.0)) freed released it.2
+finds_key_none w w' key (Err NoSlot) freed released it = by_key_none w w' key (Err fault.NoSlot) freed released it.1
+finds_key_none w w' key (Err Empty) freed released it = by_key_none w w' key (Err fault.Empty) freed released it.1
+finds_key_none w w' key (Err Stale) freed released it = by_key_none w w' key (Err fault.Other) freed released it.1
+finds_key_none w w' key (Err Busy) freed released it = same w w' it.2.1
+finds_key_none w w' key (Err Idle) freed released it = absurd it
+finds_key_none w w' key (Err Reader) freed released it = absurd it
+finds_key_none w w' key (Err NoFree) freed released it = absurd it
+finds_key_none w w' key (Err Again) freed released it = absurd it
+finds_key_none w w' key (Err BadArgument) freed released it = absurd it
+finds_key_none w w' key (Err NoMemory) freed released it = absurd it
+
+release_none : (w w' : TableWorker) (result : Result (Option ℕ) ServerRefusal) → ReleasesHeld w result w' → AddsNone (its w) (its w')
+release_none w w' (Ok tag) it = released_none (its_opening w) (its_pass w) it.5.0 it.1 (its_pass w') it.5.2
+release_none w w' (Err Idle) it = same w w' it.1
+release_none w w' (Err Empty) it = absurd it
+release_none w w' (Err NoSlot) it = absurd it
+release_none w w' (Err Busy) it = absurd it
+release_none w w' (Err Reader) it = absurd it
+release_none w w' (Err NoFree) it = absurd it
+release_none w w' (Err Again) it = absurd it
+release_none w w' (Err BadArgument) it = absurd it
+release_none w w' (Err NoMemory) it = absurd it
+release_none w w' (Err Stale) it = absurd it
+
+-- installations
+
+placed_one : (o : Opening) (v : PassView) (slot : ℕ) (new : File) (result : Option Retired) (u : PassView) → PlacedFile o v slot new result u → AddsOne v.own u.own new
+placed_one o v slot new None u it = added_one o v (Put slot new None) _ _ u new it refl
+placed_one o v slot new (Some retired) u it = added_one o v (Put slot new (Some it.0)) _ _ u new it.2 refl
+
+any_none : (o : Opening) (v : PassView) (retired : Option Retired) (removal : Removal) (u : PassView) → RetiresAny o v retired removal u → AddsNone v.own u.own
+any_none o v None removal u it = same_none v u it.1
+any_none o v (Some retired) removal u it = retired_none o v retired removal u it
+
+insert_none : (w w' : TableWorker) (tag number : ℕ) (reason : ServerRefusal) → PutsAny w tag number (Err reason) w' → AddsNone (its w) (its w')
+insert_none w w' tag number NoFree it = added_none (its_opening w) (its_pass w) _ _ _ (its_pass w') it (refl, tt)
+insert_none w w' tag number Again it = added_none (its_opening w) (its_pass w) _ _ _ (its_pass w') it tt
+insert_none w w' tag number Busy it = same w w' it.1
+insert_none w w' tag number Reader it = same w w' it.1
+insert_none w w' tag number Empty it = absurd it
+insert_none w w' tag number NoSlot it = absurd it
+insert_none w w' tag number Idle it = absurd it
+insert_none w w' tag number BadArgument it = absurd it
+insert_none w w' tag number NoMemory it = absurd it
+insert_none w w' tag number Stale it = absurd it
+
+replace_at_none : (w w' : TableWorker) (slot tag number : ℕ) (reason : ServerRefusal) → Puts w slot tag number (Err reason) w' → AddsNone (its w) (its w')
+replace_at_none w w' slot tag number Busy it = same w w' it.1
+replace_at_none w w' slot tag number NoSlot it = same w w' it.1
+replace_at_none w w' slot tag number Reader it = same w w' it.1
+replace_at_none w w' slot tag number Empty it = absurd it
+replace_at_none w w' slot tag number Idle it = absurd it
+replace_at_none w w' slot tag number NoFree it = absurd it
+replace_at_none w w' slot tag number Again it = absurd it
+replace_at_none w w' slot tag number BadArgument it = absurd it
+replace_at_none w w' slot tag number NoMemory it = absurd it
+replace_at_none w w' slot tag number Stale it = absurd it
+
+-- a call that made no event of the worker's pass, and left its second pass as it was or moved it on
+record Unchanged (w w' : TableWorker) : Type 0 where
+  none : AddsNone (its w) (its w')
+  holder : InstallsNothing w.holder → InstallsNothing w'.holder
+
+as_it_was : (w w' : TableWorker) → w' ≡ w → Unchanged w w'
+as_it_was w w' is = record { none = same w w' is; holder = holder_same w w' (ap (λ (u : TableWorker). u.holder) is) }
+
+replace_fails : (w w' : TableWorker) (key : Key) (tag number : ℕ) (why : KeyFault) (freed released : Option ℕ) → PutsNoKey w key tag number why freed released w' → Unchanged w w'
+replace_fails w w' key tag number why freed released it =
+    let both = fails_none (its_start w) (view_of it.holder.before) (its_pass w) key why it.out it.back (view_of it.holder.after) (its_pass w') it.placed.1 in
+    record { none = both.1; holder = holder_more w w' it.holder both.0 }
+
+replace_unchanged : (w w' : TableWorker) (key : Key) (tag number : ℕ) (reason : ServerRefusal) (freed released : Option ℕ) → ReplacesByKey w key tag number (Err reason) freed released w'
+    → Unchanged w w'
+replace_unchanged w w' key tag number NoSlot freed released it = replace_fails w w' key tag number fault.NoSlot freed released it
+replace_unchanged w w' key tag number Empty freed released it = replace_fails w w' key tag number fault.Empty freed released it
+replace_unchanged w w' key tag number Stale freed released it = replace_fails w w' key tag number fault.Other freed released it
+replace_unchanged w w' key tag number Again freed released it = replace_fails w w' key tag number fault.Again freed released it
+replace_unchanged w w' key tag number Busy freed released it = as_it_was w w' it.2.1
+replace_unchanged w w' key tag number Reader freed released (f, r, inl (none, is)) = as_it_was w w' is
+replace_unchanged w w' key tag number Reader freed released (f, r, inr (none, is)) = as_it_was w w' is
+replace_unchanged w w' key tag number Idle freed released it = absurd it
+replace_unchanged w w' key tag number NoFree freed released it = absurd it
+replace_unchanged w w' key tag number BadArgument freed released it = absurd it
+replace_unchanged w w' key tag number NoMemory freed released it = absurd it
+
+remove_fails : (w w' : TableWorker) (key : Key) (why : KeyFault) (freed released : Option ℕ) → RemovesNoKey w key why freed released w' → Unchanged w w'
+remove_fails w w' key why freed released it =
+    let both = fails_none (its_start w) (view_of it.holder.before) (its_pass w) key why it.out it.back (view_of it.holder.after) (its_pass w') it.taken in
+    record { none = both.1; holder = holder_more w w' it.holder both.0 }
+
+remove_unchanged : (w w' : TableWorker) (key : Key) (result : Result Removal ServerRefusal) (freed released : Option ℕ) → RemovesByKey w key result freed released w' → Unchanged w w'
+remove_unchanged w w' key (Ok removal) freed released it =
+    let taken = it.takes.taken in let h = it.takes.holder in record {
+      none = both_none (its w) it.between.own (its w') (added_none (opening_of (its_start w)) (its_pass w) _ _ _ it.between taken.adds (refl, tt))
+          (retired_none (its_opening w) it.between it.retired removal (its_pass w') it.retires);
+      holder = holder_more w w' h (held_none (its_start w) (view_of h.before) key taken.hold it.takes.out it.takes.back (view_of h.after) taken.holder);
+    }
+remove_unchanged w w' key (Err NoSlot) freed released it = remove_fails w w' key fault.NoSlot freed released it
+remove_unchanged w w' key (Err Empty) freed released it = remove_fails w w' key fault.Empty freed released it
+remove_unchanged w w' key (Err Stale) freed released it = remove_fails w w' key fault.Other freed released it
+remove_unchanged w w' key (Err Again) freed released it = remove_fails w w' key fault.Again freed released it
+remove_unchanged w w' key (Err Busy) freed released it = as_it_was w w' it.2.1
+remove_unchanged w w' key (Err Reader) freed released it = as_it_was w w' it.3
+remove_unchanged w w' key (Err Idle) freed released it = absurd it
+remove_unchanged w w' key (Err NoFree) freed released it = absurd it
+remove_unchanged w w' key (Err BadArgument) freed released it = absurd it
+remove_unchanged w w' key (Err NoMemory) freed released it = absurd it
+
+remove_at_none : (w w' : TableWorker) (slot : ℕ) (result : Result Removal ServerRefusal) → RemovesFrom w slot result w' → AddsNone (its w) (its w')
+remove_at_none w w' slot (Ok removal) it = both_none (its w) it.between.own (its w') (added_none (its_opening w) (its_pass w) _ _ _ it.between it.taken.2 (refl, tt))
+    (retired_none (its_opening w) it.between it.retired removal (its_pass w') it.retires)
+remove_at_none w w' slot (Err Empty) it = added_none (its_opening w) (its_pass w) _ _ _ (its_pass w') it.1 (refl, tt)
+remove_at_none w w' slot (Err NoSlot) it = same w w' it.1
+remove_at_none w w' slot (Err Busy) it = same w w' it.1
+remove_at_none w w' slot (Err Reader) it = same w w' it.1
+remove_at_none w w' slot (Err Idle) it = absurd it
+remove_at_none w w' slot (Err NoFree) it = absurd it
+remove_at_none w w' slot (Err Again) it = absurd it
+remove_at_none w w' slot (Err BadArgument) it = absurd it
+remove_at_none w w' slot (Err NoMemory) it = absurd it
+remove_at_none w w' slot (Err Stale) it = absurd it
+
+put_empty_none : (w w' : TableWorker) (slot tag number : ℕ) (reason : ServerRefusal) → PutsEmpty w slot tag number (Err reason) w' → AddsNone (its w) (its w')
+put_empty_none w w' slot tag number Stale it = added_none (opening_of (its_start w)) (its_pass w) _ _ _ (its_pass w') it.1.adds tt
+put_empty_none w w' slot tag number Again it = added_none (opening_of (its_start w)) (its_pass w) _ _ _ (its_pass w') it.1.adds tt
+put_empty_none w w' slot tag number NoSlot it = same w w' it.1
+put_empty_none w w' slot tag number Reader it = same w w' it.1
+put_empty_none w w' slot tag number Busy it = same w w' it.1
+put_empty_none w w' slot tag number Empty it = absurd it
+put_empty_none w w' slot tag number Idle it = absurd it
+put_empty_none w w' slot tag number NoFree it = absurd it
+put_empty_none w w' slot tag number BadArgument it = absurd it
+put_empty_none w w' slot tag number NoMemory it = absurd it
+
+full_none : (w w' : TableWorker) (answer : ServerRefusal) → ReportsFull w answer w' → AddsNone (its w) (its w')
+full_none w w' NoFree it = added_none (its_opening w) (its_pass w) _ _ _ (its_pass w') it (refl, tt)
+full_none w w' Again it = added_none (its_opening w) (its_pass w) _ _ _ (its_pass w') it tt
+full_none w w' Busy it = same w w' it.1
+full_none w w' Reader it = same w w' it.1
+full_none w w' Empty it = absurd it
+full_none w w' NoSlot it = absurd it
+full_none w w' Idle it = absurd it
+full_none w w' BadArgument it = absurd it
+full_none w w' NoMemory it = absurd it
+full_none w w' Stale it = absurd it
+
+inserts : (w w' : TableWorker) (tag : ℕ) (result : Result PlacedAt ServerRefusal) → PutsAnyNext w tag result w' → w'.holder ≡ w.holder → KeepsItsNumbers w w'
+inserts w w' tag (Ok placed) it holder installing place some low d =
+    let new = it.1.1.0 in
+    installs installing place some low w w' d (holder_same w w' holder d.holder) new (added_one (its_opening w) (its_pass w) (Allocate placed.slot new) _ _ (its_pass w') new it.1.1.2 refl)
+    (number_of_new new tag placed.number it.1.1.1.identity ∙ it.0.0) it.0.1
+inserts w w' tag (Err reason) it holder installing place some low d =
+    stays installing place some low w w' d (holder_same w w' holder d.holder) (insert_none w w' tag w.numbers.next reason it.1) it.0
+
+replaces_at : (w w' : TableWorker) (slot tag : ℕ) (result : Result Placed ServerRefusal) → PutsNext w slot tag result w' → w'.holder ≡ w.holder → KeepsItsNumbers w w'
+replaces_at w w' slot tag (Ok placed) it holder installing place some low d =
+    let put = it.1 in let new = put.placed.0 in
+    installs installing place some low w w' d (holder_same w w' holder d.holder) new
+    (one_then (its w) put.between.own (its w') new (placed_one (its_opening w) (its_pass w) slot new put.retired put.between put.placed.2)
+    (any_none (its_opening w) put.between put.retired placed.removal (its_pass w') put.retires))
+    (number_of_new new tag placed.number put.placed.1.identity ∙ it.0.0) it.0.1
+replaces_at w w' slot tag (Err reason) it holder installing place some low d =
+    stays installing place some low w w' d (holder_same w w' holder d.holder) (replace_at_none w w' slot tag w.numbers.next reason it.1) it.0
+
+replaces : (w w' : TableWorker) (key : Key) (tag : ℕ) (result : Result Placed ServerRefusal) (freed released : Option ℕ) → ReplacesByKeyNext w key tag result freed released w' → KeepsItsNumbers w w'
+replaces w w' key tag (Ok placed) freed released it installing place some low d =
+    let file = it.1 in let put = file.puts.placed in let h = file.puts.holder in
+    installs installing place some low w w' d
+    (holder_more w w' h (held_none (its_start w) (view_of h.before) key put.hold file.puts.out file.puts.back (view_of h.after) put.holder) d.holder) put.new
+    (one_then (its w) file.between.own (its w') put.new (added_one (opening_of (its_start w)) (its_pass w) (Put key.slot put.new (Some put.holder.file)) _ _ file.between put.new put.adds refl)
+    (retired_none (its_opening w) file.between file.retired placed.removal (its_pass w') file.retires))
+    (number_of_new put.new tag placed.number put.is_new ∙ it.0.0) it.0.1
+replaces w w' key tag (Err reason) freed released it installing place some low d =
+    let un = replace_unchanged w w' key tag w.numbers.next reason freed released it.1 in
+    stays installing place some low w w' d (un.holder d.holder) un.none it.0
+
+draws_one : (w w' : TableWorker) (result : Result ℕ ServerRefusal) → DrawsOne w result w' → KeepsItsNumbers w w'
+draws_one w w' (Ok number) it installing place some low d =
+    keeps installing place some low w w' d (holder_same w w' (ap (λ (u : TableWorker). u.holder) it.1) d.holder)
+    (λ f there. subst (λ (u : TableWorker). IsInstalled (its u) f) it.1 there) (ap (λ (u : TableWorker). u.numbers) it.1)
+draws_one w w' (Err Reader) it installing place some low d =
+    stays installing place some low w w' d (holder_same w w' (ap (λ (u : TableWorker). u.holder) it.1) d.holder) (same w w' it.1) (ap (λ (u : TableWorker). u.numbers) it.1)
+draws_one w w' (Err Empty) it installing place some low d = absurd it
+draws_one w w' (Err NoSlot) it installing place some low d = absurd it
+draws_one w w' (Err Busy) it installing place some low d = absurd it
+draws_one w w' (Err Idle) it installing place some low d = absurd it
+draws_one w w' (Err NoFree) it installing place some low d = absurd it
+draws_one w w' (Err Again) it installing place some low d = absurd it
+draws_one w w' (Err BadArgument) it installing place some low d = absurd it
+draws_one w w' (Err NoMemory) it installing place some low d = absurd it
+draws_one w w' (Err Stale) it installing place some low d = absurd it
+
+puts_empty : (w w' : TableWorker) (slot tag : ℕ) (result : Result (Unit {0}) ServerRefusal) → PutsEmptyKept w slot tag result w' → w'.holder ≡ w.holder → KeepsItsNumbers w w'
+puts_empty w w' slot tag (Ok done) it holder installing place some low d =
+    let new = it.1.0 in
+    installs_kept installing place some low w w' d (holder_same w w' holder d.holder) new
+    (added_one (opening_of (its_start w)) (its_pass w) (Allocate slot new) _ _ (its_pass w') new it.1.2 refl)
+    (number_of_new new tag w.numbers.kept it.1.1.identity) it.0
+puts_empty w w' slot tag (Err reason) it holder installing place some low d =
+    spends installing place some low w w' d (holder_same w w' holder d.holder) (put_empty_none (having_spent w) w' slot tag w.numbers.kept reason it.1) it.0
+
+pub exports_keep : ExportsKeepNumbers
+exports_keep = record {
+  get_at = λ w w' slot answer out it installing place some low d.
+      stays installing place some low w w' d (holder_same w w' it.holder d.holder) (finds_none w w' slot it.call.found it.call.freed it.looked.0) it.numbers;
+  get = λ w w' key answer out it installing place some low d.
+      stays installing place some low w w' d (holder_same w w' it.holder d.holder) (finds_key_none w w' key it.call.found it.call.freed it.call.released it.found) it.numbers;
+  release = λ w w' answer dropped it installing place some low d.
+      stays installing place some low w w' d (holder_same w w' it.holder d.holder) (release_none w w' it.result it.released) it.numbers;
+  insert = λ w w' tag answer number it. inserts w w' tag it.result it.allocated it.holder;
+  replace_at = λ w w' slot tag answer out it. replaces_at w w' slot tag it.call.placed it.placed it.holder;
+  replace = λ w w' key tag answer out it. replaces w w' key tag it.call.placed it.call.freed it.call.released it.placed;
+  remove_at = λ w w' slot answer out it installing place some low d.
+      stays installing place some low w w' d (holder_same w w' it.holder d.holder) (remove_at_none w w' slot it.call.removal it.removed) it.numbers;
+  remove = λ w w' key answer out it installing place some low d.
+      let un = remove_unchanged w w' key it.call.removal it.call.freed it.call.released it.removed in
+      stays installing place some low w w' d (un.holder d.holder) un.none it.numbers;
+  draw = λ w w' answer number it. draws_one w w' it.result it.drawn;
+  put_empty = λ w w' slot tag answer it. puts_empty w w' slot tag it.result it.placed it.holder;
+  full = λ w w' code it installing place some low d.
+      stays installing place some low w w' d (holder_same w w' it.holder d.holder) (full_none w w' it.answer it.reports) it.numbers;
+}

@@ -1,0 +1,9 @@
+use Rattle.fx_server.proofs.ExportsNumbers.{exports_keep}
+use Rattle.fx_server.proofs.FilesNumbers.{own_numbers}
+use Rattle.fx_server.proofs.laws.files_have_their_own_numbers.Goals as goal
+
+pub returns-clause-numbers : goal.returns-clause-numbers
+returns-clause-numbers c = own_numbers
+
+pub returns-clause-exports : goal.returns-clause-exports
+returns-clause-exports c = exports_keep

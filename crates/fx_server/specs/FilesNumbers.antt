@@ -1,0 +1,86 @@
+-- The numbers of the files that workers install: no two files of a history have one.
+use Rattle.std.specs.Prelude.{◌≡◌, ◌≢◌, ◌⊎◌, ℕ, ℤ, ◌<◌, ◌≤◌, List, Option, Some, None}
+use Rattle.fx_plain.specs.History.{part_of_pass}
+use Rattle.fx_plain.specs.Laws.{IsInstalled}
+use Rattle.fx_plain.specs.declared.event.Event.{Event}
+use Rattle.fx_plain.specs.declared.event.File.{File}
+use Rattle.fx_lasting.specs.Labels.{number_of_mark}
+use Rattle.fx_lasting.specs.Tables.{view_of}
+use Rattle.fx_lasting.specs.declared.key.Key.{Key}
+use Rattle.fx_lasting.specs.declared.layout.TheConstants.{MOST_INSTALLING}
+use Rattle.fx_lasting.specs.declared.pass.LastingPass.{LastingPass}
+use Rattle.fx_server.specs.Answers.{DrawsAs, GetsAs, GetsAtAs, InsertsAs, PutsEmptyAs, ReleasesAs}
+use Rattle.fx_server.specs.Answers.{RemovesAs, RemovesAtAs, ReplacesAs, ReplacesAtAs}
+use Rattle.fx_server.specs.Answers.{ReportsFullAs}
+use Rattle.fx_server.specs.EndsOfKeys.{HaveTheirOwnKeys}
+use Rattle.fx_server.specs.FileNumbers.{after_draws, first_numbers, number_drawn, without_kept}
+use Rattle.fx_server.specs.Workers.{its_pass}
+use Rattle.fx_server.specs.declared.answers.CoreOutcome.{CoreOutcome}
+use Rattle.fx_server.specs.declared.worker.TableWorker.{TableWorker}
+
+abbrev pub number_of_file : File → ℕ
+number_of_file f = number_of_mark f.identity.mark
+
+-- the number is 0, or the worker at this place drew it before `draws`
+abbrev pub WasDrawn : (installing place draws number : ℕ) → Type 0
+WasDrawn installing place draws number = (number ≡ 0) ⊎ ((1 ≤ place)
+    × ((draw : ℕ) × (draw < draws) × (number ≡ number_drawn installing place draw)))
+
+-- the files that these events install have numbers which the worker at this place drew, each but 0
+-- for one file
+pub record HaveDrawnNumbers (installing place draws : ℕ) (own : List Event) : Type 0 where
+  pub drawn : (f : File) → IsInstalled own f
+      → WasDrawn installing place draws (number_of_file f)
+  pub apart : HaveTheirOwnKeys own
+
+-- No two files of a history have one number but 0, if each pass installs files with numbers that
+-- the worker at its place draws, each for one file
+abbrev pub FilesHaveTheirOwnNumbers : Type 0
+FilesHaveTheirOwnNumbers = (installing : ℕ) (h : List Event) → installing ≤ MOST_INSTALLING
+    → ((pass : ℕ) → (draws : ℕ) × HaveDrawnNumbers installing pass draws (part_of_pass pass h))
+    → HaveTheirOwnKeys h
+
+-- a pass has installed no file
+abbrev pub InstallsNothing : Option LastingPass → Type 0
+InstallsNothing None = Unit {0}
+InstallsNothing (Some pass) = (f : File) → IsInstalled (view_of pass).own f → ⊥
+
+-- the worker at a place has installed files with numbers that it drew, each but 0 for one file, and
+-- keeps one of which no file was installed; its second pass has installed no file
+pub record DrawsItsNumbers (installing place : ℕ) (w : TableWorker) : Type 0 where
+  pub draws : ℕ
+  pub numbers : without_kept w.numbers ≡ after_draws (first_numbers installing place) draws
+  pub files : HaveDrawnNumbers installing place draws (its_pass w).own
+  pub kept : WasDrawn installing place draws w.numbers.kept
+  pub unused : (f : File) → IsInstalled (its_pass w).own f → w.numbers.kept ≢ 0
+      → number_of_file f ≢ w.numbers.kept
+  pub holder : InstallsNothing w.holder
+
+-- a call of this worker keeps that
+abbrev pub KeepsItsNumbers : TableWorker → TableWorker → Type 0
+KeepsItsNumbers w w' = (installing place : ℕ) → installing ≤ MOST_INSTALLING → 1 ≤ place
+    → DrawsItsNumbers installing place w → DrawsItsNumbers installing place w'
+
+-- each export does
+pub record ExportsKeepNumbers : Type 0 where
+  pub get_at : (w w' : TableWorker) (slot : ℕ) (answer : ℤ) (out : CoreOutcome)
+      → GetsAtAs w slot answer out w' → KeepsItsNumbers w w'
+  pub get : (w w' : TableWorker) (key : Key) (answer : ℤ) (out : CoreOutcome)
+      → GetsAs w key answer out w' → KeepsItsNumbers w w'
+  pub release : (w w' : TableWorker) (answer : ℤ) (dropped : ℕ)
+      → ReleasesAs w answer dropped w' → KeepsItsNumbers w w'
+  pub insert : (w w' : TableWorker) (tag : ℕ) (answer : ℤ) (number : ℕ)
+      → InsertsAs w tag answer number w' → KeepsItsNumbers w w'
+  pub replace_at : (w w' : TableWorker) (slot tag : ℕ) (answer : ℤ) (out : CoreOutcome)
+      → ReplacesAtAs w slot tag answer out w' → KeepsItsNumbers w w'
+  pub replace : (w w' : TableWorker) (key : Key) (tag : ℕ) (answer : ℤ) (out : CoreOutcome)
+      → ReplacesAs w key tag answer out w' → KeepsItsNumbers w w'
+  pub remove_at : (w w' : TableWorker) (slot : ℕ) (answer : ℤ) (out : CoreOutcome)
+      → RemovesAtAs w slot answer out w' → KeepsItsNumbers w w'
+  pub remove : (w w' : TableWorker) (key : Key) (answer : ℤ) (out : CoreOutcome)
+      → RemovesAs w key answer out w' → KeepsItsNumbers w w'
+  pub draw : (w w' : TableWorker) (answer : ℤ) (number : ℕ)
+      → DrawsAs w answer number w' → KeepsItsNumbers w w'
+  pub put_empty : (w w' : TableWorker) (slot tag : ℕ) (answer : ℤ)
+      → PutsEmptyAs w slot tag answer w' → KeepsItsNumbers w w'
+  pub full : (w w' : TableWorker) (code : ℤ) → ReportsFullAs w code w' → KeepsItsNumbers w w'
