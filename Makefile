@@ -47,7 +47,7 @@ help-all: help
 	@echo '  make libraries                proves and builds the libraries for C, Rust and Python'
 	@echo '  make install                  copies programs, libraries, manual pages, completions and examples to PREFIX (/usr/local), below DESTDIR'
 	@echo '  make uninstall                removes the installed files'
-	@echo '  make pictures                 draws the histories of docs/MODEL.md again'
+	@echo '  make pictures                 draws the histories of docs/MODEL.md and the times of SPEED again'
 	@echo '  make clean                    removes what was built; proofs are kept'
 	@echo 'Prove, further:'
 	@echo '  make gate                     proves and tests all crates from nothing'
