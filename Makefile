@@ -185,6 +185,7 @@ kernel:
 conform:
 	@scripts/need number
 	@scripts/build-program check_cli fixcheck
+	@scripts/build-libraries yachtjudge || true
 	@kernel/conform --scripts "$${N:-500}"
 
 dist:

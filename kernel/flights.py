@@ -1,4 +1,6 @@
-"""Records calls in flight on this machine's kernel (kernel/flight), and judges the logs (bindings/python/yachtlog.py), for kernel/conform."""
+"""Records calls in flight on this machine's kernel (kernel/flight), and has the verified judge decide on the logs
+(bindings/python/yachtlog.py), for kernel/conform. Whole updates, which are Linux's and no rule of MODEL.md, are a question to the oracle
+model/flight_states.py."""
 import glob
 import os
 import subprocess
@@ -30,9 +32,10 @@ RULES = {
 
 
 def judge():
-    """Returns the reader of logs, or what is missing for it."""
+    """Returns the reader of logs, or what is missing to judge them."""
     sys.path += [os.path.join(ROOT, it) for it in PYTHON]
     try:
+        import yachtjudge  # noqa: F401, to see whether its library is there
         import yachtlog
     except ImportError as missing:
         return None, str(missing)
@@ -52,12 +55,20 @@ def recorded(program, words, seed):
     return log, "" if status == 0 else f"the recorder ended with status {status}: {complaint}"
 
 
+def whole_updates(log):
+    """Judges a log with each update as one step, as Linux makes it. The verified judge takes it as a step for each entry, as MODEL.md says."""
+    import flight_states
+
+    return flight_states.judged(log, is_whole=True)
+
+
 def complaint_of(yachtlog, log, is_whole=False):
     """Returns what the judge says of a log that is not legal, or is none, and whether it is undecided."""
     try:
-        verdict = yachtlog.Log(log).judge(is_whole=is_whole)
+        read = yachtlog.Log(log)
     except yachtlog.BadLog as fault:
         return f"not a log: {fault}", False
+    verdict = whole_updates(read) if is_whole else read.judge()
     if verdict.word == "not legal":
         line = log.splitlines()[verdict.line - 1]
         return f"not legal: line {verdict.line} of the log: {line}", False

@@ -136,23 +136,41 @@ ROWS = [
     (f"{FED}call 4 update 1 0\ndone 3.1 1 41\n", NOT_A_LOG, "line 9: a pipe that is read is installed once, and p 2 times"),
     (f"{PIPE}call 2 read 0 0 1 link ; close 0\n", NOT_A_LOG, "line 4: a read of a pipe is a call of its own"),
 ]
-# a read that finds no memory: the rules allow it, and the verified judge doesn't decide it
+# an answer -12, which the rules allow a read: the judge doesn't decide such a log, but refuses what
+# comes before
 NO_MEMORY = f"{OPENED}call 3 read 0 0 1 link ; close 0\ndone 3.1 -12\n"
-LACKING = [
-    (f"{NO_MEMORY}done 3.2 -125\n", LEGAL, "legal", UNDECIDED, "undecided: line 8: done 3.1 -12"),
-    (f"{NO_MEMORY}done 3.2 0\n", NOT_LEGAL, "not legal: line 9", UNDECIDED, "undecided: line 8"),
-    (f"{OPENED}call 3 close 0\ndone 3.1 -12\n", NOT_LEGAL, "not legal: line 8", UNDECIDED, "undecided: line 8"),
-    (f"{OPENED}settled\nclosed 2.1.0 a\ncall 3 read 1 0 1\ndone 3.1 -12\n", NOT_LEGAL, "not legal: line 8", NOT_LEGAL, "not legal: line 8"),
-    (f"{FED}done 3.1 -12\n", LEGAL, "legal", UNDECIDED, "undecided: line 8"),
+ROWS += [
+    (f"{NO_MEMORY}done 3.2 -125\n", UNDECIDED, "undecided: line 8: done 3.1 -12"),
+    (f"{NO_MEMORY}done 3.2 0\n", UNDECIDED, "undecided: line 8"),
+    (f"{OPENED}settled\nclosed 2.1.0 a\ncall 3 read 1 0 1\ndone 3.1 -12\n", NOT_LEGAL, "not legal: line 8"),
+    (f"{FED}done 3.1 -12\n", UNDECIDED, "undecided: line 8"),
 ]
 # arguments, in which these words are paths; the status; and a pattern of what is printed
-FILES = {"right": OPENED, "wrong": OPENED.replace("done 2.1 0", "done 2.1 7"), "none": "x\n"}
+# a look that finds a file which left its slot: the other calls and what follows may go
+STALE = f"{OPENED}call 3 close 0\ndone 3.1 0\ncall 5 look 0\ndone 5.1 0 2.1.0\n"
+MORE = "call 7 open b at 1\ndone 7.1 0\ncall 4 look 0\ndone 4.1 0 2.1.0\nfree 4\ncall 3"
+# a close while a look holds the file: one of the calls that may have removed it stays, and an
+# earlier file goes
+EARLIER = "call 8 open b at 0\ndone 8.1 0\ncall 9 close 0\ndone 9.1 0\nclosed 8.1.0 b\nsettled\n"
+HELD = "call 2 open a at 0\ndone 2.1 0\ncall 3 look 0\ndone 3.1 0 2.1.0\n"
+REMOVERS = ["call 4 close 0\ndone 4.1 0\n", "call 5 open b at 0\ndone 5.1 0\n"]
+FILES = {"right": OPENED, "wrong": OPENED.replace("done 2.1 0", "done 2.1 7"), "none": "x\n", "stale": f"{STALE}free 5\nsettled\n".replace("call 3", MORE),
+         "early": f"{HEAD}{EARLIER}{HELD}{''.join(REMOVERS)}closed 2.1.0 a\nfree 3\n"}
 ARGUMENTS = [
     ([], USAGE, "usage: yachtlog.py"),
     (["--help"], LEGAL, "usage: yachtlog.py"),
-    (["--prove", "right", "--bad"], USAGE, "unrecognized arguments: --bad"),
-    (["right", "--whole-updates"], LEGAL, "right: legal"),
-    (["--proved", "--whole-updates", "right"], USAGE, "not allowed with"),
+    (["right", "--bad"], USAGE, "unrecognized arguments: --bad"),
+    (["right", "--states", "100"], LEGAL, "right: legal"),
+    (["--states", "0", "right"], UNDECIDED, "right: undecided$"),
+    (["--memory", "0", "right"], UNDECIDED, "right: undecided$"),
+    (["--states", "-1", "right"], USAGE, "a limit is a number from 0 to 4294967295, not -1"),
+    (["--memory", "x", "right"], USAGE, "a limit is a number from 0 to 4294967295, not x"),
+    (["--shorten", "right", "wrong"], USAGE, "--shorten takes one log"),
+    (["--shorten", "right"], LEGAL, "right: legal"),
+    (["--shorten", "wrong"], NOT_LEGAL, f"^{HEAD}call 2 open a at 0\ndone 2.1 7\n.*wrong: not legal: line 6: done 2.1 7\n$"),
+    (["--shorten", "stale"], NOT_LEGAL, f"^{STALE}.*stale: not legal: line 10: done 5.1 0 2.1.0\n$"),
+    (["--shorten", "early"], NOT_LEGAL, f"^{HEAD}{HELD}({'|'.join(REMOVERS)})closed 2.1.0 a\n.*early: not legal: line 11: closed 2.1.0 a\n$"),
+    (["--shorten", "none"], NOT_A_LOG, "not a log: line 1"),
     (["right", "right"], LEGAL, "right: legal\n.*right: legal\n$"),
     (["right", "wrong", "none", "/nonexistent"], NOT_LEGAL, "right: legal\n.*wrong: not legal: line 6: done 2.1 7\n.*none: not a log: line 1: "),
     (["none", "/nonexistent", "wrong"], NOT_LEGAL, "not legal"),
@@ -190,7 +208,14 @@ WRONG = [
     ("yachtlines", "_want(len(marks) <= 1", "_want(True"),
     ("yachtlines", 'if result == 1 else ""', 'or "p"'),
     ("yachtlines", "if result == ENOMEM and not self.lacking", "if False"),
-    ("yachtstates", "known.result == ENOMEM", "False"),
+    ("yachtlog", "if it.line < self.lacking", "if True"),
+    ("yachtlog", 'return Verdict("undecided", self.lacking)', 'return Verdict("legal")'),
+    ("yachtlog", "yachtjudge.judge_events(self, before, states, memory)", "yachtjudge.judge_events(self, before)"),
+    ("yachtlog", "        verdict = Verdict(verdict.word, log.source.count", "        return 0\n        verdict = Verdict(verdict.word, log.source.count"),
+    ("yachtshorten", "yield call, [answer.found[0]]", "return"),
+    ("yachtshorten", "return calls if self.kept <= calls else None", "return calls | self.kept"),
+    ("yachtshorten", "self.lines = text.split(\"\\n\")[:last]", "self.lines = text.split(\"\\n\")[:-1]"),
+    ("yachtshorten", "is_shorter = True\n        while", "is_shorter = False\n        while"),
     ("yachtlog", "found = {status_of(it, options) for it in options.logs}\n    return next((it for it in ORDER if it in found), 0)",
      "return max(status_of(it, options) for it in options.logs)"),
     ("yachtlog", "NO_MEMORY, MISSING, NOT_A_LOG = 5, 4, 3", "NO_MEMORY, MISSING, NOT_A_LOG = 5, 1, 3"),
@@ -214,35 +239,33 @@ def ran(yachtlog, words):
     return status, written.getvalue()
 
 
-def judged(yachtlog, room, text, *words):
+def judged(yachtlog, room, text):
     """Runs the command on a text. Returns its status, and what it prints after the path."""
     path = os.path.join(room, "log")
     with open(path, "wb") as file:
         file.write(text.encode() if isinstance(text, str) else text)
-    status, written = ran(yachtlog, [*words, path])
+    status, written = ran(yachtlog, [path])
     return status, written.replace(f"{path}: ", "")
 
 
 def wrong_rows(yachtlog, room):
     """Yields the rows that are wrong: what they are, the status and what is printed."""
-    both = [(text, *told, *told) for text, *told in ROWS]
-    for text, status, words, proved_status, proved_words in both + LACKING:
-        for option, wanted, pattern in ((), status, words), (("--proved",), proved_status, proved_words):
-            found, written = judged(yachtlog, room, text, *option)
-            if found != wanted or not re.match(f"(not a log: )?{pattern}", written):
-                yield text[-80:], option, found, written
+    for text, wanted, pattern in ROWS:
+        found, written = judged(yachtlog, room, text)
+        if found != wanted or not re.match(f"(not a log: )?{pattern}", written):
+            yield text[-80:], found, written
     for name, text in FILES.items():
         with open(os.path.join(room, name), "w", encoding="ascii") as file:
             file.write(text)
     for words, wanted, pattern in ARGUMENTS:
         found, written = ran(yachtlog, [os.path.join(room, it) if it in FILES else it for it in words])
         if found != wanted or not re.search(pattern, written, re.DOTALL):
-            yield words, (), found, written
+            yield words, found, written
 
 
 def count():
     """Returns the number of rows."""
-    return 2 * (len(ROWS) + len(LACKING)) + len(ARGUMENTS)
+    return len(ROWS) + len(ARGUMENTS)
 
 
 def main(folder):

@@ -3,6 +3,7 @@ has there. The module yachtlog judges what is read here."""
 from __future__ import annotations
 
 import re
+from collections.abc import Iterator
 from typing import NamedTuple
 
 __all__ = ["Answer", "BadLog", "Event", "Lines", "Mark", "NO_FILE", "Request"]
@@ -195,7 +196,13 @@ class Lines:
         # the next member of each call that is open, and the looks that hold a file
         self._open: dict[int, int] = {}
         self._held: set[int] = set()
-        self._read(text if isinstance(text, str) else text.decode("latin-1"))
+        # the text
+        self.source = text if isinstance(text, str) else text.decode("latin-1")
+        self._read(self.source)
+
+    def line(self, number: int) -> str:
+        """Returns a line of the text, from 1."""
+        return self.source.split("\n")[number - 1]
 
     def _read(self, text: str) -> None:
         *lines, rest = text.split("\n")
@@ -318,6 +325,14 @@ class Lines:
         _want(not rest, "nothing follows `settled`")
         _want(not self._open, f"call {min(self._open, default=0)} is not answered")
         self.events.append(Event(number, "settled"))
+
+    def readings(self) -> Iterator[list[Event]]:
+        """Yields the events without the tags, and, if there are tags, the events with the tag of each file in place of its close."""
+        yield [it for it in self.events if it.word != "tag"]
+        tagged = {it.mark for it in self.events if it.word == "tag"}
+        if tagged:
+            events = (it for it in self.events if it.word != "closed" or it.mark not in tagged)
+            yield [it._replace(word="closed") if it.word == "tag" else it for it in events]
 
     def file_of(self, mark: Mark) -> int:
         """Returns the number in the catalogue of the file that the request of a mark installs, or -1 if it installs none there."""

@@ -1,11 +1,11 @@
-"""Logs of calls in flight (docs/FLIGHT.md): reads a log as the recorders print it, and decides whether it is legal. Nothing of it is
-proved; it is compared with a search of all orders.
+"""Logs of calls in flight (docs/FLIGHT.md): reads a log as the recorders print it, and has the verified judge decide whether it is legal
+(yachtjudge.judge_events). That the lines are read rightly is tested.
 
-    python3 yachtlog.py [--proved | --whole-updates] LOG..
+    python3 yachtlog.py [--states N] [--memory MIB] LOG..
 
 prints for each log `legal`, `not legal` with the line at which no flight is left, `undecided`, or `not a log` with the first line that no
-log has there. A log `-` is read from standard input. With --proved the verified judge decides (yachtjudge.judge_events). With
---whole-updates each update must be one step, which is more than the rules say.
+log has there. A log `-` is read from standard input. `python3 yachtlog.py --shorten LOG` prints a log with fewer calls and the same wrong
+line. Without the library yachtjudge a log is read, and not judged.
 
 The exit status is 1 if a log is not legal, whatever the others are. Else it is 5 if an allocation of the judge failed, 4 if a log can't be
 read or something that the command needs is missing, 3 if a text is not a log, 6 if a log is undecided, and 0 if all are legal. It is 2 if
@@ -26,57 +26,62 @@ if sys.version_info < (3, 10):
     sys.exit(4)
 
 import argparse
+from typing import Literal, NamedTuple
 
 from yachtlines import Answer, BadLog, Event, Lines, Request
-from yachtstates import Judge, Verdict
 
 __all__ = ["Answer", "BadLog", "Event", "Log", "Request", "Verdict"]
 
-# the most states at a line, by default
-STATES = 200_000
+# the defaults of fixcheck, and the largest number of each
+STATES, MEMORY, MOST = 1_000_000, 1_024, 2**32 - 1
+
+
+class Verdict(NamedTuple):
+    """A verdict: `word` is 'legal', 'not legal' or 'undecided'. `line` is the first line with which the log has no flight, or that a judge
+    leaves undecided whatever its limits are, from 1, or 0."""
+
+    word: Literal["legal", "not legal", "undecided"]
+    line: int = 0
 
 
 class Log(Lines):
     """A log: its catalogue, its slots, its calls and its events. Raises BadLog for a text that is not a log."""
 
-    def judge(self, states: int = STATES, is_proved: bool = False, is_whole: bool = False) -> Verdict:
-        """Judges the log, with at most `states` states at a line, or by the verified judge. If it is legal and has tags, it is judged again
-        with the tag of each file in place of its close. With `is_whole` each update must be one step; the verified judge can't ask that."""
-        verdict_of = self._proved if is_proved else lambda events, states: self._verdict(events, states, is_whole)
-        verdict = verdict_of([it for it in self.events if it.word != "tag"], states)
-        tagged = {it.mark for it in self.events if it.word == "tag"}
-        if not tagged or verdict.word != "legal":
-            return verdict
-        events = [it._replace(word="closed") if it.word == "tag" else it for it in self.events if it.word != "closed" or it.mark not in tagged]
-        return verdict_of(events, states)
+    def judge(self, states: int = STATES, memory: int = MEMORY) -> Verdict:
+        """Judges the log by the verified judge, with at most `states` states and `memory` MiB in a search. If it is legal and has tags, it
+        is judged again with the tag of each file in place of its close.
 
-    def _verdict(self, events: list[Event], states: int, is_whole: bool) -> Verdict:
-        """Judges events. A judge knows the answers that come later, and may find no flight before the first line with which none is left:
-        that one is found by halving, since each beginning of a legal log is legal."""
-        verdict = Judge(self, events, states, is_whole).verdict()
-        if verdict.word != "not legal":
-            return verdict
-        low, high = verdict.line, events[-1].line
-        while low < high:
-            middle = (low + high) // 2
-            part = Judge(self, [it for it in events if it.line <= middle], states, is_whole).verdict()
-            if part.word == "undecided":
-                return part
-            low, high = (low, middle) if part.word == "not legal" else (middle + 1, high)
-        return Verdict("not legal", low)
+        Raises ImportError if the library yachtjudge is missing, and what yachtjudge.judge_events raises."""
+        verdict = Verdict("legal")
+        for events in self.readings():
+            verdict = self._verdict(events, states, memory)
+            if verdict.word != "legal":
+                break
+        return verdict
 
-    def _proved(self, events: list[Event], states: int) -> Verdict:
-        """Judges events by the verified judge. It doesn't decide a log with an answer -12, but it may refuse the beginning before that."""
+    def _verdict(self, events: list[Event], states: int, memory: int) -> Verdict:
+        """Judges events. The judge doesn't decide a log with an answer -12, but it may refuse the beginning before that."""
         import yachtjudge
 
         before = [it for it in events if it.line < self.lacking] if self.lacking else events
         try:
-            verdict = yachtjudge.judge_events(self, before, states)
+            verdict = yachtjudge.judge_events(self, before, states, memory)
         except yachtjudge.BadEvent as bad:
             raise BadLog(bad.line, bad.fault) from bad
         if verdict.word == "not legal" or len(before) == len(events):
             return Verdict(verdict.word, verdict.line)
         return Verdict("undecided", self.lacking)
+
+    def shortened(self, verdict: Verdict, states: int = STATES, memory: int = MEMORY) -> str:
+        """Returns the log up to the line of its verdict, 'not legal', with fewer calls: a log of which this is the first wrong line, too. It
+        takes at most a minute, of which the last log that is tried may take more than its share."""
+        from yachtshorten import Shortening
+
+        def is_wrong(text: str) -> bool:
+            return Log(text).judge(states, memory) == ("not legal", text.count("\n"))
+
+        shortening = Shortening(self, self.source, verdict.line)
+        return shortening.text(shortening.shortest(is_wrong))
 
 
 NO_MEMORY, MISSING, NOT_A_LOG = 5, 4, 3
@@ -85,13 +90,24 @@ STATUSES = {"legal": 0, "not legal": 1, "undecided": 6}
 ORDER = (STATUSES["not legal"], NO_MEMORY, MISSING, NOT_A_LOG, STATUSES["undecided"])
 
 
+def limit(word: str) -> int:
+    """Reads a limit of the judge."""
+    number = int(word) if word.isascii() and word.isdigit() else -1
+    if not 0 <= number <= MOST:
+        raise argparse.ArgumentTypeError(f"a limit is a number from 0 to {MOST}, not {word}")
+    return number
+
+
 def arguments() -> argparse.Namespace:
     parser = argparse.ArgumentParser(prog="yachtlog.py", description="Judges logs of calls in flight (docs/FLIGHT.md).")
     parser.add_argument("logs", nargs="+", metavar="LOG", help="the path of a log, or - for standard input")
-    how = parser.add_mutually_exclusive_group()
-    how.add_argument("--proved", action="store_true", help="have the verified judge decide")
-    how.add_argument("--whole-updates", action="store_true", help="take each update as one step")
-    return parser.parse_args()
+    parser.add_argument("--states", type=limit, default=STATES, metavar="N", help=f"largest number of states of a search (default {STATES})")
+    parser.add_argument("--shorten", action="store_true", help="print a log with fewer calls and the same wrong line, and the verdict on standard error")
+    parser.add_argument("--memory", type=limit, default=MEMORY, metavar="MIB", help=f"largest number of MiB for them (default {MEMORY})")
+    options = parser.parse_args()
+    if options.shorten and len(options.logs) > 1:
+        parser.error("--shorten takes one log")
+    return options
 
 
 def content_of(path: str) -> bytes:
@@ -105,11 +121,13 @@ def status_of(path: str, options: argparse.Namespace) -> int:
     """Prints the verdict on a log. Returns the status that it has by itself."""
     try:
         content = content_of(path)
-        verdict = Log(content).judge(is_proved=options.proved, is_whole=options.whole_updates)
+        log = Log(content)
+        verdict = log.judge(options.states, options.memory)
     except OSError as fault:
         print(f"yachtlog: {path} can't be read: {fault.strerror}", file=sys.stderr)
         return MISSING
     except ImportError as missing:
+        print(f"{path}: a log, not judged")
         print(f"yachtlog: {missing}", file=sys.stderr)
         return MISSING
     except MemoryError:
@@ -118,8 +136,12 @@ def status_of(path: str, options: argparse.Namespace) -> int:
     except BadLog as fault:
         print(f"{path}: not a log: {fault}")
         return NOT_A_LOG
-    line = f": line {verdict.line}: {content.splitlines()[verdict.line - 1].decode()}" if verdict.line else ""
-    print(f"{path}: {verdict.word}{line}")
+    if options.shorten and verdict.word == "not legal":
+        log = Log(log.shortened(verdict, options.states, options.memory))
+        print(log.source, end="")
+        verdict = Verdict(verdict.word, log.source.count("\n"))
+    line = f": line {verdict.line}: {log.line(verdict.line)}" if verdict.line else ""
+    print(f"{path}: {verdict.word}{line}", file=sys.stderr if options.shorten else sys.stdout)
     return STATUSES[verdict.word]
 
 

@@ -1,10 +1,16 @@
 """Rows for yachtjudge.judge_events and yachtevents, each derived by hand: verdicts with their lines, the faults of a log, and the structs
 that an event and a request become."""
+import sys
+from pathlib import Path
+
 import yachtevents
 import yachtjudge
 import yachtlog
 from rows import end, raises, want
 from yachtjudge import LogVerdict, judge_events
+
+sys.path.append(str(Path(__file__).resolve().parents[2] / "model"))
+import flight_states
 
 HEAD = "file a 61\nfile b 6262\ncall 1 sparse 2\ndone 1.1 0\n"
 
@@ -26,7 +32,7 @@ def verdict(word, line, *lines):
     it = log(*lines)
     found = outcome(lambda: judge_events(it))
     want(found == LogVerdict(word, line) and bool(found) == (word == "legal"), f"{found} in place of {word} {line}: {lines}")
-    want(outcome(lambda: it.judge(is_proved=True)) == it.judge() == (word, line), f"the judges differ: {lines}")
+    want(outcome(it.judge) == outcome(lambda: flight_states.judged(it)) == (word, line), f"the judge and the oracle differ: {lines}")
 
 
 opened = "call 2 open a at 0", "done 2.1 0"
@@ -75,15 +81,15 @@ raises(ValueError, "memory must be from 0 to 4294967295, not -1", lambda: judge_
 # the tag of a file in place of its close, and events of the caller's choice
 tagged = log(*read, "done 3.1 1 61", "closed 2.1.0 a", "settled", "tag 2.1.0")
 want(outcome(lambda: judge_events(tagged)) == LogVerdict("legal"), "a log without its tags isn't legal")
-want(outcome(lambda: tagged.judge(is_proved=True)) == ("not legal", 12), "a tag that comes too late is legal")
+want(outcome(tagged.judge) == ("not legal", 12), "a tag that comes too late is legal")
 want(outcome(lambda: judge_events(tagged, tagged.events[:3])) == LogVerdict("legal"), "the beginning of a log isn't legal")
 
 # an update as one step: a read of its first slot finds its file, and a later one of its second
 # slot finds none
 between = log("call 2 update 0 0,0", "call 3 read 0 0 1", "done 3.1 1 61", "call 4 read 1 0 1", "done 4.1 -9", "done 2.1 2")
-want(between.judge() == outcome(lambda: between.judge(is_proved=True)) == ("legal", 0), "no request comes between two entries of an update")
-want(between.judge(is_whole=True) == ("not legal", 9), "a request comes between two entries of an update of one step")
-want(log("call 2 update 0 0,-2,0", "done 2.1 -22", "call 3 update 0 0,-1", "done 3.1 2").judge(is_whole=True).word == "legal", "an update isn't one step")
+want(outcome(between.judge) == ("legal", 0), "no request comes between two entries of an update")
+want(flight_states.judged(between, is_whole=True) == ("not legal", 9), "a request comes between two entries of an update of one step")
+want(flight_states.judged(log("call 2 update 0 0,-2,0", "done 2.1 -22", "call 3 update 0 0,-1", "done 3.1 2"), is_whole=True).word == "legal", "an update isn't one step")
 
 # faults: what is not a log isn't read (tests/log_lines.py); other events, or those of another
 # table, are named by their lines
@@ -100,7 +106,7 @@ raises(yachtjudge.BadEvent, "line 8: not-called", lambda: judge_events(changed()
 raises(yachtjudge.BadEvent, "line 8: answered-twice", lambda: judge_events(changed(), [*events, events[3]]))
 freed = yachtlog.Event(9, "free", 2)
 raises(yachtjudge.BadEvent, "line 9: not-held", lambda: judge_events(changed(), [*events, freed]))
-raises(yachtlog.BadLog, "line 9: not-held", lambda: changed(events=[*events, freed]).judge(is_proved=True))
+raises(yachtlog.BadLog, "line 9: not-held", lambda: changed(events=[*events, freed]).judge())
 long = {**changed().chains, 3: [yachtlog.Request("read", 0, count=4097)]}
 raises(yachtjudge.BadEvent, "line 7: not-one-chain", lambda: judge_events(changed(chains=long)))
 raises(yachtjudge.BadEvent, "line 6: a look finds a file, or answers -9", lambda: judge_events(changed(answers={(2, 1): yachtlog.Answer(1, "61")})))

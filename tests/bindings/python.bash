@@ -29,15 +29,17 @@ proved_logs() {
     printf 'call 1 sparse 1\ndone 1.1 0\ncall 2 close 0\ndone 2.1 %s\n' -9 > "$room/right"
     printf 'call 1 sparse 1\ndone 1.1 0\ncall 2 close 0\ndone 2.1 %s\n' 0 > "$room/wrong"
     printf 'call 1 sparse 1\ndone 1.1 0\ncall 2 read 0 0 4097\n' > "$room/none"
-    [ "$(python $module/yachtlog.py --proved "$room/right")" = "$room/right: legal" ] || return 1
-    [ "$(python $module/yachtlog.py --proved "$room/right" "$room/wrong")" = "$room/right: legal
+    [ "$(python $module/yachtlog.py "$room/right")" = "$room/right: legal" ] || return 1
+    [ "$(python $module/yachtlog.py "$room/right" "$room/wrong")" = "$room/right: legal
 $room/wrong: not legal: line 4: done 2.1 0" ] || return 1
-    python $module/yachtlog.py --proved "$room/right" "$room/wrong" > /dev/null
+    python $module/yachtlog.py "$room/right" "$room/wrong" > /dev/null
     [ $? -eq 1 ] || return 1
-    python $module/yachtlog.py --proved "$room/none" > "$room/found"
+    python $module/yachtlog.py "$room/none" > "$room/found"
     [ $? -eq 3 ] && grep -qx "$room/none: not a log: line 3: a read has at most 4096 bytes, not 4097" "$room/found" || return 1
-    [ "$(python $module/yachtlog.py --whole-updates "$room/right")" = "$room/right: legal" ] || return 1
-    library=$room/without python $module/yachtlog.py --proved "$room/right" 2> "$room/found"
+    # without the library a log is read, and not judged
+    [ "$(library=$room/without python $module/yachtlog.py "$room/right" "$room/none" 2> "$room/found")" = "$room/right: a log, not judged
+$room/none: not a log: line 3: a read has at most 4096 bytes, not 4097" ] || return 1
+    library=$room/without python $module/yachtlog.py "$room/right" > /dev/null 2>&1
     [ $? -eq 4 ] && grep -qF 'Set YACHTBANYAN_LIB_DIR to the folder that has it.' "$room/found"
 }
 

@@ -1,7 +1,8 @@
 //! recorder TABLE SEED [THREADS [ROUNDS [CALLS [SLOTS]]]]: records random calls of threads on a
 //! table, and prints the log (docs/FLIGHT.md). TABLE is `yachtbanyan`, `c` (that of the C library),
 //! `keys` and `c-keys` (the same two by the keys of their values), `slots` (a table of std), or a
-//! wrong one: `stale`, `early` or `walk`.
+//! wrong one: `stale`, `rare:N` (one of N looks is stale), `early` or `walk`. Standard error has the
+//! number of calls, and how rare a fault is that they show.
 //!
 //! Each of THREADS (3) makes CALLS (50) calls in each of ROUNDS (20), after which all rest. The
 //! table has SLOTS: 3, or by keys as many as all calls, since each call may keep its value.
@@ -11,7 +12,7 @@ use std::io::Write;
 use std::process::ExitCode;
 
 const USAGE: &str = "usage: recorder TABLE SEED [THREADS [ROUNDS [CALLS [SLOTS]]]]";
-const TABLES: &str = "yachtbanyan, c, keys, c-keys, slots, stale, early or walk";
+const TABLES: &str = "yachtbanyan, c, keys, c-keys, slots, stale, rare:N, early or walk";
 /// The largest numbers of threads and of slots.
 const MOST: (usize, usize) = (64, 1_048_576);
 
@@ -90,6 +91,10 @@ fn log_of(table: &str, plan: Plan) -> Result<Log, String> {
         "stale" => Fault::Stale,
         "early" => Fault::Early,
         "walk" => Fault::OneWalk,
+        _ if table.starts_with("rare:") => match table["rare:".len()..].parse() {
+            Ok(looks) if looks > 0 => Fault::Rare(looks),
+            _ => return Err("rare:N takes a number from 1 up".to_string()),
+        },
         _ => {
             let found = log_of_library(table, plan);
             return found.unwrap_or_else(|| Err(format!("TABLE is {TABLES}, not '{table}'")));
@@ -104,11 +109,20 @@ fn main() -> ExitCode {
         println!("{USAGE}\nTABLE is {TABLES}");
         return ExitCode::SUCCESS;
     }
-    match plan_of(&words).and_then(|(table, plan)| log_of(table, plan)) {
-        Ok(log) => match write!(std::io::stdout().lock(), "{log}") {
-            Ok(()) => ExitCode::SUCCESS,
-            Err(_) => ExitCode::from(4),
-        },
+    let recorded = plan_of(&words).and_then(|(table, plan)| Ok((log_of(table, plan)?, plan)));
+    match recorded {
+        Ok((log, plan)) => {
+            let calls = plan.threads * plan.rounds * plan.calls;
+            // (1 - 1/n)^(3n) is below 0.05
+            let rare = (calls / 3).max(1);
+            eprintln!(
+                "recorder: {calls} calls; 95 of 100 such logs have a fault of 1 call in {rare}"
+            );
+            match write!(std::io::stdout().lock(), "{log}") {
+                Ok(()) => ExitCode::SUCCESS,
+                Err(_) => ExitCode::from(4),
+            }
+        }
         Err(fault) => {
             eprintln!("recorder: {fault}\n{USAGE}");
             ExitCode::from(2)

@@ -11,6 +11,8 @@ pub enum Fault {
     None,
     /// A look returns what the slot had some looks before.
     Stale,
+    /// One of this number of looks returns what the slot had at the thread's look before.
+    Rare(usize),
     /// A removed value is dropped at once, also while it is in use.
     Early,
     /// A search that found each slot full at some time says full, also if the table changed.
@@ -21,6 +23,7 @@ pub enum Fault {
 pub struct Slots {
     slots: Vec<Mutex<Option<Arc<Value>>>>,
     changes: AtomicUsize,
+    looks: AtomicUsize,
     fault: Fault,
 }
 
@@ -40,6 +43,7 @@ impl Slots {
         Slots {
             slots: (0..slots).map(|_| Mutex::new(None)).collect(),
             changes: AtomicUsize::new(0),
+            looks: AtomicUsize::new(0),
             fault,
         }
     }
@@ -95,6 +99,12 @@ impl Handle for SlotsHandle<'_> {
 
     fn get(&self, slot: usize) -> Option<Arc<Value>> {
         let current = || self.table.slots[slot].lock().unwrap().clone();
+        if let Fault::Rare(looks) = self.table.fault {
+            let now = current();
+            let old = std::mem::replace(&mut self.copies.borrow_mut()[slot].1, now.clone());
+            let looked = self.table.looks.fetch_add(1, SeqCst) + 1;
+            return if looked % looks == 0 { old } else { now };
+        }
         if self.table.fault != Fault::Stale {
             return current();
         }

@@ -1,5 +1,6 @@
-"""The judge of logs of calls in flight that the module yachtlog reads: all states that a flight may have reached, line by line. Nothing of
-it is proved (docs/FLIGHT.md)."""
+"""An oracle for logs of calls in flight (docs/FLIGHT.md): all states that a flight may have reached, line by line. It shares the reader of
+lines with the module yachtlog, and nothing with the verified judge. tests/check-flights compares both. It alone can take each update as one
+step, which kernel/conform asks of Linux."""
 from __future__ import annotations
 
 from bisect import bisect_left
@@ -11,6 +12,8 @@ from yachtlines import Answer, Event, Mark, Request
 if TYPE_CHECKING:
     from yachtlines import Lines
 
+# the most states at a line, by default
+STATES = 200_000
 EBADF, ENOMEM, ENFILE, EINVAL, ECANCELED, ENOENT = -9, -12, -23, -22, -125, -2
 File = tuple[Mark, int]
 # the slots after an access, the files that left them, the entries of a list that are done, and the answer, or None if accesses are left
@@ -198,3 +201,30 @@ class Judge:
 def severs(request: Request, answer: Answer) -> bool:
     """Checks whether an answer severs the chain after its request."""
     return request.link == "link" and (answer.result < 0 or (request.kind == "read" and answer.result < request.count))
+
+
+def verdict_of(log: Lines, events: list[Event], states: int, is_whole: bool) -> Verdict:
+    """Judges events. A judge knows the answers that come later, and may find no flight before the first line with which none is left:
+    that one is found by halving, since each beginning of a legal log is legal."""
+    verdict = Judge(log, events, states, is_whole).verdict()
+    if verdict.word != "not legal":
+        return verdict
+    low, high = verdict.line, events[-1].line
+    while low < high:
+        middle = (low + high) // 2
+        part = Judge(log, [it for it in events if it.line <= middle], states, is_whole).verdict()
+        if part.word == "undecided":
+            return part
+        low, high = (low, middle) if part.word == "not legal" else (middle + 1, high)
+    return Verdict("not legal", low)
+
+
+def judged(log: Lines, states: int = STATES, is_whole: bool = False) -> Verdict:
+    """Judges a log, with at most `states` states at a line. If it is legal and has tags, it is judged again with the tag of each file in
+    place of its close. With `is_whole` each update must be one step."""
+    verdict = Verdict("legal")
+    for events in log.readings():
+        verdict = verdict_of(log, events, states, is_whole)
+        if verdict.word != "legal":
+            break
+    return verdict
