@@ -1,0 +1,223 @@
+//! The functions that C calls. Each borrows the handle of a machine, and calls the machine. Keys
+//! are bits: a call ignores the kind of the key that it gets, and the keys that it writes have the
+//! kind 0.
+ghost use Rattle.std.specs.Prelude.{◌≡◌, ◌≢◌, ◌⊎◌, ◌≤◌, ◌<◌, int_le, pos};
+ghost use Rattle.fx_direct.specs.Keys.{key_in_bits};
+ghost use Rattle.fx_direct.specs.Phases.{calls_in_flight, lives_of};
+ghost use Rattle.fx_direct.specs.declared.key.TheConstants.{MOST_SLOTS};
+ghost use Rattle.fx_direct.specs.declared.transition.Transition.TheVariants.{Opens, Finishes, Holds, Releases, Ends, Closes, FailsToClose};
+ghost use Rattle.fx_direct_c.specs.Answers.{ClosesAs, MakesAs, OpensMachine, ReservesAs, ShowsKey, ShowsPhase, StartsAs, WritesKeys};
+ghost use Rattle.fx_direct_c.specs.declared.codes.TheConstants.{BAD_ARGUMENT, DONE, NO_MEMORY};
+
+use crate::answers::{of_close, of_done, of_key, of_phase, of_reserve, of_start};
+use crate::codes::{BAD_ARGUMENT, DONE, NO_MEMORY};
+use crate::handle::{MachineHandle, MachinePlace};
+use fx_direct::{DirectSlots, LifeKey, MOST_SLOTS};
+use std::alloc::Global;
+
+/// Opens a machine of 1 to 1,048,576 slots. It returns `DONE`; or `BAD_ARGUMENT` or `NO_MEMORY`,
+/// and writes nothing.
+#[unsafe(no_mangle)]
+pub extern "C" fn yacht_direct_open(alloc: Global, machine: &mut MachinePlace, slots: u32) -> i32
+    ensures opened { result ≡ DONE → OpensMachine slots machine.new.slots }
+    ensures nothing { result ≢ DONE → machine.new ≡ machine.old }
+    ensures out_of_range { result ≡ BAD_ARGUMENT → (slots ≡ 0) ⊎ (MOST_SLOTS < slots) }
+    ensures numbers { (result ≡ DONE) ⊎ (result ≡ BAD_ARGUMENT) ⊎ (result ≡ NO_MEMORY) }
+{
+    if slots == 0 || slots > MOST_SLOTS {
+        return BAD_ARGUMENT;
+    }
+    let Ok(opened) = DirectSlots::open(alloc, slots) else {
+        return NO_MEMORY;
+    };
+    let Ok(owner) = Box::new(alloc, opened) else {
+        return NO_MEMORY;
+    };
+    *machine = MachinePlace::of(owner);
+    DONE
+}
+
+/// Frees a machine.
+#[unsafe(no_mangle)]
+pub extern "C" fn yacht_direct_free(machine: MachineHandle) {
+    machine.end();
+}
+
+/// Begins a life at a free slot, and writes its key and its slot. It returns `DONE`; or `FULL`, and
+/// writes nothing.
+#[unsafe(no_mangle)]
+pub extern "C" fn yacht_direct_reserve(
+    machine: &mut MachineHandle,
+    key: &mut u64,
+    slot: &mut u32,
+) -> i32
+    ensures { ReservesAs machine.old.slots result key.old key.new slot.old slot.new
+        machine.new.slots }
+{
+    of_reserve(machine.as_mut().reserve(), key, slot)
+}
+
+/// Reports the completion of a key's open, with its result: a negative one installed no file. It
+/// returns `DONE`, or why it is refused.
+#[unsafe(no_mangle)]
+pub extern "C" fn yacht_direct_opened(
+    machine: &mut MachineHandle,
+    key: u64,
+    result_of_open: i32,
+) -> i32
+    ensures { MakesAs machine.old.slots (Opens (key_in_bits key) (int_le (pos 0) result_of_open)) result
+        machine.new.slots }
+{
+    of_done(
+        machine
+            .as_mut()
+            .opened(LifeKey::from_bits(key).0, result_of_open >= 0),
+    )
+}
+
+/// Counts a request, and writes the slot. It returns `DONE`; or why it is refused, and writes
+/// nothing.
+#[unsafe(no_mangle)]
+pub extern "C" fn yacht_direct_start(machine: &mut MachineHandle, key: u64, slot: &mut u32) -> i32
+    ensures { StartsAs machine.old.slots (key_in_bits key) result slot.old slot.new
+        machine.new.slots }
+{
+    of_start(machine.as_mut().start(LifeKey::from_bits(key).0), slot)
+}
+
+/// Reports the completion of a request. It returns `DONE`; `CLOSE`, and writes the slot; or why it
+/// is refused.
+#[unsafe(no_mangle)]
+pub extern "C" fn yacht_direct_finish(machine: &mut MachineHandle, key: u64, slot: &mut u32) -> i32
+    ensures { ClosesAs machine.old.slots (Finishes (key_in_bits key)) result slot.old slot.new
+        machine.new.slots }
+{
+    of_close(machine.as_mut().finish(LifeKey::from_bits(key).0), slot)
+}
+
+/// Counts a user that is not a request. It returns `DONE`, or why it is refused.
+#[unsafe(no_mangle)]
+pub extern "C" fn yacht_direct_hold(machine: &mut MachineHandle, key: u64) -> i32
+    ensures { MakesAs machine.old.slots (Holds (key_in_bits key)) result machine.new.slots }
+{
+    of_done(machine.as_mut().hold(LifeKey::from_bits(key).0))
+}
+
+/// Reports that such a user is gone. It returns what `yacht_direct_finish` returns.
+#[unsafe(no_mangle)]
+pub extern "C" fn yacht_direct_release(machine: &mut MachineHandle, key: u64, slot: &mut u32) -> i32
+    ensures { ClosesAs machine.old.slots (Releases (key_in_bits key)) result slot.old slot.new
+        machine.new.slots }
+{
+    of_close(machine.as_mut().release(LifeKey::from_bits(key).0), slot)
+}
+
+/// Ends the life of a key. It returns what `yacht_direct_finish` returns.
+#[unsafe(no_mangle)]
+pub extern "C" fn yacht_direct_end(machine: &mut MachineHandle, key: u64, slot: &mut u32) -> i32
+    ensures { ClosesAs machine.old.slots (Ends (key_in_bits key)) result slot.old slot.new
+        machine.new.slots }
+{
+    of_close(machine.as_mut().end(LifeKey::from_bits(key).0), slot)
+}
+
+/// Reports that the close of a key succeeded. It returns `DONE`, or why it is refused.
+#[unsafe(no_mangle)]
+pub extern "C" fn yacht_direct_closed(machine: &mut MachineHandle, key: u64) -> i32
+    ensures { MakesAs machine.old.slots (Closes (key_in_bits key)) result machine.new.slots }
+{
+    of_done(machine.as_mut().closed(LifeKey::from_bits(key).0))
+}
+
+/// Reports that the close of a key failed. It returns `CLOSE`, and writes the slot; or why it is
+/// refused.
+#[unsafe(no_mangle)]
+pub extern "C" fn yacht_direct_close_failed(
+    machine: &mut MachineHandle,
+    key: u64,
+    slot: &mut u32,
+) -> i32
+    ensures { ClosesAs machine.old.slots (FailsToClose (key_in_bits key)) result slot.old slot.new
+        machine.new.slots }
+{
+    of_close(
+        machine
+            .as_mut()
+            .close_failed(LifeKey::from_bits(key).0)
+            .map(Some),
+        slot,
+    )
+}
+
+/// Returns the phase of the life under a key, and writes its requests in flight and its other
+/// users; or `STALE`, and writes nothing.
+#[unsafe(no_mangle)]
+pub extern "C" fn yacht_direct_phase(
+    machine: &mut MachineHandle,
+    key: u64,
+    requests: &mut u32,
+    users: &mut u32,
+) -> i32
+    ensures shown { ShowsPhase machine.old.slots (key_in_bits key) result requests.old requests.new
+        users.old users.new }
+    ensures same { machine.new.slots ≡ machine.old.slots }
+{
+    of_phase(
+        machine.as_mut().phase(LifeKey::from_bits(key).0),
+        requests,
+        users,
+    )
+}
+
+/// Returns the number of lives under way.
+#[unsafe(no_mangle)]
+pub extern "C" fn yacht_direct_len(machine: &mut MachineHandle) -> u32
+    ensures len { result ≡ lives_of machine.old.slots }
+    ensures same { machine.new.slots ≡ machine.old.slots }
+{
+    machine.as_mut().len()
+}
+
+/// Returns the number of calls in flight.
+#[unsafe(no_mangle)]
+pub extern "C" fn yacht_direct_in_flight(machine: &mut MachineHandle) -> u64
+    ensures calls { result ≡ calls_in_flight machine.old.slots }
+    ensures same { machine.new.slots ≡ machine.old.slots }
+{
+    machine.as_mut().in_flight()
+}
+
+/// Writes the key of the life under way at a slot, and returns `DONE`; or returns `STALE` if none
+/// is, and writes nothing.
+#[unsafe(no_mangle)]
+pub extern "C" fn yacht_direct_key_at(machine: &mut MachineHandle, slot: u32, key: &mut u64) -> i32
+    ensures shown { ShowsKey machine.old.slots slot result key.old key.new }
+    ensures same { machine.new.slots ≡ machine.old.slots }
+{
+    of_key(machine.as_mut().key_at(slot), key)
+}
+
+/// Writes the keys of the lives under way, each once and as many as fit, and returns their number.
+#[unsafe(no_mangle)]
+pub extern "C" fn yacht_direct_keys(machine: &mut MachineHandle, keys: &mut [u64]) -> usize
+    ensures written { WritesKeys machine.old.slots result keys.old keys.new }
+    ensures same { machine.new.slots ≡ machine.old.slots }
+{
+    write_keys(machine.as_mut(), keys)
+}
+
+// Writes the keys of the lives under way, as many as fit, and returns their number.
+fn write_keys(machine: &DirectSlots, keys: &mut [u64]) -> usize
+    ensures { WritesKeys machine.now result keys.old keys.new }
+{
+    let mut left = machine.keys();
+    let mut count = 0;
+    while count < keys.len() {
+        let Some(key) = left.next() else {
+            return count;
+        };
+        keys[count] = key.to_bits(0);
+        count += 1;
+    }
+    count
+}
