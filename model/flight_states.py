@@ -16,7 +16,8 @@ if TYPE_CHECKING:
 STATES = 200_000
 EBADF, ENOMEM, ENFILE, EINVAL, ECANCELED, ENOENT = -9, -12, -23, -22, -125, -2
 File = tuple[Mark, int]
-# the slots after an access, the files that left them, the entries of a list that are done, and the answer, or None if accesses are left
+# the slots after an access, the files that left them, the entries of a list that are done, and the
+# answer, or None if accesses are left
 Access = tuple[tuple[Optional[File], ...], frozenset[Mark], int, Optional[Answer]]
 
 
