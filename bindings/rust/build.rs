@@ -1,12 +1,11 @@
-//! Links the verified core for the target: the library in the folder YACHTBANYAN_LIB_DIR; or in
-//! `lib/TARGET` of this folder; or, unless the target is another one than this machine's, where
-//! pkg-config finds it.
+//! Links the verified libraries for the target, that of the table and that of direct descriptors:
+//! those in the folder YACHTBANYAN_LIB_DIR; or in `lib/TARGET` of this folder; or, unless the
+//! target is another one than this machine's, where pkg-config finds the first one.
 use std::path::{Path, PathBuf};
 use std::{env, fs, process::Command};
 
 const LIBRARY: &str = "libyachtbanyan.a";
-/// The version follows these bytes in the library.
-const MARK: &[u8] = b"@(#)yachtbanyan ";
+const NAMES: [&str; 2] = ["yachtbanyan", "yachtdirect"];
 
 fn by_pkg_config() -> Option<PathBuf> {
     let mut asked = Command::new("pkg-config");
@@ -42,24 +41,29 @@ fn is_for_thread_sanitizer() -> bool {
     sanitizer == "thread" || flags.contains("sanitizer=thread")
 }
 
-/// Returns the version that a library names in itself, or `None` if it names none.
-fn version_in(library: &Path) -> Option<String> {
+/// Returns the version that a library names in itself after its own name, or `None` if it names
+/// none.
+fn version_in(library: &Path, name: &str) -> Option<String> {
     let bytes = fs::read(library).ok()?;
-    let at = bytes.windows(MARK.len()).position(|it| it == MARK)? + MARK.len();
+    let mark = format!("@(#){name} ").into_bytes();
+    let at = bytes.windows(mark.len()).position(|it| it == mark)? + mark.len();
     let digits = bytes[at..]
         .iter()
         .take_while(|it| b"0123456789.".contains(it));
     Some(digits.map(|it| char::from(*it)).collect())
 }
 
-/// Panics unless the folder has the library, and this is of the crate's version.
-fn check(folder: &Path, by: &str) {
-    let library = folder.join(LIBRARY);
+/// Links a library of the folder. Panics unless it is there, and is of the crate's version.
+fn link(folder: &Path, name: &str, by: &str) {
+    let file = format!("lib{name}.a");
+    let library = folder.join(&file);
     if !library.exists() {
         let folder = folder.display();
-        panic!("there is no {LIBRARY} in {folder}, the folder that {by} names");
+        panic!("there is no {file} in {folder}, the folder that {by} names");
     }
-    let found = version_in(&library).unwrap_or_else(|| "before 5.0.0".to_string());
+    println!("cargo:rerun-if-changed={}", library.display());
+    println!("cargo:rustc-link-lib=static={name}");
+    let found = version_in(&library, name).unwrap_or_else(|| "before 5.0.0".to_string());
     let wanted = env::var("CARGO_PKG_VERSION").expect("cargo sets it");
     let library = library.display();
     assert!(
@@ -96,8 +100,8 @@ fn main() {
             targets_in(&all)
         );
     };
-    check(&folder, by);
-    println!("cargo:rerun-if-changed={}", folder.join(LIBRARY).display());
     println!("cargo:rustc-link-search=native={}", folder.display());
-    println!("cargo:rustc-link-lib=static=yachtbanyan");
+    for name in NAMES {
+        link(&folder, name, by);
+    }
 }

@@ -6,6 +6,7 @@
 mod access;
 #[cfg(doctest)]
 mod bounds;
+pub mod direct;
 mod errors;
 mod iter;
 mod key;

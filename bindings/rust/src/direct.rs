@@ -1,0 +1,123 @@
+//! The life of a direct descriptor: when a slot of a ring's table is free, when it may be closed,
+//! and whose a completion is. For a server on `io_uring` with direct descriptors (fixed files).
+//!
+//! Nothing here makes a system call: [`Slots`] says what to submit, and takes the completions. So
+//! it works with any crate for rings.
+//!
+//! ```text
+//! free -> opening -> live -> ending -> closing -> free
+//! ```
+//!
+//! [`Slots::reserve`] takes a free slot, and the caller submits an open there (`openat`, `accept`,
+//! `socket`). The life of the slot has a name, its [`Key`], which is also the `user_data` of each
+//! request. A request on the file is counted from before its submission ([`Slots::start`]) until
+//! its last completion ([`Slots::finish`]). After [`Slots::end`] no request is started, and once
+//! none is left, a call returns [`Next::Close`]: now the slot is to be closed.
+//!
+//! ```
+//! use yachtbanyan::direct::{Key, Next, Slots};
+//! # struct Ring;
+//! # impl Ring {
+//! #     fn accept(&mut self, _slot: u32, _data: u64) {}
+//! #     fn receive(&mut self, _slot: u32, _data: u64) {}
+//! #     fn shutdown(&mut self, _slot: u32, _data: u64) {}
+//! #     fn close(&mut self, _slot: u32, _data: u64) {}
+//! # }
+//!
+//! const ACCEPT: u8 = 0;
+//! const RECEIVE: u8 = 1;
+//! const SHUTDOWN: u8 = 2;
+//! const CLOSE: u8 = 3;
+//!
+//! /// Takes a completion of the ring.
+//! fn completed(
+//!     slots: &mut Slots,
+//!     ring: &mut Ring,
+//!     user_data: u64,
+//!     result: i32,
+//! ) -> Result<(), Box<dyn std::error::Error>> {
+//!     let (key, kind) = Key::from_bits(user_data);
+//!     let next = match kind {
+//!         ACCEPT => {
+//!             slots.opened(key, result)?;
+//!             if result < 0 {
+//!                 return Ok(()); // the slot is free again
+//!             }
+//!             ring.receive(slots.start(key)?, key.to_bits(RECEIVE));
+//!             return Ok(());
+//!         }
+//!         CLOSE if result < 0 => Next::Close(slots.close_failed(key)?),
+//!         CLOSE => return Ok(slots.closed(key)?),
+//!         RECEIVE if result == 0 => {
+//!             ring.shutdown(slots.start(key)?, key.to_bits(SHUTDOWN));
+//!             let _waits_for_the_shutdown = slots.end(key)?;
+//!             slots.finish(key)?
+//!         }
+//!         _ => slots.finish(key)?,
+//!     };
+//!     if let Next::Close(slot) = next {
+//!         ring.close(slot, key.to_bits(CLOSE));
+//!     }
+//!     Ok(())
+//! }
+//!
+//! let (mut slots, mut ring) = (Slots::new(64)?, Ring);
+//! let key = slots.reserve()?;
+//! ring.accept(key.slot(), key.to_bits(ACCEPT));
+//! // what the kernel would post
+//! completed(&mut slots, &mut ring, key.to_bits(ACCEPT), 0)?;
+//! completed(&mut slots, &mut ring, key.to_bits(RECEIVE), 0)?;
+//! completed(&mut slots, &mut ring, key.to_bits(SHUTDOWN), 0)?;
+//! completed(&mut slots, &mut ring, key.to_bits(CLOSE), 0)?;
+//! assert!(slots.is_empty() && slots.in_flight() == 0);
+//! # Ok::<(), Box<dyn std::error::Error>>(())
+//! ```
+//!
+//! # Promise
+//!
+//! In every run in which the premises below hold: a request that was started under a key finds the
+//! file that the open under this key installed, and no other one. An open finds its slot empty.
+//! Each file is asked to be closed at most once, or once more after each close that failed; and
+//! exactly once if its life was ended, and each request and user came back. When a slot is
+//! reserved, no request, no user and no file of an earlier life is left there. This is proved of
+//! the library beneath.
+//!
+//! # Premises
+//!
+//! - [`Slots::start`] is called before the submission, and [`Slots::finish`] once, after the last
+//!   completion of the request: of a multishot request the one without `IORING_CQE_F_MORE`, of a
+//!   zero-copy send its notification.
+//! - Nobody else writes these slots: no update of the ring's table there, and no open at a slot
+//!   that the kernel chooses, unless the ring's allocation range lies outside them.
+//! - The kernel posts a completion once, with its request's `user_data`. An open succeeds if and
+//!   only if it put its file at the slot, and a close if and only if it took one.
+//!
+//! # Values, and other threads
+//!
+//! [`Slots<T>`](Slots) keeps a value for each life, which the life's end returns. Threads that
+//! work on a connection hold a value of a [`Table`](crate::Table): it has a [`User`], and the
+//! machine counts it as one user. Whichever thread drops the value, the key goes to a queue,
+//! [`Releases`], that the ring's thread collects.
+#[cfg(doctest)]
+mod bounds;
+#[allow(unsafe_code)]
+mod core;
+mod errors;
+mod key;
+#[allow(unsafe_code)]
+mod machine;
+mod releases;
+mod slots;
+#[cfg(yachtbanyan_stand_in)]
+#[allow(unsafe_code)]
+mod stand_in;
+#[cfg(test)]
+mod tests;
+
+pub use errors::{Full, OpenError, Refusal};
+pub use key::{Key, MOST_KIND};
+pub use releases::{Releases, User};
+pub use slots::{Next, Phase, Slots};
+
+/// The largest number of slots.
+pub const MOST_SLOTS: u32 = core::MOST_SLOTS;

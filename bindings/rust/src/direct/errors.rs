@@ -1,0 +1,168 @@
+//! The errors. None of them changes anything.
+use super::core::{
+    FULL, IS_CLOSING, IS_ENDING, IS_LIVE, IS_OPENING, MOST_SLOTS, STALE, TOO_MANY_REQUESTS,
+    TOO_MANY_USERS,
+};
+use super::key::Key;
+use std::error::Error;
+use std::fmt;
+
+/// The reason why [`Slots::new`](crate::direct::Slots::new) opens nothing.
+///
+/// ```
+/// let error = yachtbanyan::direct::Slots::<()>::new(0).unwrap_err();
+/// assert_eq!(error.to_string(), "0 slots: there are 1 to 1048576");
+/// ```
+#[derive(Clone, Copy, Debug, PartialEq, Eq)]
+#[non_exhaustive]
+pub enum OpenError {
+    /// The number of slots is out of range.
+    Slots(u32),
+    /// An allocation failed.
+    NoMemory,
+}
+
+/// No slot is free. The caller waits until a life is over: an `accept` that isn't submitted leaves
+/// clients in the backlog of the listening socket.
+///
+/// ```
+/// let mut slots = yachtbanyan::direct::Slots::<()>::new(1)?;
+/// slots.reserve()?;
+/// let full = slots.reserve().unwrap_err();
+/// assert_eq!(full.to_string(), "the only slot has a life");
+/// # Ok::<(), Box<dyn std::error::Error>>(())
+/// ```
+#[derive(Clone, Copy, Debug, PartialEq, Eq)]
+pub struct Full {
+    /// The number of slots.
+    pub slots: u32,
+}
+
+/// The reason why a call by a key is refused. It has changed nothing.
+///
+/// ```
+/// use yachtbanyan::direct::{Refusal, Slots};
+///
+/// let mut slots = Slots::<()>::new(4)?;
+/// let key = slots.reserve()?;
+/// let error = slots.start(key).unwrap_err();
+/// assert_eq!(error, Refusal::IsOpening { key });
+/// assert_eq!(error.number(), -11);
+/// assert_eq!(error.to_string(), format!("{key}: the open is not completed"));
+/// # Ok::<(), Box<dyn std::error::Error>>(())
+/// ```
+#[derive(Clone, Copy, Debug, PartialEq, Eq)]
+#[non_exhaustive]
+pub enum Refusal {
+    /// The life of the key is over, or never was.
+    Stale {
+        /// The key.
+        key: Key,
+    },
+    /// The open isn't completed.
+    IsOpening {
+        /// The key.
+        key: Key,
+    },
+    /// The file is open: it wasn't ended; of `finish` and `release`, no request or no user is
+    /// left.
+    IsLive {
+        /// The key.
+        key: Key,
+    },
+    /// The life was ended; of `finish` and `release`, no request or no user is left.
+    IsEnding {
+        /// The key.
+        key: Key,
+    },
+    /// The close isn't completed.
+    IsClosing {
+        /// The key.
+        key: Key,
+    },
+    /// 2^32 - 1 requests are in flight under the key.
+    TooManyRequests {
+        /// The key.
+        key: Key,
+    },
+    /// The key has 2^32 - 1 users.
+    TooManyUsers {
+        /// The key.
+        key: Key,
+    },
+}
+
+impl Refusal {
+    /// Returns the refusal of a number of yachtdirect.h.
+    pub(super) fn of(number: i32, key: Key) -> Refusal {
+        match number {
+            IS_OPENING => Refusal::IsOpening { key },
+            IS_LIVE => Refusal::IsLive { key },
+            IS_ENDING => Refusal::IsEnding { key },
+            IS_CLOSING => Refusal::IsClosing { key },
+            TOO_MANY_REQUESTS => Refusal::TooManyRequests { key },
+            TOO_MANY_USERS => Refusal::TooManyUsers { key },
+            _ => Refusal::Stale { key },
+        }
+    }
+
+    fn parts(self) -> (Key, i32, &'static str) {
+        match self {
+            Refusal::Stale { key } => (key, STALE, "the life of the key is over"),
+            Refusal::IsOpening { key } => (key, IS_OPENING, "the open is not completed"),
+            Refusal::IsLive { key } => (key, IS_LIVE, "the file is open"),
+            Refusal::IsEnding { key } => (key, IS_ENDING, "the life was ended"),
+            Refusal::IsClosing { key } => (key, IS_CLOSING, "the close is not completed"),
+            Refusal::TooManyRequests { key } => {
+                (key, TOO_MANY_REQUESTS, "too many requests are in flight")
+            }
+            Refusal::TooManyUsers { key } => (key, TOO_MANY_USERS, "there are too many users"),
+        }
+    }
+
+    /// Returns the key of the call.
+    pub fn key(self) -> Key {
+        self.parts().0
+    }
+
+    /// Returns the number that the header yachtdirect.h has for it, from -16 to -10.
+    pub fn number(self) -> i32 {
+        self.parts().1
+    }
+}
+
+impl Full {
+    /// Returns the number that the header yachtdirect.h has for it, -6.
+    pub fn number(self) -> i32 {
+        FULL
+    }
+}
+
+impl fmt::Display for OpenError {
+    fn fmt(&self, f: &mut fmt::Formatter<'_>) -> fmt::Result {
+        match self {
+            OpenError::Slots(slots) => write!(f, "{slots} slots: there are 1 to {MOST_SLOTS}"),
+            OpenError::NoMemory => f.write_str("an allocation failed"),
+        }
+    }
+}
+
+impl fmt::Display for Full {
+    fn fmt(&self, f: &mut fmt::Formatter<'_>) -> fmt::Result {
+        match self.slots {
+            1 => f.write_str("the only slot has a life"),
+            slots => write!(f, "all {slots} slots have lives"),
+        }
+    }
+}
+
+impl fmt::Display for Refusal {
+    fn fmt(&self, f: &mut fmt::Formatter<'_>) -> fmt::Result {
+        let (key, _, words) = self.parts();
+        write!(f, "{key}: {words}")
+    }
+}
+
+impl Error for OpenError {}
+impl Error for Full {}
+impl Error for Refusal {}

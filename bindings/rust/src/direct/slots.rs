@@ -1,0 +1,287 @@
+//! The slots of one ring's table.
+use super::errors::{Full, OpenError, Refusal};
+use super::key::Key;
+use super::machine::Machine;
+use super::releases::{Releases, User};
+use std::fmt;
+
+/// What a caller does after a call by which a request, a user or a life ends.
+#[must_use = "a slot that isn't closed is never free again"]
+#[derive(Clone, Copy, Debug, PartialEq, Eq)]
+pub enum Next {
+    /// Nothing.
+    Nothing,
+    /// Submit the close of this slot, with the key as its `user_data`: nobody uses the file any
+    /// more. A life has one such answer, which is repeated by [`Slots::close_failed`] alone.
+    Close(u32),
+}
+
+/// The phase of a life.
+#[derive(Clone, Copy, Debug, PartialEq, Eq)]
+pub enum Phase {
+    /// The open isn't completed.
+    Opening,
+    /// The file is open.
+    Live {
+        /// The number of requests in flight.
+        requests: u32,
+        /// The number of users that are no requests.
+        users: u32,
+    },
+    /// The life was ended, and requests or users are left.
+    Ending {
+        /// The number of requests in flight.
+        requests: u32,
+        /// The number of users that are no requests.
+        users: u32,
+    },
+    /// The close was asked for, and isn't completed.
+    Closing,
+}
+
+/// The slots of one ring's table of direct descriptors, with a value for each life.
+///
+/// Every call but [`Slots::new`] and [`Slots::keys`] takes constant time and allocates nothing. A
+/// refused call has changed nothing. One thread at a time uses the slots; they may go to another
+/// one.
+///
+/// ```
+/// use yachtbanyan::direct::{Next, Phase, Slots};
+///
+/// let mut slots = Slots::new(64)?;
+/// let key = slots.reserve_with(|key| format!("connection {key}"))?;
+/// // submit an accept at key.slot()
+/// slots.opened(key, 0)?; // it succeeded
+/// slots.start(key)?; // submit a receive
+/// assert_eq!(slots.phase(key), Some(Phase::Live { requests: 1, users: 0 }));
+/// assert_eq!(slots.end(key)?, Next::Nothing); // the receive is in flight
+/// assert!(slots.start(key).is_err());
+/// assert_eq!(slots.finish(key)?, Next::Close(key.slot())); // submit a close
+/// assert_eq!(slots.closed(key)?, format!("connection {key}")); // it succeeded
+/// assert_eq!(slots.phase(key), None);
+/// # Ok::<(), Box<dyn std::error::Error>>(())
+/// ```
+pub struct Slots<T = ()> {
+    machine: Machine,
+    // by slot
+    values: Box<[Option<T>]>,
+}
+
+impl<T> Slots<T> {
+    /// Opens 1 to [`MOST_SLOTS`](super::MOST_SLOTS) free slots, which are those from 0 of the
+    /// table that the caller registers with the ring.
+    ///
+    /// # Errors
+    ///
+    /// The number is out of range, or an allocation failed.
+    pub fn new(slots: u32) -> Result<Slots<T>, OpenError> {
+        let machine = Machine::open(slots)?;
+        let mut values = Vec::new();
+        let room = values.try_reserve_exact(slots as usize);
+        room.map_err(|_| OpenError::NoMemory)?;
+        values.resize_with(slots as usize, || None);
+        let values = values.into_boxed_slice();
+        Ok(Slots { machine, values })
+    }
+
+    /// Begins a life at a free slot, with a value that is made from its key. The caller submits an
+    /// open at [`Key::slot`]. A slot that has had 2^40 - 1 lives isn't free again.
+    ///
+    /// # Errors
+    ///
+    /// No slot is free: then `make` isn't called.
+    pub fn reserve_with(&mut self, make: impl FnOnce(Key) -> T) -> Result<Key, Full> {
+        let key = self.machine.reserve(self.values.len() as u32)?;
+        let kept = Unless(self, key);
+        let value = make(key);
+        kept.0.values[key.slot() as usize] = Some(value);
+        std::mem::forget(kept);
+        Ok(key)
+    }
+
+    /// Begins a life with the default value, as [`Slots::reserve_with`].
+    ///
+    /// # Errors
+    ///
+    /// No slot is free.
+    pub fn reserve(&mut self) -> Result<Key, Full>
+    where
+        T: Default,
+    {
+        self.reserve_with(|_| T::default())
+    }
+
+    /// Takes the result of the open. If it is negative, the life is over and the slot is free, and
+    /// its value is returned.
+    ///
+    /// # Errors
+    ///
+    /// The life isn't opening.
+    pub fn opened(&mut self, key: Key, result: i32) -> Result<Option<T>, Refusal> {
+        self.machine.opened(key, result)?;
+        Ok(if result < 0 { self.take(key) } else { None })
+    }
+
+    /// Counts a request, and returns the slot. The caller submits the request there.
+    ///
+    /// # Errors
+    ///
+    /// The life isn't live, or has 2^32 - 1 requests in flight.
+    pub fn start(&mut self, key: Key) -> Result<u32, Refusal> {
+        self.machine.start(key)
+    }
+
+    /// Takes the last completion of a request that was started.
+    ///
+    /// # Errors
+    ///
+    /// No request of the life is in flight.
+    pub fn finish(&mut self, key: Key) -> Result<Next, Refusal> {
+        self.machine.finish(key)
+    }
+
+    /// Counts a user that is no request, until [`Slots::release`].
+    ///
+    /// # Errors
+    ///
+    /// The life isn't live, or has 2^32 - 1 users.
+    pub fn hold(&mut self, key: Key) -> Result<(), Refusal> {
+        self.machine.hold(key)
+    }
+
+    /// Counts a user, as [`Slots::hold`], whose drop posts the key to a queue: then the ring's
+    /// thread collects it, and calls [`Slots::release`]. The user may go to another thread.
+    ///
+    /// # Errors
+    ///
+    /// The life isn't live, or has 2^32 - 1 users.
+    pub fn hold_by(&mut self, key: Key, releases: &Releases) -> Result<User, Refusal> {
+        self.machine.hold(key)?;
+        Ok(releases.user(key))
+    }
+
+    /// Takes a user back.
+    ///
+    /// # Errors
+    ///
+    /// The life has no user.
+    pub fn release(&mut self, key: Key) -> Result<Next, Refusal> {
+        self.machine.release(key)
+    }
+
+    /// Ends a life: from now on no request is started, and no user counted. What is in flight
+    /// isn't canceled: a shutdown of the socket, started before, makes its requests complete.
+    ///
+    /// # Errors
+    ///
+    /// The life isn't live.
+    pub fn end(&mut self, key: Key) -> Result<Next, Refusal> {
+        self.machine.end(key)
+    }
+
+    /// Takes the completion of a close that succeeded. The life is over and the slot is free, and
+    /// its value is returned.
+    ///
+    /// # Errors
+    ///
+    /// The life isn't closing.
+    pub fn closed(&mut self, key: Key) -> Result<T, Refusal> {
+        self.machine.closed(key)?;
+        self.take(key).ok_or(Refusal::Stale { key })
+    }
+
+    /// Takes the completion of a close that failed, as a linked one that was canceled. Returns the
+    /// slot, whose close the caller submits again.
+    ///
+    /// # Errors
+    ///
+    /// The life isn't closing.
+    pub fn close_failed(&mut self, key: Key) -> Result<u32, Refusal> {
+        self.machine.close_failed(key)
+    }
+
+    /// Returns the phase of a life, or `None` if it is over, or never was.
+    pub fn phase(&self, key: Key) -> Option<Phase> {
+        self.machine.phase(key)
+    }
+
+    /// Returns the value of a life, in any phase, or `None` if it is over.
+    pub fn get(&self, key: Key) -> Option<&T> {
+        self.machine.phase(key)?;
+        self.values[key.slot() as usize].as_ref()
+    }
+
+    /// Returns the value of a life, in any phase, or `None` if it is over.
+    pub fn get_mut(&mut self, key: Key) -> Option<&mut T> {
+        self.machine.phase(key)?;
+        self.values[key.slot() as usize].as_mut()
+    }
+
+    /// Returns the number of slots.
+    pub fn slots(&self) -> u32 {
+        self.values.len() as u32
+    }
+
+    /// Returns the number of lives that have begun and are not over.
+    pub fn len(&self) -> u32 {
+        self.machine.len()
+    }
+
+    /// Checks whether no life has begun that is not over.
+    pub fn is_empty(&self) -> bool {
+        self.len() == 0
+    }
+
+    /// Returns the number of completions that are waited for: of opens, requests and closes.
+    pub fn in_flight(&self) -> u64 {
+        self.machine.in_flight()
+    }
+
+    /// Returns the key of the life at a slot, or `None` if there is none, or no such slot.
+    pub fn key_at(&self, slot: u32) -> Option<Key> {
+        self.machine.key_at(slot)
+    }
+
+    /// Returns the keys of all lives that are not over, in any order. This allocates. A loop over
+    /// them may end the lives.
+    ///
+    /// ```
+    /// use yachtbanyan::direct::{Next, Slots};
+    ///
+    /// let mut slots = Slots::<()>::new(4)?;
+    /// for _ in 0..3 {
+    ///     let key = slots.reserve()?;
+    ///     slots.opened(key, 0)?;
+    /// }
+    /// for key in slots.keys() {
+    ///     assert_eq!(slots.end(key)?, Next::Close(key.slot()));
+    /// }
+    /// # Ok::<(), Box<dyn std::error::Error>>(())
+    /// ```
+    pub fn keys(&self) -> Vec<Key> {
+        self.machine.keys()
+    }
+
+    fn take(&mut self, key: Key) -> Option<T> {
+        self.values[key.slot() as usize].take()
+    }
+}
+
+/// A life whose value isn't made yet. If that panics, the life is over.
+struct Unless<'a, T>(&'a mut Slots<T>, Key);
+
+impl<T> Drop for Unless<'_, T> {
+    fn drop(&mut self) {
+        let _over = self.0.machine.opened(self.1, -1);
+    }
+}
+
+impl<T> fmt::Debug for Slots<T> {
+    fn fmt(&self, f: &mut fmt::Formatter<'_>) -> fmt::Result {
+        f.debug_struct("Slots")
+            .field("slots", &self.slots())
+            .field("len", &self.len())
+            .field("in_flight", &self.in_flight())
+            .finish_non_exhaustive()
+    }
+}

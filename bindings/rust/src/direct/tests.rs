@@ -1,0 +1,245 @@
+//! Lives against a model that counts on its own, with random calls.
+use super::{Full, Key, Next, OpenError, Phase, Refusal, Releases, Slots};
+use std::collections::HashMap;
+use std::sync::atomic::{AtomicU32, Ordering::Relaxed};
+use std::sync::Arc;
+
+/// A life as the model has it.
+#[derive(Clone, Copy, PartialEq, Debug)]
+enum Life {
+    Opening,
+    Live(u32, u32),
+    Ending(u32, u32),
+    Closing,
+}
+
+fn phase_of(life: Life) -> Phase {
+    match life {
+        Life::Opening => Phase::Opening,
+        Life::Live(requests, users) => Phase::Live { requests, users },
+        Life::Ending(requests, users) => Phase::Ending { requests, users },
+        Life::Closing => Phase::Closing,
+    }
+}
+
+fn refusal(life: Option<Life>, key: Key) -> Refusal {
+    match life {
+        None => Refusal::Stale { key },
+        Some(Life::Opening) => Refusal::IsOpening { key },
+        Some(Life::Live(..)) => Refusal::IsLive { key },
+        Some(Life::Ending(..)) => Refusal::IsEnding { key },
+        Some(Life::Closing) => Refusal::IsClosing { key },
+    }
+}
+
+struct Model {
+    lives: HashMap<Key, Life>,
+    all: Vec<Key>,
+    seed: u64,
+}
+
+impl Model {
+    fn below(&mut self, most: usize) -> usize {
+        self.seed = self
+            .seed
+            .wrapping_mul(6364136223846793005)
+            .wrapping_add(1442695040888963407);
+        (self.seed >> 33) as usize % most
+    }
+
+    // What a request or a user that is gone leaves, and whether the slot is to be closed.
+    fn left(&mut self, key: Key, life: Life) -> Next {
+        let is_last = life == Life::Ending(0, 0);
+        self.lives
+            .insert(key, if is_last { Life::Closing } else { life });
+        if is_last {
+            Next::Close(key.slot())
+        } else {
+            Next::Nothing
+        }
+    }
+
+    fn call(&mut self, slots: &mut Slots<Key>, key: Key, what: usize) {
+        let life = self.lives.get(&key).copied();
+        let no = refusal(life, key);
+        match (what, life) {
+            (0, Some(Life::Opening)) => {
+                self.lives.insert(key, Life::Live(0, 0));
+                assert_eq!(slots.opened(key, key.slot() as i32), Ok(None));
+            }
+            (1, Some(Life::Opening)) => {
+                self.lives.remove(&key);
+                assert_eq!(slots.opened(key, -125), Ok(Some(key)));
+            }
+            (0 | 1, _) => assert_eq!(slots.opened(key, -(what as i32)), Err(no)),
+            (2 | 3, Some(Life::Live(r, u))) => {
+                self.lives.insert(key, Life::Live(r + 1, u));
+                assert_eq!(slots.start(key), Ok(key.slot()));
+            }
+            (2 | 3, _) => assert_eq!(slots.start(key), Err(no)),
+            (4 | 5, Some(Life::Live(r, u))) if r > 0 => {
+                assert_eq!(slots.finish(key), Ok(self.left(key, Life::Live(r - 1, u))));
+            }
+            (4 | 5, Some(Life::Ending(r, u))) if r > 0 => {
+                assert_eq!(
+                    slots.finish(key),
+                    Ok(self.left(key, Life::Ending(r - 1, u)))
+                );
+            }
+            (4 | 5, _) => assert_eq!(slots.finish(key), Err(no)),
+            (6, Some(Life::Live(r, u))) => {
+                self.lives.insert(key, Life::Live(r, u + 1));
+                assert_eq!(slots.hold(key), Ok(()));
+            }
+            (6, _) => assert_eq!(slots.hold(key), Err(no)),
+            (7, Some(Life::Live(r, u))) if u > 0 => {
+                assert_eq!(slots.release(key), Ok(self.left(key, Life::Live(r, u - 1))));
+            }
+            (7, Some(Life::Ending(r, u))) if u > 0 => {
+                assert_eq!(
+                    slots.release(key),
+                    Ok(self.left(key, Life::Ending(r, u - 1)))
+                );
+            }
+            (7, _) => assert_eq!(slots.release(key), Err(no)),
+            (8, Some(Life::Live(r, u))) => {
+                assert_eq!(slots.end(key), Ok(self.left(key, Life::Ending(r, u))));
+            }
+            (8, _) => assert_eq!(slots.end(key), Err(no)),
+            (9, Some(Life::Closing)) => {
+                self.lives.remove(&key);
+                assert_eq!(slots.closed(key), Ok(key));
+            }
+            (9, _) => assert_eq!(slots.closed(key), Err(no)),
+            (_, Some(Life::Closing)) => assert_eq!(slots.close_failed(key), Ok(key.slot())),
+            _ => assert_eq!(slots.close_failed(key), Err(no)),
+        }
+    }
+
+    fn reserve(&mut self, slots: &mut Slots<Key>) {
+        match slots.reserve_with(|key| key) {
+            Ok(key) => {
+                assert!(!self.all.contains(&key), "{key} again");
+                assert!(
+                    self.lives.keys().all(|it| it.slot() != key.slot()),
+                    "{key} beside another"
+                );
+                self.all.push(key);
+                self.lives.insert(key, Life::Opening);
+            }
+            Err(full) => {
+                assert_eq!(
+                    full,
+                    Full {
+                        slots: slots.slots()
+                    }
+                );
+                assert_eq!(self.lives.len() as u32, slots.slots());
+            }
+        }
+    }
+
+    // Checks what can be asked.
+    fn agrees(&self, slots: &Slots<Key>) {
+        let keys: Vec<Key> = slots.keys();
+        assert_eq!(
+            (keys.len(), slots.len() as usize),
+            (self.lives.len(), self.lives.len())
+        );
+        assert!(keys.iter().all(|key| self.lives.contains_key(key)));
+        let in_flight = self.lives.values().map(|life| match life {
+            Life::Opening | Life::Closing => 1,
+            Life::Live(requests, _) | Life::Ending(requests, _) => u64::from(*requests),
+        });
+        assert_eq!(slots.in_flight(), in_flight.sum::<u64>());
+        for key in self.all.iter().rev().take(20) {
+            let life = self.lives.get(key).copied();
+            assert_eq!(slots.phase(*key), life.map(phase_of));
+            assert_eq!(slots.get(*key), life.map(|_| key));
+            assert_eq!(slots.key_at(key.slot()) == Some(*key), life.is_some());
+        }
+    }
+}
+
+#[test]
+fn random_calls_answer_as_the_model() {
+    for (seed, count) in [(1, 1), (2, 3), (3, 40)] {
+        let mut slots = Slots::new(count).unwrap();
+        let (lives, all) = (HashMap::new(), Vec::new());
+        let mut model = Model { lives, all, seed };
+        for round in 0..20_000 {
+            if model.all.is_empty() || model.below(12) == 0 {
+                model.reserve(&mut slots);
+            } else {
+                // most calls are of lives under way, and some of the latest that are over
+                let living = slots.key_at(model.below(slots.slots() as usize) as u32);
+                let back = model.below(model.all.len().min(60));
+                let latest = model.all[model.all.len() - 1 - back];
+                let key = living.filter(|_| back % 4 != 0).unwrap_or(latest);
+                let what = model.below(11);
+                model.call(&mut slots, key, what);
+            }
+            if round % 16 == 0 {
+                model.agrees(&slots);
+            }
+        }
+        assert!(model.all.len() > 300, "{} lives", model.all.len());
+    }
+}
+
+#[test]
+fn numbers_of_slots_out_of_range() {
+    let most = super::MOST_SLOTS;
+    for slots in [0, most + 1, u32::MAX] {
+        assert_eq!(
+            Slots::<()>::new(slots).unwrap_err(),
+            OpenError::Slots(slots)
+        );
+    }
+    let mut slots = Slots::<()>::new(most).unwrap();
+    let keys: Vec<Key> = (0..most).map(|_| slots.reserve().unwrap()).collect();
+    assert_eq!(slots.reserve(), Err(Full { slots: most }));
+    let mut seen = vec![false; most as usize];
+    for key in keys {
+        assert!(!std::mem::replace(&mut seen[key.slot() as usize], true));
+        assert_eq!(Key::from_bits(key.to_bits(15)), (key, 15));
+    }
+}
+
+#[test]
+fn a_value_that_panics_leaves_a_free_slot() {
+    let mut slots = Slots::<u8>::new(1).unwrap();
+    let made = std::panic::catch_unwind(std::panic::AssertUnwindSafe(|| {
+        slots.reserve_with(|_| panic!("no value"))
+    }));
+    assert!(made.is_err() && slots.is_empty());
+    assert!(slots.reserve().is_ok());
+}
+
+#[test]
+fn users_in_other_threads_come_back() {
+    let woken = Arc::new(AtomicU32::new(0));
+    let counter = woken.clone();
+    let releases = Releases::new(move || {
+        counter.fetch_add(1, Relaxed);
+    });
+    let mut slots = Slots::<()>::new(2).unwrap();
+    let key = slots.reserve().unwrap();
+    slots.opened(key, 0).unwrap();
+    let users: Vec<_> = (0..40)
+        .map(|_| slots.hold_by(key, &releases).unwrap())
+        .collect();
+    assert_eq!(slots.end(key), Ok(Next::Nothing));
+    std::thread::scope(|scope| {
+        for user in users {
+            scope.spawn(move || drop(user));
+        }
+    });
+    let keys = releases.collect();
+    assert_eq!((keys.len(), woken.load(Relaxed)), (40, 1));
+    let closes = keys
+        .into_iter()
+        .filter(|key| slots.release(*key) != Ok(Next::Nothing));
+    assert_eq!(closes.count(), 1);
+    assert!(releases.collect().is_empty() && slots.phase(key) == Some(Phase::Closing));
+}

@@ -1,0 +1,204 @@
+/* The life of a direct descriptor: when a slot of a ring's table is free, when it may be closed,
+ * and whose a completion is. For a server on io_uring with direct descriptors (fixed files). The
+ * library makes no system call: it returns what to submit, and takes the completions. C11 or
+ * C++17. Link with -lyachtdirect. docs/DIRECT.md has the loop of a server, and what surprises on
+ * the kernel's side.
+ *
+ * Life of a slot. A machine keeps the slots of one ring's table:
+ *
+ *     free -> opening -> live -> ending -> closing -> free
+ *
+ * yacht_direct_reserve takes a free slot, and the caller submits an open there (openat, accept,
+ * socket) in the slot's name: its key. Each request on the file is counted from before its
+ * submission (yacht_direct_start) until its last completion (yacht_direct_finish), and each other
+ * user, as a thread that works on the connection, from yacht_direct_hold until
+ * yacht_direct_release. After yacht_direct_end there is no new request and no new user, and once
+ * the last of both is gone, a call returns YACHT_DIRECT_CLOSE: now the slot is to be closed.
+ *
+ * Keys. A key names one life of a slot, and no later life has it. It is a number of 64 bits: the
+ * number of the life in 40, the slot in 20, and 4 that are the caller's own, the kind. So it is
+ * the user_data of a request, with the kind in the lowest bits: `key | kind`. Each call takes a
+ * completion's user_data as it is: the kind is ignored. A key that a call returns has the kind 0.
+ *
+ * Promise. In every run in which the premises below hold: a request that was started under a key
+ * finds the file that the open under this key installed, and no other one. An open finds its slot
+ * empty. Each file is asked to be closed at most once, or once more after each close that failed;
+ * and exactly once if its life was ended, and each request and user came back. When a slot is
+ * reserved, no request, no user and no file of an earlier life is left there. This is proved
+ * (docs/DIRECT.md).
+ *
+ * Premises. The caller must ensure the following, which nothing checks:
+ * - Each call that this header names is made: `start` before the submission, and `finish` once,
+ *   after the last completion of the request: of a multishot request the one without
+ *   IORING_CQE_F_MORE, of a zero-copy send its notification.
+ * - Nobody else writes these slots: no io_uring_register_files_update at them, no request outside
+ *   these calls, and no open at a slot that the kernel chooses, unless the ring's allocation range
+ *   (io_uring_register_file_alloc_range) lies outside them.
+ * - The kernel posts a completion once, with its request's user_data. An open succeeds (its result
+ *   is 0 or more) if and only if it put its file at the slot, and a close if and only if it took
+ *   one.
+ * - A machine comes from yacht_direct_open and isn't yet freed. One thread at a time uses it: if
+ *   it goes to another thread, the caller synchronizes the calls. No pointer is NULL.
+ * - malloc, calloc, realloc and free are one allocator, whose blocks are aligned for any type. */
+#ifndef YACHTDIRECT_H
+#define YACHTDIRECT_H
+#include <stddef.h>
+#include <stdint.h>
+#ifdef __cplusplus
+extern "C" {
+#endif
+
+/* The version of this header. The shared library of the same major version has the name
+ * libyachtdirect.so.MAJOR. */
+#define YACHT_DIRECT_VERSION "5.0.0"
+#define YACHT_DIRECT_VERSION_MAJOR 5
+#define YACHT_DIRECT_VERSION_MINOR 0
+#define YACHT_DIRECT_VERSION_PATCH 0
+
+/* Returns the version of the library, such as "5.0.0". The string is never freed. */
+const char *yacht_direct_version(void);
+
+/* The largest number of slots, and the largest kind. */
+enum { YACHT_DIRECT_MOST_SLOTS = 1048576, YACHT_DIRECT_MOST_KIND = 15 };
+
+/* What a function returns. A negative number is a refusal: the call has changed and written
+ * nothing. */
+enum {
+    YACHT_DIRECT_DONE = 0,              /* the call is done */
+    YACHT_DIRECT_CLOSE = 1,             /* done, and the file has no user left: submit a close */
+    YACHT_DIRECT_FULL = -6,             /* no slot is free */
+    YACHT_DIRECT_BAD_ARGUMENT = -8,     /* an argument is out of its range */
+    YACHT_DIRECT_NO_MEMORY = -9,        /* an allocation failed */
+    YACHT_DIRECT_STALE = -10,           /* the life of the key is over, or never was */
+    YACHT_DIRECT_IS_OPENING = -11,      /* the open isn't completed */
+    YACHT_DIRECT_IS_LIVE = -12,         /* the file is open */
+    YACHT_DIRECT_IS_ENDING = -13,       /* the life was ended, and requests or users are left */
+    YACHT_DIRECT_IS_CLOSING = -14,      /* the close was asked for, and isn't completed */
+    YACHT_DIRECT_TOO_MANY_REQUESTS = -15, /* 2^32 - 1 requests are in flight under the key */
+    YACHT_DIRECT_TOO_MANY_USERS = -16   /* the key has 2^32 - 1 users */
+};
+
+/* The phases of a life, as yacht_direct_phase returns them. */
+enum {
+    YACHT_DIRECT_OPENING = 1,
+    YACHT_DIRECT_LIVE = 2,
+    YACHT_DIRECT_ENDING = 3,
+    YACHT_DIRECT_CLOSING = 4
+};
+
+/* A machine. The field is the library's own. */
+typedef struct yacht_direct {
+    void *slots;
+} yacht_direct;
+
+/* Returns the slot of a key, or of user_data that has one. */
+static inline uint32_t yacht_direct_slot_of(uint64_t key) { return (uint32_t)(key >> 4 & 0xfffff); }
+
+/* Returns the kind that user_data has. */
+static inline unsigned yacht_direct_kind_of(uint64_t data) { return (unsigned)(data & 15); }
+
+/* Opens a machine of 1 to YACHT_DIRECT_MOST_SLOTS free slots: those from 0 of the table that the
+ * caller registers with the ring. No other call allocates, and every call takes constant time.
+ * Returns YACHT_DIRECT_DONE and writes *machine; or YACHT_DIRECT_BAD_ARGUMENT or
+ * YACHT_DIRECT_NO_MEMORY. */
+int yacht_direct_open(yacht_direct *machine, uint32_t slots);
+
+/* Frees a machine. It closes no file: the kernel does so when the ring ends. */
+void yacht_direct_free(yacht_direct machine);
+
+/* Begins a life at a free slot, and writes its key and its slot. The caller submits an open at the
+ * slot. A slot that has had 2^40 - 1 lives isn't free again.
+ * Returns YACHT_DIRECT_DONE, or YACHT_DIRECT_FULL. */
+int yacht_direct_reserve(yacht_direct *machine, uint64_t *key, uint32_t *slot);
+
+/* Takes the result of the open. If it is 0 or more, the file is open, and else the life is over
+ * and the slot is free.
+ * Returns YACHT_DIRECT_DONE, YACHT_DIRECT_STALE, or the phase in which the life is instead of
+ * opening: YACHT_DIRECT_IS_LIVE, .._IS_ENDING or .._IS_CLOSING. */
+int yacht_direct_opened(yacht_direct *machine, uint64_t key, int32_t result);
+
+/* Counts a request on the file, and writes the slot. The caller submits the request there, with
+ * IOSQE_FIXED_FILE.
+ * Returns YACHT_DIRECT_DONE, YACHT_DIRECT_STALE, YACHT_DIRECT_TOO_MANY_REQUESTS, or the phase in
+ * which the life is instead of live. */
+int yacht_direct_start(yacht_direct *machine, uint64_t key, uint32_t *slot);
+
+/* Takes the last completion of a request that was started.
+ * Returns YACHT_DIRECT_DONE; or YACHT_DIRECT_CLOSE, and writes the slot, which the caller closes;
+ * or YACHT_DIRECT_STALE; or the phase in which the life is, if no request of it is in flight. */
+int yacht_direct_finish(yacht_direct *machine, uint64_t key, uint32_t *slot);
+
+/* Counts a user that is not a request: a worker, a timer, a value of a table that threads share.
+ * Returns YACHT_DIRECT_DONE, YACHT_DIRECT_STALE, YACHT_DIRECT_TOO_MANY_USERS, or the phase in
+ * which the life is instead of live. */
+int yacht_direct_hold(yacht_direct *machine, uint64_t key);
+
+/* Takes a user back, as yacht_direct_finish takes a request.
+ * Returns YACHT_DIRECT_DONE; or YACHT_DIRECT_CLOSE, and writes the slot; or YACHT_DIRECT_STALE; or
+ * the phase in which the life is, if it has no user. */
+int yacht_direct_release(yacht_direct *machine, uint64_t key, uint32_t *slot);
+
+/* Ends a life: from now on no request is started, and no user counted. What is in flight isn't
+ * canceled: a shutdown of the socket, started before, makes its requests complete.
+ * Returns YACHT_DIRECT_DONE if requests or users are left; or YACHT_DIRECT_CLOSE, and writes the
+ * slot; or YACHT_DIRECT_STALE; or the phase in which the life is instead of live. */
+int yacht_direct_end(yacht_direct *machine, uint64_t key, uint32_t *slot);
+
+/* Takes the completion of a close that succeeded. The life is over and the slot is free.
+ * Returns YACHT_DIRECT_DONE, YACHT_DIRECT_STALE, or the phase in which the life is instead of
+ * closing. */
+int yacht_direct_closed(yacht_direct *machine, uint64_t key);
+
+/* Takes the completion of a close that failed, as a linked one that was canceled.
+ * Returns YACHT_DIRECT_CLOSE, and writes the slot, which the caller closes again; or
+ * YACHT_DIRECT_STALE; or the phase in which the life is instead of closing. */
+int yacht_direct_close_failed(yacht_direct *machine, uint64_t key, uint32_t *slot);
+
+/* Writes the numbers of requests in flight and of users of a life. In the phases opening and
+ * closing both are 0.
+ * Returns the phase, or YACHT_DIRECT_STALE. */
+int yacht_direct_phase(yacht_direct *machine, uint64_t key, uint32_t *requests, uint32_t *users);
+
+/* Returns the number of lives that have begun and are not over. */
+uint32_t yacht_direct_len(yacht_direct *machine);
+
+/* Returns the number of completions that the machine waits for: of opens, requests and closes. */
+uint64_t yacht_direct_in_flight(yacht_direct *machine);
+
+/* Writes the key of the life at a slot.
+ * Returns YACHT_DIRECT_DONE, or YACHT_DIRECT_STALE if there is none, or no such slot. */
+int yacht_direct_key_at(yacht_direct *machine, uint32_t slot, uint64_t *key);
+
+/* Writes the keys of all lives that are not over, each once, up to `length` of them. The lives may
+ * be ended while the caller walks through the keys.
+ * Returns the number of keys that it wrote. */
+size_t yacht_direct_keys(yacht_direct *machine, uint64_t *keys, size_t length);
+
+/* A release that another thread asks for: part of a value of that thread. */
+typedef struct yacht_direct_note {
+    struct yacht_direct_note *next;
+    uint64_t key;
+} yacht_direct_note;
+
+/* The notes that a ring's thread hasn't collected. Any thread posts. {NULL} is empty. */
+typedef struct yacht_direct_queue {
+    yacht_direct_note *first;
+} yacht_direct_queue;
+
+/* Posts a note, which stays the queue's until it is collected. It allocates nothing and never
+ * waits for a thread that is stopped. This is not proved.
+ * Returns 1 if the queue was empty: then the caller wakes the ring's thread. */
+int yacht_direct_post(yacht_direct_queue *queue, yacht_direct_note *note);
+
+/* Empties the queue, in the ring's thread, which then calls yacht_direct_release for each note.
+ * Returns the note that was posted last, or NULL. Each has the one before it in `next`. */
+yacht_direct_note *yacht_direct_collect(yacht_direct_queue *queue);
+
+/* Returns a number of this header in words, such as "no slot is free". The string is never freed.
+ * Phases, slots and keys are no such numbers. */
+const char *yacht_direct_strerror(int answer);
+
+#ifdef __cplusplus
+}
+#endif
+#endif
