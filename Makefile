@@ -171,6 +171,7 @@ libraries:
 bindings:
 	@scripts/build-libraries
 	@tests/check-bindings
+	@tests/check-servers
 
 gate:
 	@scripts/need toolchain
