@@ -20,6 +20,9 @@ const FIRST_STATES: usize = 16_384;
 
 const LARGER: usize = 4;
 
+/// The number of bytes that suffice for the one state of an empty submission.
+const EMPTY_BYTES: usize = 1 << 20;
+
 /// The largest number of searches before the last one.
 const SEARCHES: usize = 32;
 
@@ -144,9 +147,10 @@ fn after_expected(
     let mut text = Words::new(question.alloc);
     text.say(expected);
     text.say("\n");
+    // an empty submission after the call has one state, and prints nothing
     let limits = Limits {
         states: 1,
-        bytes: 1,
+        bytes: EMPTY_BYTES,
     };
     let (alloc, commands) = (question.alloc, broken.commands);
     let text = text.text()?.as_bytes();

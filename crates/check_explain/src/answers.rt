@@ -110,6 +110,19 @@ fn content_before(facts: &Facts<'_>, row: &Row<'_>, slot: u32) -> Option<u8> {
     content
 }
 
+// Checks whether a slot had a file before the submission, or a request that names it installs one.
+fn may_have_file(facts: &Facts<'_>, slot: u32) -> bool {
+    if let Some(Some(_)) = facts.case.slots.at.get(slot as usize) {
+        return true;
+    }
+    for act in &facts.acts {
+        if act.asked == Some(slot) && act.put.is_some() {
+            return true;
+        }
+    }
+    false
+}
+
 /// Replaces some bytes by those that a request reads of a file of an entry, or by none without one.
 /// Returns false if an allocation fails.
 pub(crate) fn read(
@@ -257,6 +270,41 @@ impl<'a> Answers<'a> {
                 if self.bytes.as_slice() == it.got.as_slice() {
                     return true;
                 }
+            }
+        }
+        false
+    }
+
+    // Checks whether other requests may fill the allocation range: each slot that was empty needs
+    // an access that names it and installs a file, or an open at any slot.
+    fn may_be_full(&self, row: &Row<'_>) -> bool {
+        let facts = self.facts;
+        let (first, end) = slots_of(None, facts.case.slots.range);
+        let (mut empty, mut opens) = (0usize, 0usize);
+        for slot in first..end {
+            if !may_have_file(facts, slot) {
+                empty = empty.saturating_add(1);
+            }
+        }
+        for act in &facts.acts {
+            if act.asked.is_none() && act.line != row.at {
+                opens = opens.saturating_add(1);
+            }
+        }
+        empty <= opens
+    }
+
+    /// Checks whether one of them, the answers of a request, severs its chain.
+    pub(crate) fn may_sever(&self, row: &Row<'_>) -> bool {
+        for answer in &self.list {
+            let it = Completion {
+                place: row.place,
+                res: answer.first,
+                got: Vec::new(self.facts.case.alloc),
+            };
+            let is_full = it.is_refusal(row.place, Errno::ENFILE);
+            if row.request.severs(&it) && (!is_full || self.may_be_full(row)) {
+                return true;
             }
         }
         false

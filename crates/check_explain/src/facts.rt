@@ -11,6 +11,8 @@ use fx_order::Slots;
 pub(crate) struct Close<'a> {
     /// The name that the line has.
     pub name: &'a [u8],
+    /// False if the text ends within the line.
+    pub has_end: bool,
     /// Its mark, or `None` if the line can't be read.
     pub mark: Option<Mark>,
     /// The file with that mark, if there is one, with its earlier `closed` line, if it has one.
@@ -113,9 +115,26 @@ impl<'a> Facts<'a> {
         Some(it)
     }
 
+    // Checks whether an open or an update may succeed with its completion, whatever is at the
+    // slots.
+    fn may_install(&self, row: &Row<'_>) -> bool {
+        let Some(it) = &row.answer else {
+            return false;
+        };
+        if !it.got.is_empty() {
+            return false;
+        }
+        let (first, count) = self.case.slots.range;
+        match (row.fixed_result(), u32::try_from(it.res)) {
+            (Some(res), _) => it.res == res,
+            (None, Ok(slot)) => slot >= first && slot - first < count,
+            (None, Err(_)) => false,
+        }
+    }
+
     // Returns an access of the request of a line, with the facts that the request's result shows
-    // about it. Adds the file that the access installed.
-    fn act_of(&mut self, intent: Intent, line: usize, res: i32) -> Act {
+    // about it. Adds the file that the access installed, if the request may succeed so.
+    fn act_of(&mut self, intent: Intent, line: usize, res: i32, may_install: bool) -> Act {
         let (asked, put) = match intent {
             Intent::Look(slot) | Intent::Take(slot) | Intent::Clear(slot) => (Some(slot), None),
             Intent::Put(slot, file) => (Some(slot), Some(file)),
@@ -123,7 +142,7 @@ impl<'a> Facts<'a> {
         };
         let slot = asked.or(u32::try_from(res).ok());
         let (is_done, mut file) = (res >= 0, None);
-        if let (Some(added), true, Some(slot)) = (put, is_done, slot)
+        if let (Some(added), true, Some(slot)) = (put, may_install, slot)
             && (slot as usize) < self.case.size()
         {
             file = Some(self.files.len());
@@ -148,11 +167,12 @@ impl<'a> Facts<'a> {
             Some(it) => it.res,
             None => UNREAD,
         };
+        let may_install = self.may_install(row);
         for made in 0..row.request.accesses() {
             let Some(intent) = intent_of(catalogue, u32::MAX, row.place, row.request, made) else {
                 break;
             };
-            let act = self.act_of(intent, row.at, res);
+            let act = self.act_of(intent, row.at, res, may_install);
             self.is_whole &= self.acts.push(act).is_ok();
         }
     }
@@ -223,8 +243,13 @@ impl<'a> Facts<'a> {
                 (near, file) = (number, Some(*it));
                 it.closed = it.closed.or(Some(at));
             }
-            let name = cut_word(cut_word(line).1).1;
-            self.is_whole &= self.closes.push(Close { name, mark, file }).is_ok();
+            let close = Close {
+                name: cut_word(cut_word(line).1).1,
+                has_end: line.ends_with(b"\n"),
+                mark,
+                file,
+            };
+            self.is_whole &= self.closes.push(close).is_ok();
         }
     }
 

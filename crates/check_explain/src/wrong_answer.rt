@@ -82,13 +82,15 @@ fn why_not(facts: &Facts<'_>, row: &Row<'_>, it: &Completion, why: &mut Words) {
 
 // Says that a member is canceled, though no earlier one severs its chain: the lines of those that
 // could.
-fn not_severed(facts: &Facts<'_>, row: &Row<'_>, out: &mut Complaint) {
+fn not_severed(answers: &mut Answers<'_>, row: &Row<'_>, out: &mut Complaint) {
+    let facts = answers.facts;
     let first = row
         .at
         .saturating_add(1)
         .saturating_sub(row.place.member as usize);
     for earlier in facts.rows.get(first..row.at).unwrap_or(&[]) {
-        if earlier.may_sever() {
+        answers.set(earlier, false);
+        if earlier.may_sever() && answers.may_sever(earlier) {
             out.line(earlier.at);
         }
     }
@@ -185,7 +187,7 @@ fn is_wrong(
         return !is_canceled;
     }
     if row.place.member > 1 && is_canceled {
-        not_severed(facts, row, out);
+        not_severed(answers, row, out);
         return true;
     }
     let is_other = !answers.have(row, it);

@@ -16,6 +16,10 @@ fn is_wrong(
     before: Option<Mark>,
     out: &mut Complaint,
 ) -> bool {
+    if !close.has_end {
+        out.wrong(at, "a whole line", "the text ends within this line");
+        return true;
+    }
     let Some(mark) = close.mark else {
         out.wrong(at, "closed, a mark and a name", "");
         return true;
