@@ -162,7 +162,7 @@ bench:
 
 bench-rust:
 	@scripts/build-program bench_tables bench_tables
-	@scripts/build-libraries yachtbanyan
+	@scripts/build-libraries yachtbanyan yachtdirect
 	@bench/bench-rust
 
 libraries:
