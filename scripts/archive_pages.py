@@ -8,7 +8,7 @@ from pages import anchors
 from repository import ROOT, read, write
 
 PAGES = {"docs/ARCHIVE.md": "README.md"} | {
-    it: it for it in (*(f"docs/{name}.md" for name in ("BINDINGS", "CHECKING", "DIRECT", "FLIGHT", "LIMITS", "LINUX", "LITMUS", "MODEL", "SCRIPT")), "examples/README.md")}
+    it: it for it in (*(f"docs/{name}.md" for name in ("BINDINGS", "CHECKING", "DIRECT", "FLIGHT", "KERNEL", "LIMITS", "LINUX", "LITMUS", "MODEL", "SCRIPT")), "examples/README.md")}
 ARM_PAGES = {"docs/ARCHIVE_ARM64.md": "README.md", "docs/BINDINGS.md": "docs/BINDINGS.md", "docs/DIRECT.md": "docs/DIRECT.md"}
 # what the archives have beside pages and scripts
 FOLDERS = ("LICENSE", "c", "completions", "docs/pictures", "examples", "kernel", "man")
