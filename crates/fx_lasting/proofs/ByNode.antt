@@ -7,6 +7,8 @@ use Rattle.fx_lasting.proofs.Words.{retired_at, slot_of, pass_in, state_after_al
 use Rattle.fx_lasting.proofs.Words.{group_of, TableId, LastingPass, IsPassOf, opening_of, view_of, pass_of, Result, Ok, Err, seen_further, Adds}
 use Rattle.fx_lasting.proofs.Words.{no_use, IsIdle, IsFileRemoval, Doing, DoesNothing, Retired, IsOneOnItsNode, IsOn, FitsMiss, WasSo, WasIn, SaysIf}
 use Rattle.fx_lasting.proofs.Words.{SawIf, FailedIf, HasTriedIf, TriedTake, TriedReplace, TriedSwap, TriedOut, Miss}
+use Rattle.fx_lasting.proofs.Words.{meetings}
+use Rattle.fx_lasting.proofs.Overtaking.{overtaken_by}
 use Rattle.fx_lasting.proofs.Running.{swapped_then, at_swapped, number_is, stock_is}
 use Rattle.fx_lasting.specs.Ends.{Does}
 use Rattle.fx_lasting.specs.declared.answers.Miss.TheVariants.{Empty, Other, Again}
@@ -109,16 +111,17 @@ failed_so k slot node word m m' Again says was = absurd says
 failed_so k slot node word m m' Empty says was = was
 failed_so k slot node word m m' Other says was = was
 
-pub tried_none : (miss : Miss) (before after : ℕ) → miss ≢ Again → HasTriedIf miss before after
-tried_none Again before after not = absurd (not refl)
-tried_none Empty before after not = tt
-tried_none Other before after not = tt
+pub tried_none : (k : Start) (slot : ℕ) (miss : Miss) (p p' : LastingPass) → miss ≢ Again → HasTriedIf k slot miss p p'
+tried_none k slot Again p p' not = absurd (not refl)
+tried_none k slot Empty p p' not = tt
+tried_none k slot Other p p' not = tt
 
-pub tried_so : (k : Start) (slot node before after : ℕ) (m m' : Sat) (miss : Miss) → FailedIf k slot node miss m m' → before ≤ (pass_in m).steps
-    → (pass_in m').steps ≤ after → HasTriedIf miss before after
-tried_so k slot node before after m m' Again failed low high = omega (arith, failed, low, high)
-tried_so k slot node before after m m' Empty failed low high = tt
-tried_so k slot node before after m m' Other failed low high = tt
+pub tried_so : (k : Start) (slot node : ℕ) (p p' : LastingPass) (m₁ m₂ : Sat) → (pass_in m₁).number ≡ (view_of p).number → m₁.0.start ≡ k
+    → IsSeenBy (view_of p).front (pass_in m₁).front → meetings p ≤ (pass_in m₁).watch.met → IsSeenBy (pass_in m₂).front (view_of p').front
+    → (pass_in m₂).watch.met ≤ meetings p' → (miss : Miss) → FailedIf k slot node miss m₁ m₂ → HasTriedIf k slot miss p p'
+tried_so k slot node p p' m₁ m₂ number start before few after more Again failed = overtaken_by k slot p p' m₁ m₂ number start before few after more failed
+tried_so k slot node p p' m₁ m₂ number start before few after more Empty failed = tt
+tried_so k slot node p p' m₁ m₂ number start before few after more Other failed = tt
 
 -- what a pass did that put its file there, from this entry of its stock
 abbrev Replaced : (m₁ m₂ : Sat) (at found own : ℕ) → Closed → ℕ → Type 0

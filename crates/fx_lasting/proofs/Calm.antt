@@ -5,18 +5,19 @@ use Rattle.fx_lasting.proofs.Words.{range_at_start, NodeAgrees, IsAllowed, Agree
 use Rattle.fx_lasting.proofs.Words.{state_after_all, held_in, held_of, taken_of, taking, Work, Glance, Change, ⊎_elim, ◌⊎◌, inr, word_of}
 use Rattle.fx_lasting.proofs.Words.{hold_word_of, count_in, name_in, full_name_in, HoldAgrees, GuardAgrees, WorkAgrees, sum_set, sum_by, get_elem?}
 use Rattle.fx_lasting.proofs.Words.{length-set, set-get_or, owed, seated, [], IsSeenBy, part_of_pass, ◌≤◌, inl, true, list_place, IsListedIn}
-use Rattle.fx_lasting.proofs.Words.{written_in}
+use Rattle.fx_lasting.proofs.Words.{written_in, Watch, WatchAgrees}
 use Rattle.fx_lasting.proofs.Histories.{Grows}
 use Rattle.fx_lasting.proofs.Frames.{busy, owner_stays, owner_same, slot_same, node_same, Leaves, keeps_other, guards_same, covers_same}
 use Rattle.fx_lasting.proofs.Frames.{sees_same}
 use Rattle.fx_lasting.proofs.Keeping.{Turn, After, Keeps, word_at, slot_word, step_kept, w, end, its_log, in_range, its_stock, names_on, asks_alike, few_slots}
-use Rattle.fx_lasting.proofs.Keeping.{LabelSame, labels_same}
+use Rattle.fx_lasting.proofs.Keeping.{LabelSame, labels_same, met_same}
+use Rattle.fx_lasting.proofs.Watching.{watch_same}
 use Rattle.fx_lasting.proofs.Groups.{counts_same}
 use Rattle.fx_lasting.proofs.Lists.{ListGoesOn}
 use Rattle.fx_lasting.proofs.Places.{hold_words, hold_here, hold_node, hold_slot, hold_else, hold_alike, hold_list, hold_label}
 
 module _ (turn : Turn) (h' front : List Event) (words' : List ℕ) (d : Work) (g : Glance) (c : Change) (q : Survey) (l : Bool)
-    (still : turn.x.listed ≡ true → l ≡ true) where
+    (still : turn.x.listed ≡ true → l ≡ true) (o : Watch) (more : turn.x.watch.met ≤ o.met) where
   open turn use {st, v, r, id, x, here, one}
 
   abbrev pub calm_after : After turn
@@ -37,6 +38,8 @@ module _ (turn : Turn) (h' front : List Event) (words' : List ℕ) (d : Work) (g
     still_listed = still;
     where_is = r.where_is;
     stock = x.stock;
+    watch = o;
+    more_met = more;
   }
 
   pub record Calm : Type 0 where
@@ -59,6 +62,7 @@ module _ (turn : Turn) (h' front : List Event) (words' : List ℕ) (d : Work) (g
     pub allowed : IsAllowed x.stock l d
     pub lists : (p : ℕ) → p ≤ 1024 → ListGoesOn x.number l p (word_at st.words (list_place p)) (word_at words' (list_place p))
     pub its_bit : l ≡ true → (x.listed ≡ true) ⊎ IsListedIn (word_at words' (list_place x.number)) x.number
+    pub watches : WatchAgrees v.start h' words' x.number o
     pub its : Keeps turn calm_after id x.number d g
     pub holds : (n : ℕ) → (state_after_all v.start h').holds n + held_of n v ≡ (state_after_all v.start r.history).holds n + held_of n (w turn calm_after)
 
@@ -93,6 +97,8 @@ module _ (turn : Turn) (h' front : List Event) (words' : List ℕ) (d : Work) (g
         its = s.its;
         holds = s.holds;
         counts = rw s.at s.counts;
+        moves = λ i l. inl (s.slot_words i l);
+        watches = s.watches;
       }
     where
       inside : (n : ℕ) → n < nodes_of v.start → (i : ℕ) (f : File) → r.phase n ≡ seated i f → i < slots_of v.start
@@ -117,7 +123,7 @@ module _ (turn : Turn) (new : ℕ) (d : Work) where
   own_words = hold_words turn x.number (in_range turn).0 (in_range turn).1 new
 
   abbrev pub own_after : (h' : List Event) → After turn
-  own_after h' = calm_after turn h' h' own_words d v.glance v.change x.asked x.listed (λ l. l)
+  own_after h' = calm_after turn h' h' own_words d v.glance v.change x.asked x.listed (λ l. l) x.watch (met_same x.watch.met)
 
   pub record Own (h' : List Event) : Type 0 where
     pub grows : Grows x.number r.history h'
@@ -137,7 +143,7 @@ module _ (turn : Turn) (new : ℕ) (d : Work) where
 
   pub own_kept : {h' : List Event} → Own h' → Agrees v.start (end turn (own_after h'))
   own_kept {h'} s = let low = (in_range turn).0 in let high = (in_range turn).1 in let same = hold_slot turn x.number low high new in
-      let o = its_log turn in calm_kept turn h' h' own_words d v.glance v.change x.asked x.listed (λ l. l) record {
+      let o = its_log turn in calm_kept turn h' h' own_words d v.glance v.change x.asked x.listed (λ l. l) x.watch (met_same x.watch.met) record {
         words = length-set st.words (hold_word_of v.start x.number) new;
         grows = s.grows;
         legal = s.legal;
@@ -158,6 +164,7 @@ module _ (turn : Turn) (new : ℕ) (d : Work) where
         allowed = s.allowed;
         lists = λ p few. inl (hold_list turn x.number low high new p few);
         its_bit = λ l. inl l;
+        watches = watch_same v.start x.number (s.grows.seen r.history ([], refl)) same (hold_alike turn x.number low high new).0 x.watch o.watch;
         its = record {
           hold = rw (hold_here turn x.number low high new) s.hold;
           guarded = s.guarded;
@@ -172,8 +179,12 @@ module _ (turn : Turn) (new : ℕ) (d : Work) where
 module _ (turn : Turn) (d : Work) (g : Glance) where
   open turn use {st, v, r, id, x, here, one}
 
+  -- after which it watches this
+  abbrev pub read_watching : (o : Watch) → x.watch.met ≤ o.met → (h' front : List Event) → After turn
+  read_watching o more h' front = calm_after turn h' front st.words d g v.change x.asked x.listed (λ l. l) o more
+
   abbrev pub read_before : (h' front : List Event) → After turn
-  read_before h' front = calm_after turn h' front st.words d g v.change x.asked x.listed (λ l. l)
+  read_before h' front = read_watching x.watch (met_same x.watch.met) h' front
 
   abbrev pub read_after : (h' : List Event) → After turn
   read_after h' = read_before h' h'
@@ -192,6 +203,39 @@ module _ (turn : Turn) (d : Work) (g : Glance) where
     pub holds : (n : ℕ) → (state_after_all v.start h').holds n + held_of n v
         ≡ (state_after_all v.start r.history).holds n + held_of n (w turn (read_after h'))
 
+  pub read_watching_kept : {h' : List Event} (o : Watch) (more : x.watch.met ≤ o.met) (front : List Event) (i : ℕ) → IsSeenBy front h'
+      → part_of_pass x.number h' ≡ part_of_pass x.number front → WatchAgrees v.start h' st.words x.number o → Reads h' → Agrees v.start record {
+        words = set st.words i (word_at st.words i);
+        homes = st.homes;
+        views = set st.views id (w turn (read_watching o more h' front));
+      }
+  read_watching_kept {h'} o more front i seen own watches s =
+      rw (set-get_or st.words i 0) (calm_kept turn h' front st.words d g v.change x.asked x.listed (λ l. l) o more record {
+        words = refl;
+        grows = s.grows;
+        legal = s.legal;
+        seen = seen;
+        own = own;
+        at = s.at;
+        fresh = s.fresh;
+        removed = s.removed;
+        slot_words = λ s l. refl;
+        node_words = λ n. refl;
+        label_words = λ n. (refl, refl);
+        hold_words = λ p other more. refl;
+        counts = counts_same id (w turn (read_watching o more h' front)) here r.counts (few_slots turn) refl (refl, λ g l. refl) refl
+            (asks_alike turn (read_watching o more h' front) refl);
+        taken = s.taken;
+        owners = s.owners;
+        held = s.held;
+        allowed = s.allowed;
+        lists = λ p few. inl refl;
+        its_bit = λ l. inl l;
+        watches = watches;
+        its = let i = s.its in record { hold = i.hold; guarded = i.guarded; sees = i.sees; heats = i.heats; work = i.work };
+        holds = s.holds;
+      })
+
   -- the pass may see no more than before
   pub read_before_kept : {h' : List Event} (front : List Event) (i : ℕ) → IsSeenBy front h' → part_of_pass x.number h' ≡ part_of_pass x.number front
       → Reads h' → Agrees v.start record {
@@ -199,30 +243,8 @@ module _ (turn : Turn) (d : Work) (g : Glance) where
         homes = st.homes;
         views = set st.views id (w turn (read_before h' front));
       }
-  read_before_kept {h'} front i seen own s = rw (set-get_or st.words i 0) (calm_kept turn h' front st.words d g v.change x.asked x.listed (λ l. l) record {
-    words = refl;
-    grows = s.grows;
-    legal = s.legal;
-    seen = seen;
-    own = own;
-    at = s.at;
-    fresh = s.fresh;
-    removed = s.removed;
-    slot_words = λ s l. refl;
-    node_words = λ n. refl;
-    label_words = λ n. (refl, refl);
-    hold_words = λ p other more. refl;
-    counts = counts_same id (w turn (read_before h' front)) here r.counts (few_slots turn) refl (refl, λ g l. refl) refl
-        (asks_alike turn (read_before h' front) refl);
-    taken = s.taken;
-    owners = s.owners;
-    held = s.held;
-    allowed = s.allowed;
-    lists = λ p few. inl refl;
-    its_bit = λ l. inl l;
-    its = let i = s.its in record { hold = i.hold; guarded = i.guarded; sees = i.sees; heats = i.heats; work = i.work };
-    holds = s.holds;
-  })
+  read_before_kept {h'} front i seen own s = read_watching_kept x.watch (met_same x.watch.met) front i seen own
+      (watch_same v.start x.number (s.grows.seen r.history ([], refl)) (λ s l. refl) refl x.watch (its_log turn).watch) s
 
   pub read_kept : {h' : List Event} (i : ℕ) → Reads h' → Agrees v.start record {
     words = set st.words i (word_at st.words i);

@@ -8,15 +8,16 @@ use Rattle.fx_lasting.proofs.Words.{word_of, hold_word_of, slots_of, list_place,
 use Rattle.fx_lasting.proofs.Words.{Start, View, Work, Shared, IsInside, Goes, Stepped, Lowers, Raises, Counts, as_asked, LowersKeep, RaisesKeep}
 use Rattle.fx_lasting.proofs.Words.{CountsKeep, IsGroup, length-set, inl, held_by, Idle, Announced, Counted, Guarded, Owing, Yielding, Survey}
 use Rattle.fx_lasting.proofs.Words.{Covered, Contains, Searching, Placing, Retiring, Emptying, Keeping, State, Phase, contains_only, part_of_pass}
-use Rattle.fx_lasting.proofs.Words.{full_few, full_all}
+use Rattle.fx_lasting.proofs.Words.{full_few, full_all, Watch, WatchAgrees, HasGap, spent, at_set, ⊎_elim, inr, ◌⊎◌, true, Bool, first_log}
 use Rattle.fx_lasting.proofs.Histories.{Grows, grows_none, grows_one, legal_more, held_mine, same_shape}
 use Rattle.fx_lasting.proofs.Counts.{bit_few}
 use Rattle.fx_lasting.proofs.Frames.{sees_same, guards_same, covers_same}
-use Rattle.fx_lasting.proofs.Groups.{in_group, is_group, few_groups, counts_after, counts_kept, full_still, full_same, group_same, visited_map}
+use Rattle.fx_lasting.proofs.Groups.{full_gap, of_group, in_group, few_groups, counts_after, counts_kept, full_still, full_same, group_same, visited_map}
 use Rattle.fx_lasting.proofs.Groups as groups
 use Rattle.fx_lasting.proofs.Places.{group_back, label_same}
 use Rattle.fx_lasting.proofs.Keeping.{Turn, turn_of, After, word_at, slot_word, Made, by_turn, its_log, its_work, in_range, tells}
-use Rattle.fx_lasting.proofs.Keeping.{tells_asked, asks_alike, few_slots, has_x, logged, w, end}
+use Rattle.fx_lasting.proofs.Watching.{watch_same}
+use Rattle.fx_lasting.proofs.Keeping.{met_same, tells_asked, asks_alike, few_slots, has_x, logged, w, end}
 use Rattle.fx_lasting.proofs.Calm.{calm_after, calm_kept}
 
 one_at_most : (g : ℕ) (c : Change) → owing g c ≤ 1
@@ -45,6 +46,16 @@ module _ (k : Start) (s : Shared) (r : Agrees k s) where
       go : (l : List Log) → u.logs ≡ l → owing g u.change ≤ length u.logs
       go [] is = let a = ap (owing g) ((r.each_view j u there).empty is).2 in omega arith
       go (z ∷ l) is = let a = one_at_most g u.change in let b = ap (length {A = Log}) is in omega arith
+
+  -- if a seat with one pass isn't the only one to owe, another seat has a pass
+  pub others_owe : (g id : ℕ) (v : View) → get_elem? s.views id ≡ some v → lengths v ≡ 1 → sum_by (owing_of g) s.views ≢ owing_of g v → 1 < k.passes
+  others_owe g id v here alone other = let a = sum_set (owing_of g) s.views id v spent here in let b = sum_set lengths s.views id v spent here in
+      let c = sum_le_at (owing_of g) lengths (set s.views id spent) each in let d = sum_at (owing_of g) s.views id v here in let e = r.whole in
+      omega (arith, a, b, c, d, e, alone, other)
+    where
+      each : (j : ℕ) (u : View) → get_elem? (set s.views id spent) j ≡ some u → owing_of g u ≤ lengths u
+      each j u there = ⊎_elim (λ (t : (j ≡ id) × (spent ≡ u)). subst (λ (z : View). owing_of g z ≤ lengths z) t.1 (omega arith))
+          (λ t. few_owing g j u t.1) (at_set s.views id j spent u there)
 
   pub owing_most : (g : ℕ) → sum_by (owing_of g) s.views ≤ 1024
   owing_most g = let a = sum_le_at (owing_of g) lengths s.views (few_owing g) in let b = r.whole in let c = r.shape.passes in omega arith
@@ -103,7 +114,8 @@ module _ (turn : Turn) where
   }
 
   -- the word at a place that counts or asks becomes y
-  module _ (place : ℕ) (low : place < 534) (unlisted : 6 ≤ place → 22 ≤ place) (y : ℕ) (c : Change) (q : Survey) (h' : List Event) where
+  module _ (place : ℕ) (low : place < 534) (unlisted : 6 ≤ place → 22 ≤ place) (wt : Watch) (more : x.watch.met ≤ wt.met) (y : ℕ) (c : Change) (q : Survey)
+      (h' : List Event) where
     abbrev pub words' : List ℕ
     words' = set st.words place y
 
@@ -114,7 +126,7 @@ module _ (turn : Turn) where
     read_else other apart = get_or-set_other st.words place other y 0 apart
 
     abbrev pub turn_after : After turn
-    turn_after = calm_after turn h' h' words' v.work v.glance c q x.listed (λ l. l)
+    turn_after = calm_after turn h' h' words' v.work v.glance c q x.listed (λ l. l) wt more
 
     abbrev pub w' : View
     w' = w turn turn_after
@@ -123,11 +135,18 @@ module _ (turn : Turn) where
     abbrev pub Kept : Type 0
     Kept = RangeCounts at_now range (set st.views id w') words'
 
-    pub wrote : Quiet h' → Kept → Agrees v.start (end turn turn_after)
-    wrote quiet counts = let o = its_log turn in let same : (s : ℕ) → s < slots_of v.start → slot_word words' s ≡ slot_word st.words s =
+    same_slots : (s : ℕ) → s < slots_of v.start → slot_word words' s ≡ slot_word st.words s
+    same_slots s l = read_else (slot_place s) (λ bad. omega arith)
+
+    -- its bit is in the question word, unless another pass cleared it
+    abbrev pub Asked : Bool → Type 0
+    Asked b = b ≡ true → HasQuestionOf (word_at words' question_place) x.number ⊎ (1 < v.start.passes)
+
+    pub wrote : Quiet h' → WatchAgrees v.start h' words' x.number wt → Kept → Agrees v.start (end turn turn_after)
+    wrote quiet watches counts = let o = its_log turn in let same : (s : ℕ) → s < slots_of v.start → slot_word words' s ≡ slot_word st.words s =
         λ s l. read_else (slot_place s) (λ bad. omega arith) in
         let own = guards_same turn turn_after x.number v.work (read_else (hold_word_of v.start x.number) (λ bad. let a = (in_range turn).0 in omega arith)) refl
-        (covers_same turn words' same x.number) o.hold o.guarded in calm_kept turn h' h' words' v.work v.glance c q x.listed (λ l. l) record {
+        (covers_same turn words' same x.number) o.hold o.guarded in calm_kept turn h' h' words' v.work v.glance c q x.listed (λ l. l) wt more record {
           words = length-set st.words place y;
           grows = quiet.grows;
           legal = quiet.legal;
@@ -147,6 +166,7 @@ module _ (turn : Turn) where
           allowed = o.allowed;
           lists = λ p few. inl (read_else (list_place p) (λ bad. let a = unlisted (omega (arith, bad)) in omega (arith, a, bad, few)));
           its_bit = λ l. inl l;
+          watches = watches;
           its = record {
             hold = own.0;
             guarded = own.1;
@@ -174,7 +194,7 @@ module _ (turn : Turn) where
         → (z : Log) → Contains w'.logs z → z.number ≤ 64 → HasQuestionOf (word_at words' question_place) z.number
         → HasVisitedFull at_now range (set st.views id w') z.asked
     own_question f z has = subst (λ (z : Log). z.number ≤ 64 → HasQuestionOf (word_at words' question_place) z.number → HasVisitedFull at_now range (set st.views id w') z.asked)
-        (sym (contains_only (logged x x.listed q x.stock h') z has)) f
+        (sym (contains_only (logged x x.listed q x.stock wt h') z has)) f
 
     -- a step that reads, after which the pass has asked otherwise, perhaps
     pub read_counts : y ≡ word_at st.words place → c ≡ v.change
@@ -203,21 +223,27 @@ module _ (turn : Turn) where
     abbrev word : ℕ
     word = word_at st.words (group_place g)
 
+    -- the pass watches what it watched
+    watches_on : (y : ℕ) → WatchAgrees v.start r.history (set st.words (group_place g) y) x.number x.watch
+    watches_on y = watch_same v.start x.number ([], refl) (same_slots (group_place g) low_g unlisted_g x.watch (met_same x.watch.met) y v.change x.asked r.history)
+        (read_else (group_place g) low_g unlisted_g x.watch (met_same x.watch.met) y v.change x.asked r.history question_place (λ bad. omega (arith, bad)))
+        x.watch (its_log turn).watch
+
     abbrev turned : ℕ → Change → View
-    turned y c = w' (group_place g) low_g unlisted_g y c x.asked r.history
+    turned y c = w' (group_place g) low_g unlisted_g x.watch (met_same x.watch.met) y c x.asked r.history
 
     turn_counts : (y : ℕ) (c : Change) → ((n : ℕ) → n ≢ g → owing n c ≡ owing n v.change)
         → (y + owing g c) % 2 ^ 64 ≡ (word + owing g v.change) % 2 ^ 64 → ((n : ℕ) → c ≡ Inside n → ⊥)
-        → Kept (group_place g) low_g unlisted_g y c x.asked r.history
+        → Kept (group_place g) low_g unlisted_g x.watch (met_same x.watch.met) y c x.asked r.history
     turn_counts y c else balance calm = let after = turned y c in counts_kept id after here r.counts
-        (read_else (group_place g) low_g unlisted_g y c x.asked r.history question_place (λ bad. omega (arith, bad)))
+        (read_else (group_place g) low_g unlisted_g x.watch (met_same x.watch.met) y c x.asked r.history question_place (λ bad. omega (arith, bad)))
         (λ n l. dite (ℕ_discrete n g)
         (λ same. subst (λ (m : ℕ). GroupCounts at_now range (set st.views id after) m (word_at (set st.words (group_place g) y) (group_place m))) (sym same)
-        (subst (GroupCounts at_now range (set st.views id after) g) (sym (read_here (group_place g) low_g unlisted_g y c x.asked r.history))
+        (subst (GroupCounts at_now range (set st.views id after) g) (sym (read_here (group_place g) low_g unlisted_g x.watch (met_same x.watch.met) y c x.asked r.history))
         (let a = sum_set (owing_of g) st.views id v after here in let u = (r.counts.groups g its).counts in record { counts = omega (arith, a, u, balance) })))
         (λ other. group_same id after here r.counts refl (else n other) l
-        (read_else (group_place g) low_g unlisted_g y c x.asked r.history (group_place n) (λ bad. other (omega (arith, bad))))))
-        (λ n o. full_still id after here o o.full (λ m is. absurd (calm m is))) (asks_alike turn (turn_after (group_place g) low_g unlisted_g y c x.asked r.history) refl)
+        (read_else (group_place g) low_g unlisted_g x.watch (met_same x.watch.met) y c x.asked r.history (group_place n) (λ bad. other (omega (arith, bad))))))
+        (λ n o. full_still id after here o o.full (λ m is. absurd (calm m is))) (asks_alike turn (turn_after (group_place g) low_g unlisted_g x.watch (met_same x.watch.met) y c x.asked r.history) refl)
 
     owing_else : (n : ℕ) → n ≢ g → owing n (Inside g) ≡ 0
     owing_else n other = ap one_if (ne_eqb g n (λ same. other (sym same)))
@@ -231,11 +257,11 @@ module _ (turn : Turn) where
       turned y (Lowered g),
       keeps,
       tt,
-      wrote (group_place g) low_g unlisted_g y (Lowered g) x.asked r.history no_event (turn_counts y (Lowered g)
+      wrote (group_place g) low_g unlisted_g x.watch (met_same x.watch.met) y (Lowered g) x.asked r.history no_event (watches_on y) (turn_counts y (Lowered g)
           (λ n other. owing_else n other ∙ sym (ap (owing n) out)) (let a = owing_here in let b = ap (owing g) out in omega (arith, a, b)) (λ m is. cc is)),
       record {
         turns = rw (group_back g) record {
-          stepped = stepped_so (group_place g) low_g unlisted_g y (Lowered g) x.asked r.history carried refl refl;
+          stepped = stepped_so (group_place g) low_g unlisted_g x.watch (met_same x.watch.met) y (Lowered g) x.asked r.history carried refl refl;
           carried = refl;
         };
       },
@@ -247,11 +273,11 @@ module _ (turn : Turn) where
       turned y Outside,
       keeps,
       tt,
-      wrote (group_place g) low_g unlisted_g y Outside x.asked r.history no_event (turn_counts y Outside
+      wrote (group_place g) low_g unlisted_g x.watch (met_same x.watch.met) y Outside x.asked r.history no_event (watches_on y) (turn_counts y Outside
           (λ n other. sym (ap (owing n) inside ∙ owing_else n other)) (let a = owing_here in let b = ap (owing g) inside in omega (arith, a, b)) (λ m is. cc is)),
       record {
         turns = record {
-          stepped = stepped_so (group_place g) low_g unlisted_g y Outside x.asked r.history carried refl refl;
+          stepped = stepped_so (group_place g) low_g unlisted_g x.watch (met_same x.watch.met) y Outside x.asked r.history carried refl refl;
           carried = refl;
         };
       },
@@ -267,33 +293,60 @@ module _ (turn : Turn) where
             (λ same. absurd (group_calm v.start st r g its all j u there (is ∙ ap Inside same))) (λ other. omega (arith, a, other));
       }
 
-      count_full : Kept (group_place g) low_g unlisted_g word v.change (Covered (g + 1)) r.history
-      count_full = read_counts (group_place g) low_g unlisted_g word v.change (Covered (g + 1)) r.history refl refl
-          (λ few there. full_same id (w' (group_place g) low_g unlisted_g word v.change (Covered (g + 1)) r.history) here refl refl
+      count_full : Kept (group_place g) low_g unlisted_g x.watch (met_same x.watch.met) word v.change (Covered (g + 1)) r.history
+      count_full = read_counts (group_place g) low_g unlisted_g x.watch (met_same x.watch.met) word v.change (Covered (g + 1)) r.history refl refl
+          (λ few there. full_same id (w' (group_place g) low_g unlisted_g x.watch (met_same x.watch.met) word v.change (Covered (g + 1)) r.history) here refl refl
           (more_full (subst (HasVisitedFull at_now range st.views) asked (r.counts.questions id v x here (has_x turn) few there))))
 
-    count : (slots : ℕ) (carried : List (ℕ × Option Closed)) → x.asked ≡ Covered g
+    -- a group that doesn't count all its slots: one has no file, or another pass owes it one
+    module _ (fits : word < 18446744073709551616) where
+      record Lag : Type 0 where
+        pub met : ℕ
+        pub more : x.watch.met ≤ met
+        pub short : v.change ≡ Outside → HasGap v.start r.history ⊎ ((x.watch.met < met) × (1 < v.start.passes))
+
+      gap : sum_by (owing_of g) st.views ≡ 0 → word ≢ group_len range.1 g → HasGap v.start r.history
+      gap none_owes some_empty = let a = (r.counts.groups g its).counts in
+          let z = full_gap at_now (group_start range g) (group_len range.1 g) (λ e. some_empty (omega (arith, a, none_owes, e, fits))) in
+          let b = of_group range z.0 g z.1 z.2 in record { slot = z.0; low = b.0; high = b.1; empty = z.3 }
+
+      lagging : word ≢ group_len range.1 g → Lag
+      lagging some_empty = dite (ℕ_discrete (sum_by (owing_of g) st.views) (owing_of g v))
+          (λ same. record {
+            met = x.watch.met;
+            more = omega arith;
+            short = λ out. inl (gap (let b = ap (owing g) out in omega (arith, same, b)) some_empty);
+          })
+          (λ other. record { met = x.watch.met + 1; more = omega arith; short = λ _. inr (omega arith, others_owe v.start st r g id v here (ap (length {A = Log}) one) other) })
+
+    count : (slots : ℕ) (carried : List (ℕ × Option Closed)) → x.asked ≡ Covered g → word < 18446744073709551616
         → Made turn carried (group_place g) (λ word. word) (Counts (step slots (group_place g) 0 0 none) (v, carried))
-    count slots carried asked = dite (ℕ_discrete word (group_len range.1 g))
+    count slots carried asked fits = dite (ℕ_discrete word (group_len range.1 g))
         (λ all. (
-          w' (group_place g) low_g unlisted_g word v.change (Covered (g + 1)) r.history,
+          w' (group_place g) low_g unlisted_g x.watch (met_same x.watch.met) word v.change (Covered (g + 1)) r.history,
           keeps,
           tt,
-          wrote (group_place g) low_g unlisted_g word v.change (Covered (g + 1)) r.history no_event (count_full asked all),
+          wrote (group_place g) low_g unlisted_g x.watch (met_same x.watch.met) word v.change (Covered (g + 1)) r.history no_event (watches_on word) (count_full asked all),
           record {
-            full = λ _. rw (group_back g) (goes_asked (group_place g) low_g unlisted_g word v.change (Covered (g + 1)) r.history carried refl refl);
+            full = λ _. rw (group_back g) (goes_asked (group_place g) low_g unlisted_g x.watch (met_same x.watch.met) word v.change (Covered (g + 1)) r.history carried refl refl);
             less = λ other. absurd (other (all ∙ ap (group_len range.1) (sym (group_back g))));
+            asks = sym (ap (λ (l : List Log). (first_log l).watch.asks) one);
+            short = λ other. absurd (other (all ∙ ap (group_len range.1) (sym (group_back g))));
           },
         ))
-        (λ some_empty. (
-          turned word v.change,
+        (λ some_empty. let o = record x.watch { met = (lagging fits some_empty).met } in let more = (lagging fits some_empty).more in (
+          w' (group_place g) low_g unlisted_g o more word v.change x.asked r.history,
           keeps,
           tt,
-          wrote (group_place g) low_g unlisted_g word v.change x.asked r.history no_event
-              (read_same (group_place g) low_g unlisted_g word v.change x.asked r.history refl refl refl),
+          wrote (group_place g) low_g unlisted_g o more word v.change x.asked r.history no_event
+              (let a = watches_on word in record { seen = a.seen; saw = a.saw; asks = a.asks })
+              (read_same (group_place g) low_g unlisted_g o more word v.change x.asked r.history refl refl refl),
           record {
             full = λ is. absurd (some_empty (is ∙ ap (group_len range.1) (group_back g)));
-            less = λ _. record { stepped = stepped_so (group_place g) low_g unlisted_g word v.change x.asked r.history carried refl refl; carried = refl };
+            less = λ _. record { stepped = stepped_so (group_place g) low_g unlisted_g o more word v.change x.asked r.history carried refl refl; carried = refl };
+            asks = sym (ap (λ (l : List Log). (first_log l).watch.asks) one);
+            short = λ _ out. subst (λ (l : List Log). HasGap v.start r.history ⊎ (((first_log l).watch.met < (lagging fits some_empty).met) × (1 < v.start.passes))) (sym one)
+                ((lagging fits some_empty).short out);
           },
         ))
 
@@ -310,4 +363,4 @@ raises_keep k slots id i g m x has inside its place = by_turn slots (λ k. IsGro
 pub counts_keep : CountsKeep Counts
 counts_keep k slots id i g m x has asked its place = by_turn slots (λ k. IsGroup k g) (λ _. group_place g) (λ word. word)
     (λ i. Counts (step slots i 0 0 none) m) has its place
-    (λ st r here its _. count (turn_of m x has.1 id st r here) g its slots m.1 asked)
+    (λ st r here its fits. count (turn_of m x has.1 id st r here) g its slots m.1 asked fits)

@@ -6,7 +6,7 @@ use Rattle.fx_lasting.proofs.Words.{changed_here, changed_else, File, sum_set, o
 use Rattle.fx_lasting.proofs.Words.{HasVisitedFull, HasQuestionOf, is_in, uncounted, account, View, Log, Change, Outside, Inside, Survey, NotAsked}
 use Rattle.fx_lasting.proofs.Words.{Covered, full_else, full_here, full_few, IsSome, group_size, groups_in, group_of, group_start, group_len}
 use Rattle.fx_lasting.proofs.Words.{group_place, question_place, ◌⊎◌, ⊎_elim, inl, inr, at_set, ℕ_discrete, eq-eqb, ne_eqb, get_or, Contains, is_some}
-use Rattle.fx_lasting.proofs.Words.{not, MOST_SLOTS}
+use Rattle.fx_lasting.proofs.Words.{not, MOST_SLOTS, zero}
 
 -- what holds of each size of a group
 pub by_size : (P : ℕ → Type 0) → P 4 → P 64 → P 1024 → P 16384 → (len : ℕ) → P (group_size len)
@@ -129,6 +129,16 @@ before range s low = ap (λ (b : Bool). cond b false (nat_lt s (range.0 + range.
 
 not_before : (range : ℕ × ℕ) (s : ℕ) → range.0 ≤ s → is_in range s ≡ nat_lt s (range.0 + range.1)
 not_before range s high = ap (λ (b : Bool). cond b false (nat_lt s (range.0 + range.1))) (le-ltb s range.0 high)
+
+-- a range that has fewer full slots than slots has an empty one
+pub full_gap : (at : ℕ → Option File) (off len : ℕ) → full_in at off len ≢ len → (slot : ℕ) × (off ≤ slot) × (slot < off + len) × (at slot ≡ None)
+full_gap at off zero e = absurd (e refl)
+full_gap at off (suc len) e = go (full_gap at off len) (at (off + len)) refl
+  where
+    go : (full_in at off len ≢ len → (slot : ℕ) × (off ≤ slot) × (slot < off + len) × (at slot ≡ None)) → (found : Option File) → at (off + len) ≡ found
+        → (slot : ℕ) × (off ≤ slot) × (slot < off + suc len) × (at slot ≡ None)
+    go before None is = (off + len, omega arith, omega arith, is)
+    go before (Some f) is = let one = ap if_full is in let z = before (λ same. e (omega (arith, same, one))) in (z.0, z.1, omega (arith, z.2), z.3)
 
 -- a slot of the range
 pub in_range_so : (range : ℕ × ℕ) (s : ℕ) → range.0 ≤ s → s < range.0 + range.1 → is_in range s ≡ true

@@ -8,10 +8,11 @@ use Rattle.fx_lasting.proofs.Words.{count_in, slot_place, word_of, hold_word_of,
 use Rattle.fx_lasting.proofs.Words.{IsHistory, held_in, held_of, taken_of, logs_of, owed, Sat, Stepped, IsInside, pass_event, HasPass, Phase, free}
 use Rattle.fx_lasting.proofs.Words.{removed_in, Change, Glance, Log, Start, View, Work, found_sum, found_by, at_index, IsInStock, name_in}
 use Rattle.fx_lasting.proofs.Words.{Whereabouts, in_stock, NamesItsNode, StockAgrees, as_stocked, ◌⊎◌, list_place, IsListedIn, Deed, untouched}
-use Rattle.fx_lasting.proofs.Words.{Survey, as_asked, Labels, Written, tag_word_of, number_word_of, written_in, of_replaced, MOST_SLOTS}
+use Rattle.fx_lasting.proofs.Words.{Watch, WatchAgrees, Survey, as_asked, Labels, Written, tag_word_of, number_word_of, written_in, of_replaced, MOST_SLOTS}
 use Rattle.fx_lasting.proofs.Groups.{AskAlike}
 use Rattle.fx_lasting.proofs.Histories.{Grows, legal_before}
 use Rattle.fx_lasting.proofs.Lists.{ListGoesOn, stays_listed, was_listed}
+use Rattle.fx_lasting.proofs.Watching.{MovesOn, watch_on}
 use mathlib.Core.Option as maybe
 
 -- the history that the seat shows begins this one
@@ -39,10 +40,14 @@ slot_word words s = word_at words (slot_place s)
 abbrev pub now : View → Log → Work → Glance → Change → View
 now v y d g c = record v { logs = y ∷ []; work = d; glance = g; change = c }
 
--- a pass that has seen the history, is listed or not, has asked so, and has this stock, after one
--- more step
-abbrev pub logged : Log → Bool → Survey → List ℕ → List Event → Log
-logged x l a stock h = record x { front = h; steps = x.steps + 1; listed = l; asked = a; stock = stock }
+-- a pass that has seen the history, is listed or not, has asked so, has this stock and watches
+-- this, after one more step
+abbrev pub logged : Log → Bool → Survey → List ℕ → Watch → List Event → Log
+logged x l a stock o h = record x { front = h; steps = x.steps + 1; listed = l; asked = a; stock = stock; watch = o }
+
+-- as many meetings as before
+pub met_same : (n : ℕ) → n ≤ n
+met_same n = omega arith
 
 -- a seat with one pass, which makes the next step
 pub record Turn : Type 0 where
@@ -150,10 +155,12 @@ module _ (turn : Turn) where
     pub still_listed : x.listed ≡ true → listed ≡ true
     pub where_is : ℕ → Whereabouts
     pub stock : List ℕ
+    pub watch : Watch
+    pub more_met : x.watch.met ≤ watch.met
 
   module _ (a : After) where
     abbrev pub w : View
-    w = now v (logged x a.listed a.asked a.stock a.front) a.work a.glance a.change
+    w = now v (logged x a.listed a.asked a.stock a.watch a.front) a.work a.glance a.change
 
     abbrev pub views' : List View
     views' = set st.views id w
@@ -202,6 +209,8 @@ module _ (turn : Turn) where
       pub deed_on : (s q : ℕ) → s < slots_of v.start → a.deed s q ≢ untouched → (r.deed s q ≢ untouched) ⊎ ((q ≡ x.number) × (a.listed ≡ true))
       pub its_bit : a.listed ≡ true → (x.listed ≡ true) ⊎ IsListedIn (word_at a.words (list_place x.number)) x.number
       pub counts : RangeCounts (state_after_all v.start a.h).at (range_at_start v.start) views' a.words
+      pub moves : (s : ℕ) → s < slots_of v.start → MovesOn x.number s r.history a.h (slot_word st.words s) (slot_word a.words s)
+      pub watches : WatchAgrees v.start a.h a.words x.number a.watch
 
     module _ (s : Step) where
       other_log : (j : ℕ) (u : View) (z : Log) → j ≢ id → get_elem? st.views j ≡ some u → Contains u.logs z
@@ -223,6 +232,8 @@ module _ (turn : Turn) where
             heats = k.heats;
             takes_listed = λ i l is. ⊎_elim (λ before. o.takes_listed i l before)
                 (λ (own : (z.number ≡ x.number) × (a.listed ≡ true)). absurd (n own.0)) (s.deed_on i z.number l is);
+            watch = let range = its_range r j there at in let mine = in_range in
+                watch_on v.start x.number z.number (λ same. n (sym same)) (omega (arith, n, range.0, range.1, mine.0, mine.1)) st.words a.words s.grows.seen s.moves z.watch o.watch;
           }
 
       -- a seat without passes does nothing
@@ -235,7 +246,7 @@ module _ (turn : Turn) where
               (s.others j u z other there at (not_there r here one other there z at) (its_range r j there at)
               ((r.each_view j u there).logs z at) (r.each_view j u there).work).work
 
-      its_own : LogAgrees v.start a.h a.words a.phase a.debt a.deed a.work a.glance (logged x a.listed a.asked a.stock a.front)
+      its_own : LogAgrees v.start a.h a.words a.phase a.debt a.deed a.work a.glance (logged x a.listed a.asked a.stock a.watch a.front)
       its_own = let few : x.number ≤ 1024 = omega (arith, in_range.1, r.shape.passes) in record {
         seen = s.seen;
         own = s.own;
@@ -250,6 +261,7 @@ module _ (turn : Turn) where
         heats = s.its.heats;
         takes_listed = λ i l is. ⊎_elim (λ before. a.still_listed (its_log.takes_listed i l before))
             (λ (own : (x.number ≡ x.number) × (a.listed ≡ true)). own.1) (s.deed_on i x.number l is);
+        watch = s.watches;
       }
 
       pub step_kept : Agrees v.start end
@@ -273,7 +285,7 @@ module _ (turn : Turn) where
         each_view = λ j u e. ⊎_elim (λ (t : (j ≡ id) × (w ≡ u)).
             subst (λ (z : ℕ × View). ViewAgrees v.start a.h a.words a.phase a.debt a.deed z.0 z.1) (λ i. (sym t.0 i, t.1 i)) record {
               logs = λ z h. subst (LogAgrees v.start a.h a.words a.phase a.debt a.deed a.work a.glance)
-                  (sym (contains_only (logged x a.listed a.asked a.stock a.front) z h)) its_own;
+                  (sym (contains_only (logged x a.listed a.asked a.stock a.watch a.front) z h)) its_own;
               work = s.its.work;
               empty = λ none. absurd (omega (arith, ap (length {A = Log}) none));
               start = inr refl;
@@ -286,9 +298,9 @@ module _ (turn : Turn) where
         where_is = a.where_is;
         named = s.named;
         stocks = λ j u z e has. ⊎_elim
-            (λ (t : (j ≡ id) × (w ≡ u)). let has' : Contains (logged x a.listed a.asked a.stock a.front ∷ []) z =
+            (λ (t : (j ≡ id) × (w ≡ u)). let has' : Contains (logged x a.listed a.asked a.stock a.watch a.front ∷ []) z =
             subst (λ (y : View). Contains y.logs z) (sym t.1) has in
-            subst (λ (y : Log). StockAgrees v.start a.where_is y.number y.stock) (sym (contains_only (logged x a.listed a.asked a.stock a.front) z has')) s.stock)
+            subst (λ (y : Log). StockAgrees v.start a.where_is y.number y.stock) (sym (contains_only (logged x a.listed a.asked a.stock a.watch a.front) z has')) s.stock)
             (λ (t : (j ≢ id) × (get_elem? st.views j ≡ some u)). let o = r.stocks j u z t.1 has in record {
               its = o.its;
               here = λ entry n is. s.stocks n z.number entry (not_there r here one t.0 t.1 z has) (o.here entry n is);
@@ -324,7 +336,7 @@ module _ (turn : Turn) where
       → IsHistory v.start a.front → part_of_pass x.number a.front ≡ map (pass_event x) actions ++ part_of_pass x.number r.history
       → IsInside v.start a.work → Stepped (v, carried) actions a.work a.glance a.change (w a, homes)
   tells a same carried homes actions grows legal own inside = let o = its_log in rw one record {
-    one = (logged x a.listed a.asked a.stock a.front, refl);
+    one = (logged x a.listed a.asked a.stock a.watch a.front, refl);
     number = refl;
     seen = grows.seen x.front o.seen;
     legal = legal;
@@ -333,6 +345,7 @@ module _ (turn : Turn) where
     listed = ap (λ (z : Bool × Survey × List ℕ). z.0) same;
     asked = ap (λ (z : Bool × Survey × List ℕ). z.1) same;
     stock = ap (λ (z : Bool × Survey × List ℕ). z.2) same;
+    met = a.more_met;
     work = refl;
     inside = inside;
     glance = refl;
@@ -345,7 +358,7 @@ module _ (turn : Turn) where
       → IsHistory v.start a.front → part_of_pass x.number a.front ≡ part_of_pass x.number r.history → IsInside v.start a.work
       → Stepped (as_asked a.asked (v, carried)) [] a.work a.glance a.change (w a, carried)
   tells_asked a same carried grows legal own inside = let o = its_log in rw one record {
-    one = (logged x a.listed a.asked a.stock a.front, refl);
+    one = (logged x a.listed a.asked a.stock a.watch a.front, refl);
     number = refl;
     seen = grows.seen x.front o.seen;
     legal = legal;
@@ -354,6 +367,7 @@ module _ (turn : Turn) where
     listed = ap (λ (z : Bool × List ℕ). z.0) same;
     asked = refl;
     stock = ap (λ (z : Bool × List ℕ). z.1) same;
+    met = a.more_met;
     work = refl;
     inside = inside;
     glance = refl;
@@ -367,7 +381,7 @@ module _ (turn : Turn) where
       → part_of_pass x.number a.front ≡ map (pass_event x) actions ++ part_of_pass x.number r.history → IsInside v.start a.work
       → Stepped (as_stocked a.stock (v, carried)) actions a.work a.glance a.change (w a, homes)
   tells_stocked a same carried homes actions grows legal own inside = let o = its_log in rw one record {
-    one = (logged x a.listed a.asked a.stock a.front, refl);
+    one = (logged x a.listed a.asked a.stock a.watch a.front, refl);
     number = refl;
     seen = grows.seen x.front o.seen;
     legal = legal;
@@ -376,6 +390,7 @@ module _ (turn : Turn) where
     listed = ap (λ (z : Bool × Survey). z.0) same;
     asked = ap (λ (z : Bool × Survey). z.1) same;
     stock = refl;
+    met = a.more_met;
     work = refl;
     inside = inside;
     glance = refl;
@@ -386,7 +401,7 @@ module _ (turn : Turn) where
   -- the pass has asked what it had asked
   pub asks_alike : (a : After) → a.asked ≡ x.asked → AskAlike (w a) v
   asks_alike a same y has = subst (λ (y : Log). (z : Log) × Contains v.logs z × (z.number ≡ y.number) × (z.asked ≡ y.asked))
-      (sym (contains_only (logged x a.listed a.asked a.stock a.front) y has)) (x, has_x, refl, sym same)
+      (sym (contains_only (logged x a.listed a.asked a.stock a.watch a.front) y has)) (x, has_x, refl, sym same)
 
   pub few_slots : (range_at_start v.start).1 ≤ MOST_SLOTS
   few_slots = few_in_range r
@@ -395,7 +410,7 @@ module _ (turn : Turn) where
   pub tells_less : (a : After) → ◌≡◌ {A = Bool × Survey × List ℕ} (a.listed, a.asked, a.stock) (x.listed, x.asked, x.stock) → (carried homes : List (ℕ × Option Closed)) → a.front ≡ x.front → IsInside v.start a.work
       → Stepped (v, carried) [] a.work a.glance a.change (w a, homes)
   tells_less a same_pass carried homes same inside = let o = its_log in rw one record {
-    one = (logged x a.listed a.asked a.stock a.front, refl);
+    one = (logged x a.listed a.asked a.stock a.watch a.front, refl);
     number = refl;
     seen = ([], same);
     legal = rw same (legal_before v.start x.front o.seen.0 (subst (IsHistory v.start) o.seen.1 r.legal));
@@ -404,6 +419,7 @@ module _ (turn : Turn) where
     listed = ap (λ (z : Bool × Survey × List ℕ). z.0) same_pass;
     asked = ap (λ (z : Bool × Survey × List ℕ). z.1) same_pass;
     stock = ap (λ (z : Bool × Survey × List ℕ). z.2) same_pass;
+    met = a.more_met;
     work = refl;
     inside = inside;
     glance = refl;

@@ -4,6 +4,7 @@ pub mod Counts
 pub mod Groups
 pub mod Histories
 pub mod Lists
+pub mod Watching
 pub mod Keeping
 pub mod Frames
 pub mod StockMoves
@@ -24,6 +25,7 @@ pub mod SlotSteps
 pub mod GroupSteps
 pub mod QuestionSteps
 pub mod Peeking
+pub mod Sights
 pub mod Swaps
 pub mod SlotLaws
 pub mod SwapsOut
@@ -44,10 +46,12 @@ pub mod Sought
 pub mod Passing
 pub mod Settled
 pub mod Removals
+pub mod Overtaking
 pub mod Questions
 pub mod Trying
 pub mod ByNode
 pub mod EmptySlots
+pub mod GapSearches
 pub mod Taking
 pub mod Retiring
 pub mod Finishing

@@ -4,7 +4,8 @@ use Rattle.fx_lasting.proofs.Words.{Yielding, Searching, Placing, Retiring, Empt
 use Rattle.fx_lasting.proofs.Words.{dite, ℕ_discrete, Work, IsAllowed, Lists, ListsKeep, [], Bool, ◌≡◌, ◌+◌, ◌%◌, ◌<◌, ◌∙◌, sym, false, Agrees}
 use Rattle.fx_lasting.proofs.Histories.{grows_none}
 use Rattle.fx_lasting.proofs.Frames.{guards_same, covers_same, sees_same}
-use Rattle.fx_lasting.proofs.Keeping.{Turn, turn_of, After, word_at, Made, by_turn, its_log, its_work, in_range, logged, w, end, asks_alike, few_slots}
+use Rattle.fx_lasting.proofs.Keeping.{Turn, turn_of, After, word_at, Made, by_turn, its_log, its_work, in_range, logged, w, end, asks_alike, few_slots, met_same}
+use Rattle.fx_lasting.proofs.Watching.{watch_same}
 use Rattle.fx_lasting.proofs.Calm.{calm_after, calm_kept}
 use Rattle.fx_lasting.proofs.Lists.{ListGoesOn, now_listed, bit_added}
 use Rattle.fx_lasting.proofs.GroupSteps.{its_inside}
@@ -43,7 +44,7 @@ module _ (turn : Turn) (not_yet : turn.x.listed ≡ false) (fits : word_at turn.
   words' = list_words turn x.number few new
 
   abbrev listed_after : After turn
-  listed_after = calm_after turn r.history r.history words' v.work v.glance v.change x.asked true (λ l. refl)
+  listed_after = calm_after turn r.history r.history words' v.work v.glance v.change x.asked true (λ l. refl) x.watch (met_same x.watch.met)
 
   -- each word of the list
   goes_on : (p : ℕ) → ListGoesOn x.number true p (word_at st.words (list_place p)) (word_at words' (list_place p))
@@ -55,7 +56,7 @@ module _ (turn : Turn) (not_yet : turn.x.listed ≡ false) (fits : word_at turn.
   kept = let o = its_log turn in let same = list_slot turn x.number few new in
       let own = guards_same turn listed_after x.number v.work (list_hold turn x.number few new x.number (in_range turn).0) refl
       (covers_same turn words' same x.number) o.hold o.guarded in
-      calm_kept turn r.history r.history words' v.work v.glance v.change x.asked true (λ l. refl) record {
+      calm_kept turn r.history r.history words' v.work v.glance v.change x.asked true (λ l. refl) x.watch (met_same x.watch.met) record {
         words = length-set st.words (list_place x.number) new;
         grows = grows_none x.number r.history;
         legal = r.legal;
@@ -76,6 +77,7 @@ module _ (turn : Turn) (not_yet : turn.x.listed ≡ false) (fits : word_at turn.
         allowed = allowed_more x.stock x.listed v.work o.allowed;
         lists = λ p few. goes_on p;
         its_bit = λ l. inr (rw (list_here turn x.number few new ∙ is_set) (now_listed x.number (word_at st.words (list_place x.number))));
+        watches = watch_same v.start x.number ([], refl) same (list_alike turn x.number few new).0 x.watch o.watch;
         its = record {
           hold = own.0;
           guarded = own.1;
@@ -96,7 +98,7 @@ module _ (turn : Turn) (not_yet : turn.x.listed ≡ false) (fits : word_at turn.
     record {
       goes = record {
         stepped = let o = its_log turn in let grows = grows_none x.number r.history in rw one record {
-          one = (logged x true x.asked x.stock r.history, refl);
+          one = (logged x true x.asked x.stock x.watch r.history, refl);
           number = refl;
           seen = grows.seen x.front o.seen;
           legal = r.legal;
@@ -105,6 +107,7 @@ module _ (turn : Turn) (not_yet : turn.x.listed ≡ false) (fits : word_at turn.
           listed = refl;
           asked = refl;
           stock = refl;
+          met = met_same x.watch.met;
           work = refl;
           inside = its_inside turn;
           glance = refl;

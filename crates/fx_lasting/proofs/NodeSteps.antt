@@ -10,7 +10,8 @@ use Rattle.fx_lasting.proofs.Histories.{Grows, each_changed}
 use Rattle.fx_lasting.proofs.Frames.{busy, owner_stays, slot_same, node_same, Leaves, keeps_other}
 use Rattle.fx_lasting.proofs.Frames.{sees_same, covers_same, guards_same}
 use Rattle.fx_lasting.proofs.Keeping.{Turn, After, Keeps, Homes, word_at, slot_word, step_kept, w, end, its_log, its_stock, in_its_stock, names_on, asks_alike, few_slots}
-use Rattle.fx_lasting.proofs.Keeping.{LabelSame, labels_same}
+use Rattle.fx_lasting.proofs.Keeping.{LabelSame, labels_same, met_same}
+use Rattle.fx_lasting.proofs.Watching.{watch_same}
 use Rattle.fx_lasting.proofs.Groups.{CountAlike, counts_same}
 
 module _ (turn : Turn) (q : ℕ) (its : q < nodes_of turn.v.start) (ph : Phase) (h' front : List Event) (words' : List ℕ) (homes' : Homes)
@@ -35,6 +36,8 @@ module _ (turn : Turn) (q : ℕ) (its : q < nodes_of turn.v.start) (ph : Phase) 
     still_listed = λ l. l;
     where_is = r.where_is;
     stock = x.stock;
+    watch = x.watch;
+    more_met = met_same x.watch.met;
   }
 
   abbrev before : ℕ → Option File
@@ -165,6 +168,8 @@ module _ (turn : Turn) (q : ℕ) (its : q < nodes_of turn.v.start) (ph : Phase) 
       lists = λ p few. inl (s.lists p few);
       deed_on = λ i p l is. inl is;
       its_bit = λ l. inl l;
+      moves = λ i l. inl (s.slot_words i l);
+      watches = watch_same v.start x.number (s.grows.seen r.history ([], refl)) s.slot_words s.alike.0 x.watch (its_log turn).watch;
       its = s.its_own;
       holds = s.holds;
       counts = counts_same id (w turn after_seen) here r.counts (few_slots turn) s.at s.alike refl (asks_alike turn after_seen refl);

@@ -181,6 +181,7 @@ module _ (k : Start) (words : List ℕ) (homes : List (Option Closed)) (o : Open
     sees = tt;
     heats = λ i l is. absurd (cc is);
     takes_listed = λ i l is. absurd (is refl);
+    watch = record { seen = ([], refl); saw = λ l. absurd (omega (arith, l, o.slots)); asks = λ bad. absurd (cc bad) };
   }
 
   -- the numbers of new passes

@@ -24,6 +24,7 @@ learns_none at is = let r = runs_none at 0 in record {
   listed = r.listed;
   asked = is;
   stock = r.stock;
+  met = r.met;
   work = r.work;
   inside = r.inside;
   glance = r.glance;
@@ -85,11 +86,13 @@ module _ (t : LastingTable) {p : LastingPass} (fits : IsPassOfTable t p) (seat :
     fits = still_fits (Covered (groups_in t.range_len)) tells true (λ _. ap Covered same);
     adds = adds (Covered (groups_in t.range_len)) tells true (λ _. ap Covered same);
     steps = tells.steps;
+    met = tells.met;
   }
   has_asked false tells = record {
     fits = still_fits tells.0 tells.1 false (λ is. absurd (cc is));
     adds = adds tells.0 tells.1 false (λ is. absurd (cc is));
     steps = tells.1.steps;
+    met = tells.1.met;
   }
 
 -- a pass that isn't sure has asked nothing
@@ -98,6 +101,7 @@ has_not_asked t {p} fits = record {
   fits = fits;
   adds = adds_nothing (opening_of t.table.shared.key) (view_of p) fits.front;
   steps = omega arith;
+  met = omega arith;
 }
 
 -- what an idle pass has added

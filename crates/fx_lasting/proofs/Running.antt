@@ -31,6 +31,7 @@ runs_then {m} {m'} {m''} {xs} {ys} {w' = w'} {n = n} {n' = n'} a b = record {
   listed = b.listed ∙ a.listed;
   asked = b.asked ∙ a.asked;
   stock = b.stock ∙ a.stock;
+  met = let p = a.met in let q = b.met in omega arith;
   work = b.work;
   inside = subst (λ (k : Start). IsInside k w') a.start b.inside;
   glance = b.glance;
@@ -62,6 +63,7 @@ runs_carried places r = record {
   listed = r.listed;
   asked = r.asked;
   stock = r.stock;
+  met = r.met;
   work = r.work;
   inside = r.inside;
   glance = r.glance;
@@ -89,6 +91,7 @@ module _ {k : Start} {p : ℕ} {m : Sat} (at : IsAtWork k p m) where
     listed = refl;
     asked = refl;
     stock = refl;
+    met = omega arith;
     work = refl;
     inside = subst (λ (z : Start). IsInside z m.0.work) (sym at.pass.0) at.inside;
     glance = refl;
@@ -159,6 +162,7 @@ runs_asked {m' = m'} a r = record {
   listed = r.listed;
   asked = refl;
   stock = r.stock;
+  met = r.met;
   work = r.work;
   inside = r.inside;
   glance = r.glance;
@@ -180,6 +184,7 @@ runs_stocked {m' = m'} s r = record {
   listed = r.listed;
   asked = r.asked;
   stock = refl;
+  met = r.met;
   work = r.work;
   inside = r.inside;
   glance = r.glance;

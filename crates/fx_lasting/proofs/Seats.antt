@@ -112,6 +112,7 @@ module _ (k : Start) (s : Shared) (r : Agrees k s) (id : ℕ) (v : View) (here :
     sees = o.sees;
     heats = o.heats;
     takes_listed = o.takes_listed;
+    watch = o.watch;
   }
 
   forgotten : Agrees k record { words = s.words; homes = s.homes; views = views' }

@@ -1,14 +1,13 @@
 -- A load of a slot's word from which the pass learns what is there, and the exchanges of a word
 -- that it saw, keep the rule.
-use Rattle.fx_lasting.proofs.Words.{◌≡◌, ◌≢◌, ℕ, ◌+◌, ◌^◌, ◌<◌, ◌≤◌, List, [], ◌∷◌, sym, refl, ap, ◌∙◌, Option, Some, None, none, keeps, gives, rest}
-use Rattle.fx_lasting.proofs.Words.{eqb, Closed, File, Take, Names, slots_of, slot_place, file_word_of, state_after_all, node_of_number, HasNoFile}
+use Rattle.fx_lasting.proofs.Words.{◌≡◌, ◌≢◌, ℕ, ◌+◌, ◌^◌, ◌<◌, ◌≤◌, List, [], ◌∷◌, sym, refl, ap, ◌∙◌, Option, Some, none, keeps, gives, rest}
+use Rattle.fx_lasting.proofs.Words.{eqb, Closed, Take, slots_of, slot_place, file_word_of, HasNoFile}
 use Rattle.fx_lasting.proofs.Words.{IsOffCount, Placing, Outside, Sees, TakesIf, Replaces, SeesKeep, TakesIfKeep, ReplacesKeep, step, exchanged}
 use Rattle.fx_lasting.proofs.Words.{subst, without_file, some, label_of, as_written, pass_event, either}
 use Rattle.fx_lasting.proofs.HeldFiles.{one_after}
 use Rattle.fx_lasting.proofs.StockMoves.{names_a_node}
 use Rattle.fx_lasting.proofs.Keeping.{Turn, turn_of, Made, by_turn, word_at, slot_word, w}
-use Rattle.fx_lasting.proofs.Calm.{read_after, read_kept}
-use Rattle.fx_lasting.proofs.Peeking.{goes_still, still}
+use Rattle.fx_lasting.proofs.Sights.{sees_after, sees_kept, sees_slot, there, named}
 use Rattle.fx_lasting.proofs.Places.{slot_back}
 use Rattle.fx_lasting.proofs.SlotLaws.{taken, removal, removal_agrees, removal_tells, put_action, putting, installed, installation_agrees}
 use Rattle.fx_lasting.proofs.SlotLaws.{installation_tells, new_number, file_carried}
@@ -16,28 +15,13 @@ use Rattle.fx_lasting.proofs.SlotLaws.{installation_tells, new_number, file_carr
 module _ (turn : Turn) (s : ℕ) (inside : s < slots_of turn.v.start) (carried : List (ℕ × Option Closed)) where
   open turn use {st, v, r, id, x, here, one}
 
-  abbrev pub there : Option File
-  there = (state_after_all v.start r.history).at s
-
-  -- a name of a node is one of a file whose number says the node
-  by_number : (o : Option File) → Names r.node_of (slot_word st.words s) o → Names (node_of_number v.start) (slot_word st.words s) o
-  by_number None names = names
-  by_number (Some f) names = (names.0 ∙ ap (λ (n : ℕ). n + 1) (r.numbering f.number), names.1)
-
-  pub named : Names (node_of_number v.start) (slot_word st.words s) there
-  named = by_number there (r.each_slot s inside).names
-
-  pub sees_slot : (slots first second : ℕ) → Sees (step slots (slot_place s) first second none) (v, carried) (slot_word st.words s)
-      (w turn (read_after turn v.work v.glance r.history), carried)
-  sees_slot slots first second = record { goes = goes_still turn carried; names = rw (slot_back s) named }
-
   see : (slots : ℕ) → Made turn carried (slot_place s) (λ word. word) (Sees (step slots (slot_place s) 0 0 none) (v, carried))
   see slots = (
-    w turn (read_after turn v.work v.glance r.history),
+    w turn (sees_after turn s inside),
     keeps,
     tt,
-    read_kept turn v.work v.glance (slot_place s) (still turn),
-    sees_slot slots 0 0,
+    sees_kept turn s inside,
+    sees_slot turn s inside carried slots 0 0,
   )
 
   -- The word that the pass saw is exchanged for its name alone
@@ -47,11 +31,11 @@ module _ (turn : Turn) (s : ℕ) (inside : s < slots_of turn.v.start) (carried :
 
     takes_not : slot_word st.words s ≢ old_word → Takes (slot_word st.words s)
     takes_not other = (
-      w turn (read_after turn v.work v.glance r.history),
+      w turn (sees_after turn s inside),
       keeps,
       tt,
-      read_kept turn v.work v.glance (slot_place s) (still turn),
-      record { wins = λ is. absurd (other is); loses = λ _. sees_slot slots old_word (without_file old_word) },
+      sees_kept turn s inside,
+      record { wins = λ is. absurd (other is); loses = λ _. sees_slot turn s inside carried slots old_word (without_file old_word) },
     )
 
     takes : slot_word st.words s ≡ old_word → Takes (without_file old_word)
@@ -62,11 +46,11 @@ module _ (turn : Turn) (s : ℕ) (inside : s < slots_of turn.v.start) (carried :
       removal_agrees Take taken turn s inside free_of off,
       record {
         wins = λ _. (
-          there,
-          named,
+          there turn s inside carried,
+          named turn s inside carried,
           rw (slot_back s) (removal_tells Take taken turn s inside free_of off carried),
           refl,
-          one_after v.start st r s inside (pass_event x (Take s there)) (λ _. refl),
+          one_after v.start st r s inside (pass_event x (Take s (there turn s inside carried))) (λ _. refl),
         );
         loses = λ other. absurd (other is);
       },
@@ -81,30 +65,30 @@ module _ (turn : Turn) (s : ℕ) (inside : s < slots_of turn.v.start) (carried :
 
     puts_not : slot_word st.words s ≢ old_word → Puts (slot_word st.words s)
     puts_not other = (
-      w turn (read_after turn v.work v.glance r.history),
+      w turn (sees_after turn s inside),
       keeps,
       tt,
-      read_kept turn v.work v.glance (slot_place s) (still turn),
-      record { wins = λ m more e f w' c' at is. absurd (other is); loses = λ _. sees_slot slots old_word (file_word_of n file.entry + lost) },
+      sees_kept turn s inside,
+      record { wins = λ m more e f w' c' at is. absurd (other is); loses = λ _. sees_slot turn s inside carried slots old_word (file_word_of n file.entry + lost) },
     )
 
     puts : slot_word st.words s ≡ old_word → Puts (file_word_of n file.entry + lost)
     puts is = let does = putting turn s inside n lost file works small out slots carried carries number late on_n in (
-      w turn (installed turn s inside there refl n lost file works small out number late on_n
+      w turn (installed turn s inside (there turn s inside carried) refl n lost file works small out number late on_n
           (put_action turn s inside n lost file works small out slots carried carries number late on_n)),
       gives,
       tt,
-      rw carries (installation_agrees turn s inside there refl n lost file works small out number late on_n
+      rw carries (installation_agrees turn s inside (there turn s inside carried) refl n lost file works small out number late on_n
           (put_action turn s inside n lost file works small out slots carried carries number late on_n) does),
       record {
         wins = λ m more e other works' carries' at _. let same_f : file ≡ other = cc (ap file_carried (sym carries ∙ carries')) in
             let same : n ≡ m = cc (sym works ∙ works') in rw (← same_f, slot_back s) (
-              there,
+              there turn s inside carried,
               number,
-              named,
+              named turn s inside carried,
               sym (r.numbering number) ∙ (on_n ∙ same),
               names_a_node turn inside,
-              installation_tells turn s inside there refl n lost file works small out number late on_n
+              installation_tells turn s inside (there turn s inside carried) refl n lost file works small out number late on_n
                   (put_action turn s inside n lost file works small out slots carried carries number late on_n) does carried (rest carried) e (at ∙ ap some (sym same)),
               refl,
               one_after v.start st r s inside

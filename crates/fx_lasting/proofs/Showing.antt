@@ -106,6 +106,7 @@ module _ (k : Start) (id : ℕ) (v w : View) (x : Log) (one : v.logs ≡ x ∷ [
     sees = o.sees;
     heats = o.heats;
     takes_listed = o.takes_listed;
+    watch = o.watch;
   }
 
   learned_agrees : Agrees k record { words = s.words; homes = s.homes; views = set s.views id learned }
@@ -164,6 +165,7 @@ module _ (k : Start) (id : ℕ) (v w : View) (x : Log) (one : v.logs ≡ x ∷ [
       listed = ap (λ (z : Log). z.listed) (sym first);
       asked = ap (λ (z : Log). z.asked) (sym first);
       stock = ap (λ (z : Log). z.stock) (sym first);
+      met = subst (λ (z : Log). z.watch.met ≤ x.watch.met) (sym first) (omega arith);
       work = refl;
       inside = within;
       glance = refl;
@@ -197,6 +199,7 @@ module _ {id : TableId} {k : Start} {p : LastingPass} (fits : IsPassOf id k p) (
     listed = o.listed;
     asked = o.asked;
     stock = o.stock;
+    met = o.met;
     work = o.work;
     inside = o.inside;
     glance = o.glance;

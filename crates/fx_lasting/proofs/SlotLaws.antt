@@ -16,13 +16,13 @@ use Rattle.fx_lasting.proofs.Histories.{grows_one, legal_more, part_mine, held_m
 use Rattle.fx_lasting.proofs.Frames.{busy, owner_stays, node_same}
 use Rattle.fx_lasting.proofs.Keeping.{Turn, turn_of, After, word_at, slot_word, Made, by_turn, its_log, its_work, its_stock, in_range, tells, tells_stocked, w, end, Homes, asks_alike, few_slots}
 use Rattle.fx_lasting.proofs.Groups.{counts_swap, removal_balances, removal_keeps, fill_balances, fill_keeps, in_range_so}
-use Rattle.fx_lasting.proofs.Peeking.{goes_still, still}
-use Rattle.fx_lasting.proofs.Calm.{read_after, read_kept}
+use Rattle.fx_lasting.proofs.Sights.{sees_after, sees_kept, sees_slot}
 use Rattle.fx_lasting.proofs.Places.{slot_words, slot_here, slot_else, slot_back, slot_alike}
 use Rattle.fx_lasting.proofs.Looking.{unnamed}
 use Rattle.fx_lasting.proofs.Swaps.{found, old_at, found_so, NotOf, not_old, old_named, d, swap_after, Swap, swap_kept}
 use Rattle.fx_lasting.proofs.Unheld.{in_phase}
 use Rattle.fx_lasting.proofs.Choosing.{no_file, no_take, not_busy, holds_none}
+use Rattle.fx_lasting.proofs.Words.{ActsAt}
 
 -- the action empties a slot, whatever it is for
 abbrev pub IsRemoval : (ℕ → Option File → Action) → Type 0
@@ -33,12 +33,14 @@ IsRemoval act = (turn : Turn) (s : ℕ) → s < slots_of turn.v.start → let h 
       removed = with_removed (state_after_all turn.v.start turn.r.history).removed ((state_after_all turn.v.start turn.r.history).at s);
     })
     × (held_by h turn.x.number ≡ held_by turn.r.history turn.x.number)
+    × ActsAt s (act s ((state_after_all turn.v.start turn.r.history).at s))
 
 pub cleared : IsRemoval Clear
 cleared turn s inside = (
   legal_more turn.v.start turn.r.legal (let z = (same_shape turn.v.start turn.r.history).0 in (omega arith, refl)) tt,
   refl,
   held_mine (pass_event turn.x (Clear s ((state_after_all turn.v.start turn.r.history).at s))) turn.r.history refl,
+  refl,
 )
 
 pub taken : IsRemoval Take
@@ -46,6 +48,7 @@ taken turn s inside = (
   legal_more turn.v.start turn.r.legal (let z = (same_shape turn.v.start turn.r.history).0 in (omega arith, refl)) tt,
   refl,
   held_mine (pass_event turn.x (Take s ((state_after_all turn.v.start turn.r.history).at s))) turn.r.history refl,
+  refl,
 )
 
 module _ (act : ℕ → Option File → Action) (does : IsRemoval act) (turn : Turn) (s : ℕ) (inside : s < slots_of turn.v.start)
@@ -72,6 +75,7 @@ module _ (act : ℕ → Option File → Action) (does : IsRemoval act) (turn : T
   removes = let o = its_log turn in let h = holds_none free_of o.hold in let e = does turn s inside in record {
     grows = grows_one x.number r.history _ refl;
     legal = e.0;
+    acted = (r.history, pass_event x (act s old), ([], refl), ([], refl), refl, e.3);
     fresh = (state_after_all v.start r.history).fresh;
     leads = e.1;
     fresh_on = r.fresh;
@@ -210,6 +214,7 @@ module _ (turn : Turn) (s : ℕ) (inside : s < slots_of turn.v.start) (old : Opt
       fresh = changed_at before.fresh number false;
     }
     pub held : held_by h₂ x.number ≡ held_by r.history x.number
+    pub acts : ActsAt s a
 
   removed_same : (m : ℕ) → removed_in m (phase₁ (r.node_of m)) ≡ removed_in m (r.phase (r.node_of m))
   removed_same m = each_changed (λ q z. removed_in m z ≡ removed_in m (r.phase q)) r.phase
@@ -265,6 +270,7 @@ module _ (turn : Turn) (s : ℕ) (inside : s < slots_of turn.v.start) (old : Opt
     installs = let o = its_log turn in let h = rw works at o.hold in let apart = not_old turn s inside old was its.1 (λ g bad. cc bad) in record {
       grows = grows_one x.number r.history _ refl;
       legal = does.legal;
+      acted = (r.history, pass_event x a, ([], refl), ([], refl), refl, does.acts);
       fresh = changed_at before.fresh number false;
       leads = does.state;
       fresh_on = λ m l. changed_else before.fresh number false m (λ same. omega (arith, l, same)) ∙ r.fresh m (omega (arith, late, l));
@@ -338,6 +344,7 @@ module _ (turn : Turn) (s : ℕ) (inside : s < slots_of turn.v.start) (n lost : 
     legal = legal_more v.start r.legal (let z = (same_shape v.start r.history).0 in (omega arith, r.fresh number late, refl)) tt;
     state = refl;
     held = held_mine (pass_event x put_action) r.history refl;
+    acts = refl;
   }
 
   pub install_made : Made turn carried (slot_place s) (λ _. file_word_of n file.entry + lost)
@@ -378,11 +385,11 @@ module _ (turn : Turn) (slots s n lost old_word : ℕ) (file : Closed) (carried 
 
   fails : word ≢ old_word → Goal word
   fails other = (
-    w turn (read_after turn v.work v.glance r.history),
+    w turn (sees_after turn s within),
     keeps,
     tt,
-    read_kept turn v.work v.glance (slot_place s) (still turn),
-    record { wins = λ m more e f w' c' at is. absurd (other is); loses = λ _. goes_still turn carried },
+    sees_kept turn s within,
+    record { wins = λ m more e f w' c' at is. absurd (other is); loses = λ _. sees_slot turn s within carried slots old_word (file_word_of n file.entry + lost) },
   )
 
   module _ (is : word ≡ old_word) where
@@ -399,6 +406,7 @@ module _ (turn : Turn) (slots s n lost old_word : ℕ) (file : Closed) (carried 
           (omega arith, (omega arith, omega arith), at_none, r.fresh number late)) tt;
       state = refl;
       held = held_mine (pass_event x alloc) r.history refl;
+      acts = refl;
     }
 
     won : Goal (file_word_of n file.entry + lost)

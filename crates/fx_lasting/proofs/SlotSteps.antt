@@ -4,13 +4,14 @@ use Rattle.fx_lasting.proofs.Words.{ap, ◌∙◌, subst, arith, Option, Some, N
 use Rattle.fx_lasting.proofs.Words.{Agrees, slots_of, nodes_of, IsHistory, state_after_all, held_in, held_of, taken_of, taking, Phase, free, placed}
 use Rattle.fx_lasting.proofs.Words.{seated, leaving, retired, emptied, kept, Work, Glance, ⊎_elim, ◌⊎◌, inr, dite, ℕ_discrete, slot_place, word_of}
 use Rattle.fx_lasting.proofs.Words.{count_in, name_in, full_name_in, entry_in, IsHot, cold_takes, tally, birth_word, owed, sum_set, sum_by, get_elem?}
-use Rattle.fx_lasting.proofs.Words.{length-set, MayBeUnmarked, dec_le, suc, written_in}
+use Rattle.fx_lasting.proofs.Words.{length-set, MayBeUnmarked, dec_le, suc, written_in, MOST_SLOTS, without_slot}
 use Rattle.fx_lasting.proofs.Histories.{Grows}
 use Rattle.fx_lasting.proofs.Frames.{busy, owner_stays, owner_same, slot_same, node_same, Leaves, keeps_other, guards_same}
 use Rattle.fx_lasting.proofs.Keeping.{Turn, After, Keeps, word_at, slot_word, step_kept, w, end, its_stock, names_on, asks_alike, few_slots}
 use Rattle.fx_lasting.proofs.Groups.{counts_same}
 use Rattle.fx_lasting.proofs.Places.{slot_words, slot_here, slot_node, slot_else, slot_hold, slot_alike, slot_list, slot_label}
-use Rattle.fx_lasting.proofs.Keeping.{labels_same}
+use Rattle.fx_lasting.proofs.Keeping.{labels_same, met_same, its_log}
+use Rattle.fx_lasting.proofs.Watching.{MovesOn, ActsThere, watch_none}
 
 module _ (turn : Turn) (s : ℕ) (inside : s < slots_of turn.v.start) (new : ℕ) (h' : List Event) (d : Work) (g : Glance) (deed' : ℕ → ℕ → Deed) where
   open turn use {st, v, r, id, x, here, one}
@@ -36,6 +37,8 @@ module _ (turn : Turn) (s : ℕ) (inside : s < slots_of turn.v.start) (new : ℕ
     still_listed = λ l. l;
     where_is = r.where_is;
     stock = x.stock;
+    watch = without_slot MOST_SLOTS x.watch;
+    more_met = met_same x.watch.met;
   }
 
   abbrev old : ℕ
@@ -52,6 +55,8 @@ module _ (turn : Turn) (s : ℕ) (inside : s < slots_of turn.v.start) (new : ℕ
     pub name : full_name_in new ≡ full_name_in old
     pub entry : entry_in new ≡ entry_in old
     pub hot : IsHot old → IsHot new
+    -- the pass acted there, or heated it
+    pub moved : ActsThere x.number s r.history h' ⊎ (heat_in old < heat_in new)
     pub takes : count_in new ≤ cold_takes v.start.passes + tally (λ p. has_acted (deed' s p)) v.start.passes
     pub heat : heat_in new ≡ tally (λ p. has_heated (deed' s p)) v.start.passes
     pub deed_else : (i q : ℕ) → i ≢ s → deed' i q ≡ r.deed i q
@@ -196,4 +201,9 @@ module _ (turn : Turn) (s : ℕ) (inside : s < slots_of turn.v.start) (new : ℕ
       holds = p.holds;
       counts = rw p.at (counts_same id (w turn slot_after) here r.counts (few_slots turn) refl (slot_alike turn s inside new) refl
           (asks_alike turn slot_after refl));
+      moves = λ i l. dite (ℕ_discrete i s)
+          (λ same. subst (λ (j : ℕ). MovesOn x.number j r.history h' (slot_word st.words j) (slot_word words' j)) (sym same)
+          (rw (slot_here turn s inside new) (inr p.moved)))
+          (λ other. inl (slot_else turn s inside new i other));
+      watches = watch_none v.start x.number r.shape.slots (p.grows.seen r.history ([], refl)) (slot_alike turn s inside new).0 x.watch (its_log turn).watch;
     }

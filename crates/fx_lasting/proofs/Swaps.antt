@@ -13,8 +13,10 @@ use Rattle.fx_lasting.proofs.Counts.{tally_same, tally_none}
 use Rattle.fx_lasting.proofs.Histories.{Grows, each_changed}
 use Rattle.fx_lasting.proofs.Frames.{does_now, slot_same, file_same, Leaves, keeps_other, guards_same, SlotGoesOn, sees_on, heats_on}
 use Rattle.fx_lasting.proofs.Keeping.{Turn, After, Homes, word_at, slot_word, step_kept, w, end, its_log, in_range}
-use Rattle.fx_lasting.proofs.Places.{slot_words, slot_here, slot_node, slot_else, slot_hold, slot_list, slot_label}
-use Rattle.fx_lasting.proofs.Keeping.{labels_same}
+use Rattle.fx_lasting.proofs.Places.{slot_words, slot_here, slot_node, slot_else, slot_hold, slot_list, slot_label, slot_alike}
+use Rattle.fx_lasting.proofs.Keeping.{labels_same, met_same}
+use Rattle.fx_lasting.proofs.Watching.{ActsThere, watch_none}
+use Rattle.fx_lasting.proofs.Words.{MOST_SLOTS, without_slot}
 use Rattle.fx_lasting.proofs.Unheld.{in_phase}
 
 -- the node isn't that of the file
@@ -111,6 +113,8 @@ module _ (turn : Turn) (s : ℕ) (inside : s < slots_of turn.v.start) where
         still_listed = λ l. l;
         where_is = where_is';
         stock = stock';
+        watch = without_slot MOST_SLOTS x.watch;
+        more_met = met_same x.watch.met;
       }
 
       abbrev after : State
@@ -124,6 +128,8 @@ module _ (turn : Turn) (s : ℕ) (inside : s < slots_of turn.v.start) where
       pub record Swap : Type 0 where
         pub grows : Grows x.number r.history h'
         pub legal : IsHistory v.start h'
+        -- the pass acted at the slot
+        pub acted : ActsThere x.number s r.history h'
         pub fresh : ℕ → Bool
         pub leads : after ≡ record state { at = changed_at state.at s new; removed = with_removed state.removed old; fresh = fresh }
         pub fresh_on : (number : ℕ) → next' ≤ number → fresh number ≡ true
@@ -338,4 +344,6 @@ module _ (turn : Turn) (s : ℕ) (inside : s < slots_of turn.v.start) where
           holds = λ n. let a = ap (if_file n) hands.0 in let b = by_retiring (λ q. if_file n (held_in q) ≡ 0) refl (λ f is. refl) in
               let g = ap (λ (z : State). z.holds n) p.leads in omega arith;
           counts = rw p.leads p.counts;
+          moves = λ i l. dite (ℕ_discrete i s) (λ same. inr (inl (subst (λ (j : ℕ). ActsThere x.number j r.history h') (sym same) p.acted))) (λ other. inl (slot_else turn s inside new_word i other));
+          watches = watch_none v.start x.number r.shape.slots (p.grows.seen r.history ([], refl)) (slot_alike turn s inside new_word).0 x.watch o.watch;
         }

@@ -6,10 +6,8 @@ use Rattle.fx_lasting.proofs.Words.{either}
 use Rattle.fx_lasting.proofs.HeldFiles.{one_after}
 use Rattle.fx_lasting.proofs.StockMoves.{names_a_node}
 use Rattle.fx_lasting.proofs.Keeping.{Turn, turn_of, Made, by_turn, word_at, slot_word, w}
-use Rattle.fx_lasting.proofs.Calm.{read_after, read_kept}
-use Rattle.fx_lasting.proofs.Peeking.{still}
 use Rattle.fx_lasting.proofs.Places.{slot_back}
-use Rattle.fx_lasting.proofs.Seeing.{named, sees_slot, there}
+use Rattle.fx_lasting.proofs.Sights.{sees_after, sees_kept, named, sees_slot, there}
 use Rattle.fx_lasting.proofs.SlotLaws.{taken}
 use Rattle.fx_lasting.proofs.SwapsOut.{removal, removal_agrees, removal_tells}
 
@@ -23,10 +21,10 @@ module _ (turn : Turn) (s : ℕ) (inside : s < slots_of turn.v.start) (carried :
 
   swaps_not : slot_word st.words s ≢ old_word → Swaps (slot_word st.words s)
   swaps_not other = (
-    w turn (read_after turn v.work v.glance r.history),
+    w turn (sees_after turn s inside),
     keeps,
     tt,
-    read_kept turn v.work v.glance (slot_place s) (still turn),
+    sees_kept turn s inside,
     record { wins = λ m e at makes is. absurd (other is); loses = λ _. sees_slot turn s inside carried slots old_word (empty_word_of n) },
   )
 

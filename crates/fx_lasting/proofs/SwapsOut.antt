@@ -46,6 +46,7 @@ module _ (act : ℕ → Option File → Action) (does : IsRemoval act) (turn : T
   removes = let o = its_log turn in let h = holds_none free_of o.hold in let e = does turn s inside in record {
     grows = grows_one x.number r.history _ refl;
     legal = e.0;
+    acted = (r.history, pass_event x (act s old), ([], refl), ([], refl), refl, e.3);
     fresh = (state_after_all v.start r.history).fresh;
     leads = e.1;
     fresh_on = r.fresh;

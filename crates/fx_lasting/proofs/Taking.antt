@@ -151,6 +151,7 @@ module _ (turn : Turn) (s : ℕ) (inside : s < slots_of turn.v.start) where
         name = same_name;
         entry = same_entry;
         hot = still_hot;
+        moved = inl (r.history, pass_event x (Look s None), ([], refl), ([], refl), refl, refl);
         takes = so.takes;
         heat = so.heat;
         deed_else = so.deed_else;
@@ -194,6 +195,7 @@ module _ (turn : Turn) (s : ℕ) (inside : s < slots_of turn.v.start) where
           name = same_name;
           entry = same_entry;
           hot = still_hot;
+          moved = inl (r.history, pass_event x (Look s (Some f)), ([], refl), ([], refl), refl, refl);
           takes = so.takes;
           heat = so.heat;
           deed_else = so.deed_else;
@@ -312,6 +314,7 @@ module _ (turn : Turn) (s : ℕ) (inside : s < slots_of turn.v.start) where
           name = z.0;
           entry = z.1;
           hot = λ _. is_hot;
+          moved = inr (let b = z.2 in omega arith);
           takes = let a = (r.each_slot s inside).takes in let b = z.3 in let c = counts_over in omega arith;
           heat = let a = (r.each_slot s inside).heat in let b = z.2 in let c = counts_here heated has_heated in let d = ap one_if not_counted in omega arith;
           deed_else = does_there heated;

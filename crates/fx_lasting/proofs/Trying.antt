@@ -32,7 +32,7 @@ module _ {m m₁ m₂ : Sat} {n lost i slots found old new : ℕ} {file : Closed
 
   -- the slot has another word now
   pub lost_still : (found ≡ old → ⊥) → StillPlaces n lost file 3 m m₂
-  lost_still other = let goes' = tries.loses other in (
+  lost_still other = let goes' = (tries.loses other).goes in (
     runs_within (omega arith) (does_then (peeked p goes) (subst (λ (w : Work). Runs m₁ [] w m₁.0.glance m₁.0.change 1 m₂) (peeked p goes).work
         (runs_goes goes'))),
     goes'.carried ∙ goes.carried,

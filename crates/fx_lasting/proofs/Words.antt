@@ -42,14 +42,14 @@ pub use Rattle.fx_lasting.specs.Phases.{Phase, owner, file_in, file_if_numbered,
 pub use Rattle.fx_lasting.specs.Phases.{emptied, kept}
 pub use Rattle.fx_lasting.specs.Runs.{Runs}
 pub use Rattle.fx_lasting.specs.Tables.{hold_at, retired_at, doing_in, numbers_of_pass, pass_of, opening_of, view_of, IsBetweenCalls, Knows, IsSeatOf}
-pub use Rattle.fx_lasting.specs.Tables.{IsPassOf, opening_of_table, IsPassOfTable, first_passes, as_first}
+pub use Rattle.fx_lasting.specs.Tables.{meetings, IsPassOf, opening_of_table, IsPassOfTable, first_passes, as_first}
 pub use Rattle.fx_lasting.specs.declared.pass.LastingPass.{LastingPass}
 pub use Rattle.fx_lasting.specs.declared.table.LastingTable.{LastingTable}
 pub use Rattle.fx_lasting.specs.Effects.{At, rested, Lists, Skims, IsOnList, as_listed, round_at, round_from, new_round, Announces, Shows, Confirms}
 pub use Rattle.fx_lasting.specs.Effects.{Withdraws, glance_after, Takes, HeatsSlot, StepsDown, TakesOut, slot_of, pass_at, pass_event, pass_in}
 pub use Rattle.fx_lasting.specs.Effects.{IsInside, Stepped, Goes, Glances, Exchanges, LettingGo, Seeks, Births, Rests, Visits, Marks, Retires}
 pub use Rattle.fx_lasting.specs.Effects.{first_visit, retiring_work, Found, Installs, Removes, Turns, Asks, Peeks, as_asked, group_at, as_stocked}
-pub use Rattle.fx_lasting.specs.Effects.{as_swapped, NamesANode, Lowers, Checks, Breaks, Raises, Begins, Counts, Decides, Sees, TakesIf, Replaces}
+pub use Rattle.fx_lasting.specs.Effects.{IsWatching, MeetsOne, IsOvertaken, HasGap, as_swapped, NamesANode, Lowers, Checks, Breaks, Raises, Begins, Counts, Decides, Sees, TakesIf, Replaces}
 pub use Rattle.fx_lasting.specs.Visits.{HasVisited, round_to}
 pub use Rattle.fx_lasting.specs.Searches.{next_of}
 pub use Rattle.fx_lasting.specs.declared.view.Change.{Change}
@@ -62,6 +62,8 @@ pub use Rattle.fx_lasting.specs.declared.view.Log.{Log}
 pub use Rattle.fx_lasting.specs.declared.view.Round.{Round}
 pub use Rattle.fx_lasting.specs.declared.view.Start.{Start}
 pub use Rattle.fx_lasting.specs.declared.view.View.{View}
+pub use Rattle.fx_lasting.specs.declared.view.Watch.{Watch}
+pub use Rattle.fx_lasting.specs.Watches.{ActsAt, HasActed, HasHeated, IsAsSeen, WatchAgrees, without_slot}
 pub use Rattle.fx_lasting.specs.declared.view.Work.{Work}
 pub use Rattle.fx_lasting.specs.declared.view.Work.TheVariants.{Idle, Announced, Counted, Guarded, Owing, Yielding, Searching, Placing, Retiring}
 pub use Rattle.fx_lasting.specs.declared.view.Work.TheVariants.{Emptying, Keeping}
@@ -72,7 +74,7 @@ pub use Rattle.fx_plain.proofs.Cells.{changed_here, changed_else, by_equality, r
 pub use Rattle.fx_plain.specs.Contents.{state_of, Contents, slot_at, node_at, moved_node, removed_at, placed_at}
 pub use Rattle.fx_plain.specs.History.{◌▷◌, held_by, held_after, part_of_pass, IsSeenBy, action_of, ◌▷▷◌, ReleasesItsOwn}
 pub use Rattle.fx_plain.specs.State.{State, IsSettled, vacant, file_numbered, files_in_order, files_of}
-pub use Rattle.fx_plain.specs.Step.{changed_at, with_removed}
+pub use Rattle.fx_plain.specs.Step.{changed_at, with_removed, after}
 pub use Rattle.fx_plain.specs.Table.{numbered, number_of, identity_of}
 pub use Rattle.fx_plain.specs.declared.event.Action.{Action}
 pub use Rattle.fx_plain.specs.declared.event.Action.TheVariants.{Look, Put, Clear, Take, Allocate, Close, Release, Full}
@@ -115,7 +117,7 @@ pub use Rattle.fx_table.specs.declared.values.Doing.TheVariants.{Holding, Idle a
 pub use Rattle.fx_table.specs.declared.values.Hold.{Hold}
 pub use Rattle.fx_lasting.specs.HeldFiles.{IsOneOnItsNode}
 pub use Rattle.fx_lasting.specs.Keyed.{IsOn, HasMissed, HasTakenIf, HasPutIf, FitsMiss, WasSo, WasIn, SaysIf, SawIf, FailedIf, HasTriedIf, TriedTake}
-pub use Rattle.fx_lasting.specs.Keyed.{TriedReplace, TriedSwap, TriedOut}
+pub use Rattle.fx_lasting.specs.Keyed.{TriedReplace, TriedSwap, TriedOut, HasMet, WasOvertaken, WasOvertakenIn}
 pub use Rattle.fx_lasting.specs.Keys.{LookedByKey, HeldByKey, LeftIt, FailsByKey, TakesByKey, PutsOverKey, fault_for, taken_answer, put_answer}
 pub use Rattle.fx_lasting.specs.Keys.{KeysAreOfOneFile, KeysComeBack, HasShortNumber, key_of_bits}
 pub use Rattle.fx_lasting.specs.declared.answers.Miss.{Miss}
@@ -124,7 +126,7 @@ pub use Rattle.fx_table.specs.declared.values.Retired.{Retired}
 pub use Rattle.fx_lasting.specs.declared.layout.TheConstants.{MOST_NODES, MOST_SLOTS, MOST_PASSES, MOST_INSTALLING}
 pub use Rattle.std.proofs.lemmas.Bool.{eqb-true, not-false, not-true}
 pub use Rattle.fx_lasting.specs.Questions.{HasAsked, AsksSo, DecidesIf}
-pub use Rattle.fx_lasting.specs.Vacant.{FitsSight, SeesFile, AnswersFull}
+pub use Rattle.fx_lasting.specs.Vacant.{FitsSight, SeesFile, AnswersFull, HasPutEmpty, HadGap, FellShort, FallsShort, FailsToFill, GivesUpFor, LooksFor, HasSearched}
 pub use Rattle.fx_plain.proofs.Prepared.{inside_behind, opens_inside, numbered_anew, opening_is_start}
 pub use Rattle.fx_lasting.specs.FinishSteps.{Finishes}
 pub use mathlib.Core.List.{map-append}

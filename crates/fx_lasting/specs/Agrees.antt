@@ -29,6 +29,7 @@ use Rattle.fx_lasting.specs.Passes.{logs_of, lengths, node_of_number}
 use Rattle.fx_lasting.specs.Phases.{Phase, free, placed, seated, leaving, retired, emptied, kept}
 use Rattle.fx_lasting.specs.Phases.{file_in, removed_in, written_in}
 use Rattle.fx_lasting.specs.Stocks.{Whereabouts, IsInStock, NamesItsNode, StockAgrees}
+use Rattle.fx_lasting.specs.Watches.{WatchAgrees}
 use Rattle.fx_lasting.specs.declared.layout.TheConstants.{MOST_SLOTS}
 use Rattle.fx_lasting.specs.declared.view.Change.TheVariants.{Outside}
 use Rattle.fx_lasting.specs.declared.view.Glance.{Glance}
@@ -253,6 +254,7 @@ pub record LogAgrees (k : Start) (h : List Event) (words : List ℕ) (phase : �
   -- who took is listed
   pub takes_listed : (slot : ℕ) → slot < slots_of k → deed slot x.number ≢ untouched
       → x.listed ≡ true
+  pub watch : WatchAgrees k h words x.number x.watch
 
 -- one seat, and its view
 pub record ViewAgrees (k : Start) (h : List Event) (words : List ℕ) (phase : ℕ → Phase)

@@ -1,5 +1,5 @@
 -- Each kind of step: its effect on the pass that makes it.
-use Rattle.std.specs.Prelude.{◌≡◌, ◌≢◌, ℕ, ◌+◌, ◌-◌, ◌*◌, ◌/◌, ◌<◌, ◌==◌, nat_lt}
+use Rattle.std.specs.Prelude.{◌≡◌, ◌≢◌, ℕ, ◌+◌, ◌-◌, ◌*◌, ◌/◌, ◌<◌, ◌==◌, ◌⊎◌, nat_lt}
 use Rattle.std.specs.Prelude.{if◌then◌else◌, min}
 use Rattle.std.specs.Prelude.{◌≤◌, true, List, [], slice_set}
 use mathlib.Core.Option.{some}
@@ -23,6 +23,7 @@ use Rattle.fx_lasting.specs.Parts.{full_name_in, heat_in, IsHot, count_in, cold_
 use Rattle.fx_lasting.specs.Parts.{IsListedIn}
 use Rattle.fx_lasting.specs.Groups.{account, HasQuestionOf}
 use Rattle.fx_lasting.specs.Stocks.{IsInStock}
+use Rattle.fx_lasting.specs.Watches.{HasActed}
 use Rattle.fx_lasting.specs.Passes.{Sat, slots_of, nodes_of, range_at_start, word_of}
 use Rattle.fx_lasting.specs.Passes.{IsHistory, node_of_number, first_log, state_after_all}
 use Rattle.fx_lasting.specs.declared.view.Survey.{Survey}
@@ -116,6 +117,7 @@ pub record Stepped (m : Sat) (actions : List Action) (w : Work) (g : Glance) (c 
   pub listed : (pass_in m').listed ≡ (pass_in m).listed
   pub asked : (pass_in m').asked ≡ (pass_in m).asked
   pub stock : (pass_in m').stock ≡ (pass_in m).stock
+  pub met : (pass_in m).watch.met ≤ (pass_in m').watch.met
   pub work : m'.0.work ≡ w
   pub inside : IsInside m.0.start w
   pub glance : m'.0.glance ≡ g
@@ -126,6 +128,28 @@ pub record Stepped (m : Sat) (actions : List Action) (w : Work) (g : Glance) (c 
 pub record Goes (m : Sat) (actions : List Action) (w : Work) (g : Glance) (m' : Sat) : Type 0 where
   pub stepped : Stepped m actions w g m.0.change m'
   pub carried : m'.1 ≡ m.1
+
+-- the pass watches the slot, whose word it has just found so
+pub record IsWatching (slot found : ℕ) (m : Sat) : Type 0 where
+  pub its_slot : (pass_in m).watch.slot ≡ slot
+  pub word : (pass_in m).watch.word ≡ found
+  pub front : (pass_in m).watch.front ≡ (pass_in m).front
+
+-- the pass met another one in the middle of a call
+abbrev pub MeetsOne : Sat → Sat → Type 0
+MeetsOne m m' = ((pass_in m).watch.met < (pass_in m').watch.met) × (1 < m.0.start.passes)
+
+-- another pass acted at the slot since the pass saw its word, or heated the slot
+abbrev pub IsOvertaken : ℕ → Sat → Sat → Type 0
+IsOvertaken slot m m' =
+    HasActed slot (pass_in m).number (pass_in m).watch.front (pass_in m').front ⊎ MeetsOne m m'
+
+-- a slot of the range has no file
+pub record HasGap (k : Start) (h : List Event) : Type 0 where
+  pub slot : ℕ
+  pub low : (range_at_start k).0 ≤ slot
+  pub high : slot < (range_at_start k).0 + (range_at_start k).1
+  pub empty : (state_after_all k h).at slot ≡ None
 
 -- Glance: an empty slot is looked up at once. Of a hot one a listed pass is to announce the node;
 -- what another one names is to be taken
@@ -363,10 +387,12 @@ pub record Begins (st : At) (m : Sat) (found : ℕ) (m' : Sat) : Type 0 where
       → Goes (as_asked (Covered 0) m) [] m.0.work m.0.glance m'
   pub gone : (HasQuestionOf found (pass_in m).number → ⊥)
       → Goes (as_asked NotAsked m) [] m.0.work m.0.glance m'
+  pub asks : HasQuestionOf found (pass_in m).number → (pass_in m').watch.asks ≡ true
 
 -- Ask: the question word has the pass's bit
 pub record Asks (st : At) (m : Sat) (found : ℕ) (m' : Sat) : Type 0 where
   pub goes : Goes (as_asked (Covered 0) m) [] m.0.work m.0.glance m'
+  pub asks : (pass_in m').watch.asks ≡ true
 
 -- Count, of the word of the next group: where it counts all slots of the group, one group more is
 -- visited
@@ -375,6 +401,10 @@ pub record Counts (st : At) (m : Sat) (found : ℕ) (m' : Sat) : Type 0 where
       → Goes (as_asked (Covered (group_at st.word + 1)) m) [] m.0.work m.0.glance m'
   pub less : found ≢ group_len (range_at_start m.0.start).1 (group_at st.word)
       → Goes m [] m.0.work m.0.glance m'
+  pub asks : (pass_in m').watch.asks ≡ (pass_in m).watch.asks
+  -- a slot of the group has no file, or another pass has still to count one
+  pub short : found ≢ group_len (range_at_start m.0.start).1 (group_at st.word)
+      → m.0.change ≡ Outside → HasGap m.0.start (pass_in m').front ⊎ MeetsOne m m'
 
 -- Decide, of the question word, by a pass that has visited all groups: where its bit is still
 -- there, every slot of the range is full
@@ -382,10 +412,24 @@ pub record Decides (st : At) (m : Sat) (found : ℕ) (m' : Sat) : Type 0 where
   pub full : HasQuestionOf found (pass_in m).number → Goes m ([] ▷ Full) m.0.work m.0.glance m'
   pub broken : (HasQuestionOf found (pass_in m).number → ⊥)
       → Goes (as_asked NotAsked m) [] m.0.work m.0.glance m'
+  -- another pass has cleared the bit
+  pub met : (HasQuestionOf found (pass_in m).number → ⊥) → (pass_in m).watch.asks ≡ true
+      → MeetsOne m m'
 
 -- Peek: the pass learns nothing
 pub record Peeks (st : At) (m : Sat) (found : ℕ) (m' : Sat) : Type 0 where
   pub goes : Goes m [] m.0.work m.0.glance m'
+
+-- See, of a slot's word: the pass has seen what is at the slot, and watches it. If it watched the
+-- slot before, and the word has changed, another pass was there
+pub record Sees (st : At) (m : Sat) (found : ℕ) (m' : Sat) : Type 0 where
+  pub goes : Goes m [] m.0.work m.0.glance m'
+  pub names : Names (node_of_number m.0.start) found
+      ((state_after_all m.0.start (pass_in m').front).at (slot_of st.word))
+  pub named : NamesANode m.0.start found
+  pub watches : IsWatching (slot_of st.word) found m'
+  pub overtaken : (pass_in m).watch.slot ≡ slot_of st.word → found ≢ (pass_in m).watch.word
+      → IsOvertaken (slot_of st.word) m m'
 
 -- Exchange: the file that the pass places is at the slot, which was empty; or nothing changed
 pub record Exchanges (st : At) (m : Sat) (found : ℕ) (m' : Sat) : Type 0 where
@@ -398,13 +442,7 @@ pub record Exchanges (st : At) (m : Sat) (found : ℕ) (m' : Sat) : Type 0 where
       ([] ▷ Allocate (slot_of st.word) (numbered number file)) Idle m.0.glance
       (Inside (group_of (range_at_start m.0.start) (slot_of st.word))) m'
       × (m'.1 ≡ rest m.1)
-  pub loses : found ≢ st.first → Goes m [] m.0.work m.0.glance m'
-
--- See, of a slot's word: the pass has seen what is at the slot
-pub record Sees (st : At) (m : Sat) (found : ℕ) (m' : Sat) : Type 0 where
-  pub goes : Goes m [] m.0.work m.0.glance m'
-  pub names : Names (node_of_number m.0.start) found
-      ((state_after_all m.0.start (pass_in m').front).at (slot_of st.word))
+  pub loses : found ≢ st.first → Sees st m found m'
 
 -- Take, if the slot's word is the one that the pass saw: the slot is empty then; or nothing changed
 pub record TakesIf (st : At) (m : Sat) (found : ℕ) (m' : Sat) : Type 0 where

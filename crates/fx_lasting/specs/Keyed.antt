@@ -1,6 +1,6 @@
 -- The calls that empty or replace a slot if its file is on a node that the caller names.
-use Rattle.std.specs.Prelude.{◌≡◌, ◌≢◌, ℕ, ◌+◌, ◌<◌, ◌≤◌, List, [], Option, Some, None, Result}
-use Rattle.std.specs.Prelude.{Ok, Err}
+use Rattle.std.specs.Prelude.{◌≡◌, ◌≢◌, ℕ, ◌+◌, ◌<◌, List, [], Option, Some, None, Result}
+use Rattle.std.specs.Prelude.{Ok, Err, ◌⊎◌}
 use mathlib.Core.Option.{some}
 use lib.ListN.{get_elem?}
 use Rattle.fx_base.specs.Identity.{Identity}
@@ -19,9 +19,11 @@ use Rattle.fx_lasting.specs.HeldFiles.{IsOneOnItsNode}
 use Rattle.fx_lasting.specs.Parts.{full_name_in}
 use Rattle.fx_lasting.specs.Passes.{Sat, nodes_of, node_of_number, state_after_all}
 use Rattle.fx_lasting.specs.Runs.{Runs}
-use Rattle.fx_lasting.specs.Tables.{opening_of}
+use Rattle.fx_lasting.specs.Tables.{opening_of, view_of, meetings}
 use Rattle.fx_lasting.specs.Stocks.{IsStockOf}
-use Rattle.fx_lasting.specs.Effects.{as_stocked, as_swapped, pass_in, retiring_work}
+use Rattle.fx_lasting.specs.Effects.{as_stocked, as_swapped, pass_in, retiring_work, MeetsOne}
+use Rattle.fx_lasting.specs.Watches.{HasActed}
+use Rattle.fx_lasting.specs.declared.pass.LastingPass.{LastingPass}
 use Rattle.fx_lasting.specs.declared.answers.Miss.{Miss}
 use Rattle.fx_lasting.specs.declared.answers.Miss.TheVariants.{Empty, Other, Again}
 use Rattle.fx_lasting.specs.declared.answers.PutIf.{PutIf}
@@ -72,19 +74,28 @@ HasPutIf k v slot node file (put.Replaced x) w = (new : File) × (f : File) × (
 HasPutIf k v slot node file (put.Missed miss back) w =
     (back ≡ file) × HasMissed k v slot node miss w
 
--- a call tries no more only after four tries, each of which is a step
-abbrev pub HasTriedIf : Miss → ℕ → ℕ → Type 0
-HasTriedIf Again before after = before + 4 ≤ after
-HasTriedIf Empty before after = Unit {0}
-HasTriedIf Other before after = Unit {0}
+-- during a call the pass met another one in the middle of a call
+abbrev pub HasMet : Start → LastingPass → LastingPass → Type 0
+HasMet k p p' = (meetings p < meetings p') × (1 < k.passes)
 
-abbrev pub TriesTake : TakenIf → ℕ → ℕ → Type 0
-TriesTake (Removed x) before after = Unit {0}
-TriesTake (Missed miss) before after = HasTriedIf miss before after
+-- during a call another pass acted at the slot (a look-up is such an action), or heated it
+abbrev pub WasOvertaken : Start → ℕ → LastingPass → LastingPass → Type 0
+WasOvertaken k slot p p' =
+    HasActed slot (view_of p).number (view_of p).front (view_of p').front ⊎ HasMet k p p'
 
-abbrev pub TriesPut : PutIf → ℕ → ℕ → Type 0
-TriesPut (put.Replaced x) before after = Unit {0}
-TriesPut (put.Missed miss back) before after = HasTriedIf miss before after
+-- a call leaves a file that is there only if another pass was at the slot during the call
+abbrev pub HasTriedIf : Start → ℕ → Miss → LastingPass → LastingPass → Type 0
+HasTriedIf k slot Again p p' = WasOvertaken k slot p p'
+HasTriedIf k slot Empty p p' = Unit {0}
+HasTriedIf k slot Other p p' = Unit {0}
+
+abbrev pub TriesTake : Start → ℕ → TakenIf → LastingPass → LastingPass → Type 0
+TriesTake k slot (Removed x) p p' = Unit {0}
+TriesTake k slot (Missed miss) p p' = HasTriedIf k slot miss p p'
+
+abbrev pub TriesPut : Start → ℕ → PutIf → LastingPass → LastingPass → Type 0
+TriesPut k slot (put.Replaced x) p p' = Unit {0}
+TriesPut k slot (put.Missed miss back) p p' = HasTriedIf k slot miss p p'
 
 -- a slot's word names the node, or says why the slot is left as it is
 abbrev pub SaysIf : ℕ → ℕ → Result ℕ Miss → Type 0
@@ -105,9 +116,14 @@ SawIf k slot node m (Ok word) m' =
 SawIf k slot node m (Err miss) m' =
     WasIn k slot node miss m m' × Does m [] m.0.work 1 m' × (miss ≢ Again)
 
+-- in some steps another pass acted at the slot, or heated it
+abbrev pub WasOvertakenIn : ℕ → Sat → Sat → Type 0
+WasOvertakenIn slot m m' =
+    HasActed slot (pass_in m).number (pass_in m).front (pass_in m').front ⊎ MeetsOne m m'
+
 -- why the last of some tries failed; the first word was seen before
 abbrev pub FailedIf : Start → ℕ → ℕ → Miss → Sat → Sat → Type 0
-FailedIf k slot node Again m m' = HasTriedIf Again (pass_in m).steps (pass_in m').steps
+FailedIf k slot node Again m m' = WasOvertakenIn slot m m'
 FailedIf k slot node Empty m m' = WasIn k slot node Empty m m'
 FailedIf k slot node Other m m' = WasIn k slot node Other m m'
 

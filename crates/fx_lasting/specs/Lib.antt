@@ -8,6 +8,7 @@ pub mod Passes
 pub mod HeldFiles
 pub mod Stocks
 pub mod Groups
+pub mod Watches
 pub mod Effects
 pub mod LabelSteps
 pub mod Runs

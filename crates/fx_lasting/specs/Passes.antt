@@ -16,6 +16,8 @@ use Rattle.fx_lasting.specs.declared.view.Survey.TheVariants.{None as NotAsked}
 use Rattle.fx_lasting.specs.declared.view.Log.{Log}
 use Rattle.fx_lasting.specs.declared.view.Start.{Start}
 use Rattle.fx_lasting.specs.declared.view.View.{View}
+use Rattle.fx_lasting.specs.declared.view.Watch.{Watch}
+use Rattle.fx_lasting.specs.declared.layout.TheConstants.{MOST_SLOTS}
 use Rattle.fx_lasting.specs.declared.view.Work.{Work}
 use Rattle.fx_lasting.specs.declared.view.Work.TheVariants.{Idle, Counted, Guarded, Yielding}
 use Rattle.fx_lasting.specs.declared.view.Work.TheVariants.{Searching}
@@ -92,6 +94,10 @@ stock_len k p = stock_for k.passes k.installing p
 abbrev pub first_stock : Start → ℕ → List ℕ
 first_stock k p = stock_of (slots_of k) k.passes k.installing p
 
+-- the watch of a pass that has loaded no word
+abbrev pub new_watch : Watch
+new_watch = record { slot = MOST_SLOTS; word = 0; front = []; asks = false; met = 0 }
+
 -- a pass that has seen and done nothing
 abbrev pub log_with : ℕ → List ℕ → Log
 log_with p stock = record {
@@ -101,6 +107,7 @@ log_with p stock = record {
   listed = false;
   asked = NotAsked;
   stock = stock;
+  watch = new_watch;
 }
 
 abbrev pub new_log : Start → ℕ → Log

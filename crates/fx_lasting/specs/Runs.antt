@@ -24,6 +24,7 @@ pub record Runs (m : Sat) (actions : List Action) (w : Work) (g : Glance) (c : C
   pub listed : (pass_in m').listed ≡ (pass_in m).listed
   pub asked : (pass_in m').asked ≡ (pass_in m).asked
   pub stock : (pass_in m').stock ≡ (pass_in m).stock
+  pub met : (pass_in m).watch.met ≤ (pass_in m').watch.met
   pub work : m'.0.work ≡ w
   pub inside : IsInside m.0.start w
   pub glance : m'.0.glance ≡ g

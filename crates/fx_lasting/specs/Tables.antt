@@ -80,6 +80,10 @@ view_of p = pass_of p.seat.me.0
 abbrev pub steps_taken : LastingPass → ℕ
 steps_taken p = (first_log p.seat.me.0.logs).steps
 
+-- the number of the pass's steps that met another pass in the middle of a call
+abbrev pub meetings : LastingPass → ℕ
+meetings p = (first_log p.seat.me.0.logs).watch.met
+
 -- between two calls a pass is idle, maybe with a free node that it found, or keeps the node at its
 -- next entry, holds a file by a take or by its hold word, or has one to retire and has visited no
 -- hold word yet; its fields say which

@@ -1,4 +1,5 @@
-//! The results of the calls that change a slot if its file is on a node, or if it is empty.
+//! The results of the calls that change a slot if its file is on a node, or if it is empty, and of
+//! the search for an empty slot.
 use fx_base::OpenFile;
 use fx_table::Retired;
 
@@ -10,7 +11,8 @@ pub enum Miss {
     Empty,
     /// The file at the slot was on another node.
     Other,
-    /// The file at the slot was on the node, but the slot's word changed before each of four tries.
+    /// The file at the slot was on the node, but another pass was at the slot during the call: four
+    /// tries found that the slot's word had changed.
     Again,
 }
 
@@ -39,6 +41,18 @@ pub enum PutEmpty {
     Installed,
     /// The slot had a file. The new one comes back.
     HasFile(OpenFile),
-    /// The slot was empty, but its word changed before the file was there. The file comes back.
+    /// The slot was empty, but another pass was there during the call. The file comes back.
     Lost(OpenFile),
+}
+
+/// The result of a search for an empty slot of the allocation range.
+#[derive(Clone, Copy, Debug, PartialEq, Eq)]
+pub enum FoundSlot {
+    /// This slot was empty at a moment of the call.
+    At(u32),
+    /// Every slot of the range had a file at one moment of the call.
+    Full,
+    /// Neither was found: at a moment of the call a slot was empty, or another pass was in the
+    /// middle of a call that changes the range.
+    Again,
 }

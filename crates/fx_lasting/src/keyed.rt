@@ -4,8 +4,9 @@
 //!
 //! A call loads the slot's word. If the word names the node, the call exchanges it for another one.
 //! A look-up in between changes the word: the call tries again with the word that it found, four
-//! times in all. While a file stays at its slot, look-ups change the word at most 16 times, and
-//! twice for each pass (`words_are_bounded`).
+//! times in all. It returns `Again` only if another pass was at the slot during the call.
+//! While a file stays at its slot, look-ups change the word at most 16 times, and twice for each
+//! pass (`words_are_bounded`).
 ghost use Rattle.std.specs.Prelude.{◌≡◌, ℕ, ◌+◌, ◌<◌, ◌≤◌};
 ghost use Rattle.fx_table.specs.Opening.{size_of};
 ghost use Rattle.fx_table.specs.Pass.{IsIdle};
@@ -45,7 +46,7 @@ impl LastingTable {
         ensures fits { IsPassOfTable self.now pass.new }
         ensures taken { HasTakenIf self.now.table.shared.key (view_of pass.old) slot node result
             (view_of pass.new) }
-        ensures tries { TriesTake result (steps_taken pass.old) (steps_taken pass.new) }
+        ensures tries { TriesTake self.now.table.shared.key slot result pass.old pass.new }
         ensures steps { steps_taken pass.new ≤ steps_taken pass.old + 10 }
     {
         self.settle(pass);
@@ -83,7 +84,7 @@ impl LastingTable {
         ensures fits { IsPassOfTable self.now pass.new }
         ensures placed { HasPutIf self.now.table.shared.key (view_of pass.old) slot node file result
             (view_of pass.new) }
-        ensures tries { TriesPut result (steps_taken pass.old) (steps_taken pass.new) }
+        ensures tries { TriesPut self.now.table.shared.key slot result pass.old pass.new }
         ensures steps { let passes = self.now.passes in
             steps_taken pass.new ≤ steps_taken pass.old + (passes + 9) }
     {

@@ -23,6 +23,11 @@ pub const MOST_INSTALLING: u32 = 64;
 // each pass that installs.
 pub(crate) const MOST_NODES: u32 = 1_114_112;
 
+// The entries of a stock's memory that stay unused. They take 64 bytes, so the stocks of two passes
+// are never in one cache line, wherever the allocator puts them: a pass writes its stock in each
+// call that installs or removes a file.
+pub(crate) const STOCK_SPACING: u32 = 16;
+
 // The greatest number of groups.
 pub(crate) const MOST_GROUPS: u32 = 64;
 

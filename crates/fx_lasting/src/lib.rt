@@ -12,6 +12,7 @@ mod change;
 mod close;
 mod emptied;
 mod emptying;
+mod finding;
 mod kept;
 mod key;
 mod key_answers;
@@ -39,7 +40,7 @@ mod vacant;
 mod view;
 mod visit;
 
-pub use answers::{Miss, PutEmpty, PutIf, TakenIf};
+pub use answers::{FoundSlot, Miss, PutEmpty, PutIf, TakenIf};
 pub use key::Key;
 pub use key_answers::{KeyFault, KeyLook, KeyPut, KeyTaken, PutOverKey};
 pub use layout::{MOST_INSTALLING, MOST_PASSES, MOST_SLOTS};

@@ -12,14 +12,14 @@ ghost use Rattle.fx_lasting.specs.Parts.{birth_word, file_word_of};
 ghost use Rattle.fx_lasting.specs.Passes.{empty_slots};
 ghost use Rattle.fx_lasting.specs.Tables.{view_of, opening_of_table, first_passes, IsPassOfTable};
 ghost use Rattle.std.specs.List.{range_with_len};
-ghost use Rattle.fx_lasting.specs.declared.layout.TheConstants.{MOST_SLOTS, MOST_NODES, MOST_PASSES, MOST_INSTALLING};
+ghost use Rattle.fx_lasting.specs.declared.layout.TheConstants.{MOST_SLOTS, MOST_NODES, MOST_PASSES, MOST_INSTALLING, STOCK_SPACING};
 
 use crate::kinds::Deal;
 use crate::labels::number_of_mark;
 use crate::layout::{
-    MOST_INSTALLING, MOST_PASSES, MOST_SLOTS, first_node, group_bits, group_len, group_place,
-    group_size, groups_in, node_place, nodes_for, number_place, slot_place, stock_start, tag_place,
-    words_for,
+    MOST_INSTALLING, MOST_PASSES, MOST_SLOTS, STOCK_SPACING, first_node, group_bits, group_len,
+    group_place, group_size, groups_in, node_place, nodes_for, number_place, slot_place,
+    stock_start, tag_place, words_for,
 };
 use crate::parts::{BORN, empty_word, file_word};
 use crate::pass::LastingPass;
@@ -268,7 +268,9 @@ fn first_stock(
     requires size { size ≤ MOST_SLOTS }
     requires passes { (1 ≤ pass) × (pass ≤ passes) × (passes ≤ MOST_PASSES) }
     requires installing { installing ≤ MOST_INSTALLING }
-    ensures { IfOk result (λ stock. stock.items ≡ stock_of size passes installing pass) }
+    ensures stock { IfOk result (λ stock. stock.items ≡ stock_of size passes installing pass) }
+    ensures apart { IfOk result (λ stock.
+        length stock.items + STOCK_SPACING ≤ vec_capacity stock) }
 {
     if installing < pass {
         return numbers_from(alloc, 0, 0);
@@ -276,12 +278,14 @@ fn first_stock(
     numbers_from(alloc, stock_start(size, passes, pass), passes)
 }
 
-// Creates a list of `len` numbers, from `first` on.
+// Creates a list of `len` numbers, from `first` on, in memory that no other list comes near.
 fn numbers_from(alloc: Global, first: u32, len: u32) -> Result<Vec<u32>, NoMemory>
     requires { first + len ≤ MOST_NODES }
-    ensures { IfOk result (λ list. list.items ≡ range_with_len first len) }
+    ensures numbers { IfOk result (λ list. list.items ≡ range_with_len first len) }
+    ensures apart { IfOk result (λ list.
+        length list.items + STOCK_SPACING ≤ vec_capacity list) }
 {
-    let mut list = Vec::with_capacity(alloc, len as usize)?;
+    let mut list = Vec::with_capacity(alloc, (len + STOCK_SPACING) as usize)?;
     for number in first..first + len {
         list.push_reserved(number);
     }

@@ -1,6 +1,6 @@
 //! The parts of words that `fx_words` doesn't have: whether a slot is full, its heat and takes, and
 //! what a retirement subtracts.
-ghost use Rattle.std.specs.Prelude.{◌≡◌, ◌≢◌, ◌+◌, ◌-◌, ◌<◌, ◌≤◌, ◌^◌, ◌↔◌, IsTrue, None, false};
+ghost use Rattle.std.specs.Prelude.{◌≡◌, ◌≢◌, ◌+◌, ◌-◌, ◌<◌, ◌≤◌, ◌^◌, ◌↔◌, IsTrue, None, true, false};
 ghost use Rattle.fx_words.specs.Words.{last_node, name_in};
 ghost use Rattle.fx_lasting.specs.Groups.{HasQuestionOf};
 ghost use Rattle.fx_lasting.specs.Parts.{full_name_in, file_node_in, file_word_of, empty_word_of, without_file, name_mask, count_in, IsHot, bit_of, announced, mark, retirement_amount, cold_takes, MayCarry};
@@ -65,6 +65,7 @@ pub(crate) fn without_file(word: u64) -> u64
 // Checks whether the word of a slot says that the slot is full.
 pub(crate) fn is_full(word: u64) -> bool
     ensures empty { result ≡ false → file_node_in word ≡ None }
+    ensures full { result ≡ true → name_in word ≢ 0 → full_name_in word ≢ 0 }
 {
     word / FULL % 2 == 1
 }

@@ -1,5 +1,5 @@
 //! The search for an empty slot of the allocation range.
-ghost use Rattle.std.specs.Prelude.{◌≡◌, ℕ, ◌+◌, ◌*◌, ◌<◌, ◌≤◌, true, IfSome, None};
+ghost use Rattle.std.specs.Prelude.{◌≡◌, ℕ, ◌+◌, ◌*◌, ◌<◌, ◌≤◌, true, false, IfSome, None};
 ghost use Rattle.fx_table.specs.Calls.{Allocated};
 ghost use Rattle.fx_table.specs.Pass.{IsIdle};
 ghost use Rattle.fx_lasting.specs.AtWork.{IsAtWork};
@@ -7,11 +7,12 @@ ghost use Rattle.fx_lasting.specs.Laws.{IsInRange};
 ghost use Rattle.fx_lasting.specs.Layout.{groups_in};
 ghost use Rattle.fx_lasting.specs.Questions.{HasAsked};
 ghost use Rattle.fx_lasting.specs.declared.layout.TheConstants.{MOST_PASSES};
-ghost use Rattle.fx_lasting.specs.Tables.{view_of, steps_taken, opening_of_table, IsPassOfTable};
+ghost use Rattle.fx_lasting.specs.Tables.{view_of, steps_taken, meetings, opening_of_table, IsPassOfTable};
+ghost use Rattle.fx_lasting.specs.Vacant.{FailsToFill, FellShort, GivesUpFor};
 ghost use Rattle.fx_lasting.specs.Tries.{IsPlacing, Tries, HasAllocated, StillPlaces, TriedSo, without_asking, group_steps, scan_steps};
 ghost use Rattle.fx_lasting.specs.declared.view.Change.TheVariants.{Outside};
 
-use crate::kinds::{Exchanging, Peeking};
+use crate::kinds::{Exchanging, Peeking, Seeing};
 use crate::layout::{group_len, group_place, group_size, groups_in, slot_place};
 use crate::parts::{file_word, is_full, node_named};
 use crate::pass::LastingPass;
@@ -89,7 +90,8 @@ impl LastingTable {
     /// eleven more than the table has passes. It tries the slot that the pass emptied last, or
     /// else the one after the slot that it filled last, and then goes once over the groups that
     /// aren't full. Returns the slot, or the file if every slot of the range had a file at one
-    /// moment (ENFILE), or if neither was found; then nothing has changed.
+    /// moment (ENFILE), or if neither was found; then nothing has changed, and at a moment of the
+    /// call a slot was empty, or another pass was in the middle of a call that changes the range.
     #[inline(always)]
     pub fn try_put_any(&self, pass: &mut LastingPass, file: OpenFile) -> TriedPut
         requires fits { IsPassOfTable self.now pass.old }
@@ -101,6 +103,7 @@ impl LastingTable {
         ensures steps { let passes = self.now.passes in let len = self.now.range_len in
             steps_taken pass.new ≤ steps_taken pass.old + (passes + scan_steps len
             + groups_in len + 8) }
+        ensures short { GivesUpFor self.now.table.shared.key pass.old result pass.new }
     {
         if self.is_still_full(pass) {
             return TriedPut::Full(file);
@@ -128,6 +131,7 @@ impl LastingTable {
             (without_asking result) (view_of pass.new) }
         ensures steps { let passes = self.now.passes in let len = self.now.range_len in
             steps_taken pass.new ≤ steps_taken pass.old + (passes + scan_steps len + 4) }
+        ensures met { meetings pass.old ≤ meetings pass.new }
     {
         let stock = pass.stock.as_slice();
         let start = pass.next_entry;
@@ -167,8 +171,9 @@ impl LastingTable {
     pub(crate) fn is_all_full(&self, pass: &mut LastingPass) -> bool
         requires fits { IsPassOfTable self.now pass.old }
         requires numbers { 0 < (view_of pass.old).numbers_left }
-        ensures { HasAsked self.now (groups_in self.now.range_len + 3) pass.old result
+        ensures asked { HasAsked self.now (groups_in self.now.range_len + 3) pass.old result
             pass.new }
+        ensures short { result ≡ false → FellShort self.now.table.shared.key pass.old pass.new }
     {
         pass.sure = self.ask(&mut pass.seat, pass.number);
         pass.sure
@@ -285,7 +290,7 @@ impl LastingTable {
 
     // Returns `from` if it is a slot of the range. A pass that has filled no slot begins at a group
     // of its own, from the last one down: the first slots of a range are often full.
-    fn first_slot(&self, from: u32, number: u32) -> u32
+    pub(crate) fn first_slot(&self, from: u32, number: u32) -> u32
         requires some { 0 < self.now.range_len }
         requires number { number ≤ MOST_PASSES }
         ensures { IsInRange self.now.table.shared.key result }
@@ -316,10 +321,12 @@ impl LastingTable {
         requires range { IsInRange self.now.table.shared.key slot }
         ensures table { seat.new.table_id ≡ seat.old.table_id }
         ensures tries { Tries node lost file slot seat.old.me result seat.new.me }
+        ensures fails { result ≡ None
+            → FailsToFill self.now.table.shared.key slot seat.old.me seat.new.me }
     {
         let shared = &self.table.shared;
         let place = slot_place(slot);
-        let old = shared.load::<Peeking>(seat, place);
+        let old = shared.load::<Seeing>(seat, place);
         if is_full(old) {
             return None;
         }
@@ -335,7 +342,7 @@ impl LastingTable {
 }
 
 // Returns the step by which a pass goes from group to group, of `groups` groups.
-fn step_of(number: u32, groups: u32) -> u32
+pub(crate) fn step_of(number: u32, groups: u32) -> u32
     requires { 0 < groups }
     ensures { result < groups }
 {

@@ -7,7 +7,9 @@ ghost use Rattle.std.specs.Prelude.{◌≡◌, ℕ, ◌+◌, ◌<◌, ◌≤◌,
 ghost use Rattle.fx_lasting.specs.AtWork.{IsAtWork};
 ghost use Rattle.fx_lasting.specs.Layout.{groups_in};
 ghost use Rattle.fx_lasting.specs.Questions.{DecidesIf, AsksSo, VisitsGroup};
-ghost use Rattle.fx_lasting.specs.Effects.{pass_in};
+ghost use Rattle.fx_lasting.specs.Effects.{pass_in, MeetsOne};
+ghost use Rattle.fx_lasting.specs.Vacant.{FallsShort};
+ghost use Rattle.fx_lasting.specs.declared.view.Change.TheVariants.{Outside};
 ghost use Rattle.fx_lasting.specs.declared.layout.TheConstants.{MOST_INSTALLING};
 ghost use Rattle.fx_lasting.specs.declared.view.Survey.TheVariants.{Covered};
 
@@ -26,10 +28,13 @@ impl LastingTable {
         requires table { seat.old.table_id ≡ self.now.table.shared.table_id }
         requires at { IsAtWork self.now.table.shared.key number seat.old.me }
         requires number { number ≤ MOST_INSTALLING }
+        requires outside { seat.old.me.0.change ≡ Outside }
         ensures table { seat.new.table_id ≡ seat.old.table_id }
         ensures places { seat.new.me.1 ≡ seat.old.me.1 }
         ensures sure { let groups = groups_in self.now.range_len in
             DecidesIf groups (groups + 3) seat.old.me result seat.new.me }
+        ensures short { result ≡ false
+            → FallsShort self.now.table.shared.key seat.old.me seat.new.me }
     {
         self.begin(seat, number);
         for group in 0..groups_in(self.range_len) {
@@ -48,6 +53,7 @@ impl LastingTable {
         ensures table { seat.new.table_id ≡ seat.old.table_id }
         ensures places { seat.new.me.1 ≡ seat.old.me.1 }
         ensures asked { AsksSo (Covered 0) 2 seat.old.me seat.new.me }
+        ensures asks { (pass_in seat.new.me).watch.asks ≡ true }
     {
         let shared = &self.table.shared;
         let question = shared.load::<Beginning>(seat, QUESTION);
@@ -65,6 +71,9 @@ impl LastingTable {
         ensures table { seat.new.table_id ≡ seat.old.table_id }
         ensures places { seat.new.me.1 ≡ seat.old.me.1 }
         ensures visits { VisitsGroup group seat.old.me result seat.new.me }
+        ensures asks { (pass_in seat.new.me).watch.asks ≡ (pass_in seat.old.me).watch.asks }
+        ensures short { result ≡ false → seat.old.me.0.change ≡ Outside
+            → FallsShort self.now.table.shared.key seat.old.me seat.new.me }
     {
         let shared = &self.table.shared;
         let word = shared.load::<Counting>(seat, group_place(group));
@@ -82,6 +91,8 @@ impl LastingTable {
         ensures table { seat.new.table_id ≡ seat.old.table_id }
         ensures places { seat.new.me.1 ≡ seat.old.me.1 }
         ensures sure { DecidesIf (groups_in self.now.range_len) 1 seat.old.me result seat.new.me }
+        ensures met { result ≡ false → (pass_in seat.old.me).watch.asks ≡ true
+            → MeetsOne seat.old.me seat.new.me }
     {
         let question = self.table.shared.load::<Deciding>(seat, QUESTION);
         asks(question, number)

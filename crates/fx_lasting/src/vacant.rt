@@ -5,7 +5,7 @@ ghost use Rattle.fx_table.specs.Pass.{IsIdle};
 ghost use Rattle.fx_lasting.specs.AtWork.{IsAtWork};
 ghost use Rattle.fx_lasting.specs.Laws.{IsInRange};
 ghost use Rattle.fx_lasting.specs.Layout.{groups_in};
-ghost use Rattle.fx_lasting.specs.Tables.{view_of, steps_taken, opening_of_table, IsPassOfTable};
+ghost use Rattle.fx_lasting.specs.Tables.{view_of, steps_taken, IsPassOfTable};
 ghost use Rattle.fx_lasting.specs.Vacant.{HasPutEmpty, SeesFile, AnswersFull};
 
 use crate::answers::PutEmpty;
@@ -30,15 +30,15 @@ impl LastingTable {
     /// Installs a file at a slot of the allocation range (`allocates`) if it is empty, under a
     /// number that no file has had, for an idle pass (`is_idle`) that installs files
     /// (`numbers_left`). It makes at most eight atomic steps more than the table has passes.
-    /// Otherwise nothing changes, and the file comes back.
+    /// Otherwise nothing changes, and the file comes back: the slot has a file, or another pass
+    /// was at the slot during the call. A table with one pass never answers `Lost`.
     pub fn put_empty(&self, pass: &mut LastingPass, slot: u32, file: OpenFile) -> PutEmpty
         requires fits { IsPassOfTable self.now pass.old }
         requires idle { IsIdle (view_of pass.old) }
         requires range { IsInRange self.now.table.shared.key slot }
         requires numbers { 0 < (view_of pass.old).numbers_left }
         ensures fits { IsPassOfTable self.now pass.new }
-        ensures placed { HasPutEmpty self.now.table.shared.key (view_of pass.old) slot file result
-            (view_of pass.new) }
+        ensures placed { HasPutEmpty self.now.table.shared.key pass.old slot file result pass.new }
         ensures steps { let passes = self.now.passes in
             steps_taken pass.new ≤ steps_taken pass.old + (passes + 8) }
     {
@@ -54,6 +54,7 @@ impl LastingTable {
         pass.keeps = false;
         if let Some(named) = self.try_slot(&mut pass.seat, node, lost, identity, slot) {
             pass.stock[entry as usize] = named;
+            pass.emptied.fill(slot);
             return PutEmpty::Installed;
         }
         PutEmpty::Lost(self.take_out(&mut pass.seat, node))
@@ -61,15 +62,15 @@ impl LastingTable {
 
     /// Checks whether every slot of the allocation range has a file, for an idle pass (`is_idle`)
     /// that installs files (`numbers_left`), in at most four atomic steps more than the range has
-    /// groups. `true`: at one step of the call every slot had one (ENFILE). `false`: other passes
-    /// may be changing the range. Nothing changes.
+    /// groups. `true`: at one step of the call every slot had one (ENFILE). `false`: at a moment of
+    /// the call a slot was empty, or another pass was in the middle of a call that changes the
+    /// range. In a table with one pass a slot was empty. Nothing changes.
     pub fn is_range_full(&self, pass: &mut LastingPass) -> bool
         requires fits { IsPassOfTable self.now pass.old }
         requires idle { IsIdle (view_of pass.old) }
         requires numbers { 0 < (view_of pass.old).numbers_left }
         ensures fits { IsPassOfTable self.now pass.new }
-        ensures told { AnswersFull (opening_of_table self.now) (view_of pass.old) result
-            (view_of pass.new) }
+        ensures told { AnswersFull self.now.table.shared.key pass.old result pass.new }
         ensures steps { let groups = groups_in self.now.range_len in
             steps_taken pass.new ≤ steps_taken pass.old + (groups + 4) }
     {
@@ -81,7 +82,7 @@ impl LastingTable {
 
     // Reads whether the slot has a file, in one step.
     #[inline(always)]
-    fn sees_file(&self, seat: &mut Seat<Option<OpenFile>, View>, slot: u32) -> bool
+    pub(crate) fn sees_file(&self, seat: &mut Seat<Option<OpenFile>, View>, slot: u32) -> bool
         requires table { seat.old.table_id ≡ self.now.table.shared.table_id }
         requires at { (number : ℕ) × IsAtWork self.now.table.shared.key number seat.old.me }
         requires slot { slot < self.now.size }

@@ -34,6 +34,26 @@ pub struct Log {
     pub asked: Survey,
     /// The nodes that it has in stock for its next files: no slot names them.
     pub stock: LinkedList<u32>,
+    /// The words that it watches.
+    pub watch: Watch,
+}
+
+/// The words that a pass watches for changes by other passes, as contracts see it. No value of it
+/// is made.
+pub struct Watch {
+    /// The slot whose word the pass loaded last. It is `MOST_SLOTS` if the pass has loaded none, or
+    /// has changed such a word itself since.
+    pub slot: u32,
+    /// The word that it found.
+    pub word: u64,
+    /// The history that it had seen then.
+    pub front: LinkedList<Event>,
+    /// It set its bit in the question word, and hasn't cleared the word since.
+    pub asks: bool,
+    /// The number of its steps that met another pass in the middle of a call: a slot had more heat
+    /// than before, or a group's word didn't count each full slot, or the question word had lost
+    /// the pass's bit.
+    pub met: u64,
 }
 
 /// The survey of the groups by a pass that asks whether the allocation range is full, as contracts

@@ -204,7 +204,7 @@ HasNoSuchSlot w slot w' = (IsAllocated (its_start w) slot → ⊥) × (w' ≡ w)
 -- the call of the table for an empty slot returned this
 abbrev pub TriesEmpty : TableWorker → (slot tag number : ℕ) → PutEmpty → TableWorker → Type 0
 TriesEmpty w slot tag number answer w' =
-    HasPutEmpty (its_start w) (its_pass w) slot (file_with tag number) answer (its_pass w')
+    HasPutEmpty (its_start w) w.pass slot (file_with tag number) answer w'.pass
 
 -- a file with this tag and number is put at an empty slot; or the slot had a file, or changed
 -- meanwhile

@@ -17,3 +17,7 @@ loop-number-preserved c = let i = c.loop-number.invariant in
           ∙ (sym (row_more c.args.first (c.loop-number.number - c.args.first)) ∙ ap (range_with_len c.args.first) more)));
       room = let a = i.room in let b = c.push_reserved.ensures.capacity in omega arith;
     }
+
+pub returns-clause-apart : goal.returns-clause-apart
+returns-clause-apart c = let i = c.loop-number.invariant in
+    omega (arith, ap (length {A = ℕ}) i.items, length-range_with_len c.args.first (c.loop-number.number - c.args.first), i.room, c.loop-number.auto.number-end)

@@ -1,4 +1,5 @@
-use Rattle.fx_lasting.proofs.Words.{◌≡◌, ℕ, ◌+◌, refl, ◌∙◌, subst, arith, Covered, groups_in, DecidesIf}
+use Rattle.fx_lasting.proofs.Words.{◌≡◌, ℕ, ◌+◌, ◌<◌, [], refl, ◌∙◌, subst, arith, inr, Start, Covered, groups_in, DecidesIf}
+use Rattle.fx_lasting.proofs.Overtaking.{short_in}
 use Rattle.fx_lasting.proofs.Questions.{learns_none, learns_at_work, learns_then, tells_then}
 use Rattle.fx_lasting.proofs.Running.{runs_within}
 use Rattle.fx_lasting.proofs.table.LastingTable.ask.Goals as goal
@@ -8,6 +9,7 @@ loop-group-init c = record {
   table = refl;
   places = refl;
   asked = learns_none (learns_at_work c.requires.at c.begin.ensures.asked) c.begin.ensures.asked.asked;
+  asks = c.begin.ensures.asks;
 }
 
 pub is_full-requires-clause-at : goal.is_full-requires-clause-at
@@ -21,6 +23,7 @@ loop-group-preserved c = let i = c.loop-group.invariant in record {
   table = c.is_full.ensures.table ∙ i.table;
   places = c.is_full.ensures.places ∙ i.places;
   asked = learns_then c.begin.new.seat.me i.asked (rw c.if-not-is_full.false at c.is_full.ensures.visits);
+  asks = c.is_full.ensures.asks ∙ i.asks;
 }
 
 pub returns-then-not-is_full-clause-sure : goal.returns-then-not-is_full-clause-sure
@@ -35,3 +38,15 @@ returns-clause-sure c = let groups = groups_in c.args.self.now.range_len in let 
     let few : 2 + c.loop-group.group + 1 ≡ groups + 3 = omega (arith, c.loop-group-test.false, c.loop-group.auto.group-end, c.groups_in-group-end.ensures) in
     subst (λ (n : ℕ). DecidesIf groups n m c.decide.result c.decide.new.seat.me) few
     (tells_then m c.decide.new.seat.me groups 1 c.decide.result (learns_then m c.begin.ensures.asked c.loop-group.invariant.asked) c.decide.ensures.sure)
+
+pub returns-then-not-is_full-clause-short : goal.returns-then-not-is_full-clause-short
+returns-then-not-is_full-clause-short c _ =
+    let run = learns_then c.args.seat.now.me c.begin.ensures.asked c.loop-group.invariant.asked in
+    short_in c.args.self.now.table.shared.key c.args.seat.now.me c.loop-group.seat.me c.is_full.new.seat.me c.is_full.new.seat.me run.start run.seen run.met
+    ([], refl) (omega arith) (c.is_full.ensures.short c.if-not-is_full.true (run.change ∙ c.requires.outside))
+
+pub returns-clause-short : goal.returns-clause-short
+returns-clause-short c fails =
+    let run = learns_then c.args.seat.now.me c.begin.ensures.asked c.loop-group.invariant.asked in
+    let met = c.decide.ensures.met fails c.loop-group.invariant.asks in
+    inr (omega (arith, met.0, run.met), subst (λ (k : Start). 1 < k.passes) run.start met.1)

@@ -1,4 +1,4 @@
-use Rattle.fx_lasting.proofs.Words.{◌≡◌, Covered, AsksSo}
+use Rattle.fx_lasting.proofs.Words.{◌≡◌, Covered, AsksSo, pass_in, true}
 use Rattle.fx_lasting.proofs.table.LastingTable.ask.Given as goal
 
 -- the groups before this one are visited
@@ -7,4 +7,5 @@ invariant-loop-group l = record {
   table : l.seat.table_id ≡ l.initial.seat.table_id;
   places : l.seat.me.1 ≡ l.initial.seat.me.1;
   asked : AsksSo (Covered l.group) l.group l.initial.seat.me l.seat.me;
+  asks : (pass_in l.seat.me).watch.asks ≡ true;
 }

@@ -19,10 +19,10 @@ is_all_full-requires-clause-numbers c =
 pub returns : goal.returns
 returns c =
     let h : HasAsked c.args.self.now 1 c.args.pass.now false c.is_still_full.new.pass = rw c.if-is_still_full.false at c.is_still_full.ensures in
-    let asked = c.is_all_full.ensures in
+    let asked = c.is_all_full.ensures.asked in
     record {
       fits = asked.fits;
       told = tells_so c.args.self.now c.args.pass.now c.is_still_full.new.pass c.is_all_full.new.pass c.is_all_full.result
-          (asked_nothing h c.requires.idle) asked;
+          (asked_nothing h c.requires.idle) h.met asked c.is_all_full.ensures.short;
       steps = omega (arith, h.steps, asked.steps);
     }

@@ -5,6 +5,7 @@ use Rattle.fx_lasting.proofs.ByNode.{adds_none, was_further}
 use Rattle.fx_lasting.proofs.Passing.{adds_swapped, swapped_pass, swapped_rest, adds_so, at_rest, still_pass, its_place, its_flag, may_install}
 use Rattle.fx_lasting.proofs.Running.{still_at_work, does_then}
 use Rattle.fx_lasting.proofs.Trying.{in_size, stocked_at, swapped_does}
+use Rattle.fx_lasting.proofs.Overtaking.{was_lost}
 use Rattle.fx_lasting.proofs.table.LastingTable.put_empty.Goals as goal
 
 pub sees_file-requires-clause-slot : goal.sees_file-requires-clause-slot
@@ -126,6 +127,8 @@ returns c =
       placed = (
         end.file c.args.file place,
         record { was = was_further (pass_in m₄).front saw.0 (does_then since rests).seen; adds = adds_so s run no_use },
+        was_lost k c.args.slot c.args.pass.now (record c.args.pass.now { seat = c.take_out.new.seat }) c.sees_file.new.seat.me c.place-entry.new.seat.me m₃ s.at.pass.0 (does_then saw.1 sought.placed) run.own sought.placed.seen rests.seen rests.met saw.0
+            (c.in_default.ensures.fails refl),
       );
       steps = let few = run.steps in omega arith;
     }

@@ -21,7 +21,7 @@ returns-in-Err c =
     record {
       fits = still_pass s _ run (refl, refl) c.see.ensures.table (c.see.ensures.places ∙ s.places) (refl, s.next) fits.knows;
       placed = (refl, record { was = saw.0; adds = adds_none fits c.requires.idle saw.1 });
-      tries = tried_none c.in-Err.miss _ _ saw.2;
+      tries = tried_none c.args.self.now.table.shared.key c.args.slot c.in-Err.miss _ _ saw.2;
       steps = let few = run.steps in omega arith;
     }
 
@@ -151,6 +151,8 @@ returns-in-Err-try_replace c =
           adds = adds_so s run no_use;
         },
       );
-      tries = tried_so k c.args.slot c.args.node _ _ m₂ m₃ c.in-Err-try_replace.miss failed.0 placed.begun rests.begun;
+      tries = tried_so k c.args.slot c.args.node c.args.pass.now (record c.args.pass.now { seat = c.take_out.new.seat; next_entry = c.place-entry.result.0; keeps = false })
+          m₂ m₃ placed.number
+          (placed.start ∙ s.at.pass.0) placed.seen placed.met rests.seen rests.met c.in-Err-try_replace.miss failed.0;
       steps = let few = run.steps in omega arith;
     }

@@ -51,6 +51,7 @@ returns-then-pass c =
       unkept = refl;
       steps = let few = run.steps in omega arith;
       begun = run.begun;
+      met = run.met;
     }
 
 pub returns-else-pass : goal.returns-else-pass
@@ -60,4 +61,5 @@ returns-else-pass c = record {
   unkept = c.if-pass.false;
   steps = omega arith;
   begun = omega arith;
+  met = omega arith;
 }

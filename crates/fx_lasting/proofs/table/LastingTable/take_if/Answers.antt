@@ -1,6 +1,6 @@
 use Rattle.fx_lasting.proofs.Words.{ℕ, List, sym, IsStockOf, IsBetweenCalls, as_stocked, retiring_work, ◌-◌, refl, ap, ◌∙◌, subst, arith, [], ◌▷◌}
 use Rattle.fx_lasting.proofs.Words.{Take, Some, Bool, true, false, uncounted, group_of, range_at_start, Start, Glance, Outside, Runs, full_name_in}
-use Rattle.fx_lasting.proofs.Words.{count_in, retired_at, opening_of, view_of, pass_of, Adds, no_use, PassView, Retired, HasTakenIf}
+use Rattle.fx_lasting.proofs.Words.{IsSeenBy, pass_in, count_in, retired_at, opening_of, view_of, pass_of, Adds, no_use, PassView, Retired, HasTakenIf}
 use Rattle.fx_table.specs.declared.values.Doing.TheVariants.{Retiring as Retires}
 use Rattle.fx_lasting.proofs.ByNode.{stands_then, missed_so, tried_none, tried_so, value_so, removal_so, is_on, adds_none}
 use Rattle.fx_lasting.proofs.Passing.{at_rest, still_pass, its_idle, knows_removed, first_by}
@@ -23,7 +23,7 @@ returns-in-Err c =
       fits = still_pass s _ run (refl, refl) c.see.ensures.table (c.see.ensures.places ∙ s.places) (refl, s.next) fits.knows;
       taken = subst (λ (z : PassView). HasTakenIf c.args.self.now.table.shared.key z c.args.slot c.args.node (Missed c.in-Err.miss) (pass_of c.see.new.seat.me.0)) c.settle.ensures.same
           (record { was = saw.0; adds = adds_none fits (still_idle c.settle.ensures.same c.requires.idle) saw.1 });
-      tries = tried_none c.in-Err.miss _ _ saw.2;
+      tries = tried_none c.args.self.now.table.shared.key c.args.slot c.in-Err.miss _ _ saw.2;
       steps = let few = run.steps in let one = c.settle.ensures.steps in omega arith;
     }
 
@@ -133,6 +133,9 @@ returns-in-Err-try_out c =
                 (turns_then (stands_then began.runs failed.1) end.runs).seen end.runs.seen;
             adds = adds_none fits (still_idle c.settle.ensures.same c.requires.idle) run;
           });
-      tries = tried_so k c.args.slot c.args.node _ _ m₂ m₃ c.in-Err-try_out.miss failed.0 (omega (arith, first.begun, c.settle.ensures.begun)) end.runs.begun;
+      tries = tried_so k c.args.slot c.args.node c.args.pass.now (record c.settle.new.pass { seat = c.raise.new.seat; stock = c.try_out.new.stock }) m₂ m₃
+          (first.number ∙ ap (λ (z : PassView). z.number) c.settle.ensures.same) (first.start ∙ s.at.pass.0)
+          (subst (λ (z : PassView). IsSeenBy z.front (pass_in m₂).front) c.settle.ensures.same first.seen) (omega (arith, c.settle.ensures.met, first.met))
+          end.runs.seen end.runs.met c.in-Err-try_out.miss failed.0;
       steps = let few = run.steps in let one = c.settle.ensures.steps in omega arith;
     }

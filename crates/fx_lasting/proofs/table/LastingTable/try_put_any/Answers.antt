@@ -2,6 +2,7 @@ use Rattle.fx_lasting.proofs.Words.{refl, arith, [], ◌▷◌, Allocate, Full, 
 use Rattle.fx_lasting.proofs.Words.{DoesNothing}
 use Rattle.fx_lasting.proofs.Passing.{new_file_so}
 use Rattle.fx_lasting.proofs.Questions.{asked_full, asked_nothing}
+use Rattle.fx_lasting.proofs.Overtaking.{short_by}
 use Rattle.fx_lasting.proofs.table.LastingTable.try_put_any.Goals as goal
 
 pub returns-then-is_still_full : goal.returns-then-is_still_full
@@ -10,6 +11,7 @@ returns-then-is_still_full c =
       fits = h.fits;
       tried = (refl, asked_full h c.requires.idle);
       steps = let few = h.steps in omega arith;
+      short = tt;
     }
 
 pub try_slots-requires-clause-idle : goal.try_slots-requires-clause-idle
@@ -39,6 +41,7 @@ returns-in-Ok c =
         ),
       );
       steps = omega (arith, h.steps, c.in-Ok.ensures.steps);
+      short = tt;
     }
 
 pub is_all_full-requires-clause-numbers : goal.is_all_full-requires-clause-numbers
@@ -53,7 +56,7 @@ returns-then-is_all_full c =
     let t = c.in-Err.ensures.tried in
     let before = adds_then (opening_of k) (view_of c.args.pass.now) (view_of c.is_still_full.new.pass) (view_of c.try_slots.new.pass) [] []
     DoesNothing DoesNothing no_use no_use (asked_nothing h c.requires.idle) t.1 in
-    let sure = rw c.if-is_all_full.true at c.is_all_full.ensures in
+    let sure = rw c.if-is_all_full.true at c.is_all_full.ensures.asked in
     record {
       fits = sure.fits;
       tried = (
@@ -62,6 +65,7 @@ returns-then-is_all_full c =
             DoesNothing DoesNothing no_use no_use before (asked_full sure t.1.now),
       );
       steps = omega (arith, h.steps, c.in-Err.ensures.steps, sure.steps);
+      short = tt;
     }
 
 pub returns-else-is_all_full : goal.returns-else-is_all_full
@@ -71,7 +75,7 @@ returns-else-is_all_full c =
     let t = c.in-Err.ensures.tried in
     let before = adds_then (opening_of k) (view_of c.args.pass.now) (view_of c.is_still_full.new.pass) (view_of c.try_slots.new.pass) [] []
     DoesNothing DoesNothing no_use no_use (asked_nothing h c.requires.idle) t.1 in
-    let sure = rw c.if-is_all_full.false at c.is_all_full.ensures in
+    let sure = rw c.if-is_all_full.false at c.is_all_full.ensures.asked in
     record {
       fits = sure.fits;
       tried = (
@@ -80,4 +84,5 @@ returns-else-is_all_full c =
             DoesNothing DoesNothing no_use no_use before (asked_nothing sure t.1.now),
       );
       steps = omega (arith, h.steps, c.in-Err.ensures.steps, sure.steps);
+      short = short_by k c.args.pass.now c.try_slots.new.pass c.is_all_full.new.pass before.seen (omega (arith, h.met, c.in-Err.ensures.met)) (c.is_all_full.ensures.short c.if-is_all_full.false);
     }

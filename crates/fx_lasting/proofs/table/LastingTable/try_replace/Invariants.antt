@@ -1,5 +1,6 @@
-use Rattle.fx_lasting.proofs.Words.{◌≡◌, ◌≤◌, [], ◌+◌, full_name_in, pass_in}
+use Rattle.fx_lasting.proofs.Words.{◌≡◌, [], ◌+◌, full_name_in}
 use Rattle.fx_lasting.specs.Ends.{Does}
+use Rattle.fx_lasting.proofs.Overtaking.{Tried}
 use Rattle.fx_lasting.proofs.table.LastingTable.try_replace.Given as goal
 
 -- the pass has done nothing yet, and expects a word that names the node
@@ -9,5 +10,5 @@ invariant-loop l = record {
   places : l.seat.me.1 ≡ l.initial.seat.me.1;
   named : full_name_in l.expected ≡ l.node + 1;
   still : Does l.initial.seat.me [] l.initial.seat.me.0.work l.counter l.seat.me;
-  tries : (pass_in l.initial.seat.me).steps + l.counter ≤ (pass_in l.seat.me).steps;
+  tries : Tried l.slot l.expected l.counter l.initial.seat.me l.seat.me;
 }

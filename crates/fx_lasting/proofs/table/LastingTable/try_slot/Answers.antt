@@ -1,8 +1,10 @@
 use Rattle.fx_lasting.proofs.Words.{◌≡◌, ◌≢◌, ◌+◌, ◌<◌, ◌^◌, ap, ◌∙◌, sym, arith, rules, None, file_node_in, name_in, ℕ, ◌-◌, subst, slot_of, refl}
-use Rattle.fx_lasting.proofs.Words.{Inside, group_of, range_at_start}
+use Rattle.fx_lasting.proofs.Words.{Inside, group_of, range_at_start, inl, inr, [], IsWatching}
 use Rattle.fx_lasting.proofs.Groups.{in_range_so}
-use Rattle.fx_lasting.proofs.Calling.{slot_inside}
-use Rattle.fx_lasting.proofs.Peeking.{peeks_keep}
+use Rattle.fx_lasting.proofs.Calling.{slot_inside, slot_low}
+use Rattle.fx_lasting.proofs.Seeing.{sees_keep}
+use Rattle.fx_lasting.proofs.EmptySlots.{full_so}
+use Rattle.fx_lasting.proofs.Overtaking.{overtaken_in, overtaken_now}
 use Rattle.fx_lasting.proofs.Places.{slot_back}
 use Rattle.fx_lasting.proofs.Running.{still_at_work, no_name}
 use Rattle.fx_lasting.proofs.SlotLaws.{exchanges_keep}
@@ -14,7 +16,7 @@ load-old-requires c =
     let t = c.args.self.now in (
       c.requires.table,
       slot_inside t (in_size t c.args.slot c.requires.range) c.slot_place-place.ensures,
-      peeks_keep _ _ _ _ c.args.seat.now.me _ c.requires.at.1.pass,
+      sees_keep _ _ _ _ c.args.slot c.args.seat.now.me _ c.requires.at.1.pass (slot_low t (in_size t c.args.slot c.requires.range)) c.slot_place-place.ensures,
     )
 
 pub compare_exchange-found-requires : goal.compare_exchange-found-requires
@@ -37,6 +39,19 @@ pub returns-then-found-old-clause-tries : goal.returns-then-found-old-clause-tri
 returns-then-found-old-clause-tries c =
     let lost : c.compare_exchange-found.result ≢ c.load-old.result = c.if-found-old.true in
     lost_still c.requires.placing c.requires.change c.load-old.ensures.2.goes c.compare_exchange-found.ensures.2 lost
+
+pub returns-then-is_full-clause-fails : goal.returns-then-is_full-clause-fails
+returns-then-is_full-clause-fails c = λ _. inl (full_so c.requires.at.1.pass.0 (ap slot_of c.slot_place-place.ensures ∙ slot_back c.args.slot) c.load-old.ensures.2
+    (c.is_full.ensures.full c.if-is_full.true c.load-old.ensures.2.named.0))
+
+pub returns-then-found-old-clause-fails : goal.returns-then-found-old-clause-fails
+returns-then-found-old-clause-fails c = λ _.
+    let lost : c.compare_exchange-found.result ≢ c.load-old.result = c.if-found-old.true in
+    let here = ap slot_of c.slot_place-place.ensures ∙ slot_back c.args.slot in
+    let saw = c.load-old.ensures.2 in
+    let first = saw.goes.stepped in
+    inr (overtaken_in c.args.slot c.args.seat.now.me c.load-old.new.seat.me c.compare_exchange-found.new.seat.me c.compare_exchange-found.new.seat.me first.number first.start first.seen first.met ([], refl) (omega arith)
+    (overtaken_now (c.compare_exchange-found.ensures.2.loses lost) here lost (subst (λ (s : ℕ). IsWatching s c.load-old.result c.load-old.new.seat.me) here saw.watches)))
 
 pub node_named-named-requires : goal.node_named-named-requires
 node_named-named-requires c =

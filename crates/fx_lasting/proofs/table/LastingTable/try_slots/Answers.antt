@@ -78,6 +78,7 @@ returns-in-Some c =
         ),
       );
       steps = let few = run.steps in omega arith;
+      met = run.met;
     }
 
 pub take_out-requires-clause-at : goal.take_out-requires-clause-at
@@ -108,4 +109,5 @@ returns-in-None c =
           c.take_out.ensures.empty (refl, λ _. omega (arith, c.place-entry.ensures.entry, t.key.0)) (its_flag fits c.requires.idle, refl);
       tried = (c.take_out.ensures.file c.args.file place, adds_so s run no_use);
       steps = let few = run.steps in omega arith;
+      met = run.met;
     }

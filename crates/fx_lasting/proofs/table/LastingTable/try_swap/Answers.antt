@@ -1,6 +1,7 @@
-use Rattle.fx_lasting.proofs.Words.{◌≤◌, ◌+◌, ℕ, List, get_elem?, refl, ap, ◌∙◌, sym, arith, slot_of, full_name_in}
+use Rattle.fx_lasting.proofs.Words.{◌≤◌, ◌+◌, ℕ, List, get_elem?, refl, ap, ◌∙◌, sym, arith, slot_of, full_name_in, subst}
 use Rattle.fx_lasting.proofs.Calling.{slot_inside, slot_low, few_nodes, stock_inside}
 use Rattle.fx_lasting.proofs.ByNode.{won_swap, lost_run, lost_so, stands_then}
+use Rattle.fx_lasting.proofs.Overtaking.{Tried, tried_nothing, tried_more}
 use Rattle.fx_lasting.proofs.Places.{slot_back}
 use Rattle.fx_lasting.proofs.Running.{placed_none, still_at_work, runs_goes, runs_within, stock_is}
 use Rattle.fx_lasting.proofs.SwapsIf.{swaps_if_keep}
@@ -13,7 +14,7 @@ empty_word-new-requires c =
     omega (arith, stock_inside t.table.shared.key c.requires.at.0 s.0 c.args.own c.args.seat.now.me c.requires.at.1 s.1, few_nodes t)
 
 pub loop-init : goal.loop-init
-loop-init c = record { table = refl; places = refl; named = c.requires.named; still = placed_none c.requires.at.1 refl; tries = omega arith }
+loop-init c = record { table = refl; places = refl; named = c.requires.named; still = placed_none c.requires.at.1 refl; tries = tried_nothing c.args.slot c.args.word c.args.seat.now.me }
 
 pub compare_exchange-was-requires : goal.compare_exchange-was-requires
 compare_exchange-was-requires c =
@@ -51,7 +52,8 @@ loop-preserved c =
       places = saw.goes.carried ∙ i.places;
       named = ap (λ (z : ℕ). full_name_in z) says.0 ∙ says.1;
       still = stands_then i.still (runs_goes saw.goes);
-      tries = omega (arith, i.tries, saw.goes.stepped.steps);
+      tries = subst (λ (z : ℕ). Tried c.args.slot z (c.loop.counter + 1) c.args.seat.now.me c.compare_exchange-was.new.seat.me) (sym says.0)
+          (tried_more i.still saw (ap slot_of c.slot_place-place.ensures ∙ slot_back c.args.slot) c.if-was-expected.false i.tries);
     }
 
 pub returns-in-Err : goal.returns-in-Err
@@ -73,5 +75,5 @@ pub returns : goal.returns
 returns c = let i = c.loop.invariant in record {
   table = i.table;
   places = i.places;
-  tried = (omega (arith, i.tries, c.loop.auto.counter-end), runs_within (omega (arith, c.loop.auto.counter-end)) i.still);
+  tried = (i.tries.overtaken (omega (arith, c.loop.auto.counter-end)), runs_within (omega (arith, c.loop.auto.counter-end)) i.still);
 }

@@ -1,13 +1,14 @@
-use Rattle.fx_lasting.proofs.Words.{◌≤◌, ◌+◌, ℕ, refl, ap, ◌∙◌, arith, slot_of, full_name_in}
+use Rattle.fx_lasting.proofs.Words.{◌≤◌, ◌+◌, ℕ, refl, ap, ◌∙◌, arith, slot_of, full_name_in, subst, sym}
 use Rattle.fx_lasting.proofs.Calling.{slot_inside, slot_low}
 use Rattle.fx_lasting.proofs.ByNode.{won_take, lost_run, lost_so, stands_then}
+use Rattle.fx_lasting.proofs.Overtaking.{Tried, tried_nothing, tried_more}
 use Rattle.fx_lasting.proofs.Places.{slot_back}
 use Rattle.fx_lasting.proofs.Running.{placed_none, still_at_work, runs_goes, runs_within}
 use Rattle.fx_lasting.proofs.Seeing.{takes_if_keep}
 use Rattle.fx_lasting.proofs.table.LastingTable.try_take.Goals as goal
 
 pub loop-init : goal.loop-init
-loop-init c = record { table = refl; places = refl; named = c.requires.named; still = placed_none c.requires.at.1 refl; tries = omega arith }
+loop-init c = record { table = refl; places = refl; named = c.requires.named; still = placed_none c.requires.at.1 refl; tries = tried_nothing c.args.slot c.args.word c.args.seat.now.me }
 
 pub compare_exchange-found-requires : goal.compare_exchange-found-requires
 compare_exchange-found-requires c =
@@ -43,7 +44,8 @@ loop-preserved c =
       places = saw.goes.carried ∙ i.places;
       named = ap (λ (z : ℕ). full_name_in z) says.0 ∙ says.1;
       still = stands_then i.still (runs_goes saw.goes);
-      tries = omega (arith, i.tries, saw.goes.stepped.steps);
+      tries = subst (λ (z : ℕ). Tried c.args.slot z (c.loop.counter + 1) c.args.seat.now.me c.compare_exchange-found.new.seat.me) (sym says.0)
+          (tried_more i.still saw (ap slot_of c.slot_place-place.ensures ∙ slot_back c.args.slot) c.if-found-expected.false i.tries);
     }
 
 pub returns-in-Err : goal.returns-in-Err
@@ -65,5 +67,5 @@ pub returns : goal.returns
 returns c = let i = c.loop.invariant in record {
   table = i.table;
   places = i.places;
-  tried = (omega (arith, i.tries, c.loop.auto.counter-end), runs_within (omega (arith, c.loop.auto.counter-end)) i.still);
+  tried = (i.tries.overtaken (omega (arith, c.loop.auto.counter-end)), runs_within (omega (arith, c.loop.auto.counter-end)) i.still);
 }

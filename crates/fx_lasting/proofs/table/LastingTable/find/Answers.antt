@@ -1,0 +1,59 @@
+use Rattle.fx_lasting.proofs.Words.{refl, arith, [], ◌∙◌, true, false, HasAsked, opening_of, view_of, adds_then, no_use, DoesNothing, LastingPass}
+use Rattle.fx_lasting.proofs.ByNode.{adds_none, was_before}
+use Rattle.fx_lasting.proofs.EmptySlots.{tells_so}
+use Rattle.fx_lasting.proofs.Passing.{at_rest, still_pass}
+use Rattle.fx_lasting.proofs.Questions.{asked_nothing}
+use Rattle.fx_lasting.proofs.table.LastingTable.find.Goals as goal
+
+pub returns-in-Some-clause-fits : goal.returns-in-Some-clause-fits
+returns-in-Some-clause-fits c =
+    let h : HasAsked c.args.self.now 1 c.args.pass.now false c.is_still_full.new.pass = rw c.if-is_still_full.false at c.is_still_full.ensures in
+    let looks = c.in-Some.ensures.looks in
+    still_pass h.fits.seated _ (at_rest h.fits looks.2) (refl, refl) c.look_for.ensures.table (c.look_for.ensures.places ∙ h.fits.seated.places)
+    (refl, h.fits.seated.next) h.fits.knows
+
+pub returns-in-Some-clause-found : goal.returns-in-Some-clause-found
+returns-in-Some-clause-found c =
+    let k = c.args.self.now.table.shared.key in
+    let h : HasAsked c.args.self.now 1 c.args.pass.now false c.is_still_full.new.pass = rw c.if-is_still_full.false at c.is_still_full.ensures in
+    let looks = c.in-Some.ensures.looks in
+    let before = asked_nothing h c.requires.idle in
+    let p : LastingPass = record c.is_still_full.new.pass { seat = c.look_for.new.seat; emptied = c.take_last-from.new.self } in (
+      looks.0,
+      record {
+        was = was_before (view_of c.args.pass.now).front before.seen looks.1;
+        adds = adds_then (opening_of k) (view_of c.args.pass.now) (view_of c.is_still_full.new.pass) (view_of p) [] [] DoesNothing DoesNothing no_use no_use
+            before (adds_none h.fits before.now looks.2);
+      },
+    )
+
+pub is_all_full-requires-clause-fits : goal.is_all_full-requires-clause-fits
+is_all_full-requires-clause-fits c =
+    let h : HasAsked c.args.self.now 1 c.args.pass.now false c.is_still_full.new.pass = rw c.if-is_still_full.false at c.is_still_full.ensures in
+    let looks = c.in_default.ensures.looks in
+    still_pass h.fits.seated _ (at_rest h.fits looks) (refl, refl) c.look_for.ensures.table (c.look_for.ensures.places ∙ h.fits.seated.places)
+    (refl, h.fits.seated.next) h.fits.knows
+
+pub returns-then-is_all_full-clause-found : goal.returns-then-is_all_full-clause-found
+returns-then-is_all_full-clause-found c =
+    let k = c.args.self.now.table.shared.key in
+    let h : HasAsked c.args.self.now 1 c.args.pass.now false c.is_still_full.new.pass = rw c.if-is_still_full.false at c.is_still_full.ensures in
+    let looks = c.in_default.ensures.looks in
+    let before = asked_nothing h c.requires.idle in
+    let p : LastingPass = record c.is_still_full.new.pass { seat = c.look_for.new.seat; emptied = c.take_last-from.new.self } in
+    let adds = adds_then (opening_of k) (view_of c.args.pass.now) (view_of c.is_still_full.new.pass) (view_of p) [] [] DoesNothing DoesNothing no_use no_use
+    before (adds_none h.fits before.now looks) in
+    tells_so c.args.self.now c.args.pass.now p c.is_all_full.new.pass true adds (omega (arith, h.met, looks.met))
+    (rw c.if-is_all_full.true at c.is_all_full.ensures.asked) (λ bad. absurd (cc bad))
+
+pub returns-else-is_all_full-clause-found : goal.returns-else-is_all_full-clause-found
+returns-else-is_all_full-clause-found c =
+    let k = c.args.self.now.table.shared.key in
+    let h : HasAsked c.args.self.now 1 c.args.pass.now false c.is_still_full.new.pass = rw c.if-is_still_full.false at c.is_still_full.ensures in
+    let looks = c.in_default.ensures.looks in
+    let before = asked_nothing h c.requires.idle in
+    let p : LastingPass = record c.is_still_full.new.pass { seat = c.look_for.new.seat; emptied = c.take_last-from.new.self } in
+    let adds = adds_then (opening_of k) (view_of c.args.pass.now) (view_of c.is_still_full.new.pass) (view_of p) [] [] DoesNothing DoesNothing no_use no_use
+    before (adds_none h.fits before.now looks) in
+    tells_so c.args.self.now c.args.pass.now p c.is_all_full.new.pass false adds (omega (arith, h.met, looks.met))
+    (rw c.if-is_all_full.false at c.is_all_full.ensures.asked) (λ _. c.is_all_full.ensures.short c.if-is_all_full.false)

@@ -1,0 +1,11 @@
+use Rattle.fx_lasting.proofs.Words.{◌≡◌, ℕ, ◌*◌, ◌<◌, ◌≤◌, [], groups_in, group_steps}
+use Rattle.fx_lasting.specs.Ends.{Does}
+use Rattle.fx_lasting.proofs.table.LastingTable.look_in_groups.Given as goal
+
+abbrev pub invariant-loop : goal.invariant-loop
+invariant-loop l = record {
+  table : l.seat.table_id ≡ l.initial.seat.table_id;
+  places : l.seat.me.1 ≡ l.initial.seat.me.1;
+  group : l.group < groups_in l.self.range_len;
+  still : (most : ℕ) × (most ≤ l.counter * group_steps l.self.range_len) × Does l.initial.seat.me [] l.initial.seat.me.0.work most l.seat.me;
+}
