@@ -98,7 +98,8 @@ static inline uint32_t yacht_direct_slot_of(uint64_t key) { return (uint32_t)(ke
 static inline unsigned yacht_direct_kind_of(uint64_t data) { return (unsigned)(data & 15); }
 
 /* Opens a machine of 1 to YACHT_DIRECT_MOST_SLOTS free slots: those from 0 of the table that the
- * caller registers with the ring. No other call allocates, and every call takes constant time.
+ * caller registers with the ring. No other call allocates, and each other call but
+ * yacht_direct_keys takes constant time.
  * Returns YACHT_DIRECT_DONE and writes *machine; or YACHT_DIRECT_BAD_ARGUMENT or
  * YACHT_DIRECT_NO_MEMORY. */
 int yacht_direct_open(yacht_direct *machine, uint32_t slots);
