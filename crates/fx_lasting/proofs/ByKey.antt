@@ -4,9 +4,12 @@ use Rattle.fx_lasting.proofs.Words.{File, Event, Action, Look, Close, ◌▷◌,
 use Rattle.fx_lasting.proofs.Words.{Ok, Err, filter-append, seen_further, Adds, LookedUp, ReleasesFile, Released, Use, no_use, one_number, Opening}
 use Rattle.fx_lasting.proofs.Words.{PassView, IsFront, IsIdle, IsFileRemoval, event_of, Learns, Doing, Holding, Hold, IsOneOnItsNode, IsOn, HasMissed}
 use Rattle.fx_lasting.proofs.Words.{HasTakenIf, HasPutIf, LookedByKey, HeldByKey, LeftIt, FailsByKey, TakesByKey, PutsOverKey, fault_for}
-use Rattle.fx_lasting.proofs.Words.{taken_answer, put_answer, Miss, KeyFault}
+use Rattle.fx_lasting.proofs.Words.{taken_answer, put_answer, Miss, KeyFault, ◌≤◌, ⊎_elim, inl, HasActed, HasTriedIf, TriesTake, TriesPut, TriesKey}
+use Rattle.fx_lasting.proofs.Words.{TriesToTake, TriesToPut, view_of, meetings, LastingPass}
+use Rattle.fx_lasting.proofs.Watching.{acted_before}
 use Rattle.fx_table.proofs.Growing.{held_mine}
 use Rattle.fx_table.specs.declared.values.Doing.TheVariants.{Retiring as Retires}
+use Rattle.fx_lasting.specs.declared.answers.Miss.TheVariants as reason
 use Rattle.fx_lasting.specs.declared.answers.PutIf.{PutIf}
 use Rattle.fx_lasting.specs.declared.answers.PutIf.TheVariants as put
 use Rattle.fx_lasting.specs.declared.answers.TakenIf.{TakenIf}
@@ -152,3 +155,43 @@ module _ (k : Start) (vh v : PassView) (key : Key) (hold : Hold) (freed other : 
         (subst (λ (z : File). Adds (opening_of k) v' ([] ▷ Put key.slot new (Some z)) (Retires z x) one_number w) same adds);
   }
   puts_so file (put.Missed miss back) (same, missed) = (same, failed miss missed)
+
+-- a look-up that found no file of the key says why itself
+pub not_tried : (k : Start) (vh : PassView) (key : Key) (fault : KeyFault) (freed released : Option Closed) (w : PassView) (p p' : LastingPass)
+    → LookedByKey k vh key (Err fault) freed released w → TriesKey k vh key fault freed p p'
+not_tried k vh key NoSlot freed released w p p' looked = tt
+not_tried k vh key Empty freed released w p p' looked = tt
+not_tried k vh key Other freed released w p p' looked = tt
+not_tried k vh key Again freed released w p p' bad = absurd bad
+
+-- The holder found the file of the key. The pass p learned what the holder had seen, and tried
+module _ (k : Start) (vh : PassView) (key : Key) (hold : Hold) (freed other : Option Closed) (b : PassView) (p heard w p' : LastingPass)
+    (looked : LookedByKey k vh key (Ok hold) freed other b) (learns : Learns (opening_of k) b.front (view_of p) (view_of heard)) (few : meetings p ≤ meetings heard)
+    (same : view_of p' ≡ view_of w) (more : meetings w ≤ meetings p') where
+  same_number : (view_of heard).number ≡ (view_of p).number
+  same_number = ap (λ (z : PassView). z.number) learns.same
+
+  same_front : (view_of w).front ≡ (view_of p').front
+  same_front = sym (ap (λ (z : PassView). z.front) same)
+
+  why : (miss : Miss) → HasTriedIf k key.slot miss heard w → TriesKey k vh key (fault_for miss) freed p p'
+  why reason.Empty it = tt
+  why reason.Other it = tt
+  why reason.Again was = record {
+    file = looked.0;
+    hold = hold;
+    between = b;
+    its_key = looked.1;
+    held = looked.2;
+    overtaken = ⊎_elim
+        (λ did. inl (acted_before b.front learns.shown (subst (λ (z : ℕ × List Event). HasActed key.slot z.0 (view_of heard).front z.1) (λ i. (same_number i, same_front i)) did)))
+        (λ met. inr (omega (arith, met.0, few, more), met.1)) was;
+  }
+
+  pub takes_tried : (t : TakenIf) → TriesTake k key.slot t heard w → TriesToTake k vh key (taken_answer t) freed p p'
+  takes_tried (taken.Removed x) it = tt
+  takes_tried (taken.Missed miss) it = why miss it
+
+  pub puts_tried : (t : PutIf) → TriesPut k key.slot t heard w → TriesToPut k vh key (put_answer t) freed p p'
+  puts_tried (put.Replaced x) it = tt
+  puts_tried (put.Missed miss back) it = why miss it

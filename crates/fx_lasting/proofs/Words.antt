@@ -116,9 +116,10 @@ pub use Rattle.fx_table.specs.declared.values.Doing.{Doing}
 pub use Rattle.fx_table.specs.declared.values.Doing.TheVariants.{Holding, Idle as DoesNothing}
 pub use Rattle.fx_table.specs.declared.values.Hold.{Hold}
 pub use Rattle.fx_lasting.specs.HeldFiles.{IsOneOnItsNode}
-pub use Rattle.fx_lasting.specs.Keyed.{IsOn, HasMissed, HasTakenIf, HasPutIf, FitsMiss, WasSo, WasIn, SaysIf, SawIf, FailedIf, HasTriedIf, TriedTake}
+pub use Rattle.fx_lasting.specs.Keyed.{IsOn, HasMissed, HasTakenIf, HasPutIf, FitsMiss, WasSo, WasIn, SaysIf, SawIf, FailedIf, HasTriedIf, TriesTake, TriesPut, TriedTake}
 pub use Rattle.fx_lasting.specs.Keyed.{TriedReplace, TriedSwap, TriedOut, HasMet, WasOvertaken, WasOvertakenIn}
 pub use Rattle.fx_lasting.specs.Keys.{LookedByKey, HeldByKey, LeftIt, FailsByKey, TakesByKey, PutsOverKey, fault_for, taken_answer, put_answer}
+pub use Rattle.fx_lasting.specs.Keys.{TriesKey, TriesToTake, TriesToPut}
 pub use Rattle.fx_lasting.specs.Keys.{KeysAreOfOneFile, KeysComeBack, HasShortNumber, key_of_bits}
 pub use Rattle.fx_lasting.specs.declared.answers.Miss.{Miss}
 pub use Rattle.fx_lasting.specs.declared.key_answers.KeyFault.{KeyFault}

@@ -15,10 +15,11 @@ use Rattle.fx_table.specs.declared.values.Doing.TheVariants.{Retiring as Retires
 use Rattle.fx_table.specs.declared.values.Hold.{Hold}
 use Rattle.fx_table.specs.declared.values.LookFault.TheVariants.{Empty as EmptySlot}
 use Rattle.fx_table.specs.declared.values.Retired.{Retired}
-use Rattle.fx_lasting.specs.Keyed.{FitsMiss, IsOn, WasSo}
+use Rattle.fx_lasting.specs.Keyed.{FitsMiss, HasMet, IsOn, WasSo}
 use Rattle.fx_lasting.specs.Labels.{number_of_mark}
 use Rattle.fx_lasting.specs.Passes.{slots_of}
-use Rattle.fx_lasting.specs.Tables.{opening_of}
+use Rattle.fx_lasting.specs.Tables.{opening_of, view_of}
+use Rattle.fx_lasting.specs.Watches.{HasActed}
 use Rattle.fx_lasting.specs.declared.answers.Miss.{Miss}
 use Rattle.fx_lasting.specs.declared.answers.Miss.TheVariants as miss
 use Rattle.fx_lasting.specs.declared.answers.PutIf.{PutIf}
@@ -30,6 +31,7 @@ use Rattle.fx_lasting.specs.declared.key_answers.KeyFault.{KeyFault}
 use Rattle.fx_lasting.specs.declared.key_answers.KeyFault.TheVariants.{NoSlot, Empty, Other, Again}
 use Rattle.fx_lasting.specs.declared.key_answers.PutOverKey.{PutOverKey}
 use Rattle.fx_lasting.specs.declared.key_answers.PutOverKey.TheVariants.{Replaced, Missed}
+use Rattle.fx_lasting.specs.declared.pass.LastingPass.{LastingPass}
 use Rattle.fx_lasting.specs.declared.view.Start.{Start}
 
 -- the key of a file with this mark at a slot
@@ -189,6 +191,36 @@ PutsOverKey k vh v key file (Replaced x) freed released wh w =
     ReplacesKey k vh v key file x freed released wh w
 PutsOverKey k vh v key file (Missed fault back) freed released wh w =
     (back ≡ file) × FailsByKey k vh v key fault freed released wh w
+
+-- the holder had found the file of the key, and afterwards another pass than that of the call acted
+-- at the slot, or heated it
+pub record OvertakenByKey (k : Start) (vh : PassView) (key : Key) (freed : Option Identity)
+    (p p' : LastingPass) : Type 0 where
+  pub file : File
+  pub hold : Hold
+  pub between : PassView
+  pub its_key : IsKeyOf key file
+  pub held : HoldsAtKey k vh key file hold freed between
+  pub overtaken : HasActed key.slot (view_of p).number between.front (view_of p').front
+      ⊎ HasMet k p p'
+
+-- a call by key leaves the file of the key only if another pass was at the slot after the look-up
+abbrev pub TriesKey : Start → PassView → Key → KeyFault → Option Identity
+    → LastingPass → LastingPass → Type 0
+TriesKey k vh key Again freed p p' = OvertakenByKey k vh key freed p p'
+TriesKey k vh key NoSlot freed p p' = Unit {0}
+TriesKey k vh key Empty freed p p' = Unit {0}
+TriesKey k vh key Other freed p p' = Unit {0}
+
+abbrev pub TriesToTake : Start → PassView → Key → Result Retired KeyFault → Option Identity
+    → LastingPass → LastingPass → Type 0
+TriesToTake k vh key (Ok x) freed p p' = Unit {0}
+TriesToTake k vh key (Err fault) freed p p' = TriesKey k vh key fault freed p p'
+
+abbrev pub TriesToPut : Start → PassView → Key → PutOverKey → Option Identity
+    → LastingPass → LastingPass → Type 0
+TriesToPut k vh key (Replaced x) freed p p' = Unit {0}
+TriesToPut k vh key (Missed fault back) freed p p' = TriesKey k vh key fault freed p p'
 
 -- an allocation whose slot is that of the returned key
 abbrev pub slot_found : Result Key Identity → Result ℕ Identity

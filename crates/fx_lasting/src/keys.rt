@@ -6,8 +6,8 @@ ghost use Rattle.fx_table.specs.Calls.{Allocated, Placed};
 ghost use Rattle.fx_table.specs.Opening.{size_of};
 ghost use Rattle.fx_table.specs.Pass.{IsIdle};
 ghost use Rattle.fx_table.specs.Showing.{Learns};
-ghost use Rattle.fx_lasting.specs.Keys.{IsKeyOfMark, LookedByKey, PutsOverKey, TakesByKey, fault_for, key_at, put_answer, slot_found, taken_answer};
-ghost use Rattle.fx_lasting.specs.Tables.{view_of, steps_taken, opening_of_table, IsPassOfTable};
+ghost use Rattle.fx_lasting.specs.Keys.{IsKeyOfMark, LookedByKey, PutsOverKey, TakesByKey, TriesToPut, TriesToTake, fault_for, key_at, put_answer, slot_found, taken_answer};
+ghost use Rattle.fx_lasting.specs.Tables.{view_of, meetings, steps_taken, opening_of_table, IsPassOfTable};
 
 use crate::answers::{Miss, PutIf, TakenIf};
 use crate::key::Key;
@@ -27,6 +27,7 @@ impl LastingTable {
     ///
     /// # Errors
     /// In `found`: `NoSlot`, `Empty`, or `Other` if the file at the slot isn't that of the key.
+    #[inline(always)]
     pub fn look_key(&self, pass: &mut LastingPass, key: Key) -> KeyLook
         requires fits { IsPassOfTable self.now pass.old }
         requires idle { IsIdle (view_of pass.old) }
@@ -70,7 +71,8 @@ impl LastingTable {
     /// `io_uring_prep_close_direct`). The pass and the holder are idle (`is_idle`), and the holder
     /// holds the file during the call. The holder makes at most 16 atomic steps and is idle again,
     /// and the pass makes at most ten. The removed file is the one that the holder found by the
-    /// key, and is to be retired. Otherwise the slot is left as it is.
+    /// key, and is to be retired. Otherwise the slot is left as it is. The answer is `Again` only
+    /// if another pass was at the slot after the holder's look-up.
     pub fn take_key(&self, holder: &mut LastingPass, pass: &mut LastingPass, key: Key) -> KeyTaken
         requires holder_fits { IsPassOfTable self.now holder.old }
         requires holder_idle { IsIdle (view_of holder.old) }
@@ -82,6 +84,8 @@ impl LastingTable {
         ensures taken { TakesByKey self.now.table.shared.key (view_of holder.old)
             (view_of pass.old) key result.taken result.freed result.released (view_of holder.new)
             (view_of pass.new) }
+        ensures tries { TriesToTake self.now.table.shared.key (view_of holder.old) key
+            result.taken result.freed pass.old pass.new }
         ensures holder_steps { steps_taken holder.new ≤ steps_taken holder.old + 16 }
         ensures steps { steps_taken pass.new ≤ steps_taken pass.old + 10 }
     {
@@ -118,7 +122,8 @@ impl LastingTable {
     /// key during the call. The holder makes at most 16 atomic steps and is idle again, and the
     /// pass makes at most nine more than the table has passes. The replaced file is the one that
     /// the holder found by the key, and is to be retired. Otherwise the slot is left as it is, and
-    /// the new file comes back.
+    /// the new file comes back. The answer is `Again` only if another pass was at the slot after
+    /// the holder's look-up.
     pub fn put_over_key(
         &self,
         holder: &mut LastingPass,
@@ -137,6 +142,8 @@ impl LastingTable {
         ensures placed { PutsOverKey self.now.table.shared.key (view_of holder.old)
             (view_of pass.old) key file result.put result.freed result.released
             (view_of holder.new) (view_of pass.new) }
+        ensures tries { TriesToPut self.now.table.shared.key (view_of holder.old) key result.put
+            result.freed pass.old pass.new }
         ensures holder_steps { steps_taken holder.new ≤ steps_taken holder.old + 16 }
         ensures steps { let passes = self.now.passes in
             steps_taken pass.new ≤ steps_taken pass.old + (passes + 9) }
@@ -229,6 +236,8 @@ impl LastingTable {
             (view_of pass.old) (view_of pass.new) }
         ensures steps { steps_taken pass.new ≤ steps_taken pass.old }
         ensures from_steps { steps_taken from.new ≤ steps_taken from.old }
+        ensures met { meetings pass.old ≤ meetings pass.new }
+        ensures from_met { meetings from.old ≤ meetings from.new }
     {
         let shared = &self.table.shared;
         let seen = show::<_, _, _, _, Show>(shared, &mut from.seat);
