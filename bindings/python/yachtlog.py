@@ -26,6 +26,7 @@ if sys.version_info < (3, 10):
     sys.exit(4)
 
 import argparse
+import os
 from typing import Literal, NamedTuple
 
 from yachtlines import Answer, BadLog, Event, Lines, Request
@@ -151,5 +152,16 @@ def main() -> int:
     return next((it for it in ORDER if it in found), 0)
 
 
+def command() -> int:
+    """Runs the command. If nobody reads standard output any more, the rest is not printed."""
+    try:
+        status = main()
+        sys.stdout.flush()
+    except BrokenPipeError:
+        os.dup2(os.open(os.devnull, os.O_WRONLY), sys.stdout.fileno())
+        return MISSING
+    return status
+
+
 if __name__ == "__main__":
-    sys.exit(main())
+    sys.exit(command())
