@@ -67,7 +67,7 @@ answered_in old answers flight is id c was =
 never_empty : (xs : List Happening) (x : Happening) → xs ++ x ∷ [] ≡ [] → ⊥
 never_empty xs x is = let long = ap length is in omega (arith, length-append xs (x ∷ []))
 
-no_calls : AreCalls [] []
+pub no_calls : AreCalls [] []
 no_calls = record {
   chain = λ id requests inside. absurd (let few = inside.1 in omega arith);
   look = λ id slot inside. absurd (let few = inside.1 in omega arith);

@@ -1,71 +1,145 @@
 -- A refutation, from front to front.
-use Rattle.check_flight.proofs.Words.{◌≡◌, ℕ, ◌+◌, ◌<◌, List, [], ◌∷◌, ◌++◌, length, take, refl, sym, ap, ◌∙◌, arith, subst, suc, Asked}
-use Rattle.check_flight.proofs.Words.{contains_head, Contains, inl, inr, ⊎_elim, drop, length-map, drop_all, drop-cons, take_more, Happening}
+use Rattle.check_flight.proofs.Words.{◌≡◌, ℕ, ◌+◌, ◌<◌, ◌≤◌, List, [], ◌∷◌, ◌++◌, length, take, refl, sym, ap, ◌∙◌, arith, subst, Asked, FileEntry, RingState}
+use Rattle.check_flight.proofs.Words.{contains_head, Contains, inl, inr, ⊎_elim, drop, length-map, length-append, take-take, take_more, Happening}
 use Rattle.check_flight.proofs.Words.{AllSettled, ring_of_slots, Slots, WaitingLook, IsFrontOf, catalogue_in, flight_view, flight_views, log_in}
-use Rattle.check_flight.proofs.Words.{requests_of, rules_of_log, runs_of_calls, IsInitialState, IsNextFront, IsRefutedAfter, event_at, rules_of}
-use Rattle.check_flight.proofs.Words.{AreFollowed, ArePassed, FlightView, HasNoFlight, IsNumbered, runs_with, ChainCall, JudgedLog, FlightState}
-use Rattle.check_flight.proofs.Fronts.{refuted}
-use Rattle.check_flight.proofs.Judging.{views_more}
+use Rattle.check_flight.proofs.Words.{requests_of, rules_of_log, runs_of_calls, IsInitialState, IsNextFront, IsReached, IsReachedBy, IsReachedFrom, ReachedStates, event_at, rules_of}
+use Rattle.check_flight.proofs.Words.{AreFollowed, ArePassed, FlightView, GoesOnTo, HasNoFlight, IsNumbered, runs_with, ChainCall, JudgedLog, FlightState}
+use Rattle.check_flight.proofs.Words.{take-append-drop, Contains-append_left, IsTableOf, nil_from_length, take_all, AreReached, AreCalls}
+use Rattle.check_flight.proofs.Fronts.{all_next, calls_with, from_start, no_calls, none_left}
+use Rattle.check_flight.proofs.Judging.{copied, views_more}
 use Rattle.check_flight.proofs.Steps.{only_one}
+use Rattle.check_flight.proofs.Words.{map-append, slice_index_or}
+use Rattle.check_flight.specs.Judged.{IsCopy}
 
-module _ (log : JudgedLog) (slots : Slots) where
-  -- before the first event
-  pub refutes_first : {calls : List ChainCall} {states : List FlightState} {state : FlightState} → calls ≡ [] → states ≡ state ∷ []
-      → IsInitialState slots state → IsRefutedAfter log slots 0 calls states
-  refutes_first {calls} {states} {state} none only first submissions registrations from =
-      let start : FlightView = flight_view [] state in
-      refuted (ring_of_slots (catalogue_in log) slots submissions registrations) (log_in log) (flight_views [] states) (record {
-        start = start;
-        inside = rw only (contains_head start []);
-        leads = record {
-          table = first.table;
-          rests = λ id low high. absurd (omega arith);
-          unmade = λ id high. refl;
-          has = λ file inside unclosed. absurd (let few = inside.1 in omega arith);
-          only = λ file inside. let none = rw first.removed at inside in absurd (let few = none.1 in omega arith);
-          waits = λ look inside. let none = rw first.waiting at inside in absurd (let few = none.1 in omega arith);
-        };
-        closed = λ view inside. (
-          λ id low high. absurd (omega arith),
-          λ look found waiting.
-              let same : start ≡ view = only_one start view (rw only at inside) in
-              let none : Contains [] look = subst (λ (l : List WaitingLook). Contains l look) first.waiting
-              (subst (λ (own : FlightView). Contains own.waiting look) (sym same) waiting) in absurd (let few = none.1 in omega arith),
-        );
-        refuted = rw none at from;
-      })
+-- before the first event
+pub reached_first : (slots : Slots) (catalogue : List FileEntry) (log : List Happening) (submissions registrations : ℕ) (calls : List ChainCall)
+    (states : List FlightState) (state : FlightState) → calls ≡ [] → states ≡ state ∷ [] → IsInitialState slots state
+    → IsReachedBy (ring_of_slots catalogue slots submissions registrations) log 0 calls states
+reached_first slots catalogue log submissions registrations calls states state none only initial =
+    let old : RingState = ring_of_slots catalogue slots submissions registrations in
+    let start : FlightView = flight_view [] state in
+    let leads : GoesOnTo old [] [] start = record {
+      table = initial.table;
+      rests = λ id low high. absurd (omega arith);
+      unmade = λ id high. refl;
+      has = λ file inside unclosed. absurd (let few = inside.1 in omega arith);
+      only = λ file inside. let empty = rw initial.removed at inside in absurd (let few = empty.1 in omega arith);
+      waits = λ look inside. let empty = rw initial.waiting at inside in absurd (let few = empty.1 in omega arith);
+    } in
+    let closed : AreFollowed catalogue old.size log 0 (start ∷ []) = λ view inside. (
+      λ id low high. absurd (omega arith),
+      λ look found waiting.
+          let same : start ≡ view = only_one start view inside in
+          let empty : Contains [] look = subst (λ (l : List WaitingLook). Contains l look) initial.waiting
+          (subst (λ (own : FlightView). Contains own.waiting look) (sym same) waiting) in absurd (let few = empty.1 in omega arith),
+    ) in
+    record {
+      within = omega arith;
+      called = rw none no_calls;
+      reached = rw (none, only) (from_start old log (start ∷ []) start (contains_head start []) leads closed);
+    }
 
-  -- one event more
-  pub refutes_next : {at : ℕ} {calls more : List ChainCall} {states nexts : List FlightState} → log.setting.size ≡ length slots.at.items
-      → at < length (log_in log) → IsRefutedAfter log slots at calls states → IsNextFront log at calls states more nexts
-      → IsRefutedAfter log slots (at + 1) more nexts
-  refutes_next {at} {calls} {more} {states} {nexts} size few before next submissions registrations from =
-      let event : Happening = event_at log at in
-      let runs : List (List Asked) = runs_of_calls calls in
-      let read : take (at + 1) (log_in log) ≡ take at (log_in log) ++ event ∷ [] = take_more (log_in log) at AllSettled few in
-      let one : suc at ≡ at + 1 = omega arith in
-      let rest : drop at (log_in log) ≡ event ∷ drop (at + 1) (log_in log) = rw (← one) (drop-cons (log_in log) at AllSettled few) in
-      let many : length more ≡ length (runs_with runs event) = sym (length-map more requests_of) ∙ ap length next.runs in
-      let on = rw (next.runs, read) at from in
-      before submissions registrations (rw rest (
-        flight_views (runs_with runs event) nexts,
-        record {
-          numbered = rw (← length-map calls requests_of) at next.numbered;
-          passed = subst (λ (n : ℕ). ArePassed (rules_of (catalogue_in log) n) (log_in log) runs (take at (log_in log)) (flight_views runs states)
-              (flight_views (runs_with runs event) nexts) event) size next.passed;
-          closed = subst (λ (n : ℕ). AreFollowed (catalogue_in log) n (log_in log) (length (runs_with runs event))
-              (flight_views (runs_with runs event) nexts)) size (rw (many, next.runs) at next.closed);
-        },
-        on,
-      ))
+-- what is in a beginning is in a longer one
+in_longer : (log : List Happening) (few many : ℕ) (e : Happening) → few ≤ many → Contains (take few log) e → Contains (take many log) e
+in_longer log few many e less inside =
+    let longer : take few log ++ drop few (take many log) ≡ take many log =
+    ap (λ (l : List Happening). l ++ drop few (take many log)) (sym (take-take few many log less)) ∙ take-append-drop few (take many log) in
+    subst (λ (l : List Happening). Contains l e) longer (Contains-append_left (take few log) (drop few (take many log)) e inside)
 
-  -- after the last event
-  pub refutes_last : {at : ℕ} (calls : List ChainCall) {states : List FlightState} → at ≡ length (log_in log) → states ≡ []
-      → IsRefutedAfter log slots at calls states → (submissions registrations : ℕ)
-      → HasNoFlight (ring_of_slots (catalogue_in log) slots submissions registrations) (log_in log)
-  refutes_last {at} calls {states} whole none before submissions registrations =
-      let over : drop at (log_in log) ≡ [] = drop_all at (log_in log) (omega arith) in
-      before submissions registrations (rw over (ap (flight_views (runs_of_calls calls)) none))
+-- of a longer beginning of the log
+pub reached_longer : (old : RingState) (log : List Happening) (few many at : ℕ) (calls : List ChainCall) (states : List FlightState) → few ≤ many
+    → at ≤ few → IsReachedBy old (take few log) at calls states → IsReachedBy old (take many log) at calls states
+reached_longer old log few many at calls states less before is =
+    let same : take at (take few log) ≡ take at (take many log) = take-take at few log before ∙ sym (take-take at many log (omega arith)) in
+    let longer : take few log ++ drop few (take many log) ≡ take many log =
+    ap (λ (l : List Happening). l ++ drop few (take many log)) (sym (take-take few many log less)) ∙ take-append-drop few (take many log) in
+    record {
+      within = omega (arith, is.within, ap length longer, length-append (take few log) (drop few (take many log)));
+      called = subst (λ (read : List Happening). AreCalls (runs_of_calls calls) read) same is.called;
+      reached = λ answers fits flight made seen whole.
+          is.reached answers (record { seen = λ id c inside. fits.seen id c (in_longer log few many _ less inside); memory = fits.memory }) flight made
+          (λ id slot found answer more was low first inside. seen id slot found answer more was low first (in_longer log few many _ less inside))
+          (whole ∙ sym same);
+    }
+
+-- one event more
+pub reached_next : (log : JudgedLog) (slots : Slots) (submissions registrations at : ℕ) (calls more : List ChainCall)
+    (states nexts : List FlightState) → IsTableOf log slots → at < length (log_in log)
+    → IsReachedBy (ring_of_slots (catalogue_in log) slots submissions registrations) (log_in log) at calls states
+    → IsNextFront log at calls states more nexts
+    → IsReachedBy (ring_of_slots (catalogue_in log) slots submissions registrations) (log_in log) (at + 1) more nexts
+reached_next log slots submissions registrations at calls more states nexts size few before next =
+    let old : RingState = ring_of_slots (catalogue_in log) slots submissions registrations in
+    let event : Happening = event_at log at in
+    let runs : List (List Asked) = runs_of_calls calls in
+    let read : take (at + 1) (log_in log) ≡ take at (log_in log) ++ event ∷ [] = take_more (log_in log) at AllSettled few in
+    let many : length more ≡ length (runs_with runs event) = sym (length-map more requests_of) ∙ ap length next.runs in
+    let numbered : IsNumbered (length runs) event = rw (← length-map calls requests_of) at next.numbered in
+    let passed : ArePassed (rules_of (catalogue_in log) (length slots.at.items)) (log_in log) runs (take at (log_in log)) (flight_views runs states)
+    (flight_views (runs_with runs event) nexts) event =
+    subst (λ (n : ℕ). ArePassed (rules_of (catalogue_in log) n) (log_in log) runs (take at (log_in log)) (flight_views runs states)
+    (flight_views (runs_with runs event) nexts) event) size next.passed in
+    let closed : AreFollowed (catalogue_in log) (length slots.at.items) (log_in log) (length (runs_with runs event))
+    (flight_views (runs_with runs event) nexts) =
+    subst (λ (n : ℕ). AreFollowed (catalogue_in log) n (log_in log) (length (runs_with runs event))
+    (flight_views (runs_with runs event) nexts)) size (rw (many, next.runs) at next.closed) in
+    let called = calls_with before.called event numbered in
+    record {
+      within = omega arith;
+      called = rw (next.runs, read) called;
+      reached = rw (next.runs, read) (all_next old (log_in log) event (flight_views runs states) (flight_views (runs_with runs event) nexts)
+          (flight_views (runs_with runs event) nexts) before.reached before.called numbered called passed (λ state inside. inside) closed);
+    }
+
+-- no state is left after the last event
+pub reached_last : (old : RingState) (log : List Happening) (at : ℕ) (calls : List ChainCall) (states : List FlightState) → at ≡ length log
+    → length states ≡ 0 → IsReachedBy old log at calls states → HasNoFlight old log
+reached_last old log at calls states whole none is =
+    let all : take at log ≡ log = take_all at log (omega arith) in
+    let empty : states ≡ [] = nil_from_length states none in
+    none_left old log {runs = runs_of_calls calls}
+    (rw (empty, all) at is.reached)
+    (rw all at is.called)
+
+-- what a beginning of the log goes on to, of the log
+pub reached_by : (log b : JudgedLog) (slots : Slots) (events : List Happening) (from end : ReachedStates) → log_in b ≡ events
+    → catalogue_in b ≡ catalogue_in log → b.setting.size ≡ log.setting.size → IsTableOf log slots
+    → ((slots : Slots) → IsTableOf b slots → IsReachedFrom b slots (log_in b) from
+    → IsReachedFrom b slots (log_in b) end × (end.at ≡ length (log_in b)))
+    → IsReachedFrom log slots events from → IsReachedFrom log slots events end × (end.at ≡ length events)
+reached_by log b slots events from end same catalogue size table goes is =
+    let by : (r : ReachedStates) (submissions registrations : ℕ) (c : List FileEntry) (l : List Happening) → Type 0 =
+    λ r submissions registrations c l. IsReached (ring_of_slots c slots submissions registrations) l r in
+    let before : IsReachedFrom b slots (log_in b) from = λ submissions registrations.
+    subst (λ (c : List FileEntry). by from submissions registrations c (log_in b)) (sym catalogue)
+    (subst (by from submissions registrations (catalogue_in log)) (sym same) (is submissions registrations)) in
+    let (to, whole) = goes slots (size ∙ table) before in (
+      λ submissions registrations. subst (by end submissions registrations (catalogue_in log)) same
+          (subst (λ (c : List FileEntry). by end submissions registrations c (log_in b)) catalogue (to submissions registrations)),
+      whole ∙ ap length same,
+    )
+
+-- one state more was copied
+pub views_copied : (runs : List (List Asked)) (states copies after items : List FlightState) (i : ℕ) (state copy : FlightState) → items ≡ states
+    → i < length items → state ≡ slice_index_or items i state → IsCopy state state.base 0 copy → after ≡ copies ++ copy ∷ []
+    → flight_views runs copies ≡ flight_views runs (take i states) → flight_views runs after ≡ flight_views runs (take (i + 1) states)
+views_copied runs states copies after items i state copy same few is own pushed before =
+    let more : take (i + 1) states ≡ take i states ++ state ∷ [] =
+    subst (λ (l : List FlightState). take (i + 1) l ≡ take i l ++ state ∷ []) same
+    (take_more items i state few ∙ ap (λ (s : FlightState). take i items ++ s ∷ []) (sym is)) in
+    ap (flight_views runs) pushed ∙ (map-append (flight_view runs) copies (copy ∷ [])
+    ∙ ((λ k. before k ++ copied runs state copy own k ∷ [])
+    ∙ (sym (map-append (flight_view runs) (take i states) (state ∷ [])) ∙ ap (flight_views runs) (sym more))))
+
+-- the same states and calls are reached
+pub reached_copied : (old : RingState) (log : List Happening) (at : ℕ) (calls others : List ChainCall) (states copies : List FlightState)
+    → others ≡ calls → ((runs : List (List Asked)) → flight_views runs copies ≡ flight_views runs states)
+    → IsReachedBy old log at calls states → IsReachedBy old log at others copies
+reached_copied old log at calls others states copies same views is = record {
+  within = is.within;
+  called = rw same is.called;
+  reached = rw same (subst (λ (l : List FlightView). AreReached old log (runs_of_calls calls) (take at log) l) (sym (views (runs_of_calls calls))) is.reached);
+}
 
 -- what was looked through follows
 pub next_front_is : (log : JudgedLog) (at known : ℕ) (calls more before all : List ChainCall) (states nexts final : List FlightState)

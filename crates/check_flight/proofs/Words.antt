@@ -18,7 +18,7 @@ pub use Rattle.fx_flight.proofs.Words.{rules, table_left_by, taken_in}
 pub use Rattle.fx_order.proofs.Words.{Contains-get_or, Contains-permutation, IsWithinLimits, length-take-le, take-append_seam, take-map, take_more}
 pub use Rattle.check_flight.specs.Judged.{IsAccessFollowed, IsCallFollowed, IsFrontOf, IsWhollyFollowed, catalogue_in, flight_view, flight_views}
 pub use Rattle.check_flight.specs.Judged.{log_in, requests_of, rest_of, rules_of_log, runs_of_calls, IsInitialState, IsWaitDenied, IsNextFront}
-pub use Rattle.check_flight.specs.Judged.{IsRefutedAfter, IsStatePassed, event_at}
+pub use Rattle.check_flight.specs.Judged.{HaveNoFlight, IsReached, IsReachedBy, IsReachedFrom, IsStatePassed, IsTableOf, event_at}
 pub use Rattle.check_flight.specs.Player.{AreCallsMade, AreFilesTaken, AreFoundHeld, HasMadeFlight, IsCallDone, IsCallLogged, IsCallMade}
 pub use Rattle.check_flight.specs.Player.{IsLookAnswered, IsMarked, IsMemberMade, IsPlanned, IsRingOf, MovesOn, accesses_in, accesses_of_plan}
 pub use Rattle.check_flight.specs.Player.{answers_in, answers_of_plan, begun_by, file_number}
@@ -29,6 +29,7 @@ pub use Rattle.check_flight.specs.declared.player.HeldFile.{HeldFile}
 pub use Rattle.check_flight.specs.declared.judged.ChainCall.{ChainCall}
 pub use Rattle.check_flight.specs.declared.judged.JudgedLog.{JudgedLog}
 pub use Rattle.check_flight.specs.declared.player.FlightCall.{FlightCall}
+pub use Rattle.check_flight.specs.declared.reached.ReachedStates.{ReachedStates}
 pub use Rattle.check_flight.specs.declared.state.FlightState.{FlightState}
 pub use Rattle.check_flight.specs.declared.state.WaitingLook.{WaitingLook}
 pub use Rattle.check_outcomes.proofs.ChainAccesses.{AreRight, last_of, settles}

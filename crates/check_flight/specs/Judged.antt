@@ -1,6 +1,6 @@
 -- The states of the judge, as contracts see them, the effect of an event on a state, and a step
 -- from one front to the next.
-use Rattle.std.specs.Prelude.{◌≡◌, ℕ, ◌-◌, nat_le, List, length, map, take, slice_index_or}
+use Rattle.std.specs.Prelude.{◌≡◌, ℕ, ◌-◌, ◌≤◌, nat_le, List, length, map, take, slice_index_or}
 use Rattle.std.specs.Prelude.{if◌then◌else◌, ◌⊎◌, [], drop, Contains, Option}
 use Rattle.fx_base.specs.Catalogue.{FileEntry}
 use Rattle.fx_base.specs.Identity.{Identity}
@@ -16,12 +16,14 @@ use Rattle.fx_flight.specs.Events.{Happening, all_happenings, first_of_call, All
 use Rattle.check_flight.specs.States.{AreWaitsDenied, FlightView, IsFollowed, IsLookDenied}
 use Rattle.check_flight.specs.States.{IsStateFollowed, AreFollowed, ArePassed, HasNoFlight, IsLed}
 use Rattle.check_flight.specs.States.{IsNumbered, IsOneDenied, IsStopped, StepsByAccess, runs_with}
+use Rattle.check_flight.specs.States.{AreCalls, AreReached}
+use Rattle.fx_ring.specs.Ring.{RingState}
+use Rattle.check_flight.specs.declared.reached.ReachedStates.{ReachedStates}
 use Rattle.check_flight.specs.declared.judged.ChainCall.{ChainCall}
 use Rattle.check_flight.specs.declared.judged.JudgedLog.{JudgedLog}
 use Rattle.check_flight.specs.declared.state.FlightState.{FlightState}
 use Rattle.check_flight.specs.declared.state.WaitingLook.{WaitingLook}
 use Rattle.fx_order.specs.declared.slots.Slots.{Slots}
-use Rattle.check_flight.specs.Refutations.{IsRefutedFrom}
 use Rattle.check_flight.specs.declared.passage.Passage.{Passage}
 use Rattle.check_flight.specs.declared.passage.Passage.TheVariants.{Stops, Leads, IsUnfit}
 
@@ -142,14 +144,32 @@ pub record IsNextFront (log : JudgedLog) (at : ℕ) (calls : List ChainCall)
   pub closed : AreFollowed (catalogue_in log) log.setting.size (log_in log) (length more)
       (flight_views (runs_of_calls more) nexts)
 
--- if no state is left after the other events, the log has no flight from these slots on
-abbrev pub IsRefutedAfter : JudgedLog → Slots → ℕ → List ChainCall → List FlightState → Type 0
-IsRefutedAfter log slots at calls states =
-    (submissions registrations : ℕ)
-    → IsRefutedFrom (ring_of_slots (catalogue_in log) slots submissions registrations) (log_in log)
-    (runs_of_calls calls) (take at (log_in log)) (flight_views (runs_of_calls calls) states)
-    (drop at (log_in log))
-    → HasNoFlight (ring_of_slots (catalogue_in log) slots submissions registrations) (log_in log)
+-- each flight of the first `at` events leads to one of these states, if its answers are those of
+-- the log
+pub record IsReachedBy (old : RingState) (log : List Happening) (at : ℕ) (calls : List ChainCall)
+    (states : List FlightState) : Type 0 where
+  pub within : at ≤ length log
+  pub called : AreCalls (runs_of_calls calls) (take at log)
+  pub reached : AreReached old log (runs_of_calls calls) (take at log)
+      (flight_views (runs_of_calls calls) states)
+
+abbrev pub IsReached : RingState → List Happening → ReachedStates → Type 0
+IsReached old log reached =
+    IsReachedBy old log reached.at reached.calls.items reached.front.states.items
+
+-- the same of a log from these slots on
+abbrev pub IsReachedFrom : JudgedLog → Slots → List Happening → ReachedStates → Type 0
+IsReachedFrom log slots events reached = (submissions registrations : ℕ)
+    → IsReached (ring_of_slots (catalogue_in log) slots submissions registrations) events reached
+
+-- these events have no flight from these slots on
+abbrev pub HaveNoFlight : JudgedLog → Slots → List Happening → Type 0
+HaveNoFlight log slots events = (submissions registrations : ℕ)
+    → HasNoFlight (ring_of_slots (catalogue_in log) slots submissions registrations) events
+
+-- the table has as many slots as the log says
+abbrev pub IsTableOf : JudgedLog → Slots → Type 0
+IsTableOf log slots = log.setting.size ≡ length slots.at.items
 
 -- the state before the first event: the table, no removed file, no look
 pub record IsInitialState (slots : Slots) (state : FlightState) : Type 0 where

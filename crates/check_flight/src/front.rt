@@ -69,6 +69,19 @@ impl Front {
         Ok(front)
     }
 
+    /// Returns a copy.
+    pub(crate) fn copy(&self, alloc: Global) -> Result<Front, NoMemory>
+        ensures { IfOk result (λ copy. (runs : List (List Asked))
+            → flight_views runs copy.states.items ≡ flight_views runs self.now.states.items) }
+    {
+        let mut copy = Front::new(alloc);
+        for state in &self.states {
+            copy.keys.insert_full(key_of(state))?;
+            copy.states.push(state.copy(alloc, state.base, 0)?)?;
+        }
+        Ok(copy)
+    }
+
     // Adds a state, unless it is known. Returns false if another one has its numbers.
     fn add(&mut self, state: FlightState) -> Result<bool, NoMemory>
         ensures kept { IfOk result (λ _.

@@ -24,7 +24,7 @@ pub(crate) struct JudgedLog<'a> {
 }
 
 /// A chain that was called, or a look, which has no request.
-#[derive(Drop)]
+#[derive(Clone, Copy)]
 pub(crate) struct ChainCall<'a> {
     /// Its requests.
     pub(crate) requests: &'a [Request],

@@ -17,6 +17,7 @@ mod plan;
 mod player;
 mod positions;
 mod propose;
+mod reached;
 mod refute;
 mod search;
 mod state;

@@ -1,11 +1,11 @@
 //! The judge of a log of calls in flight.
-ghost use Rattle.std.specs.Prelude.{◌≡◌, ◌↔◌, ◌+◌, ◌<◌, ◌^◌, [], ℕ, IfOk, IfSome, IsTrue, Some, length, take};
+ghost use Rattle.std.specs.Prelude.{◌≡◌, ◌↔◌, ◌+◌, ◌<◌, ◌≤◌, ◌^◌, [], ℕ, IfOk, IfSome, IsTrue, Some, length, take};
 ghost use Rattle.fx_base.specs.Catalogue.{IsCatalogue};
 ghost use Rattle.fx_order.specs.Slots.{ring_of_slots};
 ghost use Rattle.fx_flight.specs.Events.{all_happenings};
 ghost use Rattle.fx_flight.specs.Faults.{fault_of_log};
 ghost use Rattle.fx_flight.specs.Flight.{IsLegalLog};
-ghost use Rattle.check_flight.specs.Judged.{catalogue_in, log_in};
+ghost use Rattle.check_flight.specs.Judged.{catalogue_in, log_in, HaveNoFlight, IsReachedFrom, IsTableOf};
 ghost use Rattle.check_flight.specs.States.{HasNoFlight};
 ghost use Rattle.check_flight.specs.declared.verdict.FlightVerdict.TheVariants.{Faulty, Legal, NotLegal};
 
@@ -13,7 +13,8 @@ use crate::judged::JudgedLog;
 use crate::player::is_flight;
 use crate::positions::positions_in;
 use crate::propose::propose;
-use crate::refute::refute;
+use crate::reached::ReachedStates;
+use crate::refute::{beginning_of, refute};
 use crate::search::Search;
 use check_search::Limits;
 use fx_base::{Catalogue, Errno, NoMemory};
@@ -47,6 +48,103 @@ fn room_for(slots: &Slots, limits: Limits) -> usize {
         .min(limits.bytes.checked_div(weight).unwrap_or(0))
 }
 
+// The number of events from the front that is saved to the one after which no state is left.
+const SAVED_BEFORE: usize = 1_000;
+
+// Returns the states that flights of each beginning of the log with at least `count` events reach
+// some events before that, or before the first event if there are too many.
+fn saved_before<'a>(
+    log: &JudgedLog<'a>,
+    slots: &Slots,
+    count: usize,
+    most: usize,
+) -> Result<ReachedStates<'a>, NoMemory>
+    requires size { IsTableOf log.now slots.now }
+    requires count { count ≤ length log.now.events.now }
+    ensures { IfOk result (λ saved. (longer : ℕ) → count ≤ longer
+        → IsReachedFrom log.now slots.now (take longer (log_in log.now)) saved) }
+{
+    let alloc = log.setting.alloc;
+    let beginning = beginning_of(log, count.saturating_sub(SAVED_BEFORE));
+    let first = ReachedStates::first(alloc, slots)?;
+    match first.go_on(&beginning, most)? {
+        Some(saved) => Ok(saved),
+        None => ReachedStates::first(alloc, slots),
+    }
+}
+
+// Checks whether the first `count` events are refuted from a saved front.
+fn is_refuted_from<'a>(
+    log: &JudgedLog<'a>,
+    slots: &Slots,
+    saved: &ReachedStates<'a>,
+    count: usize,
+    most: usize,
+) -> Result<bool, NoMemory>
+    requires size { IsTableOf log.now slots.now }
+    requires count { count ≤ length log.now.events.now }
+    requires saved { IsReachedFrom log.now slots.now (take count (log_in log.now)) saved.now }
+    ensures { IfOk result (λ yes. IsTrue yes
+        → HaveNoFlight log.now slots.now (take count (log_in log.now))) }
+{
+    let from = saved.copy(log.setting.alloc)?;
+    let at = refute(log, from, count, most)?;
+    match at {
+        Some(_) => Ok(true),
+        None => Ok(false),
+    }
+}
+
+// Returns a number of events from `low` on, below `high`, to try next: `ahead` more than `low`, and
+// at most half of the way.
+fn next_count(low: usize, high: usize, ahead: usize) -> usize
+    requires { low < high }
+    ensures from { low ≤ result }
+    ensures below { result < high }
+{
+    let half = (high - low) / 2;
+    if ahead < half {
+        low + ahead
+    } else {
+        low + half
+    }
+}
+
+// Returns the number of events of the shortest beginning that is refuted from a saved front, of
+// those with at least `low` events, and at most `high`, a number with which it is refuted. It tries
+// numbers near `low` first.
+fn shortest_refuted<'a>(
+    log: &JudgedLog<'a>,
+    slots: &Slots,
+    saved: &ReachedStates<'a>,
+    low: usize,
+    high: usize,
+    most: usize,
+) -> Result<usize, NoMemory>
+    requires size { IsTableOf log.now slots.now }
+    requires high { high ≤ length log.now.events.now }
+    requires refuted { HaveNoFlight log.now slots.now (take high (log_in log.now)) }
+    requires saved { (longer : ℕ) → low ≤ longer
+        → IsReachedFrom log.now slots.now (take longer (log_in log.now)) saved.now }
+    ensures { IfOk result (λ count. HaveNoFlight log.now slots.now
+        (take count (log_in log.now))) }
+{
+    let (mut low, mut high, mut ahead) = (low, high, 0usize);
+    for _ in 0..128 {
+        if low >= high {
+            break;
+        }
+        let middle = next_count(low, high, ahead);
+        if is_refuted_from(log, slots, saved, middle, most)? {
+            high = middle;
+        } else {
+            low = middle + 1;
+            ahead = ahead.saturating_mul(2).saturating_add(1);
+        }
+    }
+    Ok(high)
+}
+
 // Returns the number of events of a beginning of the log that was refuted, the shortest one that
 // was found, or `None` if the log wasn't refuted.
 fn refuted_beginning(
@@ -54,29 +152,19 @@ fn refuted_beginning(
     slots: &Slots,
     most: usize,
 ) -> Result<Option<usize>, NoMemory>
-    requires { log.now.setting.size ≡ length slots.now.at.items }
-    ensures { IfOk result (λ count. IfSome count (λ count. (submissions registrations : ℕ)
-        → HasNoFlight (ring_of_slots (catalogue_in log.now) slots.now submissions registrations)
-        (all_happenings (take count log.now.events.now)))) }
+    requires { IsTableOf log.now slots.now }
+    ensures { IfOk result (λ count. IfSome count (λ count. HaveNoFlight log.now slots.now
+        (take count (log_in log.now)))) }
 {
-    let mut high = log.events.len();
-    let whole = refute(log, slots, high, most)?;
-    if !whole.is_refuted {
+    let count = log.events.len();
+    let first = ReachedStates::first(log.setting.alloc, slots)?;
+    let Some(at) = refute(log, first, count, most)? else {
         return Ok(None);
-    }
-    let mut low = whole.at;
-    for _ in 0..64 {
-        if low >= high {
-            break;
-        }
-        let middle = low + (high - low) / 2;
-        if refute(log, slots, middle, most)?.is_refuted {
-            high = middle;
-        } else {
-            low = middle + 1;
-        }
-    }
-    Ok(Some(high))
+    };
+    let low = at.saturating_add(1).min(count);
+    let saved = saved_before(log, slots, low, most)?;
+    let shortest = shortest_refuted(log, slots, &saved, low, count, most)?;
+    Ok(Some(shortest))
 }
 
 // Checks whether the log has a flight, by a search that goes back over at most `most` states.
