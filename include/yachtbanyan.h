@@ -4,11 +4,10 @@
  *
  * Drops. A value that was replaced or removed is dropped by its last user, before the call that
  * ends this use returns. Its users are the handles that hold it, the call that replaced or removed
- * it, and each look-up (yacht_get_at, a call by key, or yacht_insert_with, which looks for an empty
- * slot) under way that first saw it. Such a look-up is a user until it ends, even if it returns
- * another value. So a look-up may drop a value that its caller never got, and a thread that is
- * stopped within one may delay a drop. While no call is under way, each value that was replaced or
- * removed, and that no handle holds, has been dropped.
+ * it, and each look-up (yacht_get_at, or a call by key) under way that first saw it. Such a look-up
+ * is a user until it ends, even if it returns another value. So a look-up may drop a value that its
+ * caller never got, and a thread that is stopped within one may delay a drop. While no call is
+ * under way, each value that was replaced or removed, and that no handle holds, has been dropped.
  *
  * Keys. A key names one value: its slot, and a number that no other value of the table has or will
  * have. Once the value was replaced or removed, its key is stale: a call by it returns YACHT_STALE

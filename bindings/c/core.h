@@ -36,8 +36,7 @@ int64_t yacht_core_replace(yacht_core *worker, uint32_t slot, uint64_t number, u
                            yacht_outcome *out);
 int64_t yacht_core_remove_at(yacht_core *worker, uint32_t slot, yacht_outcome *out);
 int64_t yacht_core_remove(yacht_core *worker, uint32_t slot, uint64_t number, yacht_outcome *out);
-int64_t yacht_core_draw(yacht_core *worker, uint64_t *number);
+int64_t yacht_core_find(yacht_core *worker, uint64_t *number);
 int64_t yacht_core_put_empty(yacht_core *worker, uint32_t slot, uint64_t tag);
-int64_t yacht_core_full(yacht_core *worker);
 
 #endif

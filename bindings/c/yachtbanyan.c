@@ -30,8 +30,7 @@ struct yacht_handle {
     void *held;      /* or NULL */
     uint64_t number; /* of what it holds */
     uint32_t slot;   /* of what it holds */
-    uint32_t begin;  /* where it begins to look for an empty slot */
-    char apart[128 - 3 * sizeof(void *) - sizeof(uint64_t) - 2 * sizeof(uint32_t)];
+    char apart[128 - 3 * sizeof(void *) - sizeof(uint64_t) - sizeof(uint32_t)];
 };
 
 struct yacht_table {
@@ -76,8 +75,7 @@ int yacht_open(yacht_table **table, uint32_t slots, uint32_t handles, uint32_t r
     if (answer == YACHT_DONE) {
         it->drop = drop, it->with = with;
         it->slots = slots, it->handles = handles, it->readers = readers;
-        for (uint32_t i = 0; i < count; i++) /* each begins apart from the others */
-            it->all[i] = (yacht_handle){cores[i], .table = it, .begin = 67 * i % slots};
+        for (uint32_t i = 0; i < count; i++) it->all[i] = (yacht_handle){cores[i], .table = it};
         *table = it;
     } else {
         free(it);
@@ -181,39 +179,24 @@ int yacht_try_insert_key(yacht_handle *handle, void *value, yacht_key *key) {
     return insert(handle, value, key, 1);
 }
 
-/* finds a slot that was empty when it was looked at, and draws the number of the key that a value
- * gets there; returns YACHT_DONE, YACHT_FULL, YACHT_AGAIN, or why the handle can't install */
-static int find(yacht_handle *handle, yacht_key *key) {
-    uint32_t slots = handle->table->slots;
-    for (uint32_t i = 0; i < slots; i++) {
-        void *value;
-        key->slot = (handle->begin + i) % slots;
-        int answer = yacht_get_at(handle, key->slot, &value);
-        if (answer == YACHT_EMPTY) return (int)yacht_core_draw(&handle->core, &key->number);
-        if (answer != YACHT_DONE) return answer;
-        yacht_release(handle);
-    }
-    return (int)yacht_core_full(&handle->core);
-}
-
 int yacht_insert_with(yacht_handle *handle, yacht_make *make, void *with, yacht_key *key) {
     if (!make || !key) return YACHT_BAD_ARGUMENT;
     for (;;) {
         yacht_key its;
-        int answer = find(handle, &its);
-        if (answer == YACHT_DONE) {
+        int64_t answer = yacht_core_find(&handle->core, &its.number);
+        if (answer >= 0) {
+            its.slot = (uint32_t)answer;
             void *value = make(its, with);
             if (!value) return YACHT_BAD_ARGUMENT;
             release(value);
-            answer = (int)yacht_core_put_empty(&handle->core, its.slot, tag_of(value));
+            answer = yacht_core_put_empty(&handle->core, its.slot, tag_of(value));
             if (answer == YACHT_DONE) {
-                handle->begin = (its.slot + 1) % handle->table->slots;
                 *key = its;
                 return (int)its.slot;
             }
             drop_value(handle->table, value);
         }
-        if (answer != YACHT_AGAIN && answer != YACHT_STALE) return answer;
+        if (answer != YACHT_AGAIN && answer != YACHT_STALE) return (int)answer;
         if (answer == YACHT_AGAIN) sched_yield();
     }
 }
@@ -235,7 +218,6 @@ int yacht_replace_at(yacht_handle *handle, uint32_t slot, void *value) {
 int yacht_remove_at(yacht_handle *handle, uint32_t slot) {
     yacht_outcome out;
     int64_t answer = yacht_core_remove_at(&handle->core, slot, &out);
-    if (answer >= 0) handle->begin = slot;
     return end(handle, answer, &out);
 }
 
@@ -243,7 +225,6 @@ int yacht_remove(yacht_handle *handle, yacht_key key) {
     for (;;) {
         yacht_outcome out;
         int64_t answer = yacht_core_remove(&handle->core, key.slot, key.number, &out);
-        if (answer >= 0) handle->begin = key.slot;
         if (end(handle, answer, &out) != YACHT_AGAIN) return (int)answer;
         sched_yield();
     }

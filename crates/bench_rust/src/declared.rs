@@ -66,7 +66,6 @@ extern "C" {
     ) -> i64;
     pub fn yacht_core_remove_at(worker: *mut Core, slot: u32, out: *mut Outcome) -> i64;
     pub fn yacht_core_remove(worker: *mut Core, slot: u32, number: u64, out: *mut Outcome) -> i64;
-    pub fn yacht_core_draw(worker: *mut Core, number: *mut u64) -> i64;
+    pub fn yacht_core_find(worker: *mut Core, number: *mut u64) -> i64;
     pub fn yacht_core_put_empty(worker: *mut Core, slot: u32, tag: u64) -> i64;
-    pub fn yacht_core_full(worker: *mut Core) -> i64;
 }

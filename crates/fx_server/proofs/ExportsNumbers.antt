@@ -17,12 +17,12 @@ use Rattle.fx_lasting.specs.declared.key.Key.{Key}
 use Rattle.fx_lasting.specs.declared.key_answers.KeyFault.{KeyFault}
 use Rattle.fx_lasting.specs.declared.key_answers.KeyFault.TheVariants as fault
 use Rattle.fx_lasting.specs.declared.pass.LastingPass.{LastingPass}
-use Rattle.fx_server.specs.Answers.{DrawsAs, GetsAs, GetsAtAs, InsertsAs, PutsEmptyAs, ReleasesAs, RemovesAs, RemovesAtAs, ReplacesAs, ReplacesAtAs, ReportsFullAs, StaysInTable}
+use Rattle.fx_server.specs.Answers.{FindsAs, GetsAs, GetsAtAs, InsertsAs, PutsEmptyAs, ReleasesAs, RemovesAs, RemovesAtAs, ReplacesAs, ReplacesAtAs, StaysInTable}
 use Rattle.fx_server.specs.ByKey.{FindsByKey, HasHolder, LooksKey, PutsNoKey, RemovesByKey, RemovesNoKey, ReplacesByKey, ReplacesByKeyNext}
 use Rattle.fx_server.specs.Files.{file_with}
 use Rattle.fx_server.specs.FilesNumbers.{DrawsItsNumbers, ExportsKeepNumbers, InstallsNothing, KeepsItsNumbers}
-use Rattle.fx_server.specs.Installing.{DrawsOne, PutsAnyNext, PutsEmptyKept, PutsNext, having_spent}
-use Rattle.fx_server.specs.Workers.{Finds, LooksAt, PutsAny, PutsEmpty, Puts, ReleasesHeld, RemovesFrom, ReportsFull, RetiresAny, RetiresAs, hold_in, its_opening, its_pass, its_start}
+use Rattle.fx_server.specs.Installing.{FindsNext, PutsAnyNext, PutsEmptyKept, PutsNext, having_spent}
+use Rattle.fx_server.specs.Workers.{Finds, FindsSlot, LooksAt, PutsAny, PutsEmpty, Puts, ReleasesHeld, RemovesFrom, RetiresAny, RetiresAs, hold_in, its_opening, its_pass, its_start}
 use Rattle.fx_server.specs.declared.answers.CoreOutcome.{CoreOutcome}
 use Rattle.fx_server.specs.declared.answers.FoundFile.{FoundFile}
 use Rattle.fx_server.specs.declared.answers.Placed.{Placed}
@@ -199,17 +199,18 @@ put_empty_none w w' slot tag number NoFree it = absurd it
 put_empty_none w w' slot tag number BadArgument it = absurd it
 put_empty_none w w' slot tag number NoMemory it = absurd it
 
-full_none : (w w' : TableWorker) (answer : ServerRefusal) → ReportsFull w answer w' → AddsNone (its w) (its w')
-full_none w w' NoFree it = added_none (its_opening w) (its_pass w) _ _ _ (its_pass w') it (refl, tt)
-full_none w w' Again it = added_none (its_opening w) (its_pass w) _ _ _ (its_pass w') it tt
-full_none w w' Busy it = same w w' it.1
-full_none w w' Reader it = same w w' it.1
-full_none w w' Empty it = absurd it
-full_none w w' NoSlot it = absurd it
-full_none w w' Idle it = absurd it
-full_none w w' BadArgument it = absurd it
-full_none w w' NoMemory it = absurd it
-full_none w w' Stale it = absurd it
+find_none : (w w' : TableWorker) (result : Result ℕ ServerRefusal) → FindsSlot w result w' → AddsNone (its w) (its w')
+find_none w w' (Ok slot) it = added_none (opening_of (its_start w)) (its_pass w) _ _ _ (its_pass w') it.1.adds tt
+find_none w w' (Err NoFree) it = added_none (opening_of (its_start w)) (its_pass w) _ _ _ (its_pass w') it (refl, tt)
+find_none w w' (Err Again) it = added_none (opening_of (its_start w)) (its_pass w) _ _ _ (its_pass w') it.0 tt
+find_none w w' (Err Busy) it = same w w' it.1
+find_none w w' (Err Reader) it = same w w' it.1
+find_none w w' (Err Empty) it = absurd it
+find_none w w' (Err NoSlot) it = absurd it
+find_none w w' (Err Idle) it = absurd it
+find_none w w' (Err BadArgument) it = absurd it
+find_none w w' (Err NoMemory) it = absurd it
+find_none w w' (Err Stale) it = absurd it
 
 inserts : (w w' : TableWorker) (tag : ℕ) (result : Result PlacedAt ServerRefusal) → PutsAnyNext w tag result w' → w'.holder ≡ w.holder → KeepsItsNumbers w w'
 inserts w w' tag (Ok placed) it holder installing place some low d =
@@ -241,21 +242,11 @@ replaces w w' key tag (Err reason) freed released it installing place some low d
     let un = replace_unchanged w w' key tag w.numbers.next reason freed released it.1 in
     stays installing place some low w w' d (un.holder d.holder) un.none it.0
 
-draws_one : (w w' : TableWorker) (result : Result ℕ ServerRefusal) → DrawsOne w result w' → KeepsItsNumbers w w'
-draws_one w w' (Ok number) it installing place some low d =
-    keeps installing place some low w w' d (holder_same w w' (ap (λ (u : TableWorker). u.holder) it.1) d.holder)
-    (λ f there. subst (λ (u : TableWorker). IsInstalled (its u) f) it.1 there) (ap (λ (u : TableWorker). u.numbers) it.1)
-draws_one w w' (Err Reader) it installing place some low d =
-    stays installing place some low w w' d (holder_same w w' (ap (λ (u : TableWorker). u.holder) it.1) d.holder) (same w w' it.1) (ap (λ (u : TableWorker). u.numbers) it.1)
-draws_one w w' (Err Empty) it installing place some low d = absurd it
-draws_one w w' (Err NoSlot) it installing place some low d = absurd it
-draws_one w w' (Err Busy) it installing place some low d = absurd it
-draws_one w w' (Err Idle) it installing place some low d = absurd it
-draws_one w w' (Err NoFree) it installing place some low d = absurd it
-draws_one w w' (Err Again) it installing place some low d = absurd it
-draws_one w w' (Err BadArgument) it installing place some low d = absurd it
-draws_one w w' (Err NoMemory) it installing place some low d = absurd it
-draws_one w w' (Err Stale) it installing place some low d = absurd it
+finds_next : (w w' : TableWorker) (result : Result PlacedAt ServerRefusal) → FindsNext w result w' → w'.holder ≡ w.holder → KeepsItsNumbers w w'
+finds_next w w' (Ok placed) it holder installing place some low d =
+    keeps installing place some low w w' d (holder_same w w' holder d.holder) (find_none w w' (Ok placed.slot) it.2) it.1
+finds_next w w' (Err reason) it holder installing place some low d =
+    stays installing place some low w w' d (holder_same w w' holder d.holder) (find_none w w' (Err reason) it.1) it.0
 
 puts_empty : (w w' : TableWorker) (slot tag : ℕ) (result : Result (Unit {0}) ServerRefusal) → PutsEmptyKept w slot tag result w' → w'.holder ≡ w.holder → KeepsItsNumbers w w'
 puts_empty w w' slot tag (Ok done) it holder installing place some low d =
@@ -282,8 +273,6 @@ exports_keep = record {
   remove = λ w w' key answer out it installing place some low d.
       let un = remove_unchanged w w' key it.call.removal it.call.freed it.call.released it.removed in
       stays installing place some low w w' d (un.holder d.holder) un.none it.numbers;
-  draw = λ w w' answer number it. draws_one w w' it.result it.drawn;
+  find = λ w w' answer number it. finds_next w w' it.result it.found it.holder;
   put_empty = λ w w' slot tag answer it. puts_empty w w' slot tag it.result it.placed it.holder;
-  full = λ w w' code it installing place some low d.
-      stays installing place some low w w' d (holder_same w w' it.holder d.holder) (full_none w w' it.answer it.reports) it.numbers;
 }

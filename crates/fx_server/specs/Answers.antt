@@ -3,12 +3,12 @@
 use Rattle.std.specs.Prelude.{◌≡◌, ℕ, ℤ, Option, None, Result}
 use Rattle.fx_lasting.specs.declared.key.Key.{Key}
 use Rattle.fx_server.specs.ByKey.{FindsByKey, RemovesByKey, ReplacesByKeyNext}
-use Rattle.fx_server.specs.Installing.{DrawsNone, DrawsOne, PutsNext, PutsAnyNext, PutsEmptyKept}
-use Rattle.fx_server.specs.Outcomes.{refusal_code, done_code, draw_code, drawn_or_zero, slot_code}
-use Rattle.fx_server.specs.Outcomes.{slot_number, release_code, released_tag, found_code}
+use Rattle.fx_server.specs.Installing.{DrawsNone, FindsNext, PutsNext, PutsAnyNext, PutsEmptyKept}
+use Rattle.fx_server.specs.Outcomes.{done_code, slot_code, slot_number, release_code}
+use Rattle.fx_server.specs.Outcomes.{released_tag, found_code}
 use Rattle.fx_server.specs.Outcomes.{found_outcome, removal_code, removed_outcome, placed_code}
 use Rattle.fx_server.specs.Outcomes.{placed_outcome}
-use Rattle.fx_server.specs.Workers.{IsGood, LooksUp, ReleasesHeld, RemovesFrom, ReportsFull}
+use Rattle.fx_server.specs.Workers.{IsGood, LooksUp, ReleasesHeld, RemovesFrom}
 use Rattle.fx_server.specs.declared.answers.CoreOutcome.{CoreOutcome}
 use Rattle.fx_server.specs.declared.answers.LookAnswer.{LookAnswer}
 use Rattle.fx_server.specs.declared.answers.PlaceAnswer.{PlaceAnswer}
@@ -109,13 +109,14 @@ pub record RemovesAs (w : TableWorker) (key : Key) (answer : ℤ) (out : CoreOut
   pub its_answer : answer ≡ removal_code call.removal
   pub its_outcome : out ≡ removed_outcome call
 
--- a draw of a number that the worker keeps
-pub record DrawsAs (w : TableWorker) (answer : ℤ) (number : ℕ) (w' : TableWorker) : Type 0 where
-  pub result : Result ℕ ServerRefusal
+-- an empty slot, and the number that the worker keeps for a file there
+pub record FindsAs (w : TableWorker) (answer : ℤ) (number : ℕ) (w' : TableWorker) : Type 0 where
+  pub result : Result PlacedAt ServerRefusal
   pub stays : StaysInTable w w'
-  pub drawn : DrawsOne w result w'
-  pub its_answer : answer ≡ draw_code result
-  pub its_number : number ≡ drawn_or_zero result
+  pub found : FindsNext w result w'
+  pub holder : w'.holder ≡ w.holder
+  pub its_answer : answer ≡ slot_code result
+  pub its_number : number ≡ slot_number result
 
 -- an installation at an empty slot, with the number that the worker kept
 pub record PutsEmptyAs (w : TableWorker) (slot tag : ℕ) (answer : ℤ) (w' : TableWorker)
@@ -125,12 +126,3 @@ pub record PutsEmptyAs (w : TableWorker) (slot tag : ℕ) (answer : ℤ) (w' : T
   pub placed : PutsEmptyKept w slot tag result w'
   pub holder : w'.holder ≡ w.holder
   pub its_answer : answer ≡ done_code result
-
--- the question whether every slot has a file
-pub record ReportsFullAs (w : TableWorker) (code : ℤ) (w' : TableWorker) : Type 0 where
-  pub answer : ServerRefusal
-  pub stays : StaysInTable w w'
-  pub reports : ReportsFull w answer w'
-  pub numbers : DrawsNone w w'
-  pub holder : w'.holder ≡ w.holder
-  pub its_code : code ≡ refusal_code answer

@@ -9,9 +9,8 @@ use Rattle.fx_lasting.specs.Tables.{view_of}
 use Rattle.fx_lasting.specs.declared.key.Key.{Key}
 use Rattle.fx_lasting.specs.declared.layout.TheConstants.{MOST_INSTALLING}
 use Rattle.fx_lasting.specs.declared.pass.LastingPass.{LastingPass}
-use Rattle.fx_server.specs.Answers.{DrawsAs, GetsAs, GetsAtAs, InsertsAs, PutsEmptyAs, ReleasesAs}
+use Rattle.fx_server.specs.Answers.{FindsAs, GetsAs, GetsAtAs, InsertsAs, PutsEmptyAs, ReleasesAs}
 use Rattle.fx_server.specs.Answers.{RemovesAs, RemovesAtAs, ReplacesAs, ReplacesAtAs}
-use Rattle.fx_server.specs.Answers.{ReportsFullAs}
 use Rattle.fx_server.specs.EndsOfKeys.{HaveTheirOwnKeys}
 use Rattle.fx_server.specs.FileNumbers.{after_draws, first_numbers, number_drawn, without_kept}
 use Rattle.fx_server.specs.Workers.{its_pass}
@@ -79,8 +78,7 @@ pub record ExportsKeepNumbers : Type 0 where
       → RemovesAtAs w slot answer out w' → KeepsItsNumbers w w'
   pub remove : (w w' : TableWorker) (key : Key) (answer : ℤ) (out : CoreOutcome)
       → RemovesAs w key answer out w' → KeepsItsNumbers w w'
-  pub draw : (w w' : TableWorker) (answer : ℤ) (number : ℕ)
-      → DrawsAs w answer number w' → KeepsItsNumbers w w'
+  pub find : (w w' : TableWorker) (answer : ℤ) (number : ℕ)
+      → FindsAs w answer number w' → KeepsItsNumbers w w'
   pub put_empty : (w w' : TableWorker) (slot tag : ℕ) (answer : ℤ)
       → PutsEmptyAs w slot tag answer w' → KeepsItsNumbers w w'
-  pub full : (w w' : TableWorker) (code : ℤ) → ReportsFullAs w code w' → KeepsItsNumbers w w'

@@ -1,11 +1,10 @@
 -- The calls of a worker that draw the number of the file that they install.
 use Rattle.std.specs.Prelude.{◌≡◌, ℕ, Result, Ok, Err}
 use Rattle.fx_server.specs.FileNumbers.{after_draw, after_keep, without_kept}
-use Rattle.fx_server.specs.Workers.{IsReader, Puts, PutsAny, PutsEmpty}
+use Rattle.fx_server.specs.Workers.{FindsSlot, Puts, PutsAny, PutsEmpty}
 use Rattle.fx_server.specs.declared.answers.Placed.{Placed}
 use Rattle.fx_server.specs.declared.answers.PlacedAt.{PlacedAt}
 use Rattle.fx_server.specs.declared.answers.ServerRefusal.{ServerRefusal}
-use Rattle.fx_server.specs.declared.answers.ServerRefusal.TheVariants.{Reader}
 use Rattle.fx_server.specs.declared.worker.TableWorker.{TableWorker}
 
 -- the worker has drawn this number, its next one, and nothing else
@@ -33,12 +32,11 @@ PutsAnyNext w tag (Ok placed) w' = UsesNumber w placed.number w'
 PutsAnyNext w tag (Err reason) w' = DrawsNone w w'
     × PutsAny w tag w.numbers.next (Err reason) w'
 
--- a number is drawn, and kept for a file that is installed later
-abbrev pub DrawsOne : TableWorker → Result ℕ ServerRefusal → TableWorker → Type 0
-DrawsOne w (Ok number) w' = (number ≡ w.numbers.next)
-    × (w' ≡ record w { numbers = after_keep w.numbers })
-DrawsOne w (Err Reader) w' = IsReader w w'
-DrawsOne w (Err _) w' = ⊥
+-- an empty slot was found, and a number was drawn, and is kept for a file that is installed later
+abbrev pub FindsNext : TableWorker → Result PlacedAt ServerRefusal → TableWorker → Type 0
+FindsNext w (Ok placed) w' = (placed.number ≡ w.numbers.next)
+    × (w'.numbers ≡ after_keep w.numbers) × FindsSlot w (Ok placed.slot) w'
+FindsNext w (Err reason) w' = DrawsNone w w' × FindsSlot w (Err reason) w'
 
 -- the worker that keeps no number
 abbrev pub having_spent : TableWorker → TableWorker

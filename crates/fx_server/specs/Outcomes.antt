@@ -36,15 +36,6 @@ abbrev pub done_code : Result (Unit {0}) ServerRefusal → ℤ
 done_code (Ok _) = DONE
 done_code (Err reason) = refusal_code reason
 
--- of a draw, and the number that was drawn, or 0
-abbrev pub draw_code : Result ℕ ServerRefusal → ℤ
-draw_code (Ok number) = DONE
-draw_code (Err reason) = refusal_code reason
-
-abbrev pub drawn_or_zero : Result ℕ ServerRefusal → ℕ
-drawn_or_zero (Ok number) = number
-drawn_or_zero (Err _) = 0
-
 -- of an installation at any slot: the slot, and the number of the file, or 0
 abbrev pub slot_code : Result PlacedAt ServerRefusal → ℤ
 slot_code (Ok placed) = pos placed.slot

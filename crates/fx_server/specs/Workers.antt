@@ -20,11 +20,12 @@ use Rattle.fx_lasting.specs.Laws.{IsInRange as IsAllocated}
 use Rattle.fx_lasting.specs.Labels.{number_of_mark}
 use Rattle.fx_lasting.specs.declared.layout.TheConstants.{MOST_SLOTS, MOST_PASSES, MOST_INSTALLING}
 use Rattle.fx_lasting.specs.Tables.{view_of, opening_of_table, IsPassOfTable}
+use Rattle.fx_lasting.specs.declared.answers.FoundSlot.TheVariants as found
 use Rattle.fx_lasting.specs.declared.answers.PutEmpty.{PutEmpty}
 use Rattle.fx_lasting.specs.declared.answers.PutEmpty.TheVariants as empty
 use Rattle.fx_lasting.specs.declared.pass.LastingPass.{LastingPass}
 use Rattle.fx_lasting.specs.declared.table.LastingTable.{LastingTable}
-use Rattle.fx_lasting.specs.Vacant.{HasPutEmpty}
+use Rattle.fx_lasting.specs.Vacant.{HasPutEmpty, HasSearched}
 use Rattle.fx_lasting.specs.declared.view.Start.{Start}
 use Rattle.fx_server.specs.Files.{file_with}
 use Rattle.fx_server.specs.declared.answers.FoundFile.{FoundFile}
@@ -220,12 +221,12 @@ PutsEmpty w slot tag number (Err Reader) w' = IsReader w w'
 PutsEmpty w slot tag number (Err Busy) w' = IsBusy w w'
 PutsEmpty w slot tag number (Err _) w' = ⊥
 
--- every slot had a file at one step, or nothing was done
-abbrev pub ReportsFull : TableWorker → ServerRefusal → TableWorker → Type 0
-ReportsFull w NoFree w' =
-    Adds (its_opening w) (its_pass w) ([] ▷ Full) DoesNothing no_use (its_pass w')
-ReportsFull w Again w' =
-    Adds (its_opening w) (its_pass w) [] DoesNothing no_use (its_pass w')
-ReportsFull w Busy w' = IsBusy w w'
-ReportsFull w Reader w' = IsReader w w'
-ReportsFull w _ w' = ⊥
+-- a slot of the range was empty at a moment of the call; or all had a file at one step; or neither
+-- was found, and the table's call says what it saw. Nothing was done
+abbrev pub FindsSlot : TableWorker → Result ℕ ServerRefusal → TableWorker → Type 0
+FindsSlot w (Ok slot) w' = HasSearched (its_start w) w.pass (found.At slot) w'.pass
+FindsSlot w (Err NoFree) w' = HasSearched (its_start w) w.pass found.Full w'.pass
+FindsSlot w (Err Again) w' = HasSearched (its_start w) w.pass found.Again w'.pass
+FindsSlot w (Err Busy) w' = IsBusy w w'
+FindsSlot w (Err Reader) w' = IsReader w w'
+FindsSlot w (Err _) w' = ⊥

@@ -1,7 +1,7 @@
 //! The installations of a worker. Each file that is installed gets the next number of the worker,
 //! or the one that the worker drew before and kept.
 ghost use Rattle.std.specs.Prelude.{◌≡◌, None};
-ghost use Rattle.fx_server.specs.Installing.{DrawsOne, PutsAnyNext, PutsEmptyKept, PutsNext};
+ghost use Rattle.fx_server.specs.Installing.{FindsNext, PutsAnyNext, PutsEmptyKept, PutsNext};
 ghost use Rattle.fx_server.specs.Workers.{IsGood};
 
 use crate::answers::{PlaceAnswer, Placed, PlacedAt, ServerRefusal};
@@ -55,23 +55,24 @@ impl TableWorker {
         Ok(PlacedAt { slot, number })
     }
 
-    /// Draws the next number, and keeps it for the file that `put_empty` installs. So a value can
-    /// be made from its key.
+    /// Finds an empty slot, and draws the next number, which the worker keeps for the file that
+    /// `put_empty` installs. So a value can be made from its key. Returns the slot, which another
+    /// worker may fill before that, and the number.
     ///
     /// # Errors
-    /// `Reader` if the worker doesn't install files.
+    /// `Busy`, `Reader`, in this order; `Full` if at one step every slot had a file; `Again` if it
+    /// found no empty slot, and no such step.
     #[inline(always)]
-    pub fn draw(&mut self) -> Result<u64, ServerRefusal>
+    pub fn find(&mut self) -> Result<PlacedAt, ServerRefusal>
         requires good { IsGood self.old }
         ensures good { IsGood self.new }
         ensures table { self.new.shared ≡ self.old.shared }
         ensures holder { self.new.holder ≡ self.old.holder }
-        ensures drawn { DrawsOne self.old result self.new }
+        ensures found { FindsNext self.old result self.new }
     {
-        if !self.shared.table.installs(&self.pass) {
-            return Err(ServerRefusal::Reader);
-        }
-        Ok(self.numbers.keep())
+        let slot = self.find_slot()?;
+        let number = self.numbers.keep();
+        Ok(PlacedAt { slot, number })
     }
 
     /// Installs a file with this tag at a slot if it is empty. The file gets the number that the

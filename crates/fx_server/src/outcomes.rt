@@ -1,6 +1,6 @@
 //! The numbers and outcomes that C gets for the results of a worker's calls.
 ghost use Rattle.std.specs.Prelude.{◌≡◌};
-ghost use Rattle.fx_server.specs.Outcomes.{done_code, draw_code, drawn_or_zero, found_code, found_outcome, placed_code, placed_outcome, release_code, released_tag, removal_code, removal_tag, removed_outcome, slot_code, slot_number, tag_or_zero};
+ghost use Rattle.fx_server.specs.Outcomes.{done_code, found_code, found_outcome, placed_code, placed_outcome, release_code, released_tag, removal_code, removal_tag, removed_outcome, slot_code, slot_number, tag_or_zero};
 
 use crate::answers::{
     CoreOutcome, FoundFile, LookAnswer, PlaceAnswer, Placed, PlacedAt, Removal, RemoveAnswer,
@@ -27,28 +27,6 @@ pub fn done_code(done: Result<(), ServerRefusal>) -> i64
     match done {
         Ok(()) => DONE,
         Err(refusal) => refusal.code(),
-    }
-}
-
-/// Returns the number of a draw: `DONE`, or the refusal's.
-#[inline(always)]
-pub fn draw_code(drawn: Result<u64, ServerRefusal>) -> i64
-    ensures { result ≡ draw_code drawn }
-{
-    match drawn {
-        Ok(_) => DONE,
-        Err(refusal) => refusal.code(),
-    }
-}
-
-/// Returns the number that was drawn, or 0.
-#[inline(always)]
-pub fn drawn_or_zero(drawn: Result<u64, ServerRefusal>) -> u64
-    ensures { result ≡ drawn_or_zero drawn }
-{
-    match drawn {
-        Ok(number) => number,
-        Err(_) => 0,
     }
 }
 

@@ -1,11 +1,11 @@
 //! The installations of a worker, with a number that the caller chose.
 ghost use Rattle.std.specs.Prelude.{◌≡◌};
-ghost use Rattle.fx_server.specs.Workers.{IsGood, Puts, PutsAny, PutsEmpty, ReportsFull};
+ghost use Rattle.fx_server.specs.Workers.{FindsSlot, IsGood, Puts, PutsAny, PutsEmpty};
 
 use crate::answers::{Removal, ServerRefusal};
 use crate::shared::Shared;
 use crate::worker::{TableWorker, retire};
-use fx_lasting::{PutEmpty, TriedPut};
+use fx_lasting::{FoundSlot, PutEmpty, TriedPut};
 
 impl TableWorker {
     /// Installs a file with this tag and number at a slot. Returns what was there.
@@ -124,28 +124,31 @@ impl TableWorker {
         }
     }
 
-    /// Checks whether every slot has a file. Returns `Full` if at one step every slot had one,
-    /// `Again` if it found no such step; or `Busy`, `Reader`, in this order.
+    /// Finds a slot of the allocation range that is empty at a moment of the call.
+    ///
+    /// # Errors
+    /// `Busy`, `Reader`, in this order; `Full` if at one step every slot had a file; `Again` if it
+    /// found no empty slot, and no such step.
     #[inline(always)]
-    pub fn full(&mut self) -> ServerRefusal
+    pub(crate) fn find_slot(&mut self) -> Result<u32, ServerRefusal>
         requires good { IsGood self.old }
         ensures good { IsGood self.new }
         ensures table { self.new.shared ≡ self.old.shared }
         ensures numbers { self.new.numbers ≡ self.old.numbers }
         ensures holder { self.new.holder ≡ self.old.holder }
-        ensures reports { ReportsFull self.old result self.new }
+        ensures found { FindsSlot self.old result self.new }
     {
         if self.held.is_some() {
-            return ServerRefusal::Busy;
+            return Err(ServerRefusal::Busy);
         }
         let table = &self.shared.table;
         if !table.installs(&self.pass) {
-            return ServerRefusal::Reader;
+            return Err(ServerRefusal::Reader);
         }
-        if table.is_range_full(&mut self.pass) {
-            ServerRefusal::Full
-        } else {
-            ServerRefusal::Again
+        match table.find(&mut self.pass) {
+            FoundSlot::At(slot) => Ok(slot),
+            FoundSlot::Full => Err(ServerRefusal::Full),
+            FoundSlot::Again => Err(ServerRefusal::Again),
         }
     }
 }

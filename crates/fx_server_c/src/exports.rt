@@ -1,17 +1,17 @@
 //! The functions that C calls: one for each call that a user makes. Each borrows the handle of a
 //! worker, and calls the worker, which is good before the call and after it.
 ghost use Rattle.std.specs.Prelude.{◌≡◌, ◌≢◌, ◌⊎◌, length};
-ghost use Rattle.fx_server.specs.Answers.{DrawsAs, GetsAs, GetsAtAs, InsertsAs, PutsEmptyAs};
+ghost use Rattle.fx_server.specs.Answers.{FindsAs, GetsAs, GetsAtAs, InsertsAs, PutsEmptyAs};
 ghost use Rattle.fx_server.specs.Answers.{ReleasesAs, RemovesAs, RemovesAtAs, ReplacesAs};
-ghost use Rattle.fx_server.specs.Answers.{ReplacesAtAs, ReportsFullAs};
+ghost use Rattle.fx_server.specs.Answers.{ReplacesAtAs};
 ghost use Rattle.fx_server.specs.ByKey.{key_of};
 ghost use Rattle.fx_server.specs.Places.{OpensAs};
 ghost use Rattle.fx_server.specs.Workers.{IsGood, IsInRange};
 ghost use Rattle.fx_server.specs.declared.codes.TheConstants.{DONE, BAD_ARGUMENT, NO_MEMORY};
 
 use fx_server::outcomes::{
-    done_code, draw_code, drawn_or_zero, found_code, found_outcome, placed_code, placed_outcome,
-    release_code, released_tag, removal_code, removed_outcome, slot_code, slot_number,
+    done_code, found_code, found_outcome, placed_code, placed_outcome, release_code, released_tag,
+    removal_code, removed_outcome, slot_code, slot_number,
 };
 use fx_server::{CoreOutcome, Handle, WorkerPlace, open_places};
 use std::alloc::Global;
@@ -163,16 +163,17 @@ pub extern "C" fn yacht_core_remove(
     removal_code(answer.removal)
 }
 
-/// Draws the worker's next number, which the worker keeps for the file that `yacht_core_put_empty`
-/// installs. It returns `DONE` or `READER`.
+/// Finds an empty slot, and draws the worker's next number, which the worker keeps for the file
+/// that `yacht_core_put_empty` installs. It returns the slot, which another worker may fill before
+/// that, or `FULL`, `AGAIN`, `BUSY` or `READER`. `number` is the number, or 0.
 #[unsafe(no_mangle)]
-pub extern "C" fn yacht_core_draw(worker: &mut Handle, number: &mut u64) -> i64
+pub extern "C" fn yacht_core_find(worker: &mut Handle, number: &mut u64) -> i64
     requires good { IsGood worker.old.worker }
-    ensures drawn { DrawsAs worker.old.worker result number.new worker.new.worker }
+    ensures found { FindsAs worker.old.worker result number.new worker.new.worker }
 {
-    let drawn = worker.as_mut().draw();
-    *number = drawn_or_zero(drawn);
-    draw_code(drawn)
+    let found = worker.as_mut().find();
+    *number = slot_number(found);
+    slot_code(found)
 }
 
 /// Installs a file with this tag, and with the number that the worker kept, at a slot if it is
@@ -184,14 +185,4 @@ pub extern "C" fn yacht_core_put_empty(worker: &mut Handle, slot: u32, tag: u64)
     ensures placed { PutsEmptyAs worker.old.worker slot tag result worker.new.worker }
 {
     done_code(worker.as_mut().put_empty(slot, tag))
-}
-
-/// Checks whether every slot has a file. It returns `FULL`, or `AGAIN` if it found no step at which
-/// every slot had one, `BUSY` or `READER`.
-#[unsafe(no_mangle)]
-pub extern "C" fn yacht_core_full(worker: &mut Handle) -> i64
-    requires good { IsGood worker.old.worker }
-    ensures reports { ReportsFullAs worker.old.worker result worker.new.worker }
-{
-    worker.as_mut().full().code()
 }

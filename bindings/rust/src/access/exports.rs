@@ -84,9 +84,8 @@ unsafe extern "C" {
         number: u64,
         out: *mut Outcome,
     ) -> i64;
-    pub(crate) fn yacht_core_draw(worker: *mut Core, number: *mut u64) -> i64;
+    pub(crate) fn yacht_core_find(worker: *mut Core, number: *mut u64) -> i64;
     pub(crate) fn yacht_core_put_empty(worker: *mut Core, slot: u32, tag: u64) -> i64;
-    pub(crate) fn yacht_core_full(worker: *mut Core) -> i64;
 }
 
 // The stand-in has the same functions.
@@ -103,7 +102,6 @@ const _: () = {
     let _: unsafe fn(*mut Core, u32, u64, u64, *mut Outcome) -> i64 = stand_in::yacht_core_replace;
     let _: unsafe fn(*mut Core, u32, *mut Outcome) -> i64 = stand_in::yacht_core_remove_at;
     let _: unsafe fn(*mut Core, u32, u64, *mut Outcome) -> i64 = stand_in::yacht_core_remove;
-    let _: unsafe fn(*mut Core, *mut u64) -> i64 = stand_in::yacht_core_draw;
+    let _: unsafe fn(*mut Core, *mut u64) -> i64 = stand_in::yacht_core_find;
     let _: unsafe fn(*mut Core, u32, u64) -> i64 = stand_in::yacht_core_put_empty;
-    let _: unsafe fn(*mut Core) -> i64 = stand_in::yacht_core_full;
 };

@@ -10,7 +10,6 @@ use crate::errors::{GetError, NoSeat, NoSlot, Reason, Refused};
 use crate::iter::Iter;
 use crate::key::Key;
 use crate::old::Old;
-use std::cell::Cell;
 use std::fmt;
 
 /// The access of one thread at a time to a [`Table`]: it looks slots up, and installs and removes
@@ -58,22 +57,16 @@ pub struct Handle<T> {
     pub(super) reader: Reader<T>,
     installer: Installer,
     pub(super) spare: Spare<T>,
-    /// The slot at which the handle begins to look for an empty one: that which it emptied last, or
-    /// the one after that which it filled last by `insert_with`.
-    pub(super) begin: Cell<u32>,
 }
 
 impl<T> Handle<T> {
     /// Makes a handle of the seats that the caller claimed, which have the same number.
     pub(super) fn new(table: Table<T>, own: Place) -> Handle<T> {
         let installer = table.values().seats.installer(own.number);
-        // apart from the other handles
-        let begin = Cell::new(67 * own.number % table.slots());
         Handle {
             reader: Reader::new(table, own, Some(installer)),
             installer,
             spare: Spare::default(),
-            begin,
         }
     }
 
@@ -226,7 +219,6 @@ impl<T> Handle<T> {
         let (values, core) = self.parts();
         // SAFETY: the seat is this handle's (one user), and holds nothing between two calls.
         let old = unsafe { values.remove_at(core, slot) }?;
-        self.begin.set(slot);
         Ok(old.map(|it| storage::take(&self.spare, it)))
     }
 

@@ -179,9 +179,6 @@ impl<T> Handle<T> {
         let (values, core) = self.parts();
         // SAFETY: the seat is this handle's (one user), and holds nothing between two calls.
         let (old, unused) = unsafe { values.remove(core, key) };
-        if old.is_ok() {
-            self.begin.set(key.slot());
-        }
         let old = old.map(|old| old.map(|it| storage::take(&self.spare, it)));
         drop_unused(Some(unused));
         Ok(old?)

@@ -514,15 +514,24 @@ pub(crate) unsafe fn yacht_core_remove(
     it.end_by_key(node, exchanged, out)
 }
 
-pub(crate) unsafe fn yacht_core_draw(handle: *mut Core, number: *mut u64) -> i64 {
+pub(crate) unsafe fn yacht_core_find(handle: *mut Core, number: *mut u64) -> i64 {
     let (it, number) = unsafe { (worker(handle), &mut *number) };
     *number = 0;
+    if it.held.is_some() {
+        return BUSY;
+    }
     if it.stock.is_empty() {
         return READER;
     }
+    let slots = it.table.slots.len();
+    let first = it.emptied.pop_back().unwrap_or(it.after_filled);
+    let mut all = (first..first + slots).map(|it| it % slots);
+    let Some(slot) = all.find(|&slot| !has_file(it.table.slots[slot].load(SeqCst))) else {
+        return it.table.full();
+    };
     it.kept = it.draw();
     *number = it.kept;
-    DONE
+    slot as i64
 }
 
 /// Makes this the next number of a worker.
@@ -550,18 +559,8 @@ pub(crate) unsafe fn yacht_core_put_empty(handle: *mut Core, slot: u32, tag: u64
         Ok(old) => {
             it.table.changes.fetch_add(1, SeqCst);
             it.end(old);
+            it.after_filled = slot as usize + 1;
             DONE
         }
     }
-}
-
-pub(crate) unsafe fn yacht_core_full(handle: *mut Core) -> i64 {
-    let it = unsafe { worker(handle) };
-    if it.held.is_some() {
-        return BUSY;
-    }
-    if it.stock.is_empty() {
-        return READER;
-    }
-    it.table.full()
 }

@@ -286,22 +286,26 @@ impl<T> Values<T> {
         }
     }
 
-    /// Returns the key of a value that `insert_at` then installs at this slot.
+    /// Finds an empty slot. Returns the key of a value that `insert_at` then installs there, or the
+    /// reason why there is no such slot.
     ///
     /// # Safety
     /// As of `replace_at`.
-    pub(super) unsafe fn draw(&self, core: *mut Core, slot: u32) -> Key {
+    pub(super) unsafe fn find(&self, core: *mut Core) -> Result<Key, Round> {
         let mut number = 0;
         // SAFETY: no other call uses the core's worker meanwhile.
-        unsafe { core::yacht_core_draw(core, &mut number) };
-        Key::new(slot, NonZeroU64::new(number))
+        match unsafe { core::yacht_core_find(core, &mut number) } {
+            core::AGAIN => Err(Round::Again),
+            answer if answer < 0 => Err(Round::Full),
+            answer => Ok(Key::new(answer as u32, NonZeroU64::new(number))),
+        }
     }
 
-    /// Installs a value at a slot if that is empty. The value has the key that was drawn last.
+    /// Installs a value at a slot if that is empty. The value has the key that was found last.
     /// Returns the value if the slot isn't empty, or if it changed meanwhile.
     ///
     /// # Safety
-    /// As of `replace_at`. The slot is one of the table, and a key was drawn for this call.
+    /// As of `replace_at`. The slot is that of a key which was found for this call.
     pub(super) unsafe fn insert_at(
         &self,
         core: *mut Core,
@@ -315,15 +319,6 @@ impl<T> Values<T> {
             // SAFETY: the core installed nothing, so the value is still this call's (`placed`).
             _ => Err(unsafe { value_of(tag) }),
         }
-    }
-
-    /// Checks whether at one moment during the call every slot had a value.
-    ///
-    /// # Safety
-    /// As of `replace_at`.
-    pub(super) unsafe fn finds_full(&self, core: *mut Core) -> bool {
-        // SAFETY: no other call uses the core's worker meanwhile.
-        unsafe { core::yacht_core_full(core) == core::FULL }
     }
 
     /// Empties a slot. Returns what was there.

@@ -1,6 +1,7 @@
 //! Installations of a value that is made from its key.
 use super::handle::Handle;
 use super::storage;
+use super::values::Round;
 use crate::errors::Full;
 use crate::key::Key;
 
@@ -11,9 +12,8 @@ impl<T> Handle<T> {
     /// It looks for a slot that is empty, calls `make` with the key that a value gets there, and
     /// installs the value if the slot is still empty. If another thread was faster, the value is
     /// dropped, and the call looks again: `make` is called again, with another key. No value ever
-    /// gets a key that was lost. The call looks up the slots that it passes, as
-    /// [`Handle::contains`]. Like [`Handle::insert`], it may wait as long as one other thread is
-    /// stopped within its own insert, replace or remove.
+    /// gets a key that was lost. Like [`Handle::insert`], it may wait as long as one other thread
+    /// is stopped within its own insert, replace or remove.
     ///
     /// `make` may call this handle. If it panics, nothing is installed.
     ///
@@ -42,37 +42,22 @@ impl<T> Handle<T> {
     /// ```
     pub fn insert_with(&self, mut make: impl FnMut(Key) -> T) -> Result<Key, Full> {
         loop {
-            let Some(slot) = self.find_empty() else {
-                let (values, core) = self.parts();
-                // SAFETY: the seat is this handle's (one user), and holds nothing between two
-                // calls.
-                if unsafe { values.finds_full(core) } {
-                    return Err(values.full());
-                }
-                std::thread::yield_now();
-                continue;
-            };
             let (values, core) = self.parts();
-            // SAFETY: as above.
-            let key = unsafe { values.draw(core, slot) };
-            let value = self.store(make(key));
-            // SAFETY: as above. The slot was looked up, so it is one of the table, and the key was
-            // drawn for this call.
-            match unsafe { values.insert_at(core, slot, value) } {
-                Ok(()) => {
-                    self.begin.set((slot + 1) % values.slots());
-                    return Ok(key);
+            // SAFETY: the seat is this handle's (one user), and holds nothing between two calls.
+            let key = match unsafe { values.find(core) } {
+                Ok(key) => key,
+                Err(Round::Full) => return Err(values.full()),
+                Err(Round::Again) => {
+                    std::thread::yield_now();
+                    continue;
                 }
+            };
+            let value = self.store(make(key));
+            // SAFETY: as above. The core found the slot of the key for this call.
+            match unsafe { values.insert_at(core, key.slot(), value) } {
+                Ok(()) => return Ok(key),
                 Err(value) => drop(storage::take(&self.spare, value)),
             }
         }
-    }
-
-    /// Returns a slot that was empty when it was looked at, or `None` if none was.
-    fn find_empty(&self) -> Option<u32> {
-        let (slots, first) = (self.table().slots(), self.begin.get());
-        (first..slots)
-            .chain(0..first)
-            .find(|&it| !self.contains(it))
     }
 }
