@@ -169,3 +169,31 @@ impl fmt::Display for Key {
         write!(f, "{}#{}", self.slot, self.bits_of_number())
     }
 }
+
+#[cfg(test)]
+mod tests {
+    use super::*;
+
+    /// The bits of the largest number that a slot leaves room for are all set, but for the lowest
+    /// one, which is 0 for a slot below 4,096. The next number has no bits.
+    #[test]
+    fn the_bits_of_a_key_at_the_limits() {
+        let rows = [
+            (4_095, 1 << 51, u64::MAX - 1),
+            (MOST_SLOTS - 1, 1 << 43, u64::MAX),
+        ];
+        for (slot, past, bits) in rows {
+            let last = Key::new(slot, NonZeroU64::new(past - 1));
+            assert_eq!((last.to_bits(), Key::from_bits(bits)), (Some(bits), last));
+            assert_eq!(Key::new(slot, NonZeroU64::new(past)).to_bits(), None);
+        }
+        assert_eq!(
+            Key::new(4_096, NonZeroU64::new(1)).to_bits(),
+            Some(1 << 21 | 4_096 << 1 | 1)
+        );
+        assert_eq!(
+            Key::new(1, NonZeroU64::new(1)).to_bits(),
+            Some(1 << 13 | 1 << 1)
+        );
+    }
+}
