@@ -10,4 +10,5 @@ pub mod FileNumbers
 pub mod FilesNumbers
 pub mod FromEnd
 pub mod Looking
+pub mod OpenedNumbers
 pub mod Sending

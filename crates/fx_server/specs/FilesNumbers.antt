@@ -1,5 +1,6 @@
 -- The numbers of the files that workers install: no two files of a history have one.
-use Rattle.std.specs.Prelude.{◌≡◌, ◌≢◌, ◌⊎◌, ℕ, ℤ, ◌<◌, ◌≤◌, List, Option, Some, None}
+use Rattle.std.specs.Prelude.{◌≡◌, ◌≢◌, ◌⊎◌, ℕ, ℤ, ◌+◌, ◌<◌, ◌≤◌, List, Option, Some, None}
+use Rattle.std.specs.Prelude.{length, slice_index_or}
 use Rattle.fx_plain.specs.History.{part_of_pass}
 use Rattle.fx_plain.specs.Laws.{IsInstalled}
 use Rattle.fx_plain.specs.declared.event.Event.{Event}
@@ -13,6 +14,7 @@ use Rattle.fx_server.specs.Answers.{FindsAs, GetsAs, GetsAtAs, InsertsAs, PutsEm
 use Rattle.fx_server.specs.Answers.{RemovesAs, RemovesAtAs, ReplacesAs, ReplacesAtAs}
 use Rattle.fx_server.specs.EndsOfKeys.{HaveTheirOwnKeys}
 use Rattle.fx_server.specs.FileNumbers.{after_draws, first_numbers, number_drawn, without_kept}
+use Rattle.fx_server.specs.Opened.{AreOpened}
 use Rattle.fx_server.specs.Workers.{its_pass}
 use Rattle.fx_server.specs.declared.answers.CoreOutcome.{CoreOutcome}
 use Rattle.fx_server.specs.declared.worker.TableWorker.{TableWorker}
@@ -82,3 +84,10 @@ pub record ExportsKeepNumbers : Type 0 where
       → FindsAs w answer number w' → KeepsItsNumbers w w'
   pub put_empty : (w w' : TableWorker) (slot tag : ℕ) (answer : ℤ)
       → PutsEmptyAs w slot tag answer w' → KeepsItsNumbers w w'
+
+-- a worker of a table that was just opened has installed nothing, and keeps no number
+abbrev pub OpenedWorkersDrawTheirNumbers : Type 0
+OpenedWorkersDrawTheirNumbers = (slots workers installing : ℕ) (list : List TableWorker)
+    → AreOpened slots workers installing list → (place : ℕ) (other : TableWorker)
+    → place < length list
+    → DrawsItsNumbers installing (1 + place) (slice_index_or list place other)

@@ -1,7 +1,7 @@
 //! Laws of the numbers that workers draw, and of the keys that have them.
 ghost use Rattle.fx_server.specs.EndsOfKeys.{DoneRemovalsEndKeys, DoneReplacementsEndKeys, KeysEndOnce};
 ghost use Rattle.fx_server.specs.FileNumbers.{NumbersAreDrawnOnce, NumbersLast};
-ghost use Rattle.fx_server.specs.FilesNumbers.{ExportsKeepNumbers, FilesHaveTheirOwnNumbers};
+ghost use Rattle.fx_server.specs.FilesNumbers.{ExportsKeepNumbers, FilesHaveTheirOwnNumbers, OpenedWorkersDrawTheirNumbers};
 
 /// States that no number but 0 is drawn twice by the workers of a table, so that no key names two
 /// values, and how many numbers a worker has.
@@ -21,8 +21,9 @@ pub fn a_key_ends_once()
 
 /// States that no two files of a history have one number but 0, if each pass installs files with
 /// numbers that the worker at its place draws, each for one file; and that each export of
-/// `fx_server_c` keeps this of its worker. A worker that was just opened has installed nothing.
+/// `fx_server_c` keeps this of its worker, of which it holds when the table was opened.
 pub fn files_have_their_own_numbers()
     ensures numbers { FilesHaveTheirOwnNumbers }
+    ensures opened { OpenedWorkersDrawTheirNumbers }
     ensures exports { ExportsKeepNumbers }
 {}
