@@ -111,7 +111,6 @@ fn all<'a>(alloc: Global) -> Result<Arg<'a>, AllocError> {
         .num_args(0..=1)
         .require_equals(true)
         .default_missing_value("100")
-        .conflicts_with("may")?
         .conflicts_with("history")
 }
 
@@ -150,6 +149,9 @@ fn asked_in<'a>(
     script: &'a str,
 ) -> Result<Asked<'a>, Refusal> {
     match (matches.get_one::<u32>("all"), matches.get_str("text")) {
+        (Some(_), _) if matches.get_flag("may") => {
+            Err(Refusal::Because("--all and --may are two questions: give one of them"))
+        }
         (Some(most), None) => Ok(Asked::Texts(most)),
         (Some(_), Some(_)) if script.parse::<u32>().is_ok() => {
             Err(Refusal::NumberWithAll(script.to_owned(alloc)?))
@@ -184,8 +186,8 @@ fn settings_of<'a>(alloc: Global, matches: &ArgMatches<'a>) -> Result<Settings<'
 ///
 /// # Errors
 /// Those of clap: help or the version is requested, an argument is unknown, missing or invalid, or
-/// an allocation fails. Of this program's own: a text follows the script of `--all`, no place
-/// follows that of `--may`, or both the script and the text are `-`.
+/// an allocation fails. Of this program's own: `--all` and `--may` are both given, a text follows
+/// the script of `--all`, no place follows that of `--may`, or both the script and the text are `-`.
 pub fn settings_in<'a, S: AsStr>(alloc: Global, words: &'a [S]) -> Result<Settings<'a>, Refusal> {
     let matches = command(alloc)?.try_get_matches_from(words)?;
     settings_of(alloc, &matches)
