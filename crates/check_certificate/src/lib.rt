@@ -1,9 +1,16 @@
 //! Certificates: short proofs that a beginning of a log has no flight.
 //!
 //! A certificate is a list of steps. Each step adds an order of two points in time that every
-//! flight keeps, until a point comes before itself. Begin reading at `certificate.rt`.
+//! flight keeps, until a point comes before itself. A proposer finds the steps by any search;
+//! [`is_refuted`] checks them. Begin reading at `certificate.rt` and `specs/Times.antt`.
 #![tactic(auto)]
 
+mod beginning;
 mod certificate;
+mod evidence;
+mod premises;
+mod refuted;
+mod rules;
 
 pub use certificate::{Point, PointOrder, Step};
+pub use refuted::is_refuted;

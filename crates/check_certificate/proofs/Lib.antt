@@ -1,0 +1,10 @@
+pub mod Words
+pub mod Parts
+pub mod Life
+pub mod Marks
+pub mod Members
+pub mod Existing
+pub mod Leaving
+pub mod Orders
+pub mod Forcing
+pub mod Showing

@@ -1,0 +1,73 @@
+-- The orders of points that every flight of a beginning keeps.
+use Rattle.std.specs.Prelude.{◌≡◌, ℕ, ◌+◌, ◌≤◌, Bool, true, false, List, Option}
+use Rattle.std.specs.Prelude.{Some, None, IsTrue}
+use Rattle.std.specs.List.{list_all}
+use Rattle.fx_base.specs.Catalogue.{IsCatalogue}
+use Rattle.fx_base.specs.Identity.{Identity}
+use Rattle.fx_base.specs.declared.mark.Mark.{Mark}
+use Rattle.fx_base.specs.declared.mark.Mark.TheVariants.{Registered, Submitted}
+use Rattle.fx_order.specs.Slots.{ring_of_slots}
+use Rattle.fx_ring.specs.Ring.{RingState}
+use Rattle.fx_flight.specs.Events.{Happening, all_happenings, first_of_call}
+use Rattle.fx_flight.specs.Faults.{IsFaultless}
+use Rattle.fx_flight.specs.Flight.{IsLegalLog}
+use Rattle.check_certificate.specs.Times.{AreTimes}
+use Rattle.check_certificate.specs.declared.beginning.LogBeginning.{LogBeginning}
+use Rattle.check_certificate.specs.declared.certificate.PointOrder.{PointOrder}
+use Rattle.check_certificate.specs.declared.certificate.Point.{Point}
+
+abbrev pub log_of_beginning : LogBeginning → List Happening
+log_of_beginning b = all_happenings b.events.now
+
+-- a ring with the beginning's slots
+abbrev pub ring_of_beginning : LogBeginning → ℕ → ℕ → RingState
+ring_of_beginning b submissions registrations =
+    ring_of_slots b.catalogue.now b.slots.now submissions registrations
+
+-- the mark is that of a registration
+abbrev pub is_registered : Mark → Bool
+is_registered (Registered k i) = true
+is_registered (Submitted submission chain member entry) = false
+
+-- the slot is empty, or its file has such a mark
+abbrev pub is_of_no_call : Option Identity → Bool
+is_of_no_call None = true
+is_of_no_call (Some file) = is_registered file.mark
+
+-- the file has the mark of a member of this call
+abbrev pub IsOfCall : ℕ → Identity → Type 0
+IsOfCall id file =
+    (chain : ℕ) × (member : ℕ) × (entry : ℕ) × (file.mark ≡ Submitted id chain member entry)
+
+-- the events are a log, and no file at a slot before it has the mark of a call
+pub record IsSound (b : LogBeginning) : Type 0 where
+  pub catalogue : IsCatalogue b.catalogue.now
+  pub faultless : IsFaultless (log_of_beginning b)
+  pub marks : IsTrue (list_all is_of_no_call b.slots.now.at.items)
+
+abbrev pub gap_of : Bool → ℕ
+gap_of true = 1
+gap_of false = 0
+
+-- the times of the points are in this order
+abbrev pub IsInOrder : (Point → ℕ) → PointOrder → Type 0
+IsInOrder at order = at order.from + gap_of order.strict ≤ at order.to
+
+-- each flight of the beginning keeps the order
+abbrev pub IsForced : LogBeginning → PointOrder → Type 0
+IsForced b order =
+    (submissions registrations : ℕ) → IsSound b
+    → (is : IsLegalLog (ring_of_beginning b submissions registrations) (log_of_beginning b))
+    → (at : Point → ℕ)
+    → AreTimes (record {
+      old = ring_of_beginning b submissions registrations;
+      first = first_of_call;
+      answers = is.answers;
+    }) is.flight at
+    → IsInOrder at order
+
+-- no flight of the beginning is left
+abbrev pub IsContradicted : LogBeginning → Type 0
+IsContradicted b =
+    (submissions registrations : ℕ) → IsSound b
+    → IsLegalLog (ring_of_beginning b submissions registrations) (log_of_beginning b) → ⊥

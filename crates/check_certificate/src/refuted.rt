@@ -1,0 +1,164 @@
+//! The check of a certificate: its steps, one after another.
+ghost use Rattle.std.specs.Prelude.{◌≡◌, ℕ, All, IfOk, IfSome, IsTrue, take};
+ghost use Rattle.std.specs.List.{list_all};
+ghost use Rattle.fx_base.specs.Catalogue.{IsCatalogue};
+ghost use Rattle.fx_order.specs.Slots.{ring_of_slots};
+ghost use Rattle.fx_flight.specs.Events.{all_happenings};
+ghost use Rattle.fx_flight.specs.Faults.{IsFaultless};
+ghost use Rattle.fx_flight.specs.Flight.{IsLegalLog};
+ghost use Rattle.check_certificate.specs.Forced.{IsForced, IsContradicted, is_of_no_call, is_registered};
+
+use crate::beginning::LogBeginning;
+use crate::certificate::{PointOrder, Step};
+use crate::rules::joined;
+use fx_base::{Catalogue, Closed as File, Mark, NoMemory};
+use fx_flight::{LogEvent, fault_of_log};
+use fx_order::Slots;
+use std::alloc::Global;
+
+// Checks whether a mark is that of a registration.
+fn is_registered(mark: Mark) -> bool
+    ensures { result ≡ is_registered mark }
+{
+    matches!(mark, Mark::Registered { k: _, i: _ })
+}
+
+// Checks whether a slot is empty, or its file has the mark of a registration.
+fn is_of_no_call(found: Option<File>) -> bool
+    ensures { result ≡ is_of_no_call found }
+{
+    match found {
+        Some(file) => is_registered(file.mark),
+        None => true,
+    }
+}
+
+// Checks whether no file at a slot has the mark of a call.
+fn are_of_no_call(files: &[Option<File>]) -> bool
+    ensures { result ≡ list_all is_of_no_call files.now }
+{
+    files.iter().all(|found| is_of_no_call(*found))
+}
+
+// Checks whether events are a log.
+fn is_log(alloc: Global, events: &[LogEvent]) -> Result<bool, NoMemory>
+    ensures { IfOk result (λ yes. IsTrue yes → IsFaultless (all_happenings events.now)) }
+{
+    let fault = fault_of_log(alloc, events)?;
+    Ok(fault.is_none())
+}
+
+impl LogBeginning<'_> {
+    // Returns the order that a step adds to the known orders. Returns `None` for a wrong step.
+    fn order_of(&self, step: &Step, known: &[PointOrder]) -> Option<PointOrder>
+        requires { All (IsForced self.now) known.now }
+        ensures { IfSome result (IsForced self.now) }
+    {
+        match *step {
+            Step::Events { earlier, later } => self.events_in_order(earlier, later),
+            Step::Begins {
+                call,
+                answer,
+                access,
+            } => self.begins(call, answer, access),
+            Step::Ends {
+                call,
+                answer,
+                access,
+            } => self.ends(call, answer, access),
+            Step::Calls { call, file } => self.calls(call, file),
+            Step::Installs {
+                call,
+                answer,
+                access,
+            } => self.installs(call, answer, access),
+            Step::Places {
+                call,
+                answer,
+                access,
+            } => self.places(call, answer, access),
+            Step::Follows { call, answer } => self.follows(call, answer),
+            Step::Finds { call, answer } => self.finds(call, answer),
+            Step::Closes { close, slot } => self.closes(close, slot),
+            Step::Settles {
+                settled,
+                installed,
+                placed,
+            } => self.settles(settled, known.get(installed)?, known.get(placed)?),
+            Step::Empties {
+                call,
+                answer,
+                access,
+                installed,
+            } => self.empties(call, answer, access, known.get(installed)?),
+            Step::Precedes {
+                call,
+                answer,
+                access,
+                there,
+            } => self.precedes(call, answer, access, known.get(there)?),
+            Step::Displaces { installed, placed } => {
+                self.displaces(known.get(installed)?, known.get(placed)?)
+            }
+            Step::Outlives { there, placed } => {
+                self.outlives(known.get(there)?, known.get(placed)?)
+            }
+            Step::Then { first, second } => joined(known.get(first)?, known.get(second)?),
+            Step::FindsClosed { close, answer } => self.finds_closed(close, answer),
+            Step::ClosesTwice { first, second } => self.closes_twice(first, second),
+            Step::ClosesHeld { answer, close } => self.closes_held(answer, close),
+        }
+    }
+
+    // Checks whether the steps lead to a point that comes before itself.
+    fn refutes(&self, alloc: Global, certificate: &[Step]) -> Result<bool, NoMemory>
+        ensures { IfOk result (λ yes. IsTrue yes → IsContradicted self.now) }
+    {
+        let mut known = Vec::new(alloc);
+        for step in certificate {
+            let Some(order) = self.order_of(step, known.as_slice()) else {
+                return Ok(false);
+            };
+            if order.strict && order.from == order.to {
+                return Ok(true);
+            }
+            known.push(order)?;
+        }
+        Ok(false)
+    }
+}
+
+/// Checks whether a certificate refutes the first `count` events of a log whose table has these
+/// slots at first. A certificate with a wrong step, or that ends without a contradiction, refutes
+/// nothing.
+///
+/// # Errors
+/// `NoMemory` if an allocation fails.
+pub fn is_refuted(
+    alloc: Global,
+    catalogue: &Catalogue,
+    slots: &Slots,
+    events: &[LogEvent],
+    count: usize,
+    certificate: &[Step],
+) -> Result<bool, NoMemory>
+    requires { IsCatalogue catalogue.now }
+    ensures { IfOk result (λ yes. IsTrue yes → (submissions registrations : ℕ)
+        → IsLegalLog (ring_of_slots catalogue.now slots.now submissions registrations)
+        (all_happenings (take count events.now)) → ⊥) }
+{
+    if count > events.len() || !are_of_no_call(slots.at.as_slice()) {
+        return Ok(false);
+    }
+    let log = is_log(alloc, &events[..count])?;
+    if !log {
+        return Ok(false);
+    }
+    let beginning = LogBeginning {
+        catalogue,
+        slots,
+        events: &events[..count],
+    };
+    let yes = beginning.refutes(alloc, certificate)?;
+    Ok(yes)
+}

@@ -1,0 +1,140 @@
+//! The rules of certificates: the order that each step adds, if its premises hold.
+ghost use Rattle.std.specs.Prelude.{◌≡◌, IfSome, true};
+ghost use Rattle.check_certificate.specs.Forced.{IsForced};
+ghost use Rattle.check_certificate.specs.declared.beginning.LogBeginning.{LogBeginning as In};
+
+use crate::beginning::{LogBeginning, call_of};
+use crate::certificate::{Point, PointOrder};
+use crate::evidence::Evidence;
+use fx_base::Closed as File;
+
+/// Returns the order from the first point of one order to the second point of another one that
+/// begins where the first one ends.
+pub(crate) fn joined(first: &PointOrder, second: &PointOrder) -> Option<PointOrder>
+    ensures { IfSome result (λ order. (b : In)
+        → IsForced b first.now → IsForced b second.now → IsForced b order) }
+{
+    if first.to != second.from {
+        return None;
+    }
+    Some(PointOrder {
+        from: first.from,
+        to: second.to,
+        strict: if first.strict { true } else { second.strict },
+    })
+}
+
+/// Returns the order of a point that comes before another one.
+pub(crate) fn ordered(from: Point, to: Point) -> PointOrder
+    ensures { result ≡ record { from = from; to = to; strict = true } }
+{
+    PointOrder {
+        from,
+        to,
+        strict: true,
+    }
+}
+
+impl LogBeginning<'_> {
+    /// Returns the order of two events.
+    pub(crate) fn events_in_order(&self, earlier: usize, later: usize) -> Option<PointOrder>
+        ensures { IfSome result (IsForced self.now) }
+    {
+        if earlier >= later || later >= self.events.len() {
+            return None;
+        }
+        Some(ordered(Point::Event(earlier), Point::Event(later)))
+    }
+
+    /// Returns the order of a call and one of its accesses.
+    pub(crate) fn begins(&self, call: usize, answer: usize, access: usize) -> Option<PointOrder>
+        ensures { IfSome result (IsForced self.now) }
+    {
+        let _evidence = self.made(call, answer, access)?;
+        Some(ordered(Point::Event(call), Point::Access(answer, access)))
+    }
+
+    /// Returns the order of an access and the answer of its member.
+    pub(crate) fn ends(&self, call: usize, answer: usize, access: usize) -> Option<PointOrder>
+        ensures { IfSome result (IsForced self.now) }
+    {
+        let _evidence = self.made(call, answer, access)?;
+        Some(ordered(Point::Access(answer, access), Point::Event(answer)))
+    }
+
+    /// Returns the order of a call and the access that installs a file with its mark.
+    pub(crate) fn calls(&self, call: usize, file: File) -> Option<PointOrder>
+        ensures { IfSome result (IsForced self.now) }
+    {
+        let id = self.call_at(call)?;
+        let own = call_of(file)?;
+        if own != id {
+            return None;
+        }
+        Some(ordered(Point::Event(call), Point::Put(file)))
+    }
+
+    /// Returns the order of the access that installs a file and the answer of its member.
+    pub(crate) fn installs(&self, call: usize, answer: usize, access: usize) -> Option<PointOrder>
+        ensures { IfSome result (IsForced self.now) }
+    {
+        let evidence = self.made(call, answer, access)?;
+        match evidence {
+            Evidence::Installs(_slot, file) => Some(ordered(
+                Point::Put(file),
+                Point::Event(answer),
+            )),
+            _ => None,
+        }
+    }
+
+    /// Returns the order of the access that installs a file and the file's removal.
+    pub(crate) fn places(&self, call: usize, answer: usize, access: usize) -> Option<PointOrder>
+        ensures { IfSome result (IsForced self.now) }
+    {
+        let evidence = self.made(call, answer, access)?;
+        match evidence {
+            Evidence::Installs(slot, file) => Some(ordered(
+                Point::Put(file),
+                Point::Gone(file, slot),
+            )),
+            _ => None,
+        }
+    }
+
+    /// Returns the order of the access that installs a file and a look that finds it.
+    pub(crate) fn follows(&self, call: usize, answer: usize) -> Option<PointOrder>
+        ensures { IfSome result (IsForced self.now) }
+    {
+        let evidence = self.made(call, answer, 0)?;
+        match evidence {
+            Evidence::Finds(_slot, file) => {
+                let _own = call_of(file)?;
+                Some(ordered(Point::Put(file), Point::Access(answer, 0)))
+            }
+            _ => None,
+        }
+    }
+
+    /// Returns the order of a look that finds a file and the file's removal.
+    pub(crate) fn finds(&self, call: usize, answer: usize) -> Option<PointOrder>
+        ensures { IfSome result (IsForced self.now) }
+    {
+        let evidence = self.made(call, answer, 0)?;
+        match evidence {
+            Evidence::Finds(slot, file) => {
+                Some(ordered(Point::Access(answer, 0), Point::Gone(file, slot)))
+            }
+            _ => None,
+        }
+    }
+
+    /// Returns the order of a file's removal from a slot and its close.
+    pub(crate) fn closes(&self, close: usize, slot: u32) -> Option<PointOrder>
+        ensures { IfSome result (IsForced self.now) }
+    {
+        let file = self.close_at(close)?;
+        let _own = call_of(file)?;
+        Some(ordered(Point::Gone(file, slot), Point::Event(close)))
+    }
+}
