@@ -187,7 +187,8 @@ fn settings_of<'a>(alloc: Global, matches: &ArgMatches<'a>) -> Result<Settings<'
 /// # Errors
 /// Those of clap: help or the version is requested, an argument is unknown, missing or invalid, or
 /// an allocation fails. Of this program's own: `--all` and `--may` are both given, a text follows
-/// the script of `--all`, no place follows that of `--may`, or both the script and the text are `-`.
+/// the script of `--all`, no place follows that of `--may`, or both the script and the text are
+/// `-`.
 pub fn settings_in<'a, S: AsStr>(alloc: Global, words: &'a [S]) -> Result<Settings<'a>, Refusal> {
     let matches = command(alloc)?.try_get_matches_from(words)?;
     settings_of(alloc, &matches)
