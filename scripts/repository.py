@@ -50,8 +50,8 @@ def scripts_of(*folders):
 
 
 def files_of(crate, *parts):
-    """The files in these folders of a crate, or of each crate for `*`, by their paths from the top."""
-    found = (glob.glob(f"crates/{crate}/{part}/**/*.*", root_dir=ROOT, recursive=True) for part in parts)
+    """The files in these folders of a crate, or of each crate for `*`, by their paths from the top; without a folder the crate's own."""
+    found = (glob.glob(f"crates/{crate}/{part}", root_dir=ROOT, recursive=True) for part in ([f"{it}/**/*.*" for it in parts] or ["*.*"]))
     return sorted(it for those in found for it in those)
 
 

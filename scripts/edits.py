@@ -1,0 +1,29 @@
+"""Reads the wrong bodies of the crates. An edit has a line 'file: src/NAME.rt', and then pairs of lines 'old: TEXT' and 'new: TEXT'.
+
+The gate requires a file of its own for each edit that it tries, in a crate's must-fail/. All other edits of a crate are in its file
+wrong-bodies.txt, each after a line with its name in brackets."""
+import os
+import re
+
+from repository import files_of, read
+
+FILE = "wrong-bodies.txt"
+
+
+def parts(text):
+    """Returns the edits of a file wrong-bodies.txt, as pairs of a name and the edit's lines."""
+    it = re.split(r"^\[(\w+)\]\n", text, flags=re.MULTILINE)
+    return list(zip(it[1::2], it[2::2]))
+
+
+def edits(kind, crate="*"):
+    """Returns the edits of a crate, or of all crates, as triples: the crate, the edit's name and its lines. `kind` is 'must-fail' or
+    'wrong-bodies'."""
+    if kind == "must-fail":
+        return [(it.split("/")[1], os.path.basename(it)[:-5], read(it)) for it in files_of(crate, kind)]
+    files = [it for it in files_of(crate) if os.path.basename(it) == FILE]
+    return [(it.split("/")[1], *edit) for it in files for edit in parts(read(it))]
+
+
+def names(*kinds, crate="*"):
+    return {name for kind in kinds for _, name, _ in edits(kind, crate)}
