@@ -1,4 +1,4 @@
-/* Asks the running kernel the questions of docs/LINUX.md that no script can, and prints a line for
+/* Asks the running kernel the questions of docs/use/LINUX.md that no script can, and prints a line for
  * each. kernel/conform asks the others, by scripts. It needs io_uring and liburing 2.3; it proves
  * nothing, and no other test relies on it. */
 #define _GNU_SOURCE

@@ -1,6 +1,6 @@
 /* A table of slots that threads share without a lock. The verified core counts the users of each
  * value and decides which user is the last. C11 or C++17, POSIX threads. Link with -lyachtbanyan.
- * docs/BINDINGS.md says what is proved and what is tested.
+ * docs/use/BINDINGS.md says what is proved and what is tested.
  *
  * Drops. A value that was replaced or removed is dropped by its last user, before the call that
  * ends this use returns. Its users are the handles that hold it, the call that replaced or removed
@@ -91,7 +91,7 @@ typedef struct yacht_key {
  * look-up, a replacement, a removal, yacht_insert_with, yacht_release or yacht_free. It may use
  * other handles of the table; within yacht_free, any handle but the first. It must not close a
  * direct descriptor of io_uring: the descriptor's slot may be that of another connection by then
- * (docs/BINDINGS.md, "Direct descriptors"). */
+ * (docs/use/BINDINGS.md, "Direct descriptors"). */
 typedef void yacht_drop(void *value, void *with);
 
 /* Opens a table of 1 to YACHT_MOST_SLOTS empty slots, with 1 to YACHT_MOST_HANDLES handles that
@@ -185,8 +185,8 @@ int yacht_replace(yacht_handle *handle, yacht_key *key, void *value);
 int yacht_remove(yacht_handle *handle, yacht_key key);
 
 /* Returns a key in 64 bits, as for the data of epoll or io_uring, of which a completion under a
- * stale key is not ignored (docs/BINDINGS.md, "Direct descriptors"): 0, a slot below 4,096 in 12
- * bits, and above them the number in 51; or 1, another slot in 20 bits, and the number in 43.
+ * stale key is not ignored (docs/use/BINDINGS.md, "Direct descriptors"): 0, a slot below 4,096 in
+ * 12 bits, and above them the number in 51; or 1, another slot in 20 bits, and the number in 43.
  * Returns 0, which are the bits of no value's key, if the number has more bits: a handle installs
  * 2^51 values, or 2^43, divided by the number of handles before that. */
 uint64_t yacht_key_to_bits(yacht_key key);

@@ -1,8 +1,8 @@
 /* The life of a direct descriptor: when a slot of a ring's table is free, when it may be closed,
  * and whose a completion is. For a server on io_uring with direct descriptors (fixed files). The
  * library makes no system call: it returns what to submit, and takes the completions. C11 or
- * C++17. Link with -lyachtdirect. docs/DIRECT.md has the loop of a server, and what surprises on
- * the kernel's side.
+ * C++17. Link with -lyachtdirect. docs/use/DIRECT.md has the loop of a server, and what surprises
+ * on the kernel's side.
  *
  * Life of a slot. A machine keeps the slots of one ring's table:
  *
@@ -25,7 +25,7 @@
  * empty. Each file is asked to be closed at most once, or once more after each close that failed;
  * and exactly once if its life was ended, and each request and user came back. When a slot is
  * reserved, no request, no user and no file of an earlier life is left there. This is proved
- * (docs/DIRECT.md).
+ * (docs/use/DIRECT.md).
  *
  * Premises. The caller must ensure the following, which nothing checks:
  * - Each call that this header names is made: `start` before the submission, and `finish` once,

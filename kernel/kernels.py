@@ -1,6 +1,6 @@
 """Plays scripts on a kernel (kernel/play.c) and compares the texts with the rules, for kernel/conform.
 
-A text is right if fixcheck calls it legal. If fixcheck refuses it, the differences of docs/LINUX.md may explain it: kernel/rules.py
+A text is right if fixcheck calls it legal. If fixcheck refuses it, the differences of docs/use/LINUX.md may explain it: kernel/rules.py
 changes the model by them, and model/orders.py searches for an order in which the changed model prints the text. If fixcheck is
 undecided, model/orders.py decides."""
 import functools
@@ -27,9 +27,9 @@ AGREES, LEFT_OUT, UNSAID = "agrees", "left out", "unsaid"
 
 
 def listed():
-    """Returns the names of the differences, which are the first cells of docs/LINUX.md's first table, and the version of the kernel
+    """Returns the names of the differences, which are the first cells of docs/use/LINUX.md's first table, and the version of the kernel
     that has them, such as 6.18."""
-    table = read("docs/LINUX.md").split("\n## ")[1]
+    table = read("docs/use/LINUX.md").split("\n## ")[1]
     names = frozenset(re.findall(r"^\| `([a-z_]+)` \|", table, re.MULTILINE))
     return names, re.search(r"^Found on kernel (\d+\.\d+)", table, re.MULTILINE)[1]
 

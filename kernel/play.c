@@ -1,5 +1,5 @@
-/* Plays a script of docs/SCRIPT.md on the io_uring of the running kernel, and writes the text that
- * fixfiles writes.
+/* Plays a script of docs/use/SCRIPT.md on the io_uring of the running kernel, and writes the text
+ * that fixfiles writes.
  *
  * Each line is the real call or request with its real flags: `sparse`, `register`, `unregister`,
  * `range` and `regupdate` are calls of io_uring_register(2), and all requests of a `submit` go to

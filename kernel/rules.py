@@ -1,4 +1,4 @@
-"""Changes the model by the differences of Linux that docs/LINUX.md lists, each under its name."""
+"""Changes the model by the differences of Linux that docs/use/LINUX.md lists, each under its name."""
 import resource
 
 from model import EAGAIN, EBADF, EINVAL, SLOTS, Player, has_bad_tags, registered, submitted

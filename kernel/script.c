@@ -1,5 +1,5 @@
-/* Reads a script by the rules of docs/SCRIPT.md. It says which line is invalid; scripts/faults.py
- * explains why. */
+/* Reads a script by the rules of docs/use/SCRIPT.md. It says which line is invalid;
+ * scripts/faults.py explains why. */
 #define _GNU_SOURCE
 #include "script.h"
 

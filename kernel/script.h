@@ -1,4 +1,4 @@
-/* A script of docs/SCRIPT.md, read and checked. */
+/* A script of docs/use/SCRIPT.md, read and checked. */
 #ifndef SCRIPT_H
 #define SCRIPT_H
 

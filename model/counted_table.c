@@ -1,10 +1,11 @@
-/* The step table of the lock-free table, by docs/INTERNALS.md: the atomic steps of each call.
+/* The step table of the lock-free table, by docs/inside/INTERNALS.md: the atomic steps of each
+ * call.
  *
  * It was written from the page and from no code. Beside the words it keeps the history to which the
- * steps add events, by the table of steps in docs/MODEL.md: each event must be allowed where it
- * comes. So a file is closed once and without a holder, and an allocation answers "full" only at a
- * step where each slot of the range is full, and another answer only for a reason. A number is its
- * place in the lists of nodes: the files that were there have the numbers of their slots; after
+ * steps add events, by the table of steps in docs/inside/MODEL.md: each event must be allowed where
+ * it comes. So a file is closed once and without a holder, and an allocation answers "full" only at
+ * a step where each slot of the range is full, and another answer only for a reason. A number is
+ * its place in the lists of nodes: the files that were there have the numbers of their slots; after
  * them each chain has as many as a pass may install. Look-ups that are spent make no step and
  * aren't here, nor are the splits and joins of passes. */
 #include "counted_table.h"

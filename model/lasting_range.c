@@ -1,4 +1,4 @@
-/* The steps on the lasting table's allocation range, by docs/INTERNALS.md.
+/* The steps on the lasting table's allocation range, by docs/inside/INTERNALS.md.
  *
  * A word for each group of slots counts its full slots. The question word has a bit for each pass
  * that asked whether the range is full, until a removal breaks the questions: each removal checks

@@ -1,4 +1,4 @@
-/* The step table of the lasting table, by docs/INTERNALS.md: the atomic steps of each call.
+/* The step table of the lasting table, by docs/inside/INTERNALS.md: the atomic steps of each call.
  *
  * It was written from the page and from no code. A step is one atomic step on a word, with what its
  * pass does at once afterwards. Beside the words it keeps the model of the table: which file is at

@@ -1,5 +1,5 @@
 #!/usr/bin/env python3
-"""Plays a script from standard input, as fixfiles does: a second fixfiles, slow, and written from docs/MODEL.md and docs/SCRIPT.md alone.
+"""Plays a script from standard input, as fixfiles does: a second fixfiles, slow, and written from docs/inside/MODEL.md and docs/use/SCRIPT.md alone.
 
 tests/compare compares the program with it, also on scripts whose texts were derived by hand, and kernel/conform the kernel.
 model/orders.py decides whether this model prints a text in another order of chains.

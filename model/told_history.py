@@ -1,4 +1,4 @@
-"""Checks that the output of `fixcheck --history` is a legal history of docs/MODEL.md, "Steps", that results in a text: each event is
+"""Checks that the output of `fixcheck --history` is a legal history of docs/inside/MODEL.md, "Steps", that results in a text: each event is
 allowed when it comes and belongs to its request, each line ends with the state after it, and the answers and closes are those of the
 text. The number of bytes of a read is checked, and the bytes aren't, since a history doesn't have them."""
 import re

@@ -7,9 +7,9 @@ import sys
 from pages import anchors
 from repository import ROOT, read, write
 
-PAGES = {"docs/ARCHIVE.md": "README.md"} | {
-    it: it for it in (*(f"docs/{name}.md" for name in ("BINDINGS", "CHECKING", "DIRECT", "FLIGHT", "KERNEL", "LIMITS", "LINUX", "LITMUS", "MODEL", "SCRIPT")), "examples/README.md")}
-ARM_PAGES = {"docs/ARCHIVE_ARM64.md": "README.md", "docs/BINDINGS.md": "docs/BINDINGS.md", "docs/DIRECT.md": "docs/DIRECT.md"}
+PAGES = {"docs/use/ARCHIVE.md": "README.md"} | {
+    it: it for it in (*(f"docs/{name}.md" for name in ("use/BINDINGS", "use/CHECKING", "use/DIRECT", "use/FLIGHT", "use/KERNEL", "use/LIMITS", "use/LINUX", "use/LITMUS", "inside/MODEL", "use/SCRIPT")), "examples/README.md")}
+ARM_PAGES = {"docs/use/ARCHIVE_ARM64.md": "README.md", "docs/use/BINDINGS.md": "docs/use/BINDINGS.md", "docs/use/DIRECT.md": "docs/use/DIRECT.md"}
 # what the archives have beside pages and scripts
 FOLDERS = ("LICENSE", "c", "completions", "docs/pictures", "examples", "kernel", "man")
 ARM_FOLDERS = ("LICENSE", "c", "examples", "man")

@@ -10,7 +10,7 @@ from model import Fault, Script, entry, link, tags
 from repository import read
 
 BAD_SCRIPT = 3
-PAGE = "docs/SCRIPT.md"
+PAGE = "docs/use/SCRIPT.md"
 # how much of a long line is shown
 SHOWN = 76
 # what each fault means, and what is expected instead
@@ -92,7 +92,7 @@ def column_of(name, line):
 
 
 def forms_of(command):
-    """Returns the forms of a line, as docs/SCRIPT.md writes them."""
+    """Returns the forms of a line, as docs/use/SCRIPT.md writes them."""
     found = re.findall(rf"^    ({command}\b.*?) {{2,}}", read(PAGE), re.MULTILINE)
     return " or ".join(f"`{it}`" for it in found)
 

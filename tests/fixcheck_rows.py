@@ -1,5 +1,5 @@
 """Makes texts for fixcheck beside those of random scripts: texts of each size, and submissions of which a part has too many states. Statuses
-and lines are derived by hand from docs/CHECKING.md."""
+and lines are derived by hand from docs/use/CHECKING.md."""
 from limits import limits, lines
 from sweeps import sweeps
 

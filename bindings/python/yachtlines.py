@@ -1,4 +1,4 @@
-"""The lines of a log of calls in flight (docs/FLIGHT.md): reads them into calls, answers and events, or names the first line that no log
+"""The lines of a log of calls in flight (docs/use/FLIGHT.md): reads them into calls, answers and events, or names the first line that no log
 has there. The module yachtlog judges what is read here."""
 from __future__ import annotations
 
@@ -8,7 +8,7 @@ from typing import NamedTuple
 
 __all__ = ["Answer", "BadLog", "Event", "Lines", "Mark", "NO_FILE", "Request"]
 
-# the limits of a request, of a chain, of a catalogue and of a table (docs/LIMITS.md), and of numbers, which have 32 bits
+# the limits of a request, of a chain, of a catalogue and of a table (docs/use/LIMITS.md), and of numbers, which have 32 bits
 READ_BYTES, UPDATE_ENTRIES, MEMBERS, INSTALLS = 4_096, 16, 16, 64
 FILES, FILE_BYTES, NAME_LENGTH, SLOTS = 256, 4_096, 32, 1_048_576
 LARGEST, LARGEST_INT = 2**32 - 1, 2**31 - 1

@@ -1,4 +1,4 @@
-/* A log of calls in flight (docs/FLIGHT.md), in the order in which its lines were appended. */
+/* A log of calls in flight (docs/use/FLIGHT.md), in the order in which its lines were appended. */
 #ifndef LOG_H
 #define LOG_H
 

@@ -1,5 +1,5 @@
-/* A program around the loop of docs/DIRECT.md (loop.h): connections to an echo server of 4 slots,
- * one after another, two of them at a time. It prints how many lines came back, and how many
+/* A program around the loop of docs/use/DIRECT.md (loop.h): connections to an echo server of 4
+ * slots, one after another, two of them at a time. It prints how many lines came back, and how many
  * connections saw the end. */
 #define _GNU_SOURCE
 #include <arpa/inet.h>

@@ -1,4 +1,4 @@
-//! Records what threads call on a table of slots, and prints it as a log (docs/FLIGHT.md). The
+//! Records what threads call on a table of slots, and prints it as a log (docs/use/FLIGHT.md). The
 //! Python module `yachtlog` has the verified judge decide whether the rules of the table allow it.
 //!
 //! To record a table of your own, implement [`Table`] and [`Handle`] for it: four calls.

@@ -1,8 +1,8 @@
 //! recorder TABLE SEED [THREADS [ROUNDS [CALLS [SLOTS]]]]: records random calls of threads on a
-//! table, and prints the log (docs/FLIGHT.md). TABLE is `yachtbanyan`, `c` (that of the C library),
-//! `keys` and `c-keys` (the same two by the keys of their values), `slots` (a table of std), or a
-//! wrong one: `stale`, `rare:N` (one of N looks is stale), `early` or `walk`. Standard error has
-//! the number of calls, and how rare a fault is that they show.
+//! table, and prints the log (docs/use/FLIGHT.md). TABLE is `yachtbanyan`, `c` (that of the C
+//! library), `keys` and `c-keys` (the same two by the keys of their values), `slots` (a table of
+//! std), or a wrong one: `stale`, `rare:N` (one of N looks is stale), `early` or `walk`. Standard
+//! error has the number of calls, and how rare a fault is that they show.
 //!
 //! Each of THREADS (3) makes CALLS (50) calls in each of ROUNDS (20), after which all rest. The
 //! table has SLOTS: 3, or by keys as many as all calls, since each call may keep its value.

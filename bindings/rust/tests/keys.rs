@@ -1,5 +1,5 @@
 //! Calls by key: whatever a slot has, a key finds the value that it was made for, or none. Expected
-//! answers are worked out by hand, from the table in docs/BINDINGS.md.
+//! answers are worked out by hand, from the table in docs/use/BINDINGS.md.
 use std::collections::{BTreeSet, HashSet};
 use std::panic::{catch_unwind, AssertUnwindSafe};
 use std::sync::atomic::{AtomicUsize, Ordering::SeqCst};

@@ -1,5 +1,5 @@
-//! The answers that a request may give, whatever the other requests answer (docs/MODEL.md, "What a
-//! request answers").
+//! The answers that a request may give, whatever the other requests answer (docs/inside/MODEL.md,
+//! "What a request answers").
 use crate::case::{Act, Row, result_of, slots_of};
 use crate::facts::Facts;
 use crate::words::{Words, name_of, sign_before};

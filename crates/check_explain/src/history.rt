@@ -177,9 +177,9 @@ impl<'a> History<'a> {
         self.end_line();
     }
 
-    // Appends the events of an access (docs/MODEL.md, "Steps"), and applies it. The first event has
-    // the slot, the file that was installed, and the mark of the file that was found, or `none`
-    // unless the access looks for an empty slot.
+    // Appends the events of an access (docs/inside/MODEL.md, "Steps"), and applies it. The first
+    // event has the slot, the file that was installed, and the mark of the file that was found, or
+    // `none` unless the access looks for an empty slot.
     fn push_access(&mut self, access: Access) {
         let (name, slot, put, found, none) = match access {
             Access::Looks(slot, found) => ("Look(", slot, None, found, ", none"),
