@@ -226,7 +226,7 @@ impl fmt::Display for OpenError {
             }
             OpenError::Seats(seats) => write!(
                 f,
-                "{seats} seats, two for each handle and one for each reader and each guard: \
+                "{seats} seats, three for each handle and one for each reader and each guard: \
                  a table has at most {MOST_WORKERS}"
             ),
             OpenError::NoMemory => f.write_str("an allocation failed"),
