@@ -14,8 +14,8 @@ pub(super) struct Machine {
     raw: UnsafeCell<Raw>,
 }
 
-// SAFETY: the memory of a machine has no owner but the machine, and no thread's own state
-// (fx_direct: `Slots` is Send).
+// SAFETY: the memory of a machine has no owner but the machine, and no thread's own state: its
+// value may go to another thread (`fx_direct::machine_crosses`).
 unsafe impl Send for Machine {}
 
 impl Machine {
