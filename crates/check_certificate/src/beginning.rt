@@ -1,6 +1,7 @@
 //! The beginning of a log that is to be refuted, and its events.
 ghost use Rattle.std.specs.Prelude.{◌≡◌, ◌≤◌, Contains, IfSome, IsTrue, Some, length, take};
-ghost use Rattle.fx_flight.specs.Events.{AllSettled, FileClosed, Freed, Happening, LookAnswered, all_happenings, happening_of};
+ghost use Rattle.fx_flight.specs.Events.{AllSettled, FileClosed, Freed, Happening, LookAnswered};
+ghost use Rattle.fx_flight.specs.Events.{all_happenings, happening_of};
 ghost use Rattle.fx_flight.specs.Laws.{IsCallOf};
 ghost use Rattle.check_certificate.specs.Forced.{IsOfCall, log_of_beginning};
 ghost use Rattle.check_certificate.specs.Evidence.{IsEventAt};

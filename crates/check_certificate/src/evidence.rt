@@ -5,7 +5,9 @@ ghost use Rattle.fx_base.specs.Catalogue.{IsCatalogue};
 ghost use Rattle.fx_chain.specs.Completed.{completed_of};
 ghost use Rattle.fx_chain.specs.Operation.{all_asked, asked_of};
 ghost use Rattle.fx_flight.specs.Events.{Called, LookCalled, happening_of};
-ghost use Rattle.check_certificate.specs.Evidence.{IsAccessMade, IsEvidentByMember, IsEvidentByLook, IsShownBy, left_at, slot_count, evidence_of};
+ghost use Rattle.check_certificate.specs.Evidence.{IsAccessMade, IsEvidentByMember};
+ghost use Rattle.check_certificate.specs.Evidence.{IsEvidentByLook, IsShownBy, left_at, slot_count};
+ghost use Rattle.check_certificate.specs.Evidence.{evidence_of};
 
 use crate::beginning::LogBeginning;
 use fx_base::{Closed as File, Errno};

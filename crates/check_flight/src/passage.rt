@@ -1,5 +1,6 @@
 //! The effect of an event of the log on a state: it leads to another one, or is impossible.
-ghost use Rattle.std.specs.Prelude.{◌≡◌, ◌+◌, ◌<◌, ◌≤◌, ℕ, [], Contains, IfOk, IsTrue, List, length, take};
+ghost use Rattle.std.specs.Prelude.{◌≡◌, ◌+◌, ◌<◌, ◌≤◌, ℕ, [], Contains, IfOk, IsTrue, List};
+ghost use Rattle.std.specs.Prelude.{length, take};
 ghost use Rattle.fx_base.specs.Identity.{Identity};
 ghost use Rattle.fx_chain.specs.Operation.{Asked, all_asked};
 ghost use Rattle.fx_flight.specs.Events.{Called, FileClosed, Happening, LookCalled, happening_of};

@@ -1,5 +1,6 @@
 //! Checks whether slots and counts, read from anywhere, are those of a ring.
-ghost use Rattle.std.specs.Prelude.{◌≡◌, ◌<◌, ◌≤◌, ◌↔◌, ℕ, IsTrue, List, None, Some, length, slice_index_or};
+ghost use Rattle.std.specs.Prelude.{◌≡◌, ◌<◌, ◌≤◌, ◌↔◌, ℕ, IsTrue, List, None, Some, length};
+ghost use Rattle.std.specs.Prelude.{slice_index_or};
 ghost use Rattle.fx_base.specs.Catalogue.{FileEntry};
 ghost use Rattle.fx_base.specs.declared.open_file.Closed.{Closed as File};
 ghost use Rattle.check_lines.specs.InRange.{IsFileInRange};

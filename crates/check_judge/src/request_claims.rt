@@ -1,5 +1,6 @@
 //! The claims of one request, from its completion: one for each access that it intends.
-ghost use Rattle.std.specs.Prelude.{◌≡◌, ◌<◌, ◌≤◌, ◌+◌, ◌↔◌, IfOk, IfSome, IsTrue, None, Some, slice_index_or, true, ℕ};
+ghost use Rattle.std.specs.Prelude.{◌≡◌, ◌<◌, ◌≤◌, ◌+◌, ◌↔◌, IfOk, IfSome, IsTrue, None};
+ghost use Rattle.std.specs.Prelude.{Some, slice_index_or, true, ℕ};
 ghost use Rattle.fx_base.specs.declared.errno.Errno.TheVariants.{ENOMEM};
 ghost use Rattle.fx_base.specs.declared.open_file.Closed.{Closed as FileAt};
 ghost use Rattle.fx_chain.specs.Accepted.{IsWithinLimits};
@@ -10,7 +11,8 @@ ghost use Rattle.fx_chain.specs.declared.intent.Finding.TheVariants.{At as Found
 ghost use Rattle.fx_order.specs.Requests.{IsRequestDone};
 ghost use Rattle.fx_order.specs.declared.access.Access.{Access as OneAccess};
 ghost use Rattle.check_search.specs.declared.claim.Claim.{Claim as OneClaim};
-ghost use Rattle.check_judge.specs.Claims.{Appends, Concludes, Fits, IsAnsweredBy, IsDecided, IsMade, answer};
+ghost use Rattle.check_judge.specs.Claims.{Appends, Concludes, Fits, IsAnsweredBy, IsDecided};
+ghost use Rattle.check_judge.specs.Claims.{IsMade, answer};
 
 use crate::answered::{AnsweredRequest, ClaimSetting};
 use crate::judgement::{Reason, Stop};

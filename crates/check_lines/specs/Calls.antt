@@ -113,12 +113,12 @@ memory_word ring (SetsRange off len) = None
 memory_word ring (SubmitsAll asked) = None
 memory_word ring command = word_unless (call_of ring command).refusal (call_of ring command).word
 
--- the count of accepted submissions behind requests, by their first fault
+-- the count of accepted submissions after requests, by their first fault
 abbrev pub accepted_following : ℕ → Option CutFault → ℕ
 accepted_following count (Some fault) = count
 accepted_following count None = if nat_le MOST_SUBMISSIONS count then count else count + 1
 
--- behind so many accepted submissions the command is none that is accepted
+-- after `count` accepted submissions the command isn't accepted as a further one
 abbrev pub IsCall : ℕ → Instruction → Type 0
 IsCall count (SubmitsAll asked) = accepted_following count (fault_of asked) ≡ count
 IsCall count _ = Unit {0}

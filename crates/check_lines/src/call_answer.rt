@@ -1,12 +1,14 @@
 //! Calls between submissions: the ring that each leaves and the line that it prints if no
 //! allocation fails; and the line of a refused submission.
-ghost use Rattle.std.specs.Prelude.{◌≡◌, ◌+◌, ◌^◌, ◌<◌, ◌≤◌, false, IfOk, OnOk, length, None, All, [], List, string_bytes, unwrap_or};
+ghost use Rattle.std.specs.Prelude.{◌≡◌, ◌+◌, ◌^◌, ◌<◌, ◌≤◌, false, IfOk, OnOk, length, None};
+ghost use Rattle.std.specs.Prelude.{All, [], List, string_bytes, unwrap_or};
 ghost use Rattle.std.specs.List.{list_any};
 ghost use Rattle.std.specs.Option.{option_to_list, MatchOption};
 ghost use Rattle.fx_base.specs.declared.catalogue.TheConstants.{MOST_ENTRIES};
 ghost use Rattle.check_lines.specs.InRange.{AreInRange};
 ghost use Rattle.fx_chain.specs.Answers.{is_bad_entry};
-ghost use Rattle.fx_ring.specs.Registration.{file_after, files_after, removed_by_number, removed_from};
+ghost use Rattle.fx_ring.specs.Registration.{file_after, files_after, removed_by_number};
+ghost use Rattle.fx_ring.specs.Registration.{removed_from};
 ghost use Rattle.fx_ring.specs.Tags.{tag_at, tags_for};
 ghost use Rattle.fx_order.specs.Access.{with_file};
 ghost use Rattle.fx_order.specs.Slots.{table_of_slots, ring_of_slots, ring_with_slots};

@@ -1,10 +1,16 @@
 //! Parses the printed lines of a submission's report: words and numbers, lines, and all lines of a
 //! report.
-ghost use Rattle.std.specs.Prelude.{◌≡◌, ◌++◌, ℕ, List, option_map, ◌<◌, ◌^◌, decimal, IfOk, length, codes, map};
-ghost use Rattle.check_lines.specs.Front.{cut_text, IsCutPart, both_parts_of, number_text, read_with_rest, answer_text, completion_text, lines_before, place_digits, HasLength, FitsFront, close_text, AreAll};
+ghost use Rattle.std.specs.Prelude.{◌≡◌, ◌++◌, ℕ, List, option_map, ◌<◌, ◌^◌, decimal, IfOk};
+ghost use Rattle.std.specs.Prelude.{length, codes, map};
+ghost use Rattle.check_lines.specs.Front.{cut_text, IsCutPart, both_parts_of, number_text};
+ghost use Rattle.check_lines.specs.Front.{read_with_rest, answer_text, completion_text};
+ghost use Rattle.check_lines.specs.Front.{lines_before, place_digits, HasLength, FitsFront};
+ghost use Rattle.check_lines.specs.Front.{close_text, AreAll};
 ghost use Rattle.check_lines.specs.Reads.{ReadsPrinted};
 ghost use Rattle.std.specs.Fmt.{signed_decimal};
-ghost use Rattle.check_lines.specs.Lines.{IsResultInRange, IsCompletionInRange, IsPlaceInRange, IsCloseInRange, IsMarkInRange, line_of_tag, named_line, ReadsReport};
+ghost use Rattle.check_lines.specs.Lines.{IsResultInRange, IsCompletionInRange, IsPlaceInRange};
+ghost use Rattle.check_lines.specs.Lines.{IsCloseInRange, IsMarkInRange, line_of_tag, named_line};
+ghost use Rattle.check_lines.specs.Lines.{ReadsReport};
 ghost use Rattle.hex.specs.Hex.{encode_lower, IsBytes};
 ghost use Rattle.fx_chain.specs.Completed.{all_completed, completed_of};
 ghost use Rattle.fx_print.specs.Text.{completion_line, mark_text};

@@ -26,13 +26,13 @@ use Rattle.fx_base.specs.CloseListView.{CloseListView}
 pub as_many : (asked : List Asked) (chains : List Chain) → map (members_of asked) chains ≡ runs_of asked → length (runs_of asked) ≡ length chains
 as_many asked chains whole = ap length (sym whole) ∙ length-map chains (members_of asked)
 
--- behind the part of a chain that isn't idle no chain has its turn
+-- no chain has its turn after the part of a chain that isn't idle
 pub is_turn : (submission : PlayedSubmission) (numbers : PartNumbers) (state : PlayState) {i : ℕ} → i < length (runs_in submission)
     → is_idle_at submission state i ≡ false → IsTurnOfPart submission numbers state (slice_index_or numbers.of_chain.items i 0)
 is_turn submission numbers state {i} within awake later less turn =
     false≢true (sym awake ∙ turn.part (i + 1) (omega arith) (omega arith) (rw (less_one i, less_one later) less))
 
--- nor, where nothing but reads is left of the part, behind that chain
+-- nor after that chain, if nothing but reads is left of the part
 pub is_reader : (submission : PlayedSubmission) (numbers : PartNumbers) (state : PlayState) {part i : ℕ} → HasReadsAloneIn submission numbers state part
     → slice_index_or numbers.of_chain.items i 0 ≡ part → is_idle_at submission state i ≡ false → IsTurnOfReader submission numbers state part i
 is_reader submission numbers state {part} {i} alone own awake later its less turn =
@@ -85,7 +85,7 @@ parts_in claimed slots many are = each_run
     (AreParts (table_of_slots slots) (parts_by claimed)) (λ _. tt) (λ _ _ _ one others. (one, others))
     1 (runs_in claimed.submission.now) (λ k few. rw (less_one k) (are k (omega arith)))
 
--- what a chain answers in front of its first access, and where it is then
+-- the answers of a chain before its first access, and where it is then
 abbrev settled_by : Claimed → ℕ → List Asked → List Completed × Rest
 settled_by claimed chain run = settled_at (rules_in claimed.submission.now) (first_member claimed.submission.now.number chain) run
 
@@ -153,7 +153,7 @@ all_by {claimed} {slots} {first} recorded many start listed inside among size in
       };
     }
 
--- What an order and a whole list of states show of a ring's histories.
+-- A ring's histories, as an order and a whole list of states show them.
 
 -- an order of accesses is one history
 pub may_of : {old : RingState} {asked : List Asked} {order : List ChainAccess} {report : Reported} {slots : Slots} → old.size ≤ MOST_SLOTS
@@ -165,7 +165,7 @@ may_of {asked} {order} {report} small accepted by ring same =
     (subst (λ (r : RingState). r.size ≤ MOST_SLOTS) (sym same) small) accepted (record { order = order; is = is; after = refl }) in
     (left, left_is ∙ (ap (ring_left order) same ∙ sym by.leaves), record { history = history; memory = by.memory })
 
--- whatever a ring may come to, all states show
+-- all states show each outcome that a ring may have
 shown : {idle : Rest → Bool} (P : Completed → Type 0) {old : RingState} {asked : List Asked} {states : List StateView}
     → AreAllStates idle P old asked states → {ring left : RingContents} {report : Reported} → ring_of ring ≡ old → MayReport ring asked report left
     → AllByRecursion P report.completions × HasEnd old asked idle states (ring_of left)
@@ -221,7 +221,7 @@ ends_by {claimed} {slots} reports all recorded each submissions registrations nu
     (ap (λ (v : StateView). v.table) is ∙ sym way_report.2.table))
     (contains_mapped (λ (p : PossibleReport). ring_following old p.slots) reports way_report.0 way_report.1)
 
--- What was looked through shows all reports.
+-- The examined states show all reports.
 
 -- what the chains answered, one after another
 recorded_all : (recorded : ℕ → List Completed) (chain : ℕ) (runs : List (List Asked)) (answers : List (List Completed)) → length answers ≡ length runs
@@ -237,7 +237,7 @@ recorded_all recorded chain (run ∷ runs) (own ∷ others) many each =
     rw on (each (suc k) (omega arith))) in
     λ i. first i ++ rest i
 
--- a play that is confirmed gives a report
+-- a confirmed play yields a report
 pub is_possible : {old : RingState} {asked : List Asked} {report : Reported} {possible : PossibleReport}
     → IsConfirmedPlay old asked possible.order.items report possible.slots → report ≡ reported possible.report
     → All (λ file. file.entry < length old.catalogue) possible.report.closes.files → IsPossible old asked possible
@@ -251,7 +251,7 @@ pub same_report : (submission : ℕ) (completions : List Completed) {files : Lis
 same_report submission completions same none =
     λ j. record { submission = submission; completions = completions; closes = record { files = sym same j; room = sym none j } }
 
--- a report that tells of the state that a history comes to tells of the history's
+-- a report of the state that a history reaches is a report of the history
 fits_the_report : {sub : PlayedSubmission} {old : RingState} {submissions : ℕ} (here : PlayState) (report : Reported) (left : RingState) {possible : PossibleReport}
     → sub.number ≡ submissions + 1 → old.submissions ≡ submissions → length (runs_in sub) ≡ length sub.chains.now
     → (one : IsOneOrder old (all_asked sub.requests.now) report left) (states : List RecordedState)

@@ -27,8 +27,8 @@ longer (x ∷ front) {accesses} (y ∷ own) {others} is few =
     let (mid, own_is, rest) = longer front own tail (omega arith) in
     (mid, (λ i. head i ∷ own_is i), rest)
 
--- the rules tell rightly how many accesses each request makes that finds memory, and what it
--- answers
+-- the rules have the right number of accesses of each request that finds memory, and the right
+-- answer
 abbrev pub AreRight : List FileEntry → ℕ → Rules → Type 0
 AreRight catalogue size rules = (place : Place) (request : Asked) (own : List Access) (c : Completed)
     → IsRequestDone catalogue size place request.operation own c → HasMemory c
@@ -47,7 +47,7 @@ module _ (catalogue : List FileEntry) (size : ℕ) (rules : Rules) (right : AreR
   IsReady place (request ∷ requests) made = made < rules.count request
 
   -- these were answered up to now, and the chain goes on from this place by these accesses, to what
-  -- it tells in the end
+  -- it answers in the end
   pub record Goes (now : List Completed × Rest) (accesses : List Access) (final : List Completed) : Type 0 where
     pub later : List Completed
     pub whole : final ≡ now.0 ++ later

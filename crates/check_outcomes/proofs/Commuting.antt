@@ -1,9 +1,9 @@
--- Two accesses that come to no slot both may be made the other way round, and leave the same table.
+-- Two accesses without a common slot may be made in the other order, and leave the same table.
 use Rattle.check_outcomes.proofs.Words.{◌≡◌, ℕ, ◌+◌, ◌<◌, ◌≤◌, ◌==◌, List, ◌∷◌, Option, Some, None, if◌then◌else◌, refl, sym, subst, ◌∙◌, by_equality}
 use Rattle.check_outcomes.proofs.Words.{Table, Permits, PermitsAll, table_with, table_after, IsSome, Looks, Puts, Clears, Takes, Allocates, FindsFull}
 use Rattle.check_outcomes.proofs.Words.{Access, Identity, IfSome}
 
--- an access comes to a slot, at a table with this allocation range
+-- an access reaches a slot, at a table with this allocation range
 abbrev pub ComesTo : ℕ × ℕ → Access → ℕ → Type 0
 ComesTo range (Looks own found) slot = slot ≡ own
 ComesTo range (Puts own file removed) slot = slot ≡ own
@@ -24,7 +24,7 @@ abbrev left_at : Option (ℕ × Option Identity) → ℕ → Option Identity →
 left_at None slot found = found
 left_at (Some w) slot found = if slot == w.0 then w.1 else found
 
--- the files behind an access
+-- the files after an access
 abbrev pub left_by : Access → (ℕ → Option Identity) → ℕ → Option Identity
 left_by a at slot = left_at (written a) slot (at slot)
 
@@ -32,7 +32,7 @@ module _ (size : ℕ) (range : ℕ × ℕ) where
   abbrev pub table : (ℕ → Option Identity) → Table
   table at = record { size = size; range = range; at = at }
 
-  -- no slot is one that both come to
+  -- the two reach no common slot
   abbrev pub AreApart : Access → Access → Type 0
   AreApart a b = (slot : ℕ) → slot < size → ComesTo range a slot → ComesTo range b slot → ⊥
 
@@ -43,14 +43,14 @@ module _ (size : ℕ) (range : ℕ × ℕ) where
   abbrev IsOwn : Access → ℕ × Option Identity → Type 0
   IsOwn a w = (w.0 < size) × ComesTo range a w.0
 
-  -- what an access writes is a slot that it comes to
+  -- an access writes only at a slot that it reaches
   writes_own : (a : Access) (at : ℕ → Option Identity) → Permits (table at) a → IfSome (written a) (IsOwn a)
   writes_own (Looks own found) at may = tt
   writes_own (Allocates own file) at may = (may.0.0, (refl, may.1.0, may.1.1))
   writes_own FindsFull at may = tt
   writes_own a at may = (may.0, refl)
 
-  -- where it doesn't come to, nothing changes
+  -- nothing changes at a slot that it doesn't reach
   kept_at : (a : Access) (w : Option (ℕ × Option Identity)) (slot : ℕ) (found : Option Identity) → IfSome w (IsOwn a) → (ComesTo range a slot → ⊥)
       → left_at w slot found ≡ found
   kept_at a None slot found own away = refl
@@ -64,7 +64,7 @@ module _ (size : ℕ) (range : ℕ × ℕ) where
       by_equality slot v.0 (λ c. left_at w slot (if c then v.1 else found) ≡ (if c then v.1 else left_at w slot found))
       (λ same. kept_at b w slot v.1 its (apart slot (rw same mine.0) (rw same mine.1))) (λ _. refl)
 
-  -- an access is permitted by what is at the slots that it comes to
+  -- the files at the slots that an access reaches decide whether it is permitted
   like : (b : Access) {f g : ℕ → Option Identity} → ((slot : ℕ) → slot < size → ComesTo range b slot → f slot ≡ g slot)
       → Permits (table f) b → Permits (table g) b
   like (Allocates own file) same may = ((may.0.0, may.0.1 ∙ same own may.0.0 (refl, may.1.0, may.1.1)), may.1)

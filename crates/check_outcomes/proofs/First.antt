@@ -22,8 +22,8 @@ all_recorded P recorded chain [] each = tt
 all_recorded P recorded chain (run ∷ runs) each = both_said P (recorded chain) (recorded_from recorded (chain + 1) runs) (each chain (omega arith) (omega arith))
     (all_recorded P recorded (chain + 1) runs (λ q low high. each q (omega arith) (omega arith)))
 
--- each chain is at its first request that comes to the table, and `Begins` has what it answered up
--- to there
+-- each chain is at its first request that reaches the table, and `Begins` has its answers up to
+-- there
 module _ (catalogue : List FileEntry) (size submission : ℕ) (order : List ChainAccess) (rests : ℕ → Rest) (Begins : ℕ → List Completed → Type 0) where
   abbrev settled : ℕ → List Asked → List Completed × Rest
   settled chain run = settled_at (rules_of catalogue size) (first_member submission chain) run
@@ -32,7 +32,7 @@ module _ (catalogue : List FileEntry) (size submission : ℕ) (order : List Chai
   abbrev Own : ℕ → List Completed → Type 0
   Own q final = (recorded : List Completed) × Begins q recorded × OfChain catalogue size (rests q) recorded final (accesses_of_chain q order)
 
-  -- the list of a chain in front of those of the others
+  -- the list of a chain before those of the others
   abbrev put : ℕ → List Completed → (ℕ → List Completed) → ℕ → List Completed
   put chain own others q = if q == chain then own else others q
 

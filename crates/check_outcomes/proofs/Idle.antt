@@ -56,7 +56,7 @@ pub idle_some : (submission : PlayedSubmission) (requests : List Asked) (place :
 idle_some submission [] place made some silent = absurd (some refl)
 idle_some submission (request ∷ requests) place made some silent = rw (ne_eqb (length (request ∷ requests)) 0 some, silent)
 
--- What is left of a chain with nothing but reads looks at slots alone, and answers at its places.
+-- The rest of a chain, if it is nothing but reads, only looks at slots, and answers at its places.
 
 abbrev pub IsLook : Access → Type 0
 IsLook a = (slot : ℕ) × (found : Option Identity) × (a ≡ Looks slot found)

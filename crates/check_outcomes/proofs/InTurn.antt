@@ -36,7 +36,7 @@ module _ (chains : ℕ) where
     pub its_first : Each x.chain (x.access ∷ accesses_of_chain x.chain order)
     its_first = rw (own_first x order) at (comes.each x.chain first_within.0 first_within.1)
 
-    -- behind that access
+    -- after that access
     pub past_first : {next : Table} (Next : ℕ → List Access → Type 0) → next ≡ table_with table x.access
         → Next x.chain (accesses_of_chain x.chain order)
         → ((chain : ℕ) → 1 ≤ chain → (chain ≡ x.chain → ⊥) → Each chain (accesses_of_chain chain order) → Next chain (accesses_of_chain chain order))

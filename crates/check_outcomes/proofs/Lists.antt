@@ -1,4 +1,4 @@
--- What holds of each element of a list.
+-- Statements of each element of a list.
 use Rattle.check_outcomes.proofs.Words.{◌≡◌, ℕ, ◌<◌, List, [], ◌∷◌, length, map, sym, ap, ◌∙◌, arith, slice_index_or, Contains, get_or-map}
 use Rattle.check_outcomes.proofs.Words.{length-map, suc, ◌+◌, ⊎_elim, Asked, get_or_from_slice_get, IfOk, Result, cases_eq, slice_get-get_or, Ok, Err}
 

@@ -72,7 +72,7 @@ module _ (catalogue : List FileEntry) (size : ℕ) (says : Completed → Type 0)
         said = rw of.whole (both_said says recorded of.later said later);
       }
 
-  -- and one that isn't
+  -- and a rest that is not idle
   as_chain : {rest : Rest} {final : List Completed} {accesses : List Access} → idle rest ≡ false → Plays rest final accesses
       → IsSaid rest final accesses
   as_chain isnt (inl of) = absurd (false≢true (sym isnt ∙ of.is_idle))
@@ -84,7 +84,7 @@ module _ (catalogue : List FileEntry) (size : ℕ) (says : Completed → Type 0)
   reading are (inl of) = of.looks
   reading are (inr (recorded, said, of)) = as_reader catalogue size are of
 
-  -- without an access that is left it is idle, and all that it tells is said
+  -- without an access that is left it is idle, and has given all its answers
   ended : {rest : Rest} {final : List Completed} → Plays rest final [] → (idle rest ≡ true) × AllByRecursion says final
   ended (inl of) = (of.is_idle, of.said)
   ended {rest} {final} (inr (recorded, said, of)) =

@@ -20,7 +20,7 @@ module _ (catalogue : List FileEntry) (size chains : ℕ) (finals : ℕ → List
     pub goes : OrderGoesOn chains here.state.table (Each here) order
     pub closed : IsPermutation (here.removed ++ files_removed_in (accesses_of order)) files
 
-  -- behind its first access, which is one that its chain may make next
+  -- after its first access, which its chain may make next
   past : {here next : RecordedState} {x : ChainAccess} {order : List ChainAccess} → Comes here (x ∷ order)
       → LeadsOn (rules_of catalogue size) here x.chain x.access next → Comes next order
   past {next = next} {x} {order} comes to = record {
@@ -64,7 +64,7 @@ module _ (catalogue : List FileEntry) (size chains : ℕ) (finals : ℕ → List
       let (on, inside, leads) = closed here there x.chain low high turn x.access next comes.goes.permitted.0 in
       rw (← leads.leads.table, table_after) (runs_on states parts closed order by.1 inside (past comes leads))
 
--- An order of a submission begins at the first of its states, and ends at one that tells of its
+-- An order of a submission begins at the first of its states, and ends at one that lists its
 -- report.
 
 pub each_report_is_listed : EachReportIsListed

@@ -1,5 +1,5 @@
--- What each request does at the table: how many accesses it makes, and its answer if no allocation
--- fails; what each access was to be; and the slots that it reaches.
+-- The acts of each request at the table: how many accesses it makes, and its answer if no
+-- allocation fails; what each access was to be; and the slots that it reaches.
 use Rattle.check_outcomes.proofs.Words.{◌≡◌, ℕ, zero, suc, ◌+◌, ◌≤◌, ℤ, pos, negsuc, List, [], ◌∷◌, ◌++◌, length, refl, ap, ◌∙◌, Option, Some, None}
 use Rattle.check_outcomes.proofs.Words.{arith, inl, inr, All, IsCatalogue, slice_get, All-nil, All-cons, FileEntry, Errno, MatchOption}
 use Rattle.check_outcomes.proofs.Words.{Completed, Operation, Opens, Reads, Closes, Updates, Place, Slot, Any, Table, refusal_of, IsRefused}
@@ -17,7 +17,7 @@ use Rattle.fx_order.specs.Access.{IsOf, finding_of, last_finding}
 use Rattle.std.specs.List.{AllZip}
 use Rattle.std.specs.Prelude.{option_map}
 
--- so many accesses, and this answer
+-- this number of accesses, and this answer
 abbrev Says : List Access → Completed → ℕ → Completed → Type 0
 Says own c count answer = (length own ≡ count) × (c ≡ answer)
 

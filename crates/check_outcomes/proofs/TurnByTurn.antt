@@ -9,7 +9,7 @@ use Rattle.check_outcomes.proofs.InTurn.{IsInPart, of_each, IsInTurn, in_turn}
 use Rattle.check_outcomes.proofs.Requests.{Comes, all_come}
 
 module _ (catalogue : List FileEntry) (table : Table) (of_slot : ℕ → ℕ) (part : ℕ) where
-  -- an access comes to slots of the part alone
+  -- an access reaches slots of the part alone
   abbrev Stays : Access → Type 0
   Stays a = (slot : ℕ) → slot < table.size → ComesTo table.range a slot → of_slot slot ≡ part
 
@@ -29,7 +29,7 @@ module _ (catalogue : List FileEntry) (table : Table) (of_slot : ℕ → ℕ) (p
       (chain (next_member place) run others rest (λ k d lt. stay (suc k) d (omega arith))) on))
 
 module _ (catalogue : List FileEntry) (table : Table) (parts : Parts) where
-  -- an access of a chain comes to slots of the chain's part alone
+  -- an access of a chain reaches slots of the chain's part alone
   abbrev Keeps : ℕ → Access → Type 0
   Keeps q a = (slot : ℕ) → slot < table.size → ComesTo table.range a slot → parts.of_slot slot ≡ parts.of_chain q
 

@@ -18,7 +18,7 @@ use Rattle.check_outcomes.specs.contracts.submission.ProgressPartialEq.TheImpl.{
 use Rattle.check_outcomes.proofs.Lists.{inside_at}
 use Rattle.check_outcomes.proofs.Idle.{all_reads, idle_some}
 
--- lists of which `==` tells that they say the same
+-- lists that say the same if `==` is true of them
 pub same_each : {X Y : Type 0} (f : X → Y) {E : X → X → Bool} → ((x y : X) → E x y ≡ true → f x ≡ f y) → (xs ys : List X)
     → pointwise E xs ys ≡ true → map f xs ≡ map f ys
 same_each f each [] [] is = refl
@@ -52,9 +52,9 @@ cut_recorded cs {n} {m} same is front back =
     rw (is, ← front, ← back, take_all (length cs - m) (drop m cs) all, same)
     (ap all_completed (sym (take-append-drop m cs)) ∙ map-append completed_of (take m cs) (drop m cs))
 
--- How a chain goes on, counted in members that are done.
+-- The progress of a chain, counted in members that are done.
 
--- what was recorded, and one answer behind it
+-- what was recorded, and one answer after it
 pub pushed : (before : List Completion) {after : List Completion} (c : Completion) {d : Completed} → after ≡ before ++ c ∷ [] → completed_of c ≡ d
     → all_completed after ≡ all_completed before ++ d ∷ []
 pushed before c is same = rw (is, ← same) (map-append completed_of before (c ∷ []))
@@ -62,7 +62,7 @@ pushed before c is same = rw (is, ← same) (map-append completed_of before (c �
 moved_on : (place : Place) (n : ℕ) → moved (next_member place) n ≡ moved place (1 + n)
 moved_on place n = let same : place.member + 1 + n ≡ place.member + (1 + n) = omega arith in λ i. record place { member = same i }
 
--- a request that doesn't come to the table, and those behind it
+-- a request that doesn't reach the table, and those after it
 pub settled_on : (rules : Rules) {place : Place} {request : Asked} {requests : List Asked} {before after : List Completed} {passed : ℕ}
     → (rules.count request == 0) ≡ true
     → Settles (gone_on rules place request requests None) (next_member place) requests before after passed
@@ -76,7 +76,7 @@ settled_on rules {place = place} {passed = passed} none goes =
       within = omega arith;
     }
 
--- a request that answers, and those behind it
+-- a request that answers, and those after it
 module _ (rules : Rules) (place : Place) (request : Asked) (last : Option Access) {requests : List Asked} {c : Completed}
     {before middle after : List Completed} {passed : ℕ} (answers : c ≡ rules.answer place request last) (first : middle ≡ before ++ c ∷ []) where
   pub gone_past : severs request c ≡ false
@@ -115,7 +115,7 @@ module _ {rules : Rules} {place : Place} {run : List Asked} {progress : Progress
               ((λ i. rest_for (record place { member = place_is i }) (left i) (made i)) ∙ sym goes.rest);
         }
 
--- What the states of the program say, chain by chain.
+-- The states of the program, chain by chain.
 
 pub less_one : (i : ℕ) → i + 1 - 1 ≡ i
 less_one i = omega arith

@@ -1,4 +1,4 @@
--- What a request may do next.
+-- The accesses that a request may make next.
 use Rattle.std.specs.Prelude.{◌≡◌, ℕ, List, ◌∷◌, ◌++◌, length, Contains, Option, Some, None}
 use Rattle.fx_base.specs.Catalogue.{FileEntry}
 use Rattle.fx_chain.specs.Completed.{Completed}
@@ -9,13 +9,13 @@ use Rattle.fx_order.specs.Access.{IsOf, Table, Permits}
 use Rattle.fx_order.specs.declared.access.Access.{Access}
 use Rattle.fx_order.specs.Requests.{IsRequestDone}
 
--- behind so many accesses the request may make this one
+-- after `made` accesses the request may make this one
 abbrev pub IsNextAccess : List FileEntry → ℕ → Place → Operation → ℕ → Access → Type 0
 IsNextAccess catalogue size place operation made a =
     (front : List Access) × (behind : List Access) × (c : Completed) × (length front ≡ made)
     × IsRequestDone catalogue size place operation (front ++ a ∷ behind) c
 
--- the list has each access that the request may make next, behind so many, and the table permits
+-- the list has each access that the request may make after `made` others and that the table permits
 abbrev pub HasEach : List FileEntry → Table → Place → Operation → ℕ → List Access → Type 0
 HasEach catalogue table place operation made choices =
     (a : Access) → IsNextAccess catalogue table.size place operation made a → Permits table a

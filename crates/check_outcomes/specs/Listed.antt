@@ -1,4 +1,4 @@
--- What is looked through of the states that a search met.
+-- The states that a search met, and those of them that it has examined.
 use Rattle.std.specs.Prelude.{◌≡◌, ℕ, ◌+◌, ◌<◌, List, [], length, map, slice_index_or, false}
 use Rattle.std.specs.Prelude.{Contains, IsTrue, Option, Some}
 use Rattle.std.specs.Global.{Vec}
@@ -125,7 +125,7 @@ report_of_play submission play = record {
   closes = record { files = play.closes.items; room = 0 };
 }
 
--- the play's order comes to what it says and leaves these slots, and so may each ring
+-- the play's order produces what it says and leaves these slots, as each such ring may do
 pub record IsConfirmedPlay (old : RingState) (requests : List Asked) (order : List ChainAccess)
     (report : Reported) (left : Slots) : Type 0 where
   pub by : IsReportBy old requests order report left
@@ -161,7 +161,7 @@ pub record IsRecordedOf (submission : PlayedSubmission) (state : PlayState)
   pub table : table_of_slots possible.slots ≡ table_of_slots state.slots
   pub recorded : IsTrue submission.with_reports → IsReportOf submission state possible.report
 
--- where the state is over, one of the reports tells of it
+-- if the state is over, one of the reports lists it
 abbrev pub IsRecordedAt : PlayedSubmission → List PossibleReport → PlayState → Type 0
 IsRecordedAt submission reports state = IsOverIn submission state
     → (possible : PossibleReport) × Contains reports possible

@@ -76,8 +76,8 @@ AreClosed catalogue size idle parts says chains states =
     → HasTurn idle parts chains state chain → idle (state.rests chain) ≡ false
     → IsChainExplored catalogue size says states state chain
 
--- each chain from this one on is at its first request that comes to the table, and `Begins` has
--- what was answered up to there
+-- each chain from this one on is at its first request that reaches the table, and `Begins` has the
+-- answers up to there
 abbrev pub AreAtStart : Rules → (ℕ → List Completed → Type 0) → ℕ → ℕ → List (List Asked)
     → (ℕ → Rest) → Type 0
 AreAtStart rules Begins submission chain [] rests = Unit {0}

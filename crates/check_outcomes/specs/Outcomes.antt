@@ -1,4 +1,4 @@
--- What may come of a submission where each request finds memory.
+-- The reports that a submission may produce if no allocation fails.
 use Rattle.std.specs.Prelude.{◌≡◌, ◌+◌, ◌<◌, List, All, Contains, length, map, IsPermutation}
 use Rattle.fx_chain.specs.Completed.{Completed, all_completed, completed_of}
 use Rattle.fx_chain.specs.Operation.{Asked}
@@ -13,7 +13,7 @@ use Rattle.check_outcomes.specs.Rests.{HasMemory}
 use Rattle.check_outcomes.specs.declared.outcomes.PossibleAnswer.{PossibleAnswer}
 use Rattle.check_outcomes.specs.declared.outcomes.PossibleReport.{PossibleReport}
 
--- one history of the ring's table comes to this report and leaves this ring, and each request finds
+-- one history of the ring's table produces this report and leaves this ring, and no request lacks
 -- memory
 pub record MayReport (ring : RingContents) (requests : List Asked) (report : Reported)
     (left : RingContents) : Type 0 where
@@ -27,20 +27,20 @@ pub record MayAnswer (ring : RingContents) (requests : List Asked) (c : Complete
   pub may : MayReport ring requests report left
   pub inside : Contains report.completions c
 
--- the ring behind a submission that leaves these slots
+-- the ring after a submission that leaves these slots
 abbrev pub ring_following : RingState → Slots → RingState
 ring_following old slots =
     ring_of_slots old.catalogue slots (old.submissions + 1) old.registrations
 
--- the requests' accesses, in this order, come to this report and leave these slots, and each
--- request finds memory
+-- the requests' accesses, in this order, produce this report and leave these slots, and no request
+-- lacks memory
 pub record IsReportBy (old : RingState) (requests : List Asked) (order : List ChainAccess)
     (report : Reported) (slots : Slots) : Type 0 where
   pub is : IsOrderOf order old requests report
   pub memory : All HasMemory report.completions
   pub leaves : ring_following old slots ≡ ring_left order old
 
--- an answer at the place that comes of each ring with this state, by the order that stands with it
+-- an answer at the place that each ring with this state may produce, by the order listed with it
 pub record IsAnswer (old : RingState) (requests : List Asked) (place : Place) (answer
     : PossibleAnswer)
     : Type 0 where
@@ -71,7 +71,7 @@ HasEachEnd old requests reports =
     (ring left : RingContents) (report : Reported) → ring_of ring ≡ old
     → MayReport ring requests report left → Contains (rings_following old reports) (ring_of left)
 
--- a report that comes of each ring with this state, by the order that stands with it
+-- a report that each ring with this state may produce, by the order listed with it
 pub record IsPossible (old : RingState) (requests : List Asked) (possible : PossibleReport)
     : Type 0 where
   pub by : IsReportBy old requests possible.order.items (reported possible.report) possible.slots
@@ -80,7 +80,7 @@ pub record IsPossible (old : RingState) (requests : List Asked) (possible : Poss
       × MayReport ring requests (reported possible.report) left
   pub entries : All (λ file. file.entry < length old.catalogue) possible.report.closes.files
 
--- it tells of this report, whose files are in order of mark too, and leaves this ring
+-- it lists this report, whose files are in order of mark too, and leaves this ring
 pub record ReportsOf (old : RingState) (report : Reported) (left : RingState)
     (possible : PossibleReport) : Type 0 where
   pub submission : report.submission ≡ possible.report.submission
@@ -88,7 +88,7 @@ pub record ReportsOf (old : RingState) (report : Reported) (left : RingState)
   pub closes : IsPermutation possible.report.closes.files report.closes.files
   pub leaves : left ≡ ring_following old possible.slots
 
--- whatever report the submission may come to, one of these tells of it
+-- one of these lists each report that the submission may produce
 abbrev pub HasEachReport : RingState → List Asked → List PossibleReport → Type 0
 HasEachReport old requests reports =
     (ring left : RingContents) (report : Reported) → ring_of ring ≡ old

@@ -1,4 +1,4 @@
--- Chains that share no slot stand in different parts of a submission, and no access of one part
+-- Chains that share no slot are in different parts of a submission, and no access of one part
 -- matters to another. So the parts may be played one after another.
 use Rattle.std.specs.Prelude.{◌≡◌, ℕ, ◌+◌, ◌<◌, List, [], ◌∷◌, All}
 use Rattle.fx_chain.specs.Intents.{MayReach}

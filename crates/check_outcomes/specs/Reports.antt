@@ -64,7 +64,7 @@ pub record AreAllRecorded (old : RingState) (requests : List Asked) (states : Li
   pub inside : Contains states first
   pub closed : AreRecordedClosed old.catalogue old.size parts (length (runs_of requests)) states
 
--- one of them is over, tells of this report, and leaves this ring
+-- one of them is over, lists this report, and leaves this ring
 pub record HasReport (old : RingState) (requests : List Asked) (states : List RecordedState)
     (report : Reported) (left : RingState) : Type 0 where
   pub here : RecordedState
@@ -74,8 +74,8 @@ pub record HasReport (old : RingState) (requests : List Asked) (states : List Re
   pub closes : IsPermutation here.removed report.closes.files
   pub leaves : left ≡ ring_at old here.state
 
--- whatever comes of a submission, where no request lacks memory, one of the list that is over tells
--- of
+-- one state of the list that is over lists each report that the submission may produce if no
+-- request lacks memory
 abbrev pub EachReportIsListed : Type 0
 EachReportIsListed =
     (old : RingState) (requests : List Asked) (states : List RecordedState)

@@ -44,7 +44,7 @@ abbrev pub over : Rest
 over = rest_at (first_member 0 0) [] 0
 
 module _ (rules : Rules) where
-  -- up to the next request that comes to the table: what is answered, and where the chain is then
+  -- up to the next request that reaches the table: what is answered, and where the chain is then
   abbrev pub settled_at : Place → List Asked → List Completed × Rest
   settled_at place [] = ([], over)
   settled_at place (request ∷ requests) =
@@ -57,7 +57,7 @@ module _ (rules : Rules) where
       ))
       else ([], rest_at place (request ∷ requests) 0)
 
-  -- where a request has answered: what is answered up to the next request that comes to the table,
+  -- once a request has answered: what is answered up to the next request that reaches the table,
   -- and where the chain is then
   abbrev pub behind : Place → Asked → List Asked → Completed → List Completed × Rest
   behind place request requests c =

@@ -23,15 +23,15 @@ abbrev pub rest_in : Place → List Asked → Progress → Rest
 rest_in place run progress =
     rest_for (moved place progress.done) (drop progress.done run) progress.made
 
--- these completions come after `before`, and the chain is where so many of these requests from this
--- place on are done
+-- these completions come after `before`, and the chain is where `passed` of these requests from
+-- this place on are done
 pub record Settles (now : List Completed × Rest) (place : Place) (requests : List Asked)
     (before after : List Completed) (passed : ℕ) : Type 0 where
   pub recorded : after ≡ before ++ now.0
   pub rest : now.1 ≡ rest_for (moved place passed) (drop passed requests) 0
   pub within : passed ≤ length requests
 
--- what is answered from a request on, by the last of its accesses, up to the next one that comes to
+-- what is answered from a request on, by the last of its accesses, up to the next one that reaches
 -- the table, and where the chain is then
 abbrev pub gone_on :
     Rules → Place → Asked → List Asked → Option Access → List Completed × Rest
@@ -49,7 +49,7 @@ abbrev pub HasEachNext : List FileEntry → Table → Rest → List Access → T
 HasEachNext catalogue table rest choices =
     (a : Access) → IsNext catalogue table.size rest a → Permits table a → Contains choices a
 
--- the request that is asked for, if there is one, is that at this place or one behind it
+-- the request that is asked for, if there is one, is that at this place or a later one
 abbrev pub asks_from : Option Place → Place → Bool
 asks_from None place = false
 asks_from (Some own) place =

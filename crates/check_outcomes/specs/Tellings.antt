@@ -1,4 +1,4 @@
--- What was recorded on the way to the states of the program, and the numbers of a state's files.
+-- The record of the way to the states of the program, and the numbers of a state's files.
 use Rattle.std.specs.Prelude.{◌≡◌, ℕ, ◌<◌, List, [], ◌∷◌, ◌++◌, length, map, slice_index_or}
 use Rattle.std.specs.Prelude.{slice_set, IsPermutation, Option, None, Some}
 use Rattle.std.specs.Option.{option_to_list}
@@ -16,7 +16,7 @@ use Rattle.check_outcomes.specs.declared.way_report.WayReport.{WayReport}
 abbrev pub answers_of : List (Vec Completion) → List (List Completed)
 answers_of answers = map (λ own. all_completed own.items) answers
 
--- all of it, one chain behind another
+-- all of it, one chain after another
 abbrev pub all_recorded : List (List Completed) → List Completed
 all_recorded [] = []
 all_recorded (own ∷ others) = own ++ all_recorded others

@@ -1,4 +1,4 @@
--- What the states of the program say of a submission.
+-- The states of the program, read as states of a submission.
 use Rattle.std.specs.Prelude.{◌≡◌, ℕ, ◌+◌, ◌-◌, ◌<◌, ◌==◌, ◌&&◌, not, Bool, true, false, List, []}
 use Rattle.std.specs.Prelude.{length, slice_index_or, All, Contains, IfSome, if◌then◌else◌}
 use Rattle.std.specs.Global.{Vec}
@@ -73,7 +73,7 @@ HasEachNextIn submission state i accesses =
     (a : Access) → IsNextIn submission state i a → Permits (table_of_slots state.slots) a
     → Contains accesses.items a
 
--- the parts that the numbers tell of
+-- the parts that the numbers name
 abbrev pub parts_by_numbers : PartNumbers → Parts
 parts_by_numbers numbers = record {
   of_chain = λ chain. slice_index_or numbers.of_chain.items (chain - 1) 0;

@@ -4,7 +4,8 @@ ghost use Rattle.fx_chain.specs.Completed.{completed_of};
 ghost use Rattle.fx_order.specs.Access.{Permits};
 ghost use Rattle.fx_order.specs.Slots.{table_of_slots};
 ghost use Rattle.check_outcomes.specs.Outcomes.{answered};
-ghost use Rattle.check_outcomes.specs.Listed.{AreAllBy, IsExploredBy, IsExploredInTurn, IsStateExploredBy, says};
+ghost use Rattle.check_outcomes.specs.Listed.{AreAllBy, IsExploredBy, IsExploredInTurn};
+ghost use Rattle.check_outcomes.specs.Listed.{IsStateExploredBy, says};
 ghost use Rattle.check_outcomes.specs.Views.{IsTurnAt};
 
 use crate::found::FoundStates;

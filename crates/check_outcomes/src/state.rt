@@ -7,7 +7,8 @@ ghost use Rattle.std.specs.List.{list_all};
 ghost use Rattle.fx_order.specs.Slots.{table_of_slots};
 ghost use Rattle.check_outcomes.specs.Listed.{IsFirstState};
 ghost use Rattle.check_outcomes.specs.Tellings.{IsRecordedOn, answers_of};
-ghost use Rattle.check_outcomes.specs.Views.{HasEachNextIn, IsOverIn, IsStepTo, has_reads_at, is_idle_at, not_begun};
+ghost use Rattle.check_outcomes.specs.Views.{HasEachNextIn, IsOverIn, IsStepTo, has_reads_at};
+ghost use Rattle.check_outcomes.specs.Views.{is_idle_at, not_begun};
 
 use crate::submission::{PlayedSubmission, Progress, chain_accesses, left, settle, step};
 use crate::way_report::{WayReport, are_all_same, push_lists};

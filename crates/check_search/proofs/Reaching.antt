@@ -7,7 +7,7 @@ use Rattle.check_search.proofs.Words.{Packing, Strand, Standing, Vec, all_unpack
 use Rattle.check_search.proofs.Words.{unpacked, IsEndOfClaims}
 use Rattle.check_search.specs.Machine.{HasNoEnd, IsExplored, LeadsInside}
 
--- the element at a place of a mapped list, and those behind it
+-- the element at a place of a mapped list, and those after it
 pub mapped_at : {X Y : Type 0} (f : X → Y) (xs : List X) (i : ℕ) (x : X) → i < length xs → x ≡ get_or xs i x
     → drop i (map f xs) ≡ f x ∷ drop (suc i) (map f xs)
 mapped_at f xs i x lt is =

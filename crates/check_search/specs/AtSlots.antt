@@ -1,4 +1,4 @@
--- What is at some slots alone.
+-- The files at some slots alone.
 use Rattle.std.specs.Prelude.{ℕ, ◌==◌, Bool, List, Option, Some, None}
 use Rattle.std.specs.List.{list_any}
 use Rattle.check_search.specs.declared.cell.Cell.{Cell}

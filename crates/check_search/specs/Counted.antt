@@ -1,4 +1,4 @@
--- Files that come to a slot and leave it, counted.
+-- Counts of the files that are installed at a slot and that leave it.
 use Rattle.std.specs.Prelude.{◌≡◌, ◌⊎◌, ℕ, ◌+◌, ◌<◌, ◌≤◌, ◌==◌, ◌&&◌, not, Bool, true, false}
 use Rattle.std.specs.Prelude.{List, [], ◌∷◌, count_by, cond, drop, slice_index}
 use Rattle.check_search.specs.Machine.{Standing, cell_at, may_leave, may_stay}

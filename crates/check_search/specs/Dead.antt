@@ -21,7 +21,7 @@ NoneHelps strands places slot claim = (c k : ℕ) (strand : Strand) (other : Cla
     → slice_get strands c ≡ Some strand → slice_index places c ≤ k
     → slice_get strand.claims.items k ≡ Some other → no_help slot claim other ≡ true
 
--- the claim may not be made with what is at the slot, and that stays, or what may come is no better
+-- the claim may not be made with the slot's file, and that stays, or none that may follow fits
 pub record IsHopeless (strands : List Strand) (at : Standing) (slot : ℕ) (claim : Claim)
     : Type 0 where
   pub unfit : may_find claim (cell_at at.cells slot) ≡ false

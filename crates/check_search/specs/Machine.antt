@@ -31,7 +31,7 @@ suits Something found = is_some found
 suits (Bytes fits) None = false
 suits (Bytes fits) (Some resident) = slice_index_or fits resident.file.entry true
 
--- it is no file, or one that the closes have
+-- it is not a file, or one that the closes have
 abbrev pub may_leave : Option Resident → Bool
 may_leave None = true
 may_leave (Some resident) = resident.leaves
@@ -39,7 +39,7 @@ may_leave (Some resident) = resident.leaves
 abbrev pub is_taken : Cell → Bool
 is_taken cell = not cell.in_range || is_some cell.file
 
--- it is no file, or one that the closes don't have
+-- it is not a file, or one that the closes don't have
 abbrev pub may_stay : Option Resident → Bool
 may_stay None = true
 may_stay (Some resident) = not resident.leaves

@@ -1,4 +1,4 @@
--- The calls between submissions, and refused submissions: where memory is found they lead to one
+-- The calls between submissions, and refused submissions: if no allocation fails they lead to one
 -- ring, and print one line.
 use Rattle.check_texts.proofs.Words.{either_way, IsResultInRange, Errno, ENOMEM, call_of, fault_of, Asked, CutFault, Instruction, SetsRange}
 use Rattle.check_texts.proofs.Words.{SubmitsAll, MOST_SLOTS, refused_line, too_many_line, IsRing, RingContents, RingState, ring_of, Reported}
@@ -9,7 +9,7 @@ use Rattle.check_texts.proofs.Words.{AnswersFound, refusal_other, HasFound}
 use Rattle.check_lines.proofs.Decimals.{one_result}
 use Rattle.check_lines.proofs.Calls.{Call, Tells, not_refused, Answers, Fails, answers, few_told, one_line_of}
 
--- what a submission comes to: nothing changes and it isn't counted, or it has a report and is
+-- the outcomes of a submission: nothing changes and it isn't counted, or it has a report and is
 cases : {R : Type 0} (x : Option CutFault) {count : ℕ} {same reports : Type 0} (line many : List ℕ) (text : CutFault → List ℕ)
     → (same → accepted_following count x ≡ count → R) → (reports → accepted_following count x ≡ count + 1 → R)
     → MatchOption x (MatchBool (nat_le MOST_SUBMISSIONS count) (same × (line ≡ many)) reports) (λ fault. same × (line ≡ text fault)) → R

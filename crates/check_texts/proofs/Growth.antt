@@ -1,4 +1,4 @@
--- Lists that others are put behind, and texts that are put into a set.
+-- Lists that others are appended to, and texts that are put into a set.
 use Rattle.check_texts.proofs.Words.{contains_mapped, contains_none, Grows, List, None, Option, Some, [], inl, inr, length, map, refl, slice_index_or}
 use Rattle.check_texts.proofs.Words.{string_bytes, subst, sym, take, true, ℕ, ⊎_elim, ◌++◌, ◌+◌, ◌<◌, ◌∷◌, ◌≡◌, cases_Bool, map-append, map_more}
 use Rattle.check_texts.proofs.Words.{bytes_decides, list_any, option_to_list, All, Contains, IfSome, Global, String, Contains-append_left}
@@ -14,7 +14,7 @@ grows_on weaker one more = record {
   from = λ x inside. ⊎_elim (one.from x) (λ is. inr (weaker x is)) (more.from x inside);
 }
 
--- one more behind them
+-- one more after them
 module _ {X Y : Type 0} (f : Y → X) (xs : List Y) {ys : List Y} (y : Y) (are : ys ≡ xs ++ y ∷ []) where
   pub has_pushed : Contains (map f ys) (f y)
   has_pushed = contains_mapped f ys y (rw are (Contains-push xs y))
@@ -25,7 +25,7 @@ module _ {X Y : Type 0} (f : Y → X) (xs : List Y) {ys : List Y} (y : Y) (are :
     from = λ x inside. ⊎_elim inl (λ same. inr (subst P same is)) (Contains-push_cases (map f xs) (f y) x inside);
   })
 
--- the one that is taken off the end of what was put behind nothing
+-- the element that is taken off the end of a list that began as empty
 pub popped : {X Y : Type 0} (f : Y → X) {P : X → Type 0} {xs : List Y} (ys : List Y) (last : Option Y) → xs ≡ ys ++ option_to_list last
     → Grows P [] (map f xs) → IfSome last (λ y. P (f y))
 popped f ys None are grows = tt
@@ -46,7 +46,7 @@ module _ {X Y : Type 0} (f : Y → X) (ys : List Y) {k : ℕ} {y : Y} (inside : 
       ⊎_elim (before x) (λ same. subst Q same here)
       (Contains-push_cases (map f (take k ys)) (f y) x (rw (map_more f ys k y inside, sym is) at has))
 
-  -- they are there, and one more is put behind others
+  -- they are there, and one more is appended to others
   pub there_more : {P : X → Type 0} {before now : List X} → Grows P before now
       → ((x : X) → Contains (map f (take k ys)) x → Contains before x) → Contains now (f y)
       → (x : X) → Contains (map f (take (k + 1) ys)) x → Contains now x

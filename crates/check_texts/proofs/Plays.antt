@@ -46,7 +46,7 @@ numbers_behind ring (command ∷ commands) text reports {report} (next, line, ot
     (λ there. let n = rw counts at (numbers_behind next commands others later {report = report} rest there) in omega (arith, n.0, n.1))
     (either_report ring next command line own later memory parts inside)
 
--- a play that goes on behind others: its reports are among those of the whole
+-- a play that goes on after others: its reports are among those of the whole
 pub play_behind : (ring mid : RingContents) (front rest : List Instruction) (before text : List ℕ) (reports : List Reported)
     → LeadsAll ring front mid before → PrintsAllFound mid rest text reports
     → (all : List Reported) × PrintsAllFound ring (front ++ rest) (before ++ text) all
@@ -96,7 +96,7 @@ report_at {ring} (command ∷ front) behind text reports (next, line, others, ow
       found = at.found;
     }) (either_report ring next command line own later memory parts inside)
 
--- What a whole play prints, and what a request may answer in it.
+-- The text of a whole play, and the answers of a request in it.
 
 -- the end of the script can be printed
 pub may_end : (state : RingState) → MayEnd state []
@@ -116,7 +116,7 @@ none_counted ring new = ap (λ (r : RingState). r.submissions) new
 
 module _ (script : Meaning) (place : Place) (front : List Instruction) (asked : List Asked) (behind : List Instruction)
     (split : script.commands ≡ front ++ SubmitsAll asked ∷ behind) (number : place.submission ≡ count_after_all 0 front + 1) where
-  -- what is said behind the first commands is an answer of a play
+  -- what is said after the first commands is an answer of a play
   pub said_is_answered : (keeps : Bool) {o : Stage} {c : Completed} → MayLeadAllTo keeps (new_ring script.catalogue) front o
       → MaySay o.ring asked behind place c → MayAnswerIn script place c
   said_is_answered keeps leads says =
@@ -136,7 +136,7 @@ module _ (script : Meaning) (place : Place) (front : List Instruction) (asked : 
         there = says.there;
       }
 
-  -- an answer of a play is said behind the first commands
+  -- an answer of a play is said after the first commands
   pub answer_is_said : (keeps : Bool) (stages : List Stage) (said : List Completed) {c : Completed}
       → accepted_following (count_after_all 0 front) (fault_of asked) ≡ place.submission
       → HasEachLast keeps (new_ring script.catalogue) front stages → HasEachSaidFrom stages asked place said → MayAnswerIn script place c

@@ -63,7 +63,7 @@ closes_for files = let (xs, moved, rises) = sorted files in (
   },
 )
 
--- What an accepted submission may come to at a ring that is kept as slots.
+-- The outcomes of an accepted submission at a ring that is kept as slots.
 
 pub counted_one : (requests : List Asked) {count : ℕ} → fault_of requests ≡ None → count < MOST_SUBMISSIONS
     → accepted_following count (fault_of requests) ≡ count + 1
@@ -109,14 +109,14 @@ has_report ring next asked line same counted (None, prints, stays) =
     absurd (omega (arith, submission_counts ring next asked line prints, rw (sym same) at counted, stays))
 has_report ring next asked line same counted (Some report, prints, found) = (report, found)
 
--- and one that isn't has none
+-- and a refused submission has no report
 pub no_report : {ring next : RingContents} {asked : List Asked} {line : List ℕ} {report : Reported}
     → IsReportFound ring asked next line report → Prints ring (SubmitsAll asked) next line
     → accepted_following ring.submissions (fault_of asked) ≡ ring.submissions → ⊥
 no_report {ring} {next} {asked} {line} found prints stays =
     omega (arith, submission_counts ring next asked line prints, history_counts found.may.history, stays)
 
--- where a report tells of another one, both print the same
+-- if a report lists another one, both print the same
 module _ (old : RingState) (asked : List Asked) (is_ring : IsRing old) (accepted : IsAccepted asked) (ring next : RingContents)
     (same : ring_of ring ≡ old) (report : Reported) (may : MayReport ring asked report next)
     (possible : PossibleReport) (is : IsPossible old asked possible) (tells : ReportsOf old report (ring_of next) possible) where

@@ -27,7 +27,7 @@ all_ring ring last (command ∷ commands) text is (next, line, others, one, spli
 pub starts : (catalogue : List FileEntry) → (start : RingContents) × (ring_of start ≡ new_ring catalogue)
 starts catalogue = (ring_with_files (new_ring catalogue), shows_ring (new_ring catalogue) (λ slot past. refl))
 
--- the ring of each stage that a script may come to
+-- the ring of each stage that a script may reach
 pub stage_ring : (keeps : Bool) {catalogue : List FileEntry} (commands : List Instruction) {s : Stage}
     → MayLeadAllTo keeps (new_ring catalogue) commands s → IsRing s.ring
 stage_ring keeps {catalogue} commands leads =
@@ -43,7 +43,7 @@ next_ring keeps {catalogue} from command is leads =
     let (next, line, one, same) = leads start shows in
     subst IsRing (ap (λ (t : Stage). t.ring) same) (leads_ring start next command line (rw shows is) one)
 
--- that of a ring behind a submission that gave an answer
+-- that of a ring after a submission that gave an answer
 pub answer_ring : {catalogue : List FileEntry} (from : Reached) {asked : List Asked} {place : Place} {answer : PossibleAnswer}
     → IsRing (ring_with_slots catalogue from.ring) → IsAnswer (ring_with_slots catalogue from.ring) asked place answer
     → IsRing (ring_following (ring_with_slots catalogue from.ring) answer.slots)
@@ -52,8 +52,7 @@ answer_ring {catalogue} from {asked} is a =
     let (left, behind, may) = a.may start shows in
     subst IsRing behind (submitted_rings start left asked may.report (rw shows is) may.may.history)
 
--- Commands that lead on, one behind others, and how many submissions a ring has counted behind
--- them.
+-- Commands that lead on, one after others, and how many submissions a ring has counted after them.
 
 -- how many submissions a ring has counted
 
@@ -102,7 +101,7 @@ own_number old next (SubmitsAll asked) line report found = (found.may.history.su
 own_number old next (SetsRange off len) line report found = absurd (let e : Some report ≡ None = found in cc)
 own_number old next _ line report found = absurd (let e : Some report ≡ None = found.0 in cc)
 
--- one more command behind others
+-- one more command after others
 
 leads_behind : (ring mid last : RingContents) (front : List Instruction) (command : Instruction) (before line : List ℕ)
     → LeadsAll ring front mid before → LeadsRing mid command last line → LeadsAll ring (front ++ command ∷ []) last (before ++ line)
@@ -143,7 +142,7 @@ all_more keeps front command old new all next ring last text same leads =
     let (mid, before, line, leads_there, one, split) = before_last ring last front command text leads in
     rw (split, kept_on keeps before line) (next (stage keeps mid before) (all ring mid before same leads_there) mid last line refl one)
 
--- a command among others: those before it with it, all by it, and the count behind it
+-- a command among others: those before it with it, all by it, and the count after it
 module _ (commands : List Command) {done : ℕ} {command : Command} (inside : done < length commands)
     (is : command ≡ slice_index_or commands done command) where
   pub taken_one : instructions_of (take (done + 1) commands) ≡ instructions_of (take done commands) ++ instruction_of command ∷ []

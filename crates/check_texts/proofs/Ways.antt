@@ -287,7 +287,7 @@ new_text keys k is new inside =
     let equal = (bytes_decides (string_bytes k) (string_bytes x)).1 same in
     true≢false (sym new ∙ is ∙ ap not (list_any_at (string_eq k) keys i x low (rw here equal)))
 
--- what is new behind nothing
+-- what is new in a list that began as empty
 pub only_new : {X : Type 0} {P : X → Type 0} {new : List X} → Grows P [] new → (x : X) → Contains new x → P x
 only_new grows x inside = ⊎_elim (λ none. absurd (contains_none x none)) (λ is. is) (grows.from x inside)
 

@@ -1,4 +1,4 @@
--- The rings that commands may come to where memory is found.
+-- The rings that commands may lead to if no allocation fails.
 use Rattle.std.specs.Prelude.{◌≡◌, ◌⊎◌, ℕ, ◌+◌, List, [], ◌∷◌, ◌++◌, map, string_bytes}
 use Rattle.std.specs.Prelude.{Bool, true, false, Option, Contains, IsTrue}
 use Rattle.fx_base.specs.Catalogue.{FileEntry}
@@ -20,12 +20,12 @@ use Rattle.check_texts.specs.declared.walk.Inquiry.{Inquiry}
 use Rattle.check_texts.specs.declared.request_answers.Said.{Said}
 use Rattle.check_texts.specs.declared.walk.Reached.{Reached}
 
--- the count of accepted submissions behind a command
+-- the count of accepted submissions after a command
 abbrev pub count_after : ℕ → Instruction → ℕ
 count_after count (SubmitsAll asked) = accepted_following count (fault_of asked)
 count_after count _ = count
 
--- the same behind commands
+-- the same after commands
 abbrev pub count_after_all : ℕ → List Instruction → ℕ
 count_after_all count [] = count
 count_after_all count (command ∷ commands) = count_after_all (count_after count command) commands
@@ -53,7 +53,7 @@ abbrev pub kept_text : Bool → List ℕ → List ℕ
 kept_text true text = text
 kept_text false text = []
 
--- the stage with this ring, behind this text
+-- the stage with this ring, after this text
 abbrev pub stage : Bool → RingContents → List ℕ → Stage
 stage keeps ring text = record { ring = ring_of ring; printed = kept_text keeps text }
 
@@ -133,7 +133,7 @@ stage_reported keeps old possible = record {
       (old.printed ++ report_text old.ring.catalogue (reported possible.report));
 }
 
--- a ring of this state may answer so at the place, in front of these commands
+-- a ring of this state may answer so at the place, before these commands
 pub record MaySay (old : RingState) (asked : List Asked) (behind : List Instruction) (place : Place)
     (c : Completed) : Type 0 where
   pub there : c.place ≡ place
@@ -162,7 +162,7 @@ abbrev pub HasEachSaidFrom : List Stage → List Asked → Place → List Comple
 HasEachSaidFrom old asked place said =
     (o : Stage) → Contains old o → HasEachSaid o.ring asked place said
 
--- the commands are those before the asked submission, it, and those behind it; and it is the one of
+-- the commands are those before the asked submission, it, and those after it; and it is the one of
 -- the place
 pub record IsAskedIn (commands : List Instruction) (place : Place) (asking : Inquiry) : Type 0 where
   pub place_same : asking.place ≡ place

@@ -40,8 +40,8 @@ FoundMemory old (UpdatesRing off list tags) new line own =
 FoundMemory old (SubmitsAll asked) new line None = new.submissions ≡ old.submissions
 FoundMemory old (SubmitsAll asked) new line (Some report) = IsReportFound old asked new line report
 
--- the commands may print this, one after another, and the end of the script behind them; memory is
--- found, and these are the reports of the accepted submissions, the first one's first
+-- the commands may print this, one after another, and then the end of the script, if no allocation
+-- fails; and these are the reports of the accepted submissions, in their order
 abbrev pub PrintsAllFound : RingContents → List Instruction → List ℕ → List Reported → Type 0
 PrintsAllFound ring [] text reports = PrintsEnd (ring_of ring) text × (reports ≡ [])
 PrintsAllFound ring (command ∷ commands) text reports =
@@ -57,7 +57,7 @@ IsPlayFound script text reports =
     (ring : RingContents) × IsNewRing script ring
     × PrintsAllFound ring script.commands text reports
 
--- the script may print this where memory is found
+-- the script may print this if no allocation fails
 abbrev pub IsTextFound : Meaning → List ℕ → Type 0
 IsTextFound script text = (reports : List Reported) × IsPlayFound script text reports
 

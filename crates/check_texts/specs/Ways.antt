@@ -60,11 +60,11 @@ pub record AreTextsOf (ways : List (List (List ℕ))) (are_all : Bool)
   pub all : IsTrue are_all → (text : List ℕ) → Contains (map concat ways) text
       → Contains texts text
 
--- the text is one of these, behind a line
+-- the text is one of these, after a line
 abbrev pub IsAfterLine : List ℕ → List (List ℕ) → List ℕ → Type 0
 IsAfterLine line later text = (other : List ℕ) × Contains later other × (text ≡ line ++ other)
 
--- ways behind a line
+-- ways after a line
 abbrev pub ways_after : List ℕ → List (List (List ℕ)) → List (List (List ℕ))
 ways_after line others = map (λ way. line ∷ way) others
 

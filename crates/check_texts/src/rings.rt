@@ -4,7 +4,8 @@ ghost use Rattle.fx_base.specs.Catalogue.{FileEntry};
 ghost use Rattle.fx_language.specs.Instruction.{instruction_of, instructions_of};
 ghost use Rattle.fx_order.specs.Slots.{ring_with_slots};
 ghost use Rattle.fx_ring.specs.Ring.{new_ring};
-ghost use Rattle.check_texts.specs.Rings.{AreStagesFrom, AreRings, HasEachFrom, HasEachLast, MayLeadAllTo};
+ghost use Rattle.check_texts.specs.Rings.{AreStagesFrom, AreRings, HasEachFrom, HasEachLast};
+ghost use Rattle.check_texts.specs.Rings.{MayLeadAllTo};
 ghost use Rattle.check_texts.specs.Rings.{Stage, stages_of};
 
 use crate::next::{both, push_next};

@@ -1,5 +1,6 @@
 //! The texts that a script can print, each of which is one of its texts.
-ghost use Rattle.std.specs.Prelude.{All, Contains, IfOk, IsTrue, List, map, string_bytes, string_eq, ℕ};
+ghost use Rattle.std.specs.Prelude.{All, Contains, IfOk, IsTrue, List, map, string_bytes};
+ghost use Rattle.std.specs.Prelude.{string_eq, ℕ};
 ghost use Rattle.indexmap.specs.IndexSet.{IsUnique};
 ghost use Rattle.check_texts.specs.Layers.{texts_in};
 ghost use Rattle.check_texts.specs.Texts.{EachFoundTextIsAText, IsTextFound};

@@ -164,7 +164,7 @@ fn replace_under_load<T: FileTable, R: Threads + Wait + Sync>(
 // The tag of the first file at slot 0.
 const TAG: u64 = 7;
 
-// The number of chains. Each gives its pass numbers for 64 new files.
+// The number of chains. Each supplies its pass with numbers for 64 new files.
 const CHAINS: u32 = 20;
 
 // Makes a table of four slots, with entry 0 of the catalogue at slot 0, that two threads share,

@@ -1,5 +1,8 @@
 //! The catalogue: the files that a script can open, found by name and read by place.
-ghost use Rattle.std.specs.Prelude.{◌≡◌, ◌+◌, ◌<◌, ◌≤◌, ℕ, [], ◌∷◌, ◌++◌, length, OnOk, OnErr, IfSome, IfNone, IsOkUnless, Some, None, option_map, slice_get, string_bytes, IsTrue, ◌↔◌, vec_len, vec_capacity, is_some};
+ghost use Rattle.std.specs.Prelude.{◌≡◌, ◌+◌, ◌<◌, ◌≤◌, ℕ, [], ◌∷◌, ◌++◌, length, OnOk};
+ghost use Rattle.std.specs.Prelude.{OnErr, IfSome, IfNone, IsOkUnless, Some, None, option_map};
+ghost use Rattle.std.specs.Prelude.{slice_get, string_bytes, IsTrue, ◌↔◌, vec_len, vec_capacity};
+ghost use Rattle.std.specs.Prelude.{is_some};
 ghost use Rattle.std.specs.Prelude.{take, drop};
 ghost use Rattle.fx_base.specs.Name.{is_name};
 ghost use Rattle.fx_base.specs.declared.name.TheConstants.{LONGEST_NAME};

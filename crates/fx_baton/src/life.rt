@@ -1,5 +1,6 @@
 //! Opening and closing a table.
-ghost use Rattle.std.specs.Prelude.{◌≡◌, ◌≤◌, ◌∷◌, ◌++◌, [], length, map, reverse, All, IfOk, IfErr, vec_capacity};
+ghost use Rattle.std.specs.Prelude.{◌≡◌, ◌≤◌, ◌∷◌, ◌++◌, [], length, map, reverse, All, IfOk};
+ghost use Rattle.std.specs.Prelude.{IfErr, vec_capacity};
 ghost use Rattle.fx_plain.specs.State.{IsSettled};
 ghost use Rattle.fx_plain.specs.Contents.{Contents, state_of};
 ghost use Rattle.fx_table.specs.Opening.{IsGivenBack, opening_with};
@@ -8,7 +9,8 @@ ghost use Rattle.fx_table.specs.Closing.{ClosesTable};
 ghost use Rattle.fx_baton.specs.Passes.{view_of};
 ghost use Rattle.fx_baton.specs.Tables.{opening_of_table, IsPassOfTable};
 ghost use Rattle.fx_table.specs.Settling.{IsSettledSoFar};
-ghost use Rattle.fx_baton.specs.Lives.{HasPrepared, HasAllPasses, IsIdleSeatOf, logs_in, AllIsHome, Leaves};
+ghost use Rattle.fx_baton.specs.Lives.{HasPrepared, HasAllPasses, IsIdleSeatOf, logs_in, AllIsHome};
+ghost use Rattle.fx_baton.specs.Lives.{Leaves};
 
 use crate::kinds::{Deal, Gather, Observe};
 use crate::pass::BatonPass;

@@ -6,7 +6,8 @@ ghost use Rattle.fx_table.specs.Opening.{size_of, range_of};
 ghost use Rattle.fx_baton.specs.declared.view.Log.{Log};
 ghost use Rattle.fx_baton.specs.Rule.{Takes, opening_of, view_after};
 ghost use Rattle.fx_baton.specs.Turns.{table_of_seats, use_of};
-ghost use Rattle.fx_baton.specs.Passes.{view_of, pass_after, IsPassOf, HasTable, HasPlayed, HasCalled, HasGivenBack};
+ghost use Rattle.fx_baton.specs.Passes.{view_of, pass_after, IsPassOf, HasTable, HasPlayed};
+ghost use Rattle.fx_baton.specs.Passes.{HasCalled, HasGivenBack};
 
 use crate::kinds::{Give, Grab, OneHistory, Turn};
 use crate::pass::BatonPass;

@@ -1,10 +1,12 @@
 //! The calls of `SharedTable` as calls of the table itself, with the same contracts. A program that
 //! names the table's type needs to import `FileTable` alone.
-ghost use Rattle.std.specs.Prelude.{◌≡◌, ◌≢◌, ◌<◌, ◌≤◌, ◌↔◌, true, false, None, Err, map, length, All, IsTrue};
+ghost use Rattle.std.specs.Prelude.{◌≡◌, ◌≢◌, ◌<◌, ◌≤◌, ◌↔◌, true, false, None, Err, map};
+ghost use Rattle.std.specs.Prelude.{length, All, IsTrue};
 ghost use Rattle.fx_plain.specs.declared.table.TheConstants.{MOST_SLOTS};
 ghost use Rattle.fx_table.specs.Opening.{size_of, range_of};
 ghost use Rattle.fx_table.specs.Pass.{IsIdle, IsHoldOf, IsRetiredOf};
-ghost use Rattle.fx_table.specs.Calls.{LookedUp, Released, Placed, Allocated, Cleared, Taken, HasRetired};
+ghost use Rattle.fx_table.specs.Calls.{LookedUp, Released, Placed, Allocated, Cleared, Taken};
+ghost use Rattle.fx_table.specs.Calls.{HasRetired};
 ghost use Rattle.fx_table.specs.Closing.{ClosesTable};
 ghost use Rattle.fx_table.specs.declared.values.LookFault.TheVariants.{Spent};
 ghost use Rattle.fx_baton.specs.Passes.{view_of};

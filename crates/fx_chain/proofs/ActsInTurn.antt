@@ -162,7 +162,7 @@ looks_and_releases {slot} {f} off len looks (g, hold, doing, does) so =
     looks_then off len looks (rw same at does) (omega arith)
     (λ xs told. so _ (may_close_behind ([] ▷ Look slot (Some f)) ([] ▷ Release f) (Some f) xs told))
 
--- a call took a step at its slot, and removed what was there, if anything
+-- a call made its step at its slot, and removed what was there, if anything
 abbrev pub Removed : Opening → PassView → (Option File → Action) → Use → Option Retired → PassView → Type 0
 Removed o v step used None w = Adds o v ([] ▷ step None) Idle used w
 Removed o v step used (Some x) w = (f : File) × Adds o v ([] ▷ step (Some f)) (Retiring f x) used w

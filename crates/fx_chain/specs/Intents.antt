@@ -56,7 +56,7 @@ abbrev pub none_if : Option Errno → Option Intent → Option Intent
 none_if None intent = intent
 none_if (Some errno) intent = None
 
--- the access that a request intends after so many others, if there is one; an open opens this
+-- the access that a request intends after `made` others, if there is one; an open opens this
 -- catalogue entry
 abbrev pub intent_by : List FileEntry → ℕ → Place → ℕ → Operation → ℕ → Option Intent
 intent_by catalogue size place entry operation made =

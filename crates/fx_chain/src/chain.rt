@@ -1,5 +1,6 @@
 //! Chains: the parts of a submission whose requests are linked.
-ghost use Rattle.std.specs.Prelude.{◌≡◌, ◌+◌, ◌<◌, ◌≤◌, ◌∷◌, length, map, take, drop, All, IfOk, vec_len};
+ghost use Rattle.std.specs.Prelude.{◌≡◌, ◌+◌, ◌<◌, ◌≤◌, ◌∷◌, length, map, take, drop, All};
+ghost use Rattle.std.specs.Prelude.{IfOk, vec_len};
 ghost use Rattle.fx_chain.specs.Accepted.{IsAccepted, IsChain, members_of};
 ghost use Rattle.fx_chain.specs.Chains.{chains_of};
 ghost use Rattle.fx_chain.specs.Operation.{all_asked};

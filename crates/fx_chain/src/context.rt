@@ -26,14 +26,14 @@ pub(crate) struct Player<'a, P> {
 }
 
 impl<T: SharedTable, R> Context<'_, T, R> {
-    // Creates the answer to the request, if it fails.
+    // Creates the answer of a request that fails with the error.
     pub(crate) fn refusal(&self, errno: Errno) -> Completion
         ensures { completed_of result ≡ refusal self.now.place errno }
     {
         Completion::refusal(self.alloc, self.place, errno)
     }
 
-    // Creates the answer to the request, if it returns no bytes.
+    // Creates the answer of a request that returns a number and no bytes.
     pub(crate) fn number(&self, res: u32) -> Completion
         requires { res < 2 ^ 31 }
         ensures { completed_of result ≡ completed self.now.place (pos res) [] }

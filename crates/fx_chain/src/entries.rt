@@ -1,6 +1,7 @@
 //! The entries of an update's list.
 ghost use Rattle.std.specs.List.{list_any};
-ghost use Rattle.std.specs.Prelude.{◌≡◌, ◌<◌, ◌^◌, None, length, ◌+◌, ◌≤◌, false, IfOk, Some, Option, filter, int_le, negsuc, slice_get, pos};
+ghost use Rattle.std.specs.Prelude.{◌≡◌, ◌<◌, ◌^◌, None, length, ◌+◌, ◌≤◌, false, IfOk, Some};
+ghost use Rattle.std.specs.Prelude.{Option, filter, int_le, negsuc, slice_get, pos};
 ghost use Rattle.fx_chain.specs.Intents.{list_intents, positions_from};
 ghost use Rattle.fx_chain.specs.Refusal.{is_bad_entry};
 

@@ -1,11 +1,15 @@
 //! The accesses that each kind of request intends at the table, each before it is known what it
 //! finds: how many, in what order, at which slots; and the answers by what they found, if no
 //! allocation fails.
-ghost use Rattle.std.specs.Prelude.{◌≡◌, ◌<◌, ◌^◌, None, length, ◌+◌, ◌≤◌, false, ℕ, IfOk, Some, ◌↔◌, IfSome, IsTrue, List, OnOk, Option, slice_get};
+ghost use Rattle.std.specs.Prelude.{◌≡◌, ◌<◌, ◌^◌, None, length, ◌+◌, ◌≤◌, false, ℕ, IfOk};
+ghost use Rattle.std.specs.Prelude.{Some, ◌↔◌, IfSome, IsTrue, List, OnOk, Option, slice_get};
 ghost use Rattle.fx_base.specs.Catalogue.{FileEntry};
 ghost use Rattle.fx_chain.specs.Accepted.{IsWithinLimits};
 ghost use Rattle.fx_chain.specs.Completed.{completed_of};
-ghost use Rattle.fx_chain.specs.Intents.{answer_of, close_answer, open_answer, read_answer, DependsOnFindings, InstallsAt, IsIntent, MayReach, answer_at_table, bytes_asked, bytes_read, count_of, intent_by, intents_of, is_read, open_intent, positions_of};
+ghost use Rattle.fx_chain.specs.Intents.{answer_of, close_answer, open_answer, read_answer};
+ghost use Rattle.fx_chain.specs.Intents.{DependsOnFindings, InstallsAt, IsIntent, MayReach};
+ghost use Rattle.fx_chain.specs.Intents.{answer_at_table, bytes_asked, bytes_read, count_of};
+ghost use Rattle.fx_chain.specs.Intents.{intent_by, intents_of, is_read, open_intent, positions_of};
 ghost use Rattle.fx_chain.specs.Operation.{asked_of, operation_of};
 ghost use Rattle.fx_chain.specs.Refusal.{refusal_of};
 ghost use Rattle.fx_chain.specs.declared.completion.Place.{Place as In};
@@ -33,7 +37,7 @@ pub enum Intent {
     Allocate(Closed),
 }
 
-/// What an access found.
+/// The finding of an access.
 #[derive(Clone, Copy, Debug)]
 pub enum Finding {
     /// The file at its slot, or `None` if the slot was empty.

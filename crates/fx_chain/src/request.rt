@@ -1,6 +1,7 @@
 //! Requests, as io_uring_enter(2) describes them: their kinds, the files that each kind may install
 //! and close, and the errors of requests that are refused before they reach the table.
-ghost use Rattle.std.specs.Prelude.{◌≡◌, ◌<◌, None, length, true, ◌+◌, ◌≤◌, false, ℕ, Some, ◌↔◌, IfNone, IfSome, IsTrue, List, Option, Bool};
+ghost use Rattle.std.specs.Prelude.{◌≡◌, ◌<◌, None, length, true, ◌+◌, ◌≤◌, false, ℕ, Some};
+ghost use Rattle.std.specs.Prelude.{◌↔◌, IfNone, IfSome, IsTrue, List, Option, Bool};
 ghost use Rattle.fx_base.specs.Catalogue.{FileEntry};
 ghost use Rattle.fx_base.specs.declared.errno.Errno.TheVariants.{ENOENT};
 ghost use Rattle.fx_chain.specs.Completed.{completed_of};

@@ -1,7 +1,9 @@
 //! The steps of each kind of request on a shared table.
 ghost use Rattle.std.specs.List.{list_any};
-ghost use Rattle.std.specs.Prelude.{◌≡◌, ◌<◌, ◌^◌, None, length, true, ◌+◌, ◌≤◌, false, Some, Option};
-ghost use Rattle.fx_chain.specs.Answers.{AnswersAtTable, OpensAt, ReadsAt, AppliesAt, AppliesEntry, AppliesList, TakesAt};
+ghost use Rattle.std.specs.Prelude.{◌≡◌, ◌<◌, ◌^◌, None, length, true, ◌+◌, ◌≤◌, false, Some};
+ghost use Rattle.std.specs.Prelude.{Option};
+ghost use Rattle.fx_chain.specs.Answers.{AnswersAtTable, OpensAt, ReadsAt, AppliesAt, AppliesEntry};
+ghost use Rattle.fx_chain.specs.Answers.{AppliesList, TakesAt};
 ghost use Rattle.fx_chain.specs.Completed.{completed_of};
 ghost use Rattle.fx_chain.specs.Contexts.{PlayerActs, IsSamePlayer, IsReady, player_view};
 ghost use Rattle.fx_chain.specs.Freed.{MayFree, room_of};

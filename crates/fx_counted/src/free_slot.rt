@@ -3,7 +3,8 @@ ghost use Rattle.std.specs.Prelude.{◌≡◌, ◌<◌, true, IfSome, None};
 ghost use Rattle.fx_table.specs.Calls.{Allocated};
 ghost use Rattle.fx_table.specs.Pass.{IsIdle};
 ghost use Rattle.fx_counted.specs.Changing.{InRange};
-ghost use Rattle.fx_counted.specs.Searching.{IsPlacing, Tries, HasAllocated, StillPlaces, HasFoundAllFull, RoundEnds};
+ghost use Rattle.fx_counted.specs.Searching.{IsPlacing, Tries, HasAllocated, StillPlaces};
+ghost use Rattle.fx_counted.specs.Searching.{HasFoundAllFull, RoundEnds};
 ghost use Rattle.fx_counted.specs.Tables.{view_of, opening_of_table, IsPassOfTable};
 ghost use Rattle.fx_counted.specs.declared.view.Change.TheVariants.{Outside, Same, More};
 

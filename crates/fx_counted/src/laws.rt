@@ -6,7 +6,10 @@ ghost use Rattle.fx_plain.specs.declared.table.TheConstants.{MOST_SLOTS};
 ghost use Rattle.fx_counted.specs.Layout.{PlacesAreInside, PlacesAreApart};
 ghost use Rattle.fx_counted.specs.Bounds.{WordsAreBounded};
 ghost use Rattle.fx_counted.specs.Opens.{OpeningKeeps};
-ghost use Rattle.fx_counted.specs.Laws.{SplitsKeep, JoinsKeep, BirthsKeep, LooksKeep, InstallsKeep, ClearsKeep, TakesKeep, RetiresKeep, ReleasesKeep, RestsKeep, BeginsKeep, EndsKeep, AnswersKeep, LoadsKeep, ExchangesKeep, DrawsKeep};
+ghost use Rattle.fx_counted.specs.Laws.{SplitsKeep, JoinsKeep, BirthsKeep, LooksKeep, InstallsKeep};
+ghost use Rattle.fx_counted.specs.Laws.{ClearsKeep, TakesKeep, RetiresKeep, ReleasesKeep};
+ghost use Rattle.fx_counted.specs.Laws.{RestsKeep, BeginsKeep, EndsKeep, AnswersKeep, LoadsKeep};
+ghost use Rattle.fx_counted.specs.Laws.{ExchangesKeep, DrawsKeep};
 
 /// States that a table with the words and places of its opening keeps the rule, with one seat that
 /// has all passes.

@@ -1,5 +1,6 @@
 //! Opening a table.
-ghost use Rattle.std.specs.Prelude.{◌≡◌, ◌+◌, ◌*◌, ◌<◌, ◌≤◌, [], length, map, slice_set, All, IfOk, IfErr, OnOk, OnErr, vec_len, vec_capacity};
+ghost use Rattle.std.specs.Prelude.{◌≡◌, ◌+◌, ◌*◌, ◌<◌, ◌≤◌, [], length, map, slice_set, All};
+ghost use Rattle.std.specs.Prelude.{IfOk, IfErr, OnOk, OnErr, vec_len, vec_capacity};
 ghost use Rattle.fx_plain.specs.State.{IsSettled};
 ghost use Rattle.fx_plain.specs.Contents.{state_of, IsPrepared};
 ghost use Rattle.fx_plain.specs.declared.table.TheConstants.{MOST_SLOTS};

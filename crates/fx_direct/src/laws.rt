@@ -14,7 +14,7 @@ ghost use Rattle.fx_direct.specs.Round.{GoesRound};
 ghost use Rattle.fx_direct.specs.declared.key.TheConstants.{KINDS, MOST_LIVES, MOST_SLOTS};
 
 /// States that a ring has at most 1,048,576 slots, that a slot has at most 2^40 - 1 lives, and that
-/// user data tells 16 kinds of calls apart.
+/// user data distinguishes 16 kinds of calls.
 pub fn limits_are_numbers()
     ensures most_slots { MOST_SLOTS ≡ 1048576 }
     ensures most_lives { MOST_LIVES ≡ 2 ^ 40 - 1 }

@@ -1,6 +1,7 @@
 //! The slots, with the counts of their lives and of their calls.
 ghost use Rattle.std.specs.Prelude.{◌≡◌, ◌≤◌, ◌<◌, length, IfOk, MatchOption, MatchResult};
-ghost use Rattle.fx_direct.specs.Phases.{AllUnused, calls_in_flight, lives_of, phase_at, slot_numbered};
+ghost use Rattle.fx_direct.specs.Phases.{AllUnused, calls_in_flight, lives_of, phase_at};
+ghost use Rattle.fx_direct.specs.Phases.{slot_numbered};
 ghost use Rattle.fx_direct.specs.Transitions.{HasLife, with_phase};
 ghost use Rattle.fx_direct.specs.declared.key.TheConstants.{MOST_SLOTS};
 ghost use Rattle.fx_direct.specs.declared.refusal.LifeRefusal.TheVariants.{Stale};

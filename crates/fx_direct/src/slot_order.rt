@@ -1,5 +1,6 @@
 //! The slots that may begin a life. Each call takes constant time.
-ghost use Rattle.std.specs.Prelude.{◌≡◌, ℕ, ◌<◌, ◌==◌, true, false, length, if◌then◌else◌, IfOk, IfSome, IfNone, vec_len, slice_index};
+ghost use Rattle.std.specs.Prelude.{◌≡◌, ℕ, ◌<◌, ◌==◌, true, false, length, if◌then◌else◌, IfOk};
+ghost use Rattle.std.specs.Prelude.{IfSome, IfNone, vec_len, slice_index};
 ghost use Rattle.fx_direct.specs.Order.{AreOthers, is_among_vacant};
 
 use fx_base::NoMemory;
@@ -41,7 +42,7 @@ impl SlotOrder {
         })
     }
 
-    // Takes a vacant slot, which is then not vacant, or returns `None` if there is none.
+    // Takes a vacant slot, which is then not vacant, or returns `None` if no slot is vacant.
     #[inline(always)]
     pub(crate) fn take(&mut self) -> Option<u32>
         ensures same { length self.new.place ≡ length self.old.place }

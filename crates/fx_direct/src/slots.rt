@@ -1,15 +1,21 @@
 //! The machine: the life of each slot of one ring's table of direct descriptors.
-ghost use Rattle.std.specs.Prelude.{◌≡◌, ℕ, ◌≤◌, ◌<◌, ◌==◌, nat_lt, length, if◌then◌else◌, MatchOption, MatchResult, IfOk, IfSome, Some, false};
+ghost use Rattle.std.specs.Prelude.{◌≡◌, ℕ, ◌≤◌, ◌<◌, ◌==◌, nat_lt, length, if◌then◌else◌};
+ghost use Rattle.std.specs.Prelude.{MatchOption, MatchResult, IfOk, IfSome, Some, false};
 ghost use Rattle.std.specs.List.{AllByRecursion};
 ghost use Rattle.fx_direct.specs.Keys.{FitsBits};
 ghost use Rattle.fx_direct.specs.Living.{AreKeysOf, keys_left};
 ghost use Rattle.fx_direct.specs.Machine.{WritesEnding};
 ghost use Rattle.fx_direct.specs.Order.{is_among_vacant};
-ghost use Rattle.fx_direct.specs.Phases.{AllFree, AllUnused, Closing, Free, calls_in_flight, lives_of, phase_at};
+ghost use Rattle.fx_direct.specs.Phases.{AllFree, AllUnused, Closing, Free, calls_in_flight};
+ghost use Rattle.fx_direct.specs.Phases.{lives_of, phase_at};
 ghost use Rattle.fx_direct.specs.Refusals.{RefusesTransition};
-ghost use Rattle.fx_direct.specs.Transitions.{HasLife, IsEnabled, Advances, AdvancesAndAsks, with_phase};
+ghost use Rattle.fx_direct.specs.Transitions.{HasLife, IsEnabled, Advances, AdvancesAndAsks};
+ghost use Rattle.fx_direct.specs.Transitions.{with_phase};
 ghost use Rattle.fx_direct.specs.declared.key.TheConstants.{MOST_LIVES, MOST_SLOTS};
-ghost use Rattle.fx_direct.specs.declared.transition.Transition.TheVariants.{Reserves, Opens, Starts, Finishes, Holds, Releases, Ends, Closes, FailsToClose};
+ghost use Rattle.fx_direct.specs.declared.transition.Transition.TheVariants.{Reserves, Opens};
+ghost use Rattle.fx_direct.specs.declared.transition.Transition.TheVariants.{Starts, Finishes};
+ghost use Rattle.fx_direct.specs.declared.transition.Transition.TheVariants.{Holds, Releases, Ends};
+ghost use Rattle.fx_direct.specs.declared.transition.Transition.TheVariants.{Closes, FailsToClose};
 
 use crate::key::{LifeKey, MOST_LIVES};
 use crate::keys::Keys;
@@ -267,7 +273,7 @@ impl DirectSlots {
         self.list.get(key).ok()
     }
 
-    /// Returns the key of the life under way at a slot, or `None` if there is none.
+    /// Returns the key of the life under way at a slot, or `None` if no life is under way there.
     #[inline(always)]
     pub fn key_at(&self, slot: u32) -> Option<LifeKey>
         ensures key { MatchOption result ((key : LifeKey) → key.slot ≡ slot → HasLife self.now key

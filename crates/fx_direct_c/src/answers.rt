@@ -1,6 +1,9 @@
 //! The answers of the machine as numbers, and what they write.
 ghost use Rattle.std.specs.Prelude.{◌≡◌, IfOk, IfSome};
-ghost use Rattle.fx_direct_c.specs.Answers.{asked_code, asked_requests, asked_users, close_code, close_slot, made_code, key_code, found_key, phase_code, code_of_refusal, reserve_code, reserve_key, reserve_slot, start_code, start_slot};
+ghost use Rattle.fx_direct_c.specs.Answers.{asked_code, asked_requests, asked_users, close_code};
+ghost use Rattle.fx_direct_c.specs.Answers.{close_slot, made_code, key_code, found_key, phase_code};
+ghost use Rattle.fx_direct_c.specs.Answers.{code_of_refusal, reserve_code, reserve_key};
+ghost use Rattle.fx_direct_c.specs.Answers.{reserve_slot, start_code, start_slot};
 ghost use Rattle.fx_direct.specs.Keys.{FitsBits};
 
 use crate::codes::{

@@ -5,8 +5,11 @@ ghost use Rattle.std.specs.Prelude.{◌≡◌, ◌≢◌, ◌⊎◌, ◌≤◌, 
 ghost use Rattle.fx_direct.specs.Keys.{key_in_bits};
 ghost use Rattle.fx_direct.specs.Phases.{calls_in_flight, lives_of};
 ghost use Rattle.fx_direct.specs.declared.key.TheConstants.{MOST_SLOTS};
-ghost use Rattle.fx_direct.specs.declared.transition.Transition.TheVariants.{Opens, Finishes, Holds, Releases, Ends, Closes, FailsToClose};
-ghost use Rattle.fx_direct_c.specs.Answers.{ClosesAs, MakesAs, OpensMachine, ReservesAs, ShowsKey, ShowsPhase, StartsAs, WritesKeys};
+ghost use Rattle.fx_direct.specs.declared.transition.Transition.TheVariants.{Opens, Finishes};
+ghost use Rattle.fx_direct.specs.declared.transition.Transition.TheVariants.{Holds, Releases, Ends};
+ghost use Rattle.fx_direct.specs.declared.transition.Transition.TheVariants.{Closes, FailsToClose};
+ghost use Rattle.fx_direct_c.specs.Answers.{ClosesAs, MakesAs, OpensMachine, ReservesAs, ShowsKey};
+ghost use Rattle.fx_direct_c.specs.Answers.{ShowsPhase, StartsAs, WritesKeys};
 ghost use Rattle.fx_direct_c.specs.declared.codes.TheConstants.{BAD_ARGUMENT, DONE, NO_MEMORY};
 
 use crate::answers::{of_close, of_done, of_key, of_phase, of_reserve, of_start};

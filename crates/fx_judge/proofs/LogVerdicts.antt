@@ -1,4 +1,4 @@
--- What the number of a verdict says of a log.
+-- The number of a verdict, as a statement of a log.
 use Rattle.fx_judge.proofs.Words.{◌≡◌, ◌↔◌, ℕ, ◌+◌, ◌≤◌, List, [], take, ap, sym, refl, subst, ◌∙◌, arith, Option, Some, None, take-map, Table}
 use Rattle.fx_judge.proofs.Words.{ring_of_slots, table_of_slots, Slots, RingState, new_ring, Happening, all_happenings, happening_of, LogEvent}
 use Rattle.fx_judge.proofs.Words.{HasNoFlight, IsScript, Meaning, flaw_of_log, HasLogFault, AreLogEvents, HasNotHappened, IsNumberOf, IsReadable}

@@ -1,4 +1,4 @@
--- What the events of a log say, which C passes as arrays of structs of fixed size.
+-- The events of a log, which C passes as arrays of structs of fixed size.
 use Rattle.std.specs.Prelude.{ℕ, ◌==◌, ℤ, List, [], map, take, drop, Option, Some, None}
 use Rattle.std.specs.Prelude.{if◌then◌else◌}
 use Rattle.fx_base.specs.Catalogue.{FileEntry, name_at}

@@ -3,7 +3,8 @@ ghost use Rattle.std.specs.Prelude.{◌≡◌, IfOk, string_bytes};
 ghost use Rattle.fx_chain.specs.Completed.{completed_of};
 ghost use Rattle.fx_chain.specs.Operation.{all_asked, asked_of, operation_of};
 ghost use Rattle.fx_flight.specs.Events.{all_happenings, happening_of};
-ghost use Rattle.fx_judge.specs.Arrays.{answer_passed, arrays_in, asked_passed, chain_passed, file_passed, happening_passed};
+ghost use Rattle.fx_judge.specs.Arrays.{answer_passed, arrays_in, asked_passed, chain_passed};
+ghost use Rattle.fx_judge.specs.Arrays.{file_passed, happening_passed};
 ghost use Rattle.fx_judge.specs.Arrays.{log_passed, name_passed, operation_passed, part_from, place_passed};
 
 use crate::codes::{

@@ -1,10 +1,13 @@
 //! The functions that C calls. Each has the contract of the call of `fx_judge` that it makes.
 ghost use Rattle.std.specs.Prelude.{◌≡◌, ◌≤◌, ◌<◌, true, false};
-ghost use Rattle.fx_judge.specs.Logs.{AreLogEvents, HasFlaw, HasLogFault, HasNotHappened, MayHaveHappened, passed};
+ghost use Rattle.fx_judge.specs.Logs.{AreLogEvents, HasFlaw, HasLogFault, HasNotHappened};
+ghost use Rattle.fx_judge.specs.Logs.{MayHaveHappened, passed};
 ghost use Rattle.fx_judge.specs.Outcomes.{AreOutcomes};
 ghost use Rattle.fx_judge.specs.Verdicts.{HasFaultOnLine, IsNotPrinted, MayBePrinted};
-ghost use Rattle.fx_judge.specs.declared.codes.TheConstants.{ALL, BAD_SCRIPT, FAULTY, LEGAL, MALFORMED, MOST_LOG_SLOTS};
-ghost use Rattle.fx_judge.specs.declared.codes.TheConstants.{NO_MEMORY, NOT_LEGAL, SOME, TOO_MANY_SLOTS, UNDECIDED};
+ghost use Rattle.fx_judge.specs.declared.codes.TheConstants.{ALL, BAD_SCRIPT, FAULTY, LEGAL};
+ghost use Rattle.fx_judge.specs.declared.codes.TheConstants.{MALFORMED, MOST_LOG_SLOTS};
+ghost use Rattle.fx_judge.specs.declared.codes.TheConstants.{NO_MEMORY, NOT_LEGAL, SOME};
+ghost use Rattle.fx_judge.specs.declared.codes.TheConstants.{TOO_MANY_SLOTS, UNDECIDED};
 
 use fx_judge::{
     YachtEvent, YachtJudgement, YachtRequest, YachtTexts, YachtVerdict, judge_log, judge_text,

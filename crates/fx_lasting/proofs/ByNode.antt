@@ -21,7 +21,7 @@ same_node a b e = omega (arith, e)
 not_named : (a b : ℕ) → a ≡ b + 1 → a ≡ 0 → ⊥
 not_named a b e zero = omega (arith, e, zero)
 
--- What the name in a slot's word says of the file at the slot
+-- the file at a slot, by the name in the slot's word
 module _ (k : Start) (node word : ℕ) where
   fits_on : (there : Option File) → Names (node_of_number k) word there → full_name_in word ≡ node + 1 → FitsMiss k node Again there
   fits_on None names is = absurd (not_named _ _ is names)

@@ -27,7 +27,7 @@ pub stocked_then : {m m' m'' : Sat} {xs ys : List Action} {w w' : Work} {g g' : 
 stocked_then s a b = runs_then (runs_stocked s a) b
 
 module _ {k : Start} {p : ℕ} {m : Sat} (at : IsAtWork k p m) (stock : List ℕ) (its : stock ≡ (pass_in m).stock) where
-  -- what a step on a slot's word tells, as its table and slot have it
+  -- the event of a step on a slot's word, as its table and slot have it
   module _ (act : ℕ → Option File → Action) (slot found : ℕ) where
     -- the name goes into the stock
     pub by_swap : {st : At} {m' : Sat} → SwapsOut act st m found m' → st.word ≡ slot_place slot → (n entry named : ℕ) → get_elem? stock entry ≡ some n

@@ -2,14 +2,16 @@
 //! as its clause says. They are inlined into their caller, except for a withdrawal, for the visits
 //! of a retirement, and for taking a file out of a node that isn't kept. These hints change no
 //! proof.
-ghost use Rattle.std.specs.Prelude.{◌≡◌, ◌≢◌, ◌+◌, ◌*◌, ◌-◌, ◌/◌, ◌<◌, ◌≤◌, false, Option, option_map, Err};
+ghost use Rattle.std.specs.Prelude.{◌≡◌, ◌≢◌, ◌+◌, ◌*◌, ◌-◌, ◌/◌, ◌<◌, ◌≤◌};
+ghost use Rattle.std.specs.Prelude.{false, Option, option_map, Err};
 ghost use Rattle.fx_plain.specs.declared.event.File.{File};
 ghost use Rattle.fx_table.specs.Calls.{Looked, LookedUp, Released, Placed, Cleared, Taken, HasRetired};
 ghost use Rattle.fx_table.specs.Opening.{size_of};
 ghost use Rattle.fx_table.specs.Pass.{IsIdle, IsHoldOf, IsRetiredOf};
 ghost use Rattle.fx_table.specs.declared.values.LookFault.TheVariants.{Spent};
 ghost use Rattle.fx_lasting.specs.Parts.{count_in, full_name_in};
-ghost use Rattle.fx_lasting.specs.Tables.{view_of, steps_taken, retired_at, opening_of_table, IsPassOfTable, IsSeatOfTable};
+ghost use Rattle.fx_lasting.specs.Tables.{view_of, steps_taken, retired_at, opening_of_table};
+ghost use Rattle.fx_lasting.specs.Tables.{IsPassOfTable, IsSeatOfTable};
 ghost use Rattle.fx_lasting.specs.Effects.{Found, first_visit, IsOnList};
 ghost use Rattle.fx_lasting.specs.declared.view.Glance.TheVariants.{Hot, Cold};
 ghost use Rattle.fx_lasting.specs.declared.view.Work.TheVariants.{Idle};

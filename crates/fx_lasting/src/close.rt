@@ -1,5 +1,6 @@
 //! Closing a table, or letting it go.
-ghost use Rattle.std.specs.Prelude.{◌≡◌, ◌<◌, ◌≤◌, ◌++◌, false, [], length, map, reverse, slice_set, vec_len, vec_capacity, All, None};
+ghost use Rattle.std.specs.Prelude.{◌≡◌, ◌<◌, ◌≤◌, ◌++◌, false, [], length, map, reverse};
+ghost use Rattle.std.specs.Prelude.{slice_set, vec_len, vec_capacity, All, None};
 ghost use Rattle.std.specs.Mem.Slots.{slots_items, slots_len, IsFull};
 ghost use mathlib.Core.Option.{some};
 ghost use lib.ListN.{get_elem?};

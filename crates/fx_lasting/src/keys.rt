@@ -6,7 +6,9 @@ ghost use Rattle.fx_table.specs.Calls.{Allocated, Placed};
 ghost use Rattle.fx_table.specs.Opening.{size_of};
 ghost use Rattle.fx_table.specs.Pass.{IsIdle};
 ghost use Rattle.fx_table.specs.Showing.{Learns};
-ghost use Rattle.fx_lasting.specs.Keys.{IsKeyOfMark, LookedByKey, PutsOverKey, TakesByKey, TriesToPut, TriesToTake, fault_for, key_at, put_answer, slot_found, taken_answer};
+ghost use Rattle.fx_lasting.specs.Keys.{IsKeyOfMark, LookedByKey, PutsOverKey, TakesByKey};
+ghost use Rattle.fx_lasting.specs.Keys.{TriesToPut, TriesToTake, fault_for, key_at, put_answer};
+ghost use Rattle.fx_lasting.specs.Keys.{slot_found, taken_answer};
 ghost use Rattle.fx_lasting.specs.Tables.{view_of, meetings, steps_taken, opening_of_table, IsPassOfTable};
 
 use crate::answers::{Miss, PutIf, TakenIf};

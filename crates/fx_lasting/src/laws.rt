@@ -9,7 +9,17 @@ ghost use Rattle.fx_lasting.specs.Layout.{PlacesAreInside, PlacesAreApart, Label
 ghost use Rattle.fx_lasting.specs.Opens.{OpeningKeeps};
 ghost use Rattle.fx_lasting.specs.WholeHistory.{HasOneHistory, RemovedFilesHaveUsers};
 ghost use Rattle.fx_lasting.specs.declared.layout.TheConstants.{MOST_SLOTS, MOST_NODES, MOST_PASSES, MOST_INSTALLING};
-ghost use Rattle.fx_lasting.specs.Laws.{GlancesKeep, ListsKeep, AnnouncesKeep, ConfirmsKeep, WithdrawsKeep, TakesOnceKeep, HeatsKeep, StepsDownKeep, LettingGoKeeps, SeeksKeep, BirthsKeep, TagsKeep, NumbersKeep, ReadsTagKeep, ReadsNumberKeep, RestsKeep, ParksKeep, ResumesKeep, SettlesKeep, SkimsKeep, VisitsKeep, MarksKeep, FinishesKeep, RetiresKeep, LowersKeep, ChecksKeep, BreaksKeep, RaisesKeep, BeginsKeep, AsksKeep, CountsKeep, DecidesKeep, PeeksKeep, SplitsKeep, JoinsKeep, ClearsKeep, TakesOutKeep, SwapsOutKeep, InstallsKeep, ExchangesKeep, SeesKeep, TakesIfKeep, SwapsIfKeep, ReplacesKeep};
+ghost use Rattle.fx_lasting.specs.Laws.{GlancesKeep, ListsKeep, AnnouncesKeep, ConfirmsKeep};
+ghost use Rattle.fx_lasting.specs.Laws.{WithdrawsKeep, TakesOnceKeep, HeatsKeep, StepsDownKeep};
+ghost use Rattle.fx_lasting.specs.Laws.{LettingGoKeeps, SeeksKeep, BirthsKeep, TagsKeep};
+ghost use Rattle.fx_lasting.specs.Laws.{NumbersKeep, ReadsTagKeep, ReadsNumberKeep, RestsKeep};
+ghost use Rattle.fx_lasting.specs.Laws.{ParksKeep, ResumesKeep, SettlesKeep, SkimsKeep, VisitsKeep};
+ghost use Rattle.fx_lasting.specs.Laws.{MarksKeep, FinishesKeep, RetiresKeep, LowersKeep};
+ghost use Rattle.fx_lasting.specs.Laws.{ChecksKeep, BreaksKeep, RaisesKeep, BeginsKeep, AsksKeep};
+ghost use Rattle.fx_lasting.specs.Laws.{CountsKeep, DecidesKeep, PeeksKeep, SplitsKeep, JoinsKeep};
+ghost use Rattle.fx_lasting.specs.Laws.{ClearsKeep, TakesOutKeep, SwapsOutKeep, InstallsKeep};
+ghost use Rattle.fx_lasting.specs.Laws.{ExchangesKeep, SeesKeep, TakesIfKeep, SwapsIfKeep};
+ghost use Rattle.fx_lasting.specs.Laws.{ReplacesKeep};
 
 use crate::kinds::{
     Announcing, Asking, Beginning, Birth, Breaking, Checking, Clearing, Confirming, Counting, Deal,
@@ -35,7 +45,9 @@ pub fn limits_are_numbers()
 /// A table that begins with the words and places of its opening keeps the rule, with one seat that
 /// has all passes.
 pub fn opening_keeps_rule()
-    ensures { OpeningKeeps ⟦<OneHistory as TableRule<Option<OpenFile>, View, Start>>⟧.holds ⟦<OneHistory as TableRule<Option<OpenFile>, View, Start>>⟧.first }
+    ensures { OpeningKeeps
+        ⟦<OneHistory as TableRule<Option<OpenFile>, View, Start>>⟧.holds
+        ⟦<OneHistory as TableRule<Option<OpenFile>, View, Start>>⟧.first }
 {}
 
 /// A pass that has no file and loads a slot's word keeps the rule.

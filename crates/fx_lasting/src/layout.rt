@@ -8,7 +8,11 @@
 //! large block 16 bytes after the beginning of a page, so that a line is a cache line there. It
 //! aligns a small block to 16 bytes alone, and then the words of a node may be in two cache lines.
 ghost use Rattle.std.specs.Prelude.{◌≡◌, ◌<◌, ◌≤◌, ◌^◌};
-ghost use Rattle.fx_lasting.specs.Layout.{question_place, group_place, group_size, groups_in, group_len, list_place, slot_place, hold_place, node_place, tag_place, number_place, words_for, slot_words, slot_lines, node_words, stock_start, nodes_for};
+ghost use Rattle.fx_lasting.specs.Layout.{question_place, group_place, group_size, groups_in};
+ghost use Rattle.fx_lasting.specs.Layout.{group_len, list_place, slot_place, hold_place};
+ghost use Rattle.fx_lasting.specs.Layout.{node_place, tag_place, number_place, words_for};
+ghost use Rattle.fx_lasting.specs.Layout.{slot_words, slot_lines, node_words, stock_start};
+ghost use Rattle.fx_lasting.specs.Layout.{nodes_for};
 
 /// The greatest number of slots of a table.
 pub const MOST_SLOTS: u32 = 1_048_576;

@@ -16,7 +16,7 @@ use fx_base::OpenFile;
 
 impl LastingTable {
     // Subtracts the mark that the pass owes, or the hold that it releases, from the node's word, in
-    // at most two steps. Returns the file if it was retired and nobody else has still to let it go.
+    // at most two steps. Returns the file if it was retired and no other pass uses it.
     #[inline(always)]
     pub(crate) fn let_go(
         &self,
@@ -43,7 +43,7 @@ impl LastingTable {
     }
 
     // Withdraws the pass's announcement of the node, in at most three steps. Returns the file if it
-    // was retired and nobody else has still to let it go.
+    // was retired and no other pass uses it.
     #[inline(never)]
     pub(crate) fn withdraw(
         &self,
@@ -68,7 +68,7 @@ impl LastingTable {
     }
 
     // Releases the file of the node, which the pass holds by its hold word, in at most three steps.
-    // Returns the file if it was retired and nobody else has still to let it go.
+    // Returns the file if it was retired and no other pass uses it.
     #[inline(always)]
     pub(crate) fn step_down(
         &self,

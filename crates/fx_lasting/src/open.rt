@@ -1,5 +1,6 @@
 //! Opening a table.
-ghost use Rattle.std.specs.Prelude.{◌≡◌, ℕ, ◌+◌, ◌*◌, ◌<◌, ◌≤◌, [], length, map, slice_set, All, IfOk, IfErr, OnOk, OnErr, vec_len, vec_capacity};
+ghost use Rattle.std.specs.Prelude.{◌≡◌, ℕ, ◌+◌, ◌*◌, ◌<◌, ◌≤◌, [], length, map, slice_set};
+ghost use Rattle.std.specs.Prelude.{All, IfOk, IfErr, OnOk, OnErr, vec_len, vec_capacity};
 ghost use Rattle.fx_plain.specs.State.{IsSettled, vacant};
 ghost use Rattle.fx_plain.specs.Contents.{state_of, IsPrepared};
 ghost use Rattle.fx_table.specs.FullSlots.{full_in, first_at};
@@ -12,7 +13,9 @@ ghost use Rattle.fx_lasting.specs.Parts.{birth_word, file_word_of};
 ghost use Rattle.fx_lasting.specs.Passes.{empty_slots};
 ghost use Rattle.fx_lasting.specs.Tables.{view_of, opening_of_table, first_passes, IsPassOfTable};
 ghost use Rattle.std.specs.List.{range_with_len};
-ghost use Rattle.fx_lasting.specs.declared.layout.TheConstants.{MOST_SLOTS, MOST_NODES, MOST_PASSES, MOST_INSTALLING, STOCK_SPACING};
+ghost use Rattle.fx_lasting.specs.declared.layout.TheConstants.{MOST_SLOTS, MOST_NODES};
+ghost use Rattle.fx_lasting.specs.declared.layout.TheConstants.{MOST_PASSES, MOST_INSTALLING};
+ghost use Rattle.fx_lasting.specs.declared.layout.TheConstants.{STOCK_SPACING};
 
 use crate::kinds::Deal;
 use crate::labels::number_of_mark;

@@ -9,7 +9,8 @@ ghost use Rattle.fx_lasting.specs.Questions.{HasAsked};
 ghost use Rattle.fx_lasting.specs.declared.layout.TheConstants.{MOST_PASSES};
 ghost use Rattle.fx_lasting.specs.Tables.{view_of, steps_taken, meetings, opening_of_table, IsPassOfTable};
 ghost use Rattle.fx_lasting.specs.Vacant.{FailsToFill, FellShort, GivesUpFor};
-ghost use Rattle.fx_lasting.specs.Tries.{IsPlacing, Tries, HasAllocated, StillPlaces, TriedSo, without_asking, group_steps, scan_steps};
+ghost use Rattle.fx_lasting.specs.Tries.{IsPlacing, Tries, HasAllocated, StillPlaces, TriedSo};
+ghost use Rattle.fx_lasting.specs.Tries.{without_asking, group_steps, scan_steps};
 ghost use Rattle.fx_lasting.specs.declared.view.Change.TheVariants.{Outside};
 
 use crate::kinds::{Exchanging, Peeking, Seeing};
@@ -26,7 +27,7 @@ use std::thread;
 
 // The steps by which passes go from group to group. Each is a prime above MOST_GROUPS, so it leads
 // through all groups, whatever their number. Passes that find the same groups full have different
-// steps, and so they come to different groups that aren't full.
+// steps, and so they reach different groups that aren't full.
 const STEPS: [u32; 8] = [67, 71, 73, 79, 83, 89, 97, 101];
 
 impl LastingTable {
@@ -214,7 +215,8 @@ impl LastingTable {
         self.scan_groups(seat, number, node, lost, file, self.group_of(first))
     }
 
-    // Does so from a group on, after a try at the slot where the scan begins.
+    // Tries the slots of the range group by group, from group `first` on, after the try at the slot
+    // where the scan begins.
     #[inline(always)]
     fn scan_groups(
         &self,

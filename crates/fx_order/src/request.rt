@@ -1,6 +1,7 @@
 //! Checking a request's accesses and completion: the accesses are those that it intends, and its
 //! completion is the answer by what they found.
-ghost use Rattle.std.specs.Prelude.{◌≡◌, ◌<◌, ◌+◌, ◌^◌, ◌↔◌, IfNone, IfOk, IfSome, IsTrue, List, None, Some, ℕ};
+ghost use Rattle.std.specs.Prelude.{◌≡◌, ◌<◌, ◌+◌, ◌^◌, ◌↔◌, IfNone, IfOk, IfSome, IsTrue};
+ghost use Rattle.std.specs.Prelude.{List, None, Some, ℕ};
 ghost use Rattle.std.specs.Prelude.{drop, length, take};
 ghost use Rattle.std.specs.List.{AllZip};
 ghost use Rattle.fx_base.specs.declared.errno.Errno.TheVariants.{ENOENT};
@@ -10,7 +11,8 @@ ghost use Rattle.fx_chain.specs.Intents.{IsOpened, answer_at_table, intents_of, 
 ghost use Rattle.fx_chain.specs.Operation.{asked_of, operation_of};
 ghost use Rattle.fx_chain.specs.Refusal.{refusal_of};
 ghost use Rattle.fx_order.specs.Access.{IsOf, entry_installed, last_finding};
-ghost use Rattle.fx_order.specs.Requests.{AreIntended, IsOwnEntry, IsRefused, IsRequestDone, LacksMemory};
+ghost use Rattle.fx_order.specs.Requests.{AreIntended, IsOwnEntry, IsRefused, IsRequestDone};
+ghost use Rattle.fx_order.specs.Requests.{LacksMemory};
 ghost use Rattle.fx_order.specs.declared.access.Access.{Access as Made};
 
 use crate::access::Access;

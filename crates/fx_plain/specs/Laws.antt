@@ -1,4 +1,4 @@
--- Laws of every history of a file table, whoever takes the steps and in whichever order (this
+-- Laws of every history of a file table, whoever makes the steps and in whichever order (this
 -- project's own).
 use Rattle.std.specs.Prelude.{◌≡◌, ℕ, ◌<◌, ◌≤◌, ◌==◌, ◌⊎◌, false, if◌then◌else◌, List, [], ◌∷◌}
 use Rattle.std.specs.Prelude.{◌++◌, length, Option, Some, None}

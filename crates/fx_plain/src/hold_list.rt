@@ -1,6 +1,8 @@
 //! The holds of a table's files by number. As in the list of nodes, numbers that no look-up has
 //! reached aren't written; their holds are 0.
-ghost use Rattle.std.specs.Prelude.{◌≡◌, ◌+◌, ◌-◌, ◌<◌, ◌^◌, ◌≤◌, ℕ, [], length, replicate, slice_index, slice_set, vec_len, vec_capacity, IfOk, IfSome, IfNone};
+ghost use Rattle.std.specs.Prelude.{◌≡◌, ◌+◌, ◌-◌, ◌<◌, ◌^◌, ◌≤◌, ℕ, [], length};
+ghost use Rattle.std.specs.Prelude.{replicate, slice_index, slice_set, vec_len, vec_capacity, IfOk};
+ghost use Rattle.std.specs.Prelude.{IfSome, IfNone};
 ghost use Rattle.fx_plain.specs.Reserved.{with_rest};
 
 use fx_base::NoMemory;

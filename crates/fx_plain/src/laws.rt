@@ -2,7 +2,8 @@
 //! histories alone. Each is the contract of a function with an empty body.
 
 ghost use Rattle.std.specs.Prelude.{◌≡◌};
-ghost use Rattle.fx_plain.specs.Laws.{NoCloseWhileHeld, ClosedAtMostOnce, EveryRemovedFileIsClosed, EveryFileWasThereOrInstalled, OpeningIsStart};
+ghost use Rattle.fx_plain.specs.Laws.{NoCloseWhileHeld, ClosedAtMostOnce, EveryRemovedFileIsClosed};
+ghost use Rattle.fx_plain.specs.Laws.{EveryFileWasThereOrInstalled, OpeningIsStart};
 ghost use Rattle.fx_plain.specs.Reopening.{LegalAfter, OpeningIsAtRest, StaysAtRest, OpenedAnew};
 ghost use Rattle.fx_plain.specs.declared.table.TheConstants.{MOST_SLOTS};
 

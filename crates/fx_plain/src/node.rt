@@ -1,6 +1,7 @@
 //! Nodes: the state of the file with a given number.
 ghost use Rattle.std.specs.Prelude.{◌≡◌, MatchOption, Some, None};
-ghost use Rattle.fx_plain.specs.Contents.{is_fresh, is_leaving, is_retired, identity_in, node_after_removal, node_after_retirement};
+ghost use Rattle.fx_plain.specs.Contents.{is_fresh, is_leaving, is_retired, identity_in};
+ghost use Rattle.fx_plain.specs.Contents.{node_after_removal, node_after_retirement};
 
 use fx_base::OpenFile;
 

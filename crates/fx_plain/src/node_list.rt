@@ -1,7 +1,10 @@
 //! The nodes of a table by number. Memory for all of them is reserved at once, and a node is
 //! written when its number is first used, so that unused numbers cost no time.
-ghost use Rattle.std.specs.Prelude.{◌≡◌, ◌<◌, ◌≤◌, ℕ, [], false, length, take, slice_index_or, slice_set, vec_len, vec_capacity, IsSome, IsTrue, Some};
-ghost use Rattle.fx_plain.specs.Contents.{node_at, is_fresh, is_leaving, is_retired, identity_in, node_after_removal, node_after_retirement, KeepsFirst, Fresh, Gone};
+ghost use Rattle.std.specs.Prelude.{◌≡◌, ◌<◌, ◌≤◌, ℕ, [], false, length, take, slice_index_or};
+ghost use Rattle.std.specs.Prelude.{slice_set, vec_len, vec_capacity, IsSome, IsTrue, Some};
+ghost use Rattle.fx_plain.specs.Contents.{node_at, is_fresh, is_leaving, is_retired, identity_in};
+ghost use Rattle.fx_plain.specs.Contents.{node_after_removal, node_after_retirement, KeepsFirst};
+ghost use Rattle.fx_plain.specs.Contents.{Fresh, Gone};
 ghost use Rattle.fx_plain.specs.Reserved.{with_rest};
 
 use crate::node::{

@@ -1,5 +1,6 @@
 //! The file table of one thread.
-ghost use Rattle.std.specs.Prelude.{◌≡◌, ◌+◌, ◌<◌, ◌≤◌, ◌↔◌, ℕ, length, true, option_map, IfOk, IsTrue, IsOk, OnOk, OnErr, None};
+ghost use Rattle.std.specs.Prelude.{◌≡◌, ◌+◌, ◌<◌, ◌≤◌, ◌↔◌, ℕ, length, true, option_map};
+ghost use Rattle.std.specs.Prelude.{IfOk, IsTrue, IsOk, OnOk, OnErr, None};
 ghost use Rattle.fx_plain.specs.State.{vacant, IsSettled, files_of};
 ghost use Rattle.fx_plain.specs.Contents.{state_of, leaving, numbers_of, IsTable};
 ghost use Rattle.fx_plain.specs.Table.{SetsRange, identity_of};

@@ -10,7 +10,7 @@ use Rattle.fx_ring.proofs.Parts.{only_first, only_second, not_first, not_second}
 use Rattle.fx_ring.proofs.CompletionPlaces.{explained_of_members}
 use Rattle.fx_table.proofs.Calls.{looks_least}
 
--- what stands at a further place of a list, counted from 1, and what stands behind that
+-- the element at a further place of a list, counted from 1, and the elements after it
 pub sum_behind : {X : Type 0} (f : X → ℕ) (xs : List X) (d : X) (i : ℕ) {c : ℕ} → i < c → c ≤ length xs
     → f (slice_index_or xs (c - 1) d) + sum_by f (drop c xs) ≤ sum_by f (drop i xs)
 sum_behind f xs d i {c} further inside =
@@ -47,7 +47,7 @@ IsDone catalogue size submission runs chain events completions =
     Explains catalogue size (first_member submission chain) (run_of_chain runs chain) events completions
     × (length (closes_in events) ≤ all_weights (run_of_chain runs chain))
 
--- a chain behind all others was played from w to y, and that takes the worker from v to x
+-- a chain after all others was played from w to y, and that takes the worker from v to x
 module _ {o : Opening} {catalogue : List FileEntry} {submission : ℕ} {runs : List (List Asked)} {v x w y : PassView}
     {before now : List Completed} {closes files : CloseListView} {chain : ℕ}
     (worked : HasWorked catalogue (size_of o) submission runs (worker_state v before closes))
@@ -160,7 +160,7 @@ module _ {o : Opening} {catalogue : List FileEntry} {submission : ℕ} {runs : L
       → HasRoom runs (worker_state x now files) more
   room_next = room_left worked drew.1 inside played goes
 
--- a worker whose pass was told that there are no more chains
+-- a worker whose pass found no further chain
 pub worked_all : (o : Opening) {catalogue : List FileEntry} {size submission : ℕ} {runs : List (List Asked)} {v w : PassView} {cs : List Completed}
     {closes : CloseListView} → HasWorked catalogue size submission runs (worker_state v cs closes) → Draws o v None w
     → HasWorked catalogue size submission runs (worker_state w cs closes)

@@ -37,7 +37,7 @@ module _ {requests : List Asked} {chains : List Chain} (cut : AreCutInto request
   runs_within = subst (All IsShortRun) cut.members (All-map IsShortRun (members_of requests) chains
       (All-weaker (IsChain requests) (λ chain. IsShortRun (members_of requests chain)) (λ chain is. is.run) chains cut.within))
 
--- Where the completions of a chain stand.
+-- The places of the completions of a chain.
 
 -- the key by which completions are put in order of place
 abbrev pub place_key : Completed → ℕ
@@ -46,7 +46,7 @@ place_key c = c.place.chain * 32 + c.place.member
 abbrev key_of : Place → ℕ
 key_of place = place.chain * 32 + place.member
 
--- the completion is of one of so many members of a chain, from this place on
+-- the completion is of one of this number of members of a chain, from this place on
 abbrev pub IsWithin : Place → ℕ → Completed → Type 0
 IsWithin place n c = (c.place.chain ≡ place.chain) × (key_of place ≤ place_key c) × (place_key c < key_of place + n)
 

@@ -100,7 +100,7 @@ module _ {often : ℕ} {v : PassView} {outcome : Outcome} {requests : List Asked
       subst (λ (n : ℕ). HasRoom (runs_of requests) (worker_state (record v { chain = n }) (all_completed outcome.completions.items) outcome.closes)
       (vec_capacity outcome.completions)) (sym new.chain) (record { looks = omega arith; completions = omega arith; closes = omega arith })
 
--- What a crew has come to, as its passes and outcomes say it once they lie in lists of their own.
+-- The outcome of a crew, by its passes and outcomes once they lie in lists of their own.
 
 abbrev pub completions_of : Outcome → List Completion
 completions_of outcome = outcome.completions.items

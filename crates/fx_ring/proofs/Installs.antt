@@ -1,4 +1,4 @@
--- What the members of a chain install: files of the catalogue, each with a mark of its own.
+-- The files that the members of a chain install: of the catalogue, each with a mark of its own.
 use Rattle.fx_ring.proofs.Words.{refl, installed_by, ◌≡◌, ◌≢◌, ℕ, zero, suc, ◌+◌, ◌<◌, ◌≤◌, ℤ, pos, negsuc, false, List, [], ◌∷◌, length, sym, ap}
 use Rattle.fx_ring.proofs.Words.{subst, ◌∙◌, ⊎_elim, Option, Some, None, arith, list_any, leb-false, FileEntry, Errno, ENOMEM, Mark, Submitted}
 use Rattle.fx_ring.proofs.Words.{Closed, ◌▷◌, File, Action, Look, Release, Put, Clear, Take, Allocate, Full, Answers, AnswersAtTable, OpensAt}
@@ -12,7 +12,7 @@ use Rattle.fx_chain.specs.Refusal.{refusal_of}
 abbrev pub IsMarked : ℕ → Mark → File → Type 0
 IsMarked entries mark f = (f.identity.mark ≡ mark) × (f.identity.entry < entries)
 
--- the file is of one of the places of a list from this one on, where the request stands here
+-- the file is of one of the places of a list from this one on, and the request is at this place
 abbrev IsListed : ℕ → Place → ℕ → File → Type 0
 IsListed entries place low f = (j : ℕ) × (low ≤ j) × IsMarked entries (Submitted place.submission place.chain place.member j) f
 
@@ -26,7 +26,7 @@ no_file P f is = cc
 abbrev place_of : Completed → Place
 place_of c = c.place
 
--- the completion stands at the place, and the steps install such files
+-- the completion is at the place, and the steps install such files
 pub record Gives (place : Place) (P : File → Type 0) (events : List Action) (c : Completed) : Type 0 where
   pub at : c.place ≡ place
   pub puts : Puts P events

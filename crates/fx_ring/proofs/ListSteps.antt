@@ -43,7 +43,7 @@ good_get entries [] j good is = cc
 good_get entries (y ∷ list) zero {z} good is = let same : y ≡ z = cc in ap (is_bad_entry entries) (sym same) ∙ (or_parts _ _ good).0
 good_get entries (y ∷ list) (suc j) {z} good is = good_get entries list j (or_parts _ _ good).1 is
 
--- What a list has done, one number further.
+-- The effect of a list, one number further.
 
 module _ (k : ℕ) (at : ℕ → Option Closed) (off : ℕ) (list : List ℤ) (tags : List ℕ) where
   pub files_below : (slot : ℕ) → slot < off → files_after k at off list tags slot ≡ at slot
@@ -59,7 +59,7 @@ module _ (k : ℕ) (at : ℕ → Option Closed) (off : ℕ) (list : List ℤ) (t
       files_from slot (omega arith)
       ∙ ap (λ (x : Option ℤ). file_listed k (slot - off) (tag_at tags (slot - off)) x (at slot)) (slice_get_past list (slot - off) (omega arith))
 
-  -- the file at each slot once the first so many numbers are applied
+  -- the file at each slot once this number of the list's first numbers are applied
   abbrev pub files_upto : ℕ → ℕ → Option Closed
   files_upto i slot = if nat_lt slot (off + i) then files_after k at off list tags slot else at slot
 
@@ -90,15 +90,14 @@ module _ (k : ℕ) (at : ℕ → Option Closed) (off : ℕ) (list : List ℤ) (t
         other : (slot : ℕ) → (slot ≡ off + i → ⊥) → files_upto (i + 1) slot ≡ files_upto i slot
         other slot apart = grind (arith, nat_tests)
 
-    -- what the rest of the list removes, with the next number in front
+    -- the files that the rest of the list removes, with the next number before it
     pub removed_next : removed_from at (off + i) (drop i list) ≡ removed_by_number z (at (off + i)) ++ removed_from at (off + (i + 1)) (drop (i + 1) list)
     removed_next = ap (removed_from at (off + i)) (drop-cons list i (pos 0) inside) ∙ ap (λ (y : ℤ). removed_by_number y (at (off + i))
         ++ removed_from at (off + i + 1) (drop (suc i) list)) (sym is)
         ∙ ap (λ (n : ℕ × ℕ). removed_by_number z (at (off + i)) ++ removed_from at n.0 (drop n.1 list))
         (let e : off + i + 1 ≡ off + (i + 1) = omega arith in let f : suc i ≡ i + 1 = omega arith in λ j. (e j, f j))
 
--- the first so many numbers of a list were applied; the rest has still to be removed, and has its
--- room
+-- the first `i` numbers of a list were applied; the rest has still to be removed, and has its room
 pub record IsApplied (k off : ℕ) (list : List ℤ) (tags : List ℕ) (old cur : State) (before mid : CloseListView) (i : ℕ) : Type 0 where
   pub size : cur.size ≡ old.size
   pub range : cur.range ≡ old.range

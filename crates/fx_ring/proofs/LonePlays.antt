@@ -159,8 +159,8 @@ module _ {catalogue : List FileEntry} {o : Opening} {before after : PassView} {d
         });
   }
 
--- a pass alone, which was so at first, has played so many chains of a submission, and there is room
--- for the others
+-- a pass alone, which was so at first, has played `i` chains of a submission, and there is room for
+-- the others
 pub record IsPlaying {P : Type 0} (V : P → PassView) (Fits : P → Type 0) (o : Opening) (catalogue : List FileEntry) (submission : ℕ)
     (requests : List Asked) (start : PassView) (i : ℕ) (pass : P) (completions : List Completed) (closes : CloseListView) (capacity : ℕ)
     : Type 0 where

@@ -31,7 +31,7 @@ new_then h (action ∷ more) first behind apart = (
   λ f g now is. ⊎_elim (λ before. apart f g (inr now) before) (λ since. behind.1 f g now since) (put_either h more g is),
 )
 
--- steps behind others whose marks are other ones
+-- steps after others whose marks are other ones
 pub puts_then : (P Q R : File → Type 0) (h more : List Action) → ((f : File) → P f → R f) → ((f : File) → Q f → R f)
     → ((f g : File) → Q f → P g → f.identity.mark ≢ g.identity.mark) → Puts P h → Puts Q more → Puts R (h ▷▷ more)
 puts_then P Q R h more left right apart first behind = grind (arith, put_either, new_then)
@@ -54,7 +54,7 @@ puts_one P action one = (λ f is. ⊎_elim (λ before. absurd before) (λ now. o
 puts_and_closes : (P : File → Type 0) (steps : List Action) (removed : File) → Puts P steps → Puts P (steps ▷ Close removed)
 puts_and_closes P steps removed puts = grind arith
 
--- a close behind them installs nothing
+-- a close after them installs nothing
 pub puts_may_close : (P : File → Type 0) (steps : List Action) (removed : Option File) (events : List Action) → MayClose steps removed events
     → Puts P steps → Puts P events
 puts_may_close P steps None events is puts = subst (Puts P) (sym is) puts

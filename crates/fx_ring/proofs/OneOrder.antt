@@ -6,7 +6,7 @@ use Rattle.fx_ring.proofs.Words.{apart_from_distinct, false≢true, nat_tests, r
 use Rattle.std.specs.List.{IsDistinct}
 
 module _ {X : Type 0} (key : X → ℕ) where
-  -- each element's key is below those behind it
+  -- each element's key is below the keys of those after it
   abbrev pub Rises : List X → Type 0
   Rises [] = Unit {0}
   Rises (x ∷ xs) = All (λ y. key x < key y) xs × Rises xs

@@ -47,7 +47,7 @@ closed_up {first} {before} (Some f) s out lead = (
       (λ apart. ap (λ (r : ℕ → Option File). r n) out ∙ changed_else first.removed f.number (Some f) n apart ∙ s.closed n),
 )
 
--- what a removal at a slot and the close behind it come to, as the calls make them
+-- the effect of a removal at a slot and of the close after it, as the calls make them
 pub removed_and_closed : {first before last : State} {slot : ℕ} (x there : Option File) {fresh : ℕ → Bool} {removed : Option ℕ}
     {earlier : CloseListView} (closed : CloseListView) → IsSettled first → first.at slot ≡ there → removed ≡ number_of there
     → before ≡ record first { at = changed_at first.at slot x; fresh = fresh; removed = with_removed first.removed there }

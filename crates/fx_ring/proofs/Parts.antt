@@ -39,7 +39,7 @@ module _ {W X : Type 0} (g : W → List X) where
   all_parts P (w ∷ ws) each =
       All-append P (g w) (flat_map g ws) (each w (contains_head w ws)) (all_parts P ws (λ v h. each v (contains_tail w ws v h)))
 
-  -- what is made of the parts, one behind another
+  -- what is made of the parts, one after another
   pub made_of_parts : {Y : Type 0} (made : List X → List Y) → made [] ≡ [] → ((xs ys : List X) → made (xs ++ ys) ≡ made xs ++ made ys)
       → (ws : List W) → made (flat_map g ws) ≡ flat_map (λ w. made (g w)) ws
   made_of_parts made none both [] = none
@@ -77,8 +77,8 @@ module _ {X : Type 0} (key : X → ℕ) where
   none_within first [] all = refl
   none_within first (x ∷ xs) all = let one = All-head (Within first 0) x xs all in let low = one.0 in let high = one.1 in absurd (omega arith)
 
-  -- where each key is one of so many from the first on: what is made of the list is made of the
-  -- parts by key
+  -- if each key is one of the `n` from the first on: what is made of the list is made of the parts
+  -- by key
   pub made_by_key : {Y : Type 0} (made : List X → List Y) → made [] ≡ []
       → ((k : ℕ) (xs : List X) → IsPermutation (made xs) (made (filter (has k) xs) ++ made (filter (lacks k) xs)))
       → (first n : ℕ) (xs : List X) → All (Within first n) xs
@@ -97,7 +97,7 @@ module _ {X : Type 0} (key : X → ℕ) where
   pub split_by_key : (k : ℕ) (xs : List X) → IsPermutation xs (filter (has k) xs ++ filter (lacks k) xs)
   split_by_key k xs = IsPermutation-filter_both (has k) (lacks k) (λ _. refl) xs
 
-  -- a sum over the list, where each key has no more than stands at its place of another list
+  -- a sum over the list, if each key has no more than the number at its place of another list
   pub few_by_key : {Y : Type 0} (f : X → ℕ) (g : Y → ℕ) (d : Y) (first : ℕ) (ys : List Y) (xs : List X) → All (Within first (length ys)) xs
       → ((i : ℕ) → i < length ys → sum_by f (filter (has (first + i)) xs) ≤ g (slice_index_or ys i d)) → sum_by f xs ≤ sum_by g ys
   few_by_key f g d first [] xs all few = let none = ap (sum_by f) (none_within first xs all) in omega arith
@@ -114,7 +114,7 @@ module _ {X : Type 0} (key : X → ℕ) where
       let there = few (suc i) (omega arith) in omega arith) in
       omega arith
 
--- the elements with one key, where others stand in front of them or behind them
+-- the elements with one key, if others are before them or after them
 module _ {X : Type 0} (key : X → ℕ) (c : ℕ) where
   abbrev pub with_key : List X → List X
   with_key xs = filter (λ x. key x == c) xs
@@ -147,7 +147,7 @@ module _ {X : Type 0} (key : X → ℕ) (c : ℕ) where
 abbrev pub closes_of : List Event → List Closed
 closes_of h = closes_in (map action_of h)
 
--- what stands in front of the last part goes behind it
+-- the part before the last one is moved to the end
 pub moved_behind : (a b c : List Closed) → IsPermutation ((a ++ b) ++ c) ((a ++ c) ++ b)
 moved_behind a b c =
     subst (λ (l : List Closed). IsPermutation l ((a ++ c) ++ b)) (sym (append_assoc a b c))
@@ -171,7 +171,7 @@ module _ (key : Event → ℕ) where
         | false ↦ subst (IsPermutation (closes_of h ++ c)) (append_assoc (closes_of mine) (closes_of others) c) so_far
       ]
 
-  -- where each key is one of so many from the first on, the parts are all
+  -- if each key is one of the `n` from the first on, the parts are all
   pub closes_by_key : (first n : ℕ) (h : List Event) → All (λ e. (first ≤ key e) × (key e < first + n)) h
       → IsPermutation (closes_of h) (flat_map (λ k. closes_of (filter (λ e. key e == k) h)) (range_with_len first n))
   closes_by_key = made_by_key key closes_of refl closes_split

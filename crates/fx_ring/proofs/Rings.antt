@@ -17,7 +17,7 @@ use Rattle.fx_plain.specs.declared.node.Node.TheVariants.{Gone}
 abbrev pub contents_of : Inside → RingContents
 contents_of ring = ring_with ring.catalogue ring.table ring.submissions ring.registrations
 
--- the file is of a catalogue of so many entries
+-- the file is of a catalogue with this number of entries
 abbrev pub IsEntry : ℕ → Closed → Type 0
 IsEntry entries file = file.entry < entries
 
@@ -40,7 +40,7 @@ pub not_yet : (ring : RingState) (mark : Mark) (c m j : ℕ) → HasCounted ring
 not_yet ring (Registered k i) c m j counted same = cc
 not_yet ring (Submitted s d n i) c m j counted same = let e : s ≡ ring.submissions + 1 = cc in omega arith
 
--- the file that a slot has, by what is told of it
+-- the file that a slot has, by its recorded identity
 pub file_told : (x : Option File) (told : Closed) → identity_of x ≡ Some told → (f : File) × (x ≡ Some f) × (f.identity ≡ told)
 file_told None told is = absurd (cc)
 file_told (Some f) told is = (f, refl, cc)

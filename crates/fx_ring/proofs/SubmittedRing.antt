@@ -119,7 +119,7 @@ pub submitted_entries : {old new : RingContents} {requests : List Asked} {report
 submitted_entries {old} {new} {requests} {report} is one = subst (λ (ring : RingState). AreEntries ring report.closes.files) (sym one.after)
     (entries_closed (behind old new requests report is one) (closed_entries old new requests report is one) one.closed)
 
--- a ring at rest is at rest again behind a submission
+-- a ring at rest is at rest again after a submission
 pub submitted_at_rest : {old new : RingContents} {requests : List Asked} {report : Reported} → IsAtRest old → IsOneHistory old requests report new
     → IsSettled (state_of new.table) → old.submissions < MOST_SUBMISSIONS → IsAtRest new
 submitted_at_rest {old} {new} {requests} {report} rest one settled few =

@@ -1,4 +1,4 @@
--- What the workers of a submission did, taken together.
+-- The work of a submission's workers, taken together.
 use Rattle.fx_ring.proofs.Words.{◌≡◌, ℕ, ◌+◌, ◌-◌, ◌<◌, ◌≤◌, ◌==◌, true, List, [], map, flat_map, length, All, sum_by, count_by, slice_index_or}
 use Rattle.fx_ring.proofs.Words.{closed_by, filter, filter-append, refl, sym, ap, subst, ◌∙◌, arith, eqb, IsNonDecreasingBy, All-contains}
 use Rattle.fx_ring.proofs.Words.{IsPermutation-trans, length_permutation, FileEntry, IsInOrderOfMark, CloseListView, Closed, opening, Contents}

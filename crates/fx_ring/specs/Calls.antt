@@ -1,4 +1,4 @@
--- How the calls of a ring fail, and what their lists of closes have (the order of the refusals is
+-- The failures of a ring's calls, and their lists of closes (the order of the refusals is
 -- this project's own).
 use Rattle.std.specs.Prelude.{◌≡◌, ℕ, ◌==◌, ◌||◌, nat_le, nat_lt, List, if◌then◌else◌, Option}
 use Rattle.std.specs.Prelude.{Some, None, Result, Err, IfSome, IfNone, IsOkUnless}

@@ -1,4 +1,4 @@
--- What a submission does to files, from what `submit` promises alone.
+-- The effect of a submission on files, from the promises of `submit` alone.
 use Rattle.std.specs.Prelude.{◌≡◌, ◌⊎◌, ℕ, ◌≤◌, List, [], length, Some}
 use Rattle.fx_plain.specs.State.{State, opening}
 use Rattle.fx_plain.specs.Contents.{state_of}

@@ -74,7 +74,7 @@ pub record HasUsed (old : OpenRingContents) (requests : List Asked) (new : OpenR
 abbrev pub chain_less : ℕ → Event → Event
 chain_less base e = record e { chain = e.chain - base }
 
--- the pass, as if it had begun behind a chain and had drawn and done this since
+-- the pass, as if it had begun after `base` chains and had drawn and done this since
 abbrev pub begun_after : ℕ → List ℕ → List Event → PassView → PassView
 begun_after base drawn since v =
     record v { own = map (chain_less base) since; drawn = drawn; chain = v.chain - base }

@@ -1,4 +1,4 @@
--- What workers come to, as lists that have their room from the start.
+-- The outcomes of workers, as lists that have their room from the start.
 use Rattle.std.specs.Prelude.{◌≡◌, ◌≤◌, ℕ, List, [], length, All, vec_capacity}
 use Rattle.fx_chain.specs.Operation.{Asked}
 use Rattle.fx_chain.specs.Weights.{all_weights}
@@ -12,7 +12,7 @@ pub record HasRoomFor (requests : List Asked) (outcome : Outcome) : Type 0 where
   pub room : length requests ≤ vec_capacity outcome.completions
   pub closes : outcome.closes ≡ record { files = []; room = all_weights requests }
 
--- the same for so many workers, and for all of them together
+-- the same for this number of workers, and for all of them together
 pub record HasRoomForCrew {P : Type 0} (requests : List Asked) (workers : ℕ) (room : Room P)
     : Type 0 where
   pub nobody : room.crew.items ≡ []

@@ -15,7 +15,7 @@ use Rattle.fx_ring.specs.declared.play.Submission.{Submission}
 use Rattle.fx_ring.specs.declared.report.Report.{Report}
 use Rattle.fx_ring.specs.declared.worker.Worker.{Worker}
 
--- where its pass is, and what its chains came to
+-- where its pass is, and the outcome of its chains
 abbrev pub state_of_worker : {P : Type 0} → (P → PassView) → Worker P → WorkerState
 state_of_worker V w =
     worker_state (V w.pass) (all_completed w.outcome.completions.items) w.outcome.closes
@@ -34,7 +34,7 @@ pub record IsBetweenChains {P : Type 0} (V : P → PassView) (Fits : P → Type 
   pub idle : IsIdle (V w.pass)
   pub worked : HasWorked s.catalogue s.size s.submission s.runs (state_of_worker V w)
 
--- it has room for what one more chain may come to
+-- it has room for the outcome of one more chain
 pub record IsReadyForNext {P : Type 0} (V : P → PassView) (Fits : P → Type 0) (s : Setting) (w
     : Worker P)
     : Type 0 where

@@ -110,7 +110,7 @@ registered ring list tags = record ring {
   registrations = ring.registrations + 1;
 }
 
--- the ring once so many empty slots were registered
+-- the ring once `n` empty slots were registered
 abbrev pub registered_sparse : RingState → ℕ → RingState
 registered_sparse ring n = record ring { size = n; range = (0, n); at = λ _. None }
 

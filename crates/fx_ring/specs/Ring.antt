@@ -64,7 +64,7 @@ new_ring catalogue = record {
 abbrev pub without_table : RingState → RingState
 without_table ring = record ring { size = 0; range = (0, 0); at = λ _. None }
 
--- the files at the first so many slots, in order of slot
+-- the files at the slots below this number, in order of slot
 abbrev pub ring_files_in_order : (ℕ → Option Identity) → ℕ → List Identity
 ring_files_in_order at zero = []
 ring_files_in_order at (suc n) = ring_files_in_order at n ++ option_to_list (at n)

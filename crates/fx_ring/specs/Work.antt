@@ -1,4 +1,4 @@
--- What a worker of a submission has done.
+-- The work of a submission's worker.
 use Rattle.std.specs.Prelude.{◌≡◌, ℕ, ◌+◌, ◌-◌, ◌==◌, ◌≤◌, List, [], map, filter, length, drop, All}
 use Rattle.std.specs.Prelude.{Contains, sum_by, slice_index_or}
 use Rattle.fx_base.specs.Catalogue.{FileEntry}
@@ -48,7 +48,7 @@ IsEnoughFor run w capacity =
 abbrev pub completions_of_chain : ℕ → List Completed → List Completed
 completions_of_chain chain completions = filter (λ c. c.place.chain == chain) completions
 
--- How far a worker is with the runs of a submission
+-- the part of a submission's runs that a worker has done
 pub record HasWorked (catalogue : List FileEntry) (size submission : ℕ) (runs : List (List Asked))
     (w : WorkerState) : Type 0 where
   -- each chain that it drew is explained by its part of what the pass did

@@ -3,7 +3,8 @@
 //! does nothing.
 
 ghost use Rattle.std.specs.Prelude.{◌≡◌};
-ghost use Rattle.fx_ring.specs.Laws.{NoHeldFileCloses, NoFileClosesTwice, NoFileIsLost, SameRingsDoTheSame};
+ghost use Rattle.fx_ring.specs.Laws.{NoHeldFileCloses, NoFileClosesTwice, NoFileIsLost};
+ghost use Rattle.fx_ring.specs.Laws.{SameRingsDoTheSame};
 ghost use Rattle.fx_ring.specs.OpenRings.{PartIsOneHistory};
 ghost use Rattle.fx_ring.specs.declared.ring.TheConstants.{MOST_SUBMISSIONS, MOST_REGISTRATIONS};
 

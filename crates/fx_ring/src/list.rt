@@ -1,5 +1,6 @@
 //! Lists of numbers, one for each slot, and their tags.
-ghost use Rattle.std.specs.Prelude.{◌≡◌, ◌+◌, ◌<◌, ◌≤◌, ℕ, ℤ, pos, List, OnErr, OnOk, false, true, length, slice_index_or};
+ghost use Rattle.std.specs.Prelude.{◌≡◌, ◌+◌, ◌<◌, ◌≤◌, ℕ, ℤ, pos, List, OnErr, OnOk, false};
+ghost use Rattle.std.specs.Prelude.{true, length, slice_index_or};
 ghost use Rattle.std.specs.List.{list_any, zip};
 ghost use Rattle.fx_plain.specs.State.{IsSettled};
 ghost use Rattle.fx_plain.specs.Contents.{state_of};

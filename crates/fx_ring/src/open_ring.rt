@@ -1,5 +1,6 @@
 //! Rings whose table stays open from one submission to the next, for one worker.
-ghost use Rattle.std.specs.Prelude.{IfOk, IfErr, IfSome, IfNone, OnErr, MatchOption, ◌≡◌, ◌+◌, ◌*◌, ◌≤◌, ℕ, length};
+ghost use Rattle.std.specs.Prelude.{IfOk, IfErr, IfSome, IfNone, OnErr, MatchOption, ◌≡◌, ◌+◌, ◌*◌};
+ghost use Rattle.std.specs.Prelude.{◌≤◌, ℕ, length};
 ghost use Rattle.fx_table.specs.declared.limits.TheConstants.{CHAIN_NUMBERS, MAX_CHAINS};
 ghost use Rattle.fx_chain.specs.Operation.{all_asked};
 ghost use Rattle.fx_chain.specs.declared.fault.TheConstants.{MOST_MEMBERS};

@@ -1,5 +1,6 @@
 //! The completions and closes of a submission's chains, of one worker or of all.
-ghost use Rattle.std.specs.Prelude.{◌≡◌, ◌+◌, ◌*◌, ◌≤◌, [], length, flat_map, sum_by, All, IfOk, IsPermutation, vec_capacity};
+ghost use Rattle.std.specs.Prelude.{◌≡◌, ◌+◌, ◌*◌, ◌≤◌, [], length, flat_map, sum_by, All, IfOk};
+ghost use Rattle.std.specs.Prelude.{IsPermutation, vec_capacity};
 ghost use Rattle.std.specs.List.Sorted.{IsNonDecreasingBy};
 ghost use Rattle.fx_base.specs.CloseList.{IsInOrderOfMark};
 ghost use Rattle.fx_chain.specs.Accepted.{IsAccepted};

@@ -6,7 +6,8 @@ ghost use Rattle.fx_chain.specs.Completed.{all_completed};
 ghost use Rattle.fx_chain.specs.Operation.{all_asked};
 ghost use Rattle.fx_chain.specs.Performs.{PlaysChainExactly, player};
 ghost use Rattle.fx_chain.specs.Runs.{runs_of};
-ghost use Rattle.fx_ring.specs.Work.{AreCutInto, InstallAtMost, IsEnoughFor, run_of_chain, worker_state};
+ghost use Rattle.fx_ring.specs.Work.{AreCutInto, InstallAtMost, IsEnoughFor, run_of_chain};
+ghost use Rattle.fx_ring.specs.Work.{worker_state};
 ghost use Rattle.fx_ring.specs.declared.ring.TheConstants.{MOST_SUBMISSIONS};
 
 use crate::outcome::Outcome;

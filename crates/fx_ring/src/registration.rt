@@ -1,11 +1,14 @@
 //! The calls between submissions: registrations, updates, the allocation range.
-ghost use Rattle.std.specs.Prelude.{◌≡◌, ◌<◌, ◌≤◌, false, length, Ok, Err, IfSome, IfNone, IfOk, OnOk, OnErr};
+ghost use Rattle.std.specs.Prelude.{◌≡◌, ◌<◌, ◌≤◌, false, length, Ok, Err, IfSome, IfNone, IfOk};
+ghost use Rattle.std.specs.Prelude.{OnOk, OnErr};
 ghost use Rattle.fx_base.specs.declared.errno.Errno.TheVariants.{ENOMEM};
 ghost use Rattle.std.specs.List.{list_any};
 ghost use Rattle.fx_chain.specs.Answers.{is_bad_entry};
 ghost use Rattle.fx_ring.specs.Ring.{files_of_ring, ring_of, without_table};
 ghost use Rattle.fx_ring.specs.Calls.{FailsOnlyAs, ListsFiles};
-ghost use Rattle.fx_ring.specs.Registration.{Registers, Updates, is_bad_file, range_refusal, register_refusal, registered_sparse, sparse_refusal, unregister_refusal, update_refusal};
+ghost use Rattle.fx_ring.specs.Registration.{Registers, Updates, is_bad_file, range_refusal};
+ghost use Rattle.fx_ring.specs.Registration.{register_refusal, registered_sparse, sparse_refusal};
+ghost use Rattle.fx_ring.specs.Registration.{unregister_refusal, update_refusal};
 ghost use Rattle.fx_ring.specs.Tags.{no_tags, tags_for};
 
 use crate::call_refusal::{register_refusal, sparse_refusal, update_refusal};
@@ -82,8 +85,8 @@ impl Ring {
 
     /// Registers a table with a slot for each number of the list (io_uring_register(2),
     /// "IORING_REGISTER_FILES"). -1 is an empty slot, and a number from 0 on is the catalogue entry
-    /// to open there. The allocation range is the whole table. The files have no tags:
-    /// [`Ring::register_tagged`] gives them.
+    /// to open there. The allocation range is the whole table. The files have no tags (see
+    /// [`Ring::register_tagged`]).
     ///
     /// The `k` of a file's mark is the number of this call among the accepted calls of `register`,
     /// `register_tagged`, `update` and `update_tagged`, from 1. Its `i` is the place in the list,
@@ -99,9 +102,9 @@ impl Ring {
         self.register_list(alloc, list, None)
     }
 
-    /// Registers a table as [`Ring::register`] does, and gives each file the tag at the same place,
-    /// 0 for none (io_uring_register(2), "IORING_REGISTER_FILES2"). Once a file with a tag is
-    /// closed, the list that names it returns the completion of its tag ([`CloseList::tags`]).
+    /// Registers a table as [`Ring::register`] does, and assigns each file the tag at the same
+    /// place, 0 for none (io_uring_register(2), "IORING_REGISTER_FILES2"). Once a file with a tag
+    /// is closed, the list that names it returns the completion of its tag ([`CloseList::tags`]).
     ///
     /// # Errors
     /// Those of [`Ring::register`], in the same order. EINVAL is also returned, in its place in
@@ -219,7 +222,7 @@ impl Ring {
     /// "IORING_REGISTER_FILES_UPDATE"): -1 empties a slot, -2 leaves it, and a number from 0 on
     /// opens that catalogue entry there. Returns the length of the list, and the files that were
     /// replaced or removed, in order of mark. Marks are made as by [`Ring::register`]. The new
-    /// files have no tags: [`Ring::update_tagged`] gives them.
+    /// files have no tags (see [`Ring::update_tagged`]).
     ///
     /// # Errors
     /// In this order: ENXIO if the ring has no table, EINVAL for an empty list or one that ends
@@ -237,8 +240,8 @@ impl Ring {
         self.update_list(alloc, off, list, None)
     }
 
-    /// Updates slots as [`Ring::update`] does, and gives each new file the tag at the same place, 0
-    /// for none (io_uring_register(2), "IORING_REGISTER_FILES_UPDATE2"). A file that was replaced
+    /// Updates slots as [`Ring::update`] does, and assigns each new file the tag at the same place,
+    /// 0 for none (io_uring_register(2), "IORING_REGISTER_FILES_UPDATE2"). A file that was replaced
     /// or removed is listed with the tag that it was installed with ([`CloseList::tags`]).
     ///
     /// # Errors

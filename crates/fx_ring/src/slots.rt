@@ -4,7 +4,8 @@ ghost use Rattle.std.specs.Option.{option_to_list};
 ghost use Rattle.fx_plain.specs.State.{IsSettled};
 ghost use Rattle.fx_plain.specs.History.{Leads};
 ghost use Rattle.fx_plain.specs.Contents.{state_of, leaving};
-ghost use Rattle.fx_ring.specs.Slots.{SetsSlot, CanRetire, closes_of_removed, file_removed, files_at};
+ghost use Rattle.fx_ring.specs.Slots.{SetsSlot, CanRetire, closes_of_removed, file_removed};
+ghost use Rattle.fx_ring.specs.Slots.{files_at};
 
 use fx_base::{CloseList, OpenFile};
 use fx_plain::PlainTable;

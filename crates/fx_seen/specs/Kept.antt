@@ -1,4 +1,4 @@
--- What a `Seen` owns, and when a seat may learn from one.
+-- The contents of a `Seen`, and when a seat may learn from it.
 use Rattle.core.specs.Prelude.{◌≡◌, ℕ, slice_set}
 use mathlib.Core.Option.{some}
 use lib.ListN.{get_elem?}

@@ -4,7 +4,7 @@
 //! A seat's view is what its thread knows, such as the history so far. [`show`] makes a [`Seen`]: a
 //! view that was shown once and stays in the table for ever, so that the table's rule always holds
 //! of it. A `Seen` has no bytes, can be copied ([`Seen::again`]) and may go to another thread by
-//! any means that moves a value. [`learn`] gives one to another seat: that seat gets a view that
+//! any means that moves a value. [`learn`] shows one to another seat: that seat gets a view that
 //! the rule allows in a table with the shown view. All three calls have an empty body: they are
 //! steps of the proof alone.
 //!
@@ -72,7 +72,7 @@ pub fn show<S, V, K, P: TableRule<S, V, K>, M: Split<V>>(
     }
 }
 
-/// Gives the seat a new view, as `M` says of its old view and of the view that was shown.
+/// Replaces the seat's view by one that `M` relates to its old view and to the view that was shown.
 pub fn learn<S, V, K, P: TableRule<S, V, K>, M: Learning<V>>(
     table: &Shared<S, V, K, P>,
     seat: &mut Seat<S, V>,

@@ -1,7 +1,8 @@
 //! Laws of the numbers that workers draw, and of the keys that have them.
 ghost use Rattle.fx_server.specs.EndsOfKeys.{DoneRemovalsEndKeys, DoneReplacementsEndKeys, KeysEndOnce};
 ghost use Rattle.fx_server.specs.FileNumbers.{NumbersAreDrawnOnce, NumbersLast};
-ghost use Rattle.fx_server.specs.FilesNumbers.{ExportsKeepNumbers, FilesHaveTheirOwnNumbers, OpenedWorkersDrawTheirNumbers};
+ghost use Rattle.fx_server.specs.FilesNumbers.{ExportsKeepNumbers, FilesHaveTheirOwnNumbers};
+ghost use Rattle.fx_server.specs.FilesNumbers.{OpenedWorkersDrawTheirNumbers};
 
 /// States that no number but 0 is drawn twice by the workers of a table, so that no key names two
 /// values, and how many numbers a worker has.

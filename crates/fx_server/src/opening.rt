@@ -1,5 +1,6 @@
 //! Opening a table with its workers.
-ghost use Rattle.std.specs.Prelude.{◌≡◌, ◌<◌, ◌≤◌, ◌+◌, All, IfOk, IfErr, Err, None, ◌⊎◌, drop, length, take};
+ghost use Rattle.std.specs.Prelude.{◌≡◌, ◌<◌, ◌≤◌, ◌+◌, All, IfOk, IfErr, Err, None, ◌⊎◌};
+ghost use Rattle.std.specs.Prelude.{drop, length, take};
 ghost use Rattle.std.specs.Arc.{arc_value};
 ghost use Rattle.fx_server.specs.Opened.{AreDealt, AreOpened, workers_in};
 ghost use Rattle.fx_server.specs.Workers.{IsGood, IsInRange};

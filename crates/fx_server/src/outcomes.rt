@@ -1,6 +1,9 @@
 //! The numbers and outcomes that C gets for the results of a worker's calls.
 ghost use Rattle.std.specs.Prelude.{◌≡◌};
-ghost use Rattle.fx_server.specs.Outcomes.{done_code, found_code, found_outcome, placed_code, placed_outcome, release_code, released_tag, removal_code, removal_tag, removed_outcome, slot_code, slot_number, tag_or_zero};
+ghost use Rattle.fx_server.specs.Outcomes.{done_code, found_code, found_outcome, placed_code};
+ghost use Rattle.fx_server.specs.Outcomes.{placed_outcome, release_code, released_tag};
+ghost use Rattle.fx_server.specs.Outcomes.{removal_code, removal_tag, removed_outcome, slot_code};
+ghost use Rattle.fx_server.specs.Outcomes.{slot_number, tag_or_zero};
 
 use crate::answers::{
     CoreOutcome, FoundFile, LookAnswer, PlaceAnswer, Placed, PlacedAt, Removal, RemoveAnswer,

@@ -1,4 +1,4 @@
-//! What a worker has seen, shown to others and learned from them.
+//! Knowledge of a worker: shown to other workers, and learned from them.
 ghost use Rattle.std.specs.Prelude.{◌≡◌};
 ghost use Rattle.fx_table.specs.Showing.{Learns};
 ghost use Rattle.fx_lasting.specs.Showing.{IsSeenOf, shown_of};

@@ -2,10 +2,13 @@
 //! table alone (this project's own). Each is the contract of a function with an empty body.
 ghost use Rattle.std.specs.Prelude.{◌≡◌};
 ghost use Rattle.fx_table.specs.Showing.{CallsFollowWhatWasShown};
-ghost use Rattle.fx_table.specs.Finding.{LookUpFindsTheChange, LookUpFindsThePut, LookUpFindsTheRemoval};
+ghost use Rattle.fx_table.specs.Finding.{LookUpFindsTheChange, LookUpFindsThePut};
+ghost use Rattle.fx_table.specs.Finding.{LookUpFindsTheRemoval};
 ghost use Rattle.fx_table.specs.Finding.{FullFollowsAnInstallation};
-ghost use Rattle.fx_table.specs.Laws.{CallsCompose, ChainHasOnePass, CallsKeepDrawnChains, ChainIsPartOfItsPass};
-ghost use Rattle.fx_table.specs.declared.limits.TheConstants.{MAX_CHAINS, MAX_PASSES, PASS_LOOKS, FIRST_CHAIN_NUMBER, CHAIN_NUMBERS};
+ghost use Rattle.fx_table.specs.Laws.{CallsCompose, ChainHasOnePass, CallsKeepDrawnChains};
+ghost use Rattle.fx_table.specs.Laws.{ChainIsPartOfItsPass};
+ghost use Rattle.fx_table.specs.declared.limits.TheConstants.{MAX_CHAINS, MAX_PASSES, PASS_LOOKS};
+ghost use Rattle.fx_table.specs.declared.limits.TheConstants.{FIRST_CHAIN_NUMBER, CHAIN_NUMBERS};
 
 /// States that a table plays at most 1,023 chains on at most 16 passes, each with 1,048,576
 /// look-ups, and that each chain has 64 file numbers, the first chain's from 256 on.

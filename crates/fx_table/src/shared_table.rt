@@ -2,7 +2,8 @@
 ghost use Rattle.std.specs.Prelude.{◌≡◌, ◌≢◌, ◌<◌, ◌^◌, ◌↔◌, true, false, None, Err, IsTrue};
 ghost use Rattle.fx_table.specs.Opening.{Opening, size_of, range_of};
 ghost use Rattle.fx_table.specs.Pass.{PassView, IsIdle, IsFront, IsHoldOf, IsRetiredOf};
-ghost use Rattle.fx_table.specs.Calls.{LookedUp, Released, Placed, Allocated, Cleared, Taken, HasRetired};
+ghost use Rattle.fx_table.specs.Calls.{LookedUp, Released, Placed, Allocated, Cleared, Taken};
+ghost use Rattle.fx_table.specs.Calls.{HasRetired};
 ghost use Rattle.fx_table.specs.declared.values.LookFault.TheVariants.{Spent};
 
 use crate::values::{Empty, Hold, LookUp, Retired};

@@ -1,7 +1,8 @@
 //! The control word: how many slots of the allocation range are full, and how many passes are in a
 //! change.
 ghost use Rattle.std.specs.Prelude.{◌≡◌, ◌≤◌, ◌↔◌, pos, negsuc, ◌≤ℤ◌, IsTrue};
-ghost use Rattle.fx_words.specs.Words.{control_word_of, one_change, end_amount_of, full_word_of, most_slots};
+ghost use Rattle.fx_words.specs.Words.{control_word_of, one_change, end_amount_of, full_word_of};
+ghost use Rattle.fx_words.specs.Words.{most_slots};
 
 // Keeps the sum positive: the end of a removal may be counted before the end of the installation
 // that it removes.

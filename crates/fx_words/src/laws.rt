@@ -1,6 +1,7 @@
 //! Laws of slot words: reading undoes packing, and one more take changes only the takes. Each is
 //! the contract of a function with an empty body.
-ghost use Rattle.fx_words.specs.Laws.{ReadersUndoMaker, MakerUndoesReaders, OneMoreTakeChangesTakes};
+ghost use Rattle.fx_words.specs.Laws.{ReadersUndoMaker, MakerUndoesReaders};
+ghost use Rattle.fx_words.specs.Laws.{OneMoreTakeChangesTakes};
 
 /// States that a slot word yields the number and the entry that it was packed from, and that it has
 /// no takes.

@@ -1,8 +1,11 @@
 //! Taking all files out of a table, and putting files back.
-ghost use Rattle.std.specs.Prelude.{◌≡◌, ◌+◌, ◌<◌, ◌≤◌, ◌↔◌, ◌++◌, ℕ, length, IsTrue, IfSome, IsSome, Some, None, vec_len, vec_capacity, sum_by};
+ghost use Rattle.std.specs.Prelude.{◌≡◌, ◌+◌, ◌<◌, ◌≤◌, ◌↔◌, ◌++◌, ℕ, length, IsTrue};
+ghost use Rattle.std.specs.Prelude.{IfSome, IsSome, Some, None, vec_len, vec_capacity, sum_by};
 ghost use Rattle.fx_plain.specs.State.{IsSettled};
 ghost use Rattle.fx_plain.specs.Step.{changed_at};
-ghost use Rattle.fx_plain.specs.Contents.{state_of, numbers_of, IsPrepared, IsTable, slot_at, node_at, file_at, identity_in, file_named, nodes_without, removed_count_of, AllPlaced, SameButPlaced};
+ghost use Rattle.fx_plain.specs.Contents.{state_of, numbers_of, IsPrepared, IsTable, slot_at};
+ghost use Rattle.fx_plain.specs.Contents.{node_at, file_at, identity_in, file_named, nodes_without};
+ghost use Rattle.fx_plain.specs.Contents.{removed_count_of, AllPlaced, SameButPlaced};
 ghost use Rattle.fx_plain.specs.Table.{numbered, slots_in_order};
 
 use crate::node::Node;

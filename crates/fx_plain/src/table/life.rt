@@ -1,10 +1,15 @@
 //! Preparing a table for passes, emptying it, and consuming it.
-ghost use Rattle.std.specs.Prelude.{◌≡◌, ◌≤◌, ◌<◌, ◌+◌, ℕ, [], ◌++◌, ◌-◌, ◌^◌, ◌∷◌, length, OnOk, OnErr, IfOk, IfSome, IsSome, Some, None, true, vec_len, vec_capacity, slice_set, sum_by};
+ghost use Rattle.std.specs.Prelude.{◌≡◌, ◌≤◌, ◌<◌, ◌+◌, ℕ, [], ◌++◌, ◌-◌, ◌^◌};
+ghost use Rattle.std.specs.Prelude.{◌∷◌, length, OnOk, OnErr, IfOk, IfSome, IsSome, Some, None};
+ghost use Rattle.std.specs.Prelude.{true, vec_len, vec_capacity, slice_set, sum_by};
 ghost use Rattle.std.specs.Option.{option_to_list};
 ghost use Rattle.fx_base.specs.declared.open_file.Closed.{Closed};
 ghost use Rattle.fx_plain.specs.State.{vacant, opening, IsSettled, files_of, files_in_order};
 ghost use Rattle.fx_plain.specs.OwnNumbers.{HaveOwnOutside, AreVacant, AreFiled, IsRenumbered};
-ghost use Rattle.fx_plain.specs.Contents.{state_of, numbers_of, IsTable, IsPrepared, slot_at, node_at, moved_node, identity_in, file_named, nodes_without, opening_slot, file_at, AllPlaced, HaveOwnNumbers, SameButPlaced, removed_count_of, At};
+ghost use Rattle.fx_plain.specs.Contents.{state_of, numbers_of, IsTable, IsPrepared, slot_at};
+ghost use Rattle.fx_plain.specs.Contents.{node_at, moved_node, identity_in, file_named};
+ghost use Rattle.fx_plain.specs.Contents.{nodes_without, opening_slot, file_at, AllPlaced};
+ghost use Rattle.fx_plain.specs.Contents.{HaveOwnNumbers, SameButPlaced, removed_count_of, At};
 
 use crate::hold_list::HoldList;
 use crate::node::Node;

@@ -1,6 +1,7 @@
 //! Installations and removals.
 ghost use Rattle.std.specs.Prelude.{◌≡◌, ◌<◌, ℕ, true, None, IfOk, IfErr, IfSome, IfNone, OnErr};
-ghost use Rattle.fx_plain.specs.declared.event.Action.TheVariants.{Put, Clear, Take, Allocate, Full};
+ghost use Rattle.fx_plain.specs.declared.event.Action.TheVariants.{Put, Clear, Take, Allocate};
+ghost use Rattle.fx_plain.specs.declared.event.Action.TheVariants.{Full};
 ghost use Rattle.fx_plain.specs.State.{IsInRange, IsSettled};
 ghost use Rattle.fx_plain.specs.Step.{Steps, Allows};
 ghost use Rattle.fx_plain.specs.Contents.{state_of, leaving, numbers_of, IsTable};
