@@ -34,7 +34,9 @@ impl Model for OpenFile {
 }
 
 impl OpenFile {
-    pub(crate) fn new(mark: Mark, entry: u8, tag: u64) -> OpenFile
+    /// Opens a file of the program's own, without a catalogue: with this mark, this tag, 0 for no
+    /// tag, and any number as its entry. [`crate::Catalogue::open`] opens an entry of a catalogue.
+    pub fn new(mark: Mark, entry: u8, tag: u64) -> OpenFile
         ensures mark { result.mark ≡ mark }
         ensures entry { result.entry ≡ entry }
         ensures tag { result.tag ≡ tag }
