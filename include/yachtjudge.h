@@ -1,6 +1,6 @@
 /* The judge: decides whether the rules of io_uring's registered file table (docs/inside/MODEL.md)
  * let a script print a text, lists the texts that a script may print, and judges logs of calls in
- * flight (docs/use/FLIGHT.md). The functions are verified. Their contracts say what YACHT_LEGAL,
+ * flight (docs/inside/FLIGHT.md). The functions are verified. Their contracts say what YACHT_LEGAL,
  * YACHT_NOT_LEGAL, YACHT_BAD_SCRIPT, YACHT_ALL, YACHT_SOME, YACHT_FAULTY, YACHT_MALFORMED and
  * YACHT_TOO_MANY_SLOTS mean (docs/inside/PROOFS.md). The other numbers and the note are tested.
  * C11 or C++17. Link with -lyachtjudge.
@@ -96,8 +96,8 @@ uint32_t yacht_outcomes(const uint8_t *script, size_t script_length, uint32_t st
                         size_t lengths_length, yacht_texts *found);
 
 /* The kinds of the events of a log, and the fields that each uses beside `kind`
- * (docs/use/FLIGHT.md, "Meaning of a log"). Calls are numbered from 1 in the order of their events,
- * chains and looks alike. */
+ * (docs/inside/FLIGHT.md, "Meaning of a log"). Calls are numbered from 1 in the order of their
+ * events, chains and looks alike. */
 enum {
     YACHT_EVENT_CALL = 1,   /* a chain is called: call; count requests from first on */
     YACHT_EVENT_DONE = 2,   /* a member is answered: call, member, res; count bytes from first on */

@@ -23,7 +23,7 @@ class Flights(NamedTuple):
     is_whole: bool = False
 
 
-# the rules of docs/use/FLIGHT.md that a kernel must keep, and what docs/use/LINUX.md says of Linux
+# the rules of docs/inside/FLIGHT.md that a kernel must keep, and what docs/use/LINUX.md says
 RULES = {
     "chains_in_flight_are_requests_one_at_a_time": Flights([], 0.2),
     "waiting_reads_hold_their_file": Flights(["--pipes", "--chains", "20"], 0.1),

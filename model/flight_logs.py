@@ -1,4 +1,4 @@
-"""Long logs of calls in flight (docs/use/FLIGHT.md), as they happened and spoiled. A table of slots is played access by access, so what is not
+"""Long logs of calls in flight (docs/inside/FLIGHT.md), as they happened and spoiled. A table of slots is played access by access, so what is not
 spoiled is legal."""
 import random
 

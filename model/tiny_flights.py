@@ -1,5 +1,5 @@
-"""Tiny random logs of calls in flight (docs/use/FLIGHT.md), as they happened and spoiled, and a search of all orders that decides whether one is
-legal. Written from docs/use/FLIGHT.md and docs/inside/MODEL.md alone; tests/check-flights compares the judge with it."""
+"""Tiny random logs of calls in flight (docs/inside/FLIGHT.md), as they happened and spoiled, and a search of all orders that decides whether one is
+legal. Written from docs/inside/FLIGHT.md and docs/inside/MODEL.md alone; tests/check-flights compares the judge with it."""
 import random
 
 from model import Player, submitted

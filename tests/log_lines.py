@@ -1,5 +1,5 @@
 """log_lines.py FOLDER: rows for bindings/python/yachtlog.py in a folder: what is a log, the faults of a text, arguments and exit statuses.
-Each row was derived by hand from docs/use/FLIGHT.md. Prints each wrong row, and their number. tests/check-flights runs it on the modules and
+Each row was derived by hand from docs/inside/FLIGHT.md. Prints each wrong row, and their number. tests/check-flights runs it on the modules and
 on wrong ones (WRONG), each of which must fail."""
 import contextlib
 import io

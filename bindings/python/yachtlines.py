@@ -1,4 +1,4 @@
-"""The lines of a log of calls in flight (docs/use/FLIGHT.md): reads them into calls, answers and events, or names the first line that no log
+"""The lines of a log of calls in flight (docs/inside/FLIGHT.md): reads them into calls, answers and events, or names the first line that no log
 has there. The module yachtlog judges what is read here."""
 from __future__ import annotations
 

@@ -1,4 +1,4 @@
-"""Logs of calls in flight (docs/use/FLIGHT.md): reads a log as the recorders print it, and has the verified judge decide whether it is legal
+"""Logs of calls in flight (docs/inside/FLIGHT.md): reads a log as the recorders print it, and has the verified judge decide whether it is legal
 (yachtjudge.judge_events). That the lines are read rightly is tested.
 
     python3 yachtlog.py [--states N] [--memory MIB] LOG..
@@ -100,7 +100,7 @@ def limit(word: str) -> int:
 
 
 def arguments() -> argparse.Namespace:
-    parser = argparse.ArgumentParser(prog="yachtlog.py", description="Judges logs of calls in flight (docs/use/FLIGHT.md).")
+    parser = argparse.ArgumentParser(prog="yachtlog.py", description="Judges logs of calls in flight (docs/use/RECORDING.md).")
     parser.add_argument("logs", nargs="+", metavar="LOG", help="the path of a log, or - for standard input")
     parser.add_argument("--states", type=limit, default=STATES, metavar="N", help=f"largest number of states of a search (default {STATES})")
     parser.add_argument("--shorten", action="store_true", help="print a log with fewer calls and the same wrong line, and the verdict on standard error")

@@ -1,4 +1,4 @@
-"""Shortens a log of calls in flight that is not legal (docs/use/FLIGHT.md): drops whole calls, with their answers and the closes of their files,
+"""Shortens a log of calls in flight that is not legal (docs/use/RECORDING.md): drops whole calls, with their answers and the closes of their files,
 as long as the same line stays the first wrong one."""
 from __future__ import annotations
 

@@ -1,4 +1,4 @@
-/* A log of calls in flight (docs/use/FLIGHT.md), in the order in which its lines were appended. */
+/* A log of calls in flight (docs/inside/FLIGHT.md): its lines in the order of their appends. */
 #ifndef LOG_H
 #define LOG_H
 

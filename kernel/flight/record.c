@@ -1,5 +1,5 @@
 /* Plays random chains on the io_uring of the running kernel without waiting for them, and writes a
- * log of docs/use/FLIGHT.md.
+ * log of docs/inside/FLIGHT.md.
  *
  *   record SEED [--chains N] [--pipes]
  *   record SEED --waiting-read

@@ -1,5 +1,6 @@
-//! Records what threads call on a table of slots, and prints it as a log (docs/use/FLIGHT.md). The
-//! Python module `yachtlog` has the verified judge decide whether the rules of the table allow it.
+//! Records what threads call on a table of slots, and prints it as a log (docs/use/RECORDING.md).
+//! The Python module `yachtlog` has the verified judge decide whether the rules of the table allow
+//! it.
 //!
 //! To record a table of your own, implement [`Table`] and [`Handle`] for it: four calls.
 //! `src/tables.rs` has a table of std in 60 lines, and `examples/sharded_slab` one that chooses

@@ -83,7 +83,7 @@ impl Drop for Value {
     }
 }
 
-/// A log, in the order of its tickets. It is printed as docs/use/FLIGHT.md describes.
+/// A log, in the order of its tickets. It is printed as docs/inside/FLIGHT.md describes.
 #[derive(Debug)]
 pub struct Log {
     events: Vec<Event>,

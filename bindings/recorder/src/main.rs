@@ -1,5 +1,5 @@
 //! recorder TABLE SEED [THREADS [ROUNDS [CALLS [SLOTS]]]]: records random calls of threads on a
-//! table, and prints the log (docs/use/FLIGHT.md). TABLE is `yachtbanyan`, `c` (that of the C
+//! table, and prints the log (docs/use/RECORDING.md). TABLE is `yachtbanyan`, `c` (that of the C
 //! library), `keys` and `c-keys` (the same two by the keys of their values), `slots` (a table of
 //! std), or a wrong one: `stale`, `rare:N` (one of N looks is stale), `early` or `walk`. Standard
 //! error has the number of calls, and how rare a fault is that they show.

@@ -1,5 +1,5 @@
 //! Writes the calls on the ring's table, and what was seen of them, as a log of calls in flight
-//! (docs/use/FLIGHT.md), which a judge compares with the rules of the table.
+//! (docs/inside/FLIGHT.md), which a judge compares with the rules of the table.
 //!
 //! An accept is an open of the file `c`. A receive is a look, and the file that it found is that
 //! of the connection whose number the line has: so a line that reached another connection shows. A

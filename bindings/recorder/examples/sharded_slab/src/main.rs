@@ -1,5 +1,5 @@
 //! record_sharded_slab SEED: records random calls of three threads on a slab of the crate
-//! sharded-slab, and prints the log (docs/use/FLIGHT.md). This is all that wraps a table.
+//! sharded-slab, and prints the log (docs/use/RECORDING.md). This is all that wraps a table.
 use recorder::{record, Handle, Plan, Table, Value};
 use sharded_slab::{Entry, Slab};
 use std::ops::Deref;
