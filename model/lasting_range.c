@@ -20,14 +20,14 @@ int bit_of(int who) { return wrong == one_bit_for_all_askers ? 1 : 1 << who; }
 
 bool is_uncounted(const struct pass *it) {
     bool is_lowered = it->step == CHECK || it->step == BREAK || it->step == SWAP;
-    bool removes = it->call == REMOVE || (it->call == TAKE_IF && wrong != lower_after_the_exchange);
+    bool removes = it->call == REMOVE || it->call == TAKE_KEY || (it->call == TAKE_IF && wrong != lower_after_the_exchange);
     return it->step == RAISE || (is_lowered && removes && family->group_len);
 }
 
 /* Returns whether the pass is in a change of the range, after which the words are exact, or changes
  * a slot's word by a look-up: an exchange that expected another word fails then. */
 static bool is_changing(const struct pass *it) {
-    bool looks = it->call == LOOK && (it->step == TAKE || it->step == HEAT);
+    bool looks = (it->call == LOOK || is_by_key(it)) && (it->step == TAKE || it->step == HEAT);
     return looks || is_uncounted(it) || it->step == LOWER_LATE || (it->step == SWAP && wrong == raise_before_the_fill);
 }
 
@@ -49,7 +49,7 @@ enum step first_of_removal(void) {
 }
 
 enum step after_swap(const struct pass *it, bool was_empty) {
-    bool installs = it->call == PUT || it->call == PUT_IF;
+    bool installs = it->call & INSTALLS;
     if (!family->group_len) {
         return IDLE;
     }

@@ -36,12 +36,22 @@ static const struct family families[] = {
     {"three passes, two slots in the range, calls name a node, another pass allocates", 3, 2, 1, 1, {LOOK, TAKE_IF | PUT_IF, PUT_ANY}, false},
     {"three passes, one slot, hot after 1 take, two name a node", 3, 1, 1, 0, {LOOK, TAKE_IF | PUT_IF | PUT, TAKE_IF | PUT_IF}, false},
     {"three passes, one slot, hot after 3 takes, two name a node", 3, 1, 3, 0, {LOOK, TAKE_IF | PUT_IF | PUT, TAKE_IF | PUT_IF}, false},
+    {"two passes, one slot in the range, that allocate and remove by key", 2, 1, 1, 1, {PUT_ANY | TAKE_KEY, PUT_ANY | TAKE_KEY}, false},
+    {"two passes, one slot in the range, calls by key, another pass looks up", 2, 1, 1, 1, {PUT_ANY | TAKE_KEY | PUT_KEY, LOOK | REMOVE}, false},
+    {"two passes, one slot, hot after 2 takes, calls by key", 2, 1, 2, 0, {PUT_KEY | PUT, PUT_KEY | TAKE_KEY}, false},
+    {"two passes, one slot, hot after 2 takes, calls by key, another pass makes all requests", 2, 1, 2, 0, {TAKE_KEY | PUT_KEY, REQUESTS}, false},
+    {"two passes, two slots in the range, removals by key, one allocates", 2, 2, 1, 1, {PUT_ANY | TAKE_KEY, TAKE_KEY}, false},
+    {"three passes, one slot in the range, a removal by key", 3, 1, 1, 1, {TAKE_KEY, PUT_ANY, LOOK}, false},
+    {"three passes, one slot in the range, two removals by key", 3, 1, 1, 1, {TAKE_KEY, TAKE_KEY, PUT_ANY}, false},
+    {"three passes, one slot, two removals by key, another pass replaces", 3, 1, 1, 0, {TAKE_KEY, TAKE_KEY, PUT}, false},
 };
 
-/* The family with which the search for a wrong table begins. */
-enum { FIRST_OF_KEYS = sizeof families / sizeof families[0] - 6 };
+/* The families with which the search for a wrong table begins. */
+enum { FIRST_OF_HOLDS = sizeof families / sizeof families[0] - 8, FIRST_OF_KEYS = FIRST_OF_HOLDS - 6 };
 
-static int first_family(int table) { return table < WRONG_KEYS ? 0 : FIRST_OF_KEYS; }
+static int first_family(int table) {
+    return table < WRONG_KEYS ? 0 : table < WRONG_HOLDS ? FIRST_OF_KEYS : FIRST_OF_HOLDS;
+}
 
 static const char *const wrong_names[] = { TABLES(AS_NAME) };
 
@@ -54,7 +64,7 @@ static int takes_kept(const struct state *s, int node) {
     int kept = 0;
     for (int who = 0; who < family->passes; who++) {
         const struct pass *it = &s->pass[who];
-        kept += it->holds == node && (it->step == COUNTED || it->step == HEAT);
+        kept += it->holds == node && (it->step == COUNTED || it->step == HEAT || is_by_key(it));
     }
     return kept;
 }
@@ -101,7 +111,7 @@ static int keepers_of(const struct state *s, int node) {
 static int lost_of(const struct state *s, int node) {
     for (int who = 0; who < family->passes; who++) {
         const struct pass *it = &s->pass[who];
-        if (it->node == node && (it->call & (PUT | PUT_ANY | PUT_IF))) {
+        if (it->node == node && (it->call & INSTALLS)) {
             return it->lost;
         }
     }
@@ -155,10 +165,10 @@ static void check_node(const struct state *s, int node) {
 
 static void check_pass(const struct state *s, int who) {
     const struct pass *it = &s->pass[who];
-    bool is_look = it->call == LOOK || it->call == TAKE_IF, is_put = it->call == PUT && it->step != SEEK;
+    bool is_look = it->call == LOOK || it->call == TAKE_IF || it->call == TAKE_KEY, is_put = it->call == PUT && it->step != SEEK;
     bool is_keyed = it->call == TAKE_IF || it->call == PUT_IF;
     int words = (family->passes + PER_WORD - 1) / PER_WORD;
-    int most = is_look ? 8 : it->call == RELEASE ? 3 : it->call == REMOVE ? 5 : is_put ? 3 : is_keyed ? 5 + TRIES
+    int most = it->call == TAKE_KEY ? 10 + TRIES : it->call == PUT_KEY ? 7 + TRIES : is_look ? 8 : it->call == RELEASE ? 3 : it->call == REMOVE ? 5 : is_put ? 3 : is_keyed ? 5 + TRIES
         : 2 * family->passes + words + 1;
     want(it->call == PUT_ANY || it->step == SEEK || it->steps + (is_look ? 1 : 0) < most || it->step == IDLE, "a call has too many steps");
     int hold = s->hold[who] & ~MARK;
@@ -198,7 +208,7 @@ static void check_question(const struct state *s, int who) {
     }
     for (int other = 0; other < family->passes; other++) {
         const struct pass *its = &s->pass[other];
-        holds &= (its->call != REMOVE && its->call != TAKE_IF) || its->step != SWAP || its->slot >= end;
+        holds &= (its->call != REMOVE && its->call != TAKE_IF && its->call != TAKE_KEY) || its->step != SWAP || its->slot >= end;
     }
     want(holds, "a bit is there, and a slot that its pass found full is empty or may become so");
 }

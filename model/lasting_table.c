@@ -17,7 +17,7 @@ int node_in_stock(int who, int nth) { return family->slots + who * stock + nth +
 
 int node_at(int slot) { return slot + 1; }
 
-bool has_stock(int who) { return stock && (family->calls[who] & (PUT | PUT_ANY | PUT_IF)); }
+bool has_stock(int who) { return stock && (family->calls[who] & INSTALLS); }
 
 bool is_in_stock(int who, int node) {
     return has_stock(who) && node_in_stock(who, 0) <= node && node < node_in_stock(who + 1, 0);
@@ -87,9 +87,9 @@ static void sort_stocks(struct state *s) {
 
 /* Events */
 
-static void hold_file(struct state *s, struct pass *it) {
-    want(s->file[it->node] == AT_SLOT && names(s, it->slot, it->node), "a look-up returns a file that isn't at the slot");
-    it->holds = it->node;
+void hold_file(struct state *s, struct pass *it, int node) {
+    want(s->file[node] == AT_SLOT && names(s, it->slot, node), "a look-up returns a file that isn't at the slot");
+    it->holds = node;
 }
 
 static void close_file(struct state *s, int node) {
@@ -164,6 +164,8 @@ static void end_node(struct pass *it) {
     } else if (it->call == PUT_ANY) {
         it->node = 0;
         it->step = BEGIN;
+    } else if (is_by_key(it) && it->holds) {
+        it->step = LET_GO;
     } else {
         begin_call(it, 0, IDLE);
     }
@@ -249,7 +251,7 @@ static void list(struct state *s, struct pass *it, int who) {
 static void announce(struct state *s, struct pass *it, int who) {
     s->hold[who] = it->node;
     if (wrong == no_second_look) {
-        hold_file(s, it);
+        hold_file(s, it, it->node);
     }
     if (it->holds) {
         hold_until_release(it, GUARDED);
@@ -265,7 +267,7 @@ static void confirm(struct state *s, struct pass *it, int who) {
         it->step = is_announced ? WITHDRAW : TAKE;
         return;
     }
-    hold_file(s, it);
+    hold_file(s, it, it->node);
     if (is_announced) {
         want(s->hold[who] == it->node, "a confirmed hold is marked");
         if (it->is_listed) {
@@ -299,7 +301,7 @@ static void take(struct state *s, struct pass *it) {
     s->takes[it->slot]++;
     if (s->is_full[it->slot]) {
         it->node = node_at(it->slot);
-        hold_file(s, it);
+        hold_file(s, it, it->node);
     }
     if (heats) {
         it->step = HEAT;
@@ -351,7 +353,11 @@ static void visit_next(struct pass *it, int who) {
 void end_change(struct pass *it, int who) {
     struct pass found = *it;
     if (found.call == PUT_ANY || found.takes == UINT8_MAX) {
-        begin_call(it, 0, IDLE);
+        if (is_by_key(it) && it->holds) {
+            it->step = LET_GO;
+        } else {
+            begin_call(it, 0, IDLE);
+        }
         return;
     }
     begin_call(it, RETIREMENT, SKIM);
@@ -368,13 +374,13 @@ void end_change(struct pass *it, int who) {
     }
 }
 
-static void swap(struct state *s, struct pass *it, int who) {
+void swap(struct state *s, struct pass *it, int who) {
     bool was_full = s->is_full[it->slot], removes = was_full && stock;
     int takes = s->takes[it->slot], heat = s->heat[it->slot], found = node_at(it->slot);
     if (removes) {
         s->file[found] = REMOVED;
     }
-    if (it->call == PUT || it->call == PUT_IF) {
+    if (it->call & INSTALLS) {
         found = install(s, it);
     } else {
         bool leaves_name = wrong == kept_while_a_slot_names_it && it->call == TAKE_IF;
@@ -467,7 +473,7 @@ static void seek(struct state *s, struct pass *it, int who) {
 
 static enum step after_birth(const struct pass *it) {
     bool is_early = wrong == raise_before_the_fill && family->group_len && it->call == PUT;
-    return it->call == PUT_ANY ? PEEK : is_early ? RAISE_EARLY : SWAP;
+    return it->call == PUT_ANY ? PEEK : is_early ? RAISE_EARLY : it->call == PUT_KEY ? first_by_key() : SWAP;
 }
 
 /* Gets the place of a node for a new file, and puts the file there. */
@@ -543,12 +549,12 @@ static int key_of(const struct state *s, int who) {
 static bool is_kept(const struct state *s, int who) {
     bool kept = false;
     for (int other = who + 1; other < family->passes; other++) {
-        kept |= s->pass[other].key && holder_for(other) == who;
+        kept |= s->pass[other].key && !is_by_key(&s->pass[other]) && holder_for(other) == who;
     }
     return kept && wrong != file_of_the_node_is_not_held;
 }
 
-static void expect(const struct state *s, struct pass *it) {
+void expect(const struct state *s, struct pass *it) {
     it->takes = s->takes[it->slot];
     it->heat = s->heat[it->slot];
 }
@@ -567,13 +573,14 @@ static void see(struct state *s, struct pass *it, int who) {
 }
 
 /* Ends a call that has lost its last try. */
-static void miss(struct pass *it) {
-    bool is_counted = !family->group_len || wrong == missed_removal_is_not_raised || wrong == lower_after_the_exchange;
+void miss(struct pass *it) {
+    bool is_forgotten = is_by_key(it) ? wrong == missed_key_is_not_raised
+        : wrong == missed_removal_is_not_raised || wrong == lower_after_the_exchange;
     it->takes = UINT8_MAX;
     it->key = 0;
-    it->step = it->call == PUT_IF ? REST : RAISE;
-    if (it->step == RAISE && is_counted) {
-        begin_call(it, 0, IDLE);
+    it->step = it->call & INSTALLS ? REST : RAISE;
+    if (it->step == RAISE && (!family->group_len || is_forgotten)) {
+        end_node(it);
     }
 }
 
@@ -617,6 +624,8 @@ static void begin_at(struct state *s, struct pass *it, int who, int call, int sl
         glance(s, it);
     } else if (call == TAKE_IF || call == PUT_IF) {
         see(s, it, who);
+    } else if (is_by_key(it)) {
+        begin_by_key(s, it);
     } else if (call == REMOVE && wrong == scan_before_the_swap && s->is_full[slot] && s->heat[slot]) {
         it->node = node_at(slot);
         go_on(it, who);
@@ -634,7 +643,7 @@ static void begin_at(struct state *s, struct pass *it, int who, int call, int sl
 
 /* Returns whether a pass that keeps a node may begin a call before it has settled. */
 static bool may_keep(int call) {
-    return (call & (PUT | PUT_ANY | PUT_IF)) || (call == REMOVE && wrong == kept_beside_a_removal);
+    return (call & INSTALLS) || (call == REMOVE && wrong == kept_beside_a_removal);
 }
 
 /* Begins a call in the `nth` way, or settles: a search may begin at each node of the pass's stock,
@@ -644,21 +653,23 @@ static bool begin_nth(struct state *s, struct pass *it, int who, int nth) {
         settle(s, it);
         return true;
     }
-    for (int call = LOOK; call <= PUT_IF; call *= 2) {
-        bool uses_stock = has_stock(who) && call != LOOK, is_keyed = call == TAKE_IF || call == PUT_IF;
-        bool may = (family->calls[who] & call) && (!is_keyed || key_of(s, who)) && (!it->kept || may_keep(call));
-        int ways = may ? family->slots * (uses_stock ? stock : 1) : 0;
+    for (int call = LOOK; call <= PUT_KEY; call *= 2) {
+        bool uses_stock = has_stock(who) && call != LOOK, is_named = call == TAKE_IF || call == PUT_IF;
+        bool is_keyed = call == TAKE_KEY || call == PUT_KEY, removes = call == TAKE_IF || call == TAKE_KEY;
+        bool may = (family->calls[who] & call) && (!is_named || key_of(s, who)) && (!it->kept || may_keep(call));
+        int ways = may ? family->slots * (uses_stock ? stock : 1) * (is_keyed ? 2 : 1) : 0;
         if (nth < ways) {
-            int entry = nth / family->slots;
+            int entry = uses_stock ? nth / family->slots % stock : 0;
             begin_at(s, it, who, call, nth % family->slots);
+            it->key = is_keyed && nth >= ways / 2 ? 0 : it->key;
             if (call == REMOVE && uses_stock && !it->node) {
                 it->node = node_in_stock(wrong == removal_takes_a_node_of_another_pass ? 0 : who, entry);
-            } else if (call == TAKE_IF && uses_stock && it->step != IDLE) {
+            } else if (removes && uses_stock && it->step != IDLE) {
                 it->node = node_in_stock(who, entry);
             } else if (call != REMOVE && it->step != IDLE) {
                 it->nth = entry;
             }
-            return call == LOOK || call == REMOVE || is_keyed || take_step(s, who, 0);
+            return call == LOOK || call == REMOVE || is_named || is_keyed || take_step(s, who, 0);
         }
         nth -= ways;
     }
@@ -676,7 +687,7 @@ bool take_step(void *state, int who, int nth) {
     if (it->step == IDLE) {
         return begin_nth(s, it, who, nth);
     }
-    if (nth > 0 || is_kept(s, who)) {
+    if ((nth > 0 && it->step != COMPARE) || is_kept(s, who)) {
         return false;
     }
     if (it->step == GUARDED || it->step == COUNTED) {
@@ -689,8 +700,25 @@ bool take_step(void *state, int who, int nth) {
     case ANNOUNCE: announce(s, it, who); break;
     case CONFIRM: confirm(s, it, who); break;
     case WITHDRAW: it->step = empty_hold(s, it, who, withdrawal_by_a_store) ? DROP : TAKE; break;
-    case TAKE: take(s, it); break;
-    case HEAT: heat(s, it); break;
+    case TAKE:
+        if (is_by_key(it)) {
+            take_for_key(s, it);
+        } else {
+            take(s, it);
+        }
+        break;
+    case HEAT:
+        if (is_by_key(it)) {
+            heat_for_key(s, it);
+        } else {
+            heat(s, it);
+        }
+        break;
+    case COMPARE:
+        if (!compare_key(it, nth)) {
+            return false;
+        }
+        break;
     case GUARDED:
         if (empty_hold(s, it, who, release_by_a_store)) {
             it->step = DROP;
@@ -699,6 +727,7 @@ bool take_step(void *state, int who, int nth) {
             begin_call(it, 0, IDLE);
         }
         break;
+    case LET_GO: it->node = it->holds; drop(s, it); break;
     case COUNTED:
     case DROP: drop(s, it); break;
     case REST: rest(s, it); break;
@@ -708,7 +737,9 @@ bool take_step(void *state, int who, int nth) {
     case RESUME: resume(s, it); break;
     case FINISH_EARLY: it->last = s->word[node_at(it->slot)]; it->step = first_of_removal(); break;
     case SWAP:
-        if (it->key) {
+        if (is_by_key(it)) {
+            exchange_by_key(s, it, who);
+        } else if (it->key) {
             exchange_if(s, it, who);
         } else {
             swap(s, it, who);

@@ -1,5 +1,5 @@
-/* The lasting table's words and passes, as lasting_table.c and lasting_range.c change them and
- * lasting_rule.c checks them. */
+/* The lasting table's words and passes, as lasting_table.c, lasting_range.c and lasting_key.c change
+ * them and lasting_rule.c checks them. */
 #include "step_table.h"
 
 /* A word of the list has the bits of PER_WORD passes, and not of 64, so that a round loads two
@@ -14,9 +14,13 @@ enum { NOTHING, OPEN_FILE, WITH_PASS };
 enum { NO_FILE, PLACED, AT_SLOT, REMOVED };
 
 /* The calls of a pass. A family names by a sum the calls that an idle pass may make. */
-enum { LOOK = 1, REMOVE = 2, PUT = 4, PUT_ANY = 8, RELEASE = 16, RETIREMENT = 32, TAKE_IF = 64, PUT_IF = 128 };
+enum { LOOK = 1, REMOVE = 2, PUT = 4, PUT_ANY = 8, TAKE_IF = 16, PUT_IF = 32, TAKE_KEY = 64, PUT_KEY = 128 };
 
-/* The tries of a call that names a node; the table's calls make four. */
+/* The calls that follow others. Neither has the bit of an installation. */
+enum { RELEASE = LOOK | REMOVE, RETIREMENT = REMOVE | TAKE_KEY };
+enum { INSTALLS = PUT | PUT_ANY | PUT_IF | PUT_KEY };
+
+/* The tries of a call that names a node or a key; the table's calls make four. */
 enum { TRIES = 2 };
 
 /* The most takes that the word of a kept node has lost; in the table they are eight. */
@@ -26,7 +30,7 @@ enum { MOST_CARRIED = 1 };
 enum step {
     IDLE, LIST, ANNOUNCE, CONFIRM, WITHDRAW, DROP, TAKE, HEAT, GUARDED, COUNTED, REST, SEEK, BIRTH, LOWER, CHECK, BREAK,
     SWAP, RAISE, SKIM, VISIT, MARK_HOLD, FINISH, RETIRE, PEEK, EXCHANGE, PEEK_GROUP, DECIDE_FIRST, BEGIN, ASK, COUNT,
-    DECIDE, RAISE_EARLY, LOWER_LATE, PARK, RESUME, FINISH_EARLY
+    DECIDE, RAISE_EARLY, LOWER_LATE, PARK, RESUME, FINISH_EARLY, COMPARE, LET_GO
 };
 
 /* The right table and wrong ones: each is the right one with one change. */
@@ -50,8 +54,10 @@ enum step {
     X(step_leads_through_one_group) \
     X(node_is_not_compared) X(node_is_compared_before_a_swap) X(found_word_is_not_compared) X(old_word_is_expected_again) \
     X(missed_removal_is_not_raised) X(lower_after_the_exchange) X(file_of_the_node_is_not_held) \
-    X(kept_while_a_slot_names_it)
-enum wrong { TABLES(AS_MEMBER) WRONG_TABLES, WRONG_RANGES = question_is_loaded_once, WRONG_KEYS = node_is_not_compared };
+    X(kept_while_a_slot_names_it) \
+    X(key_without_a_hold) X(own_take_is_forgotten) X(own_take_is_dropped_twice) X(key_is_compared_before_the_hold) \
+    X(hold_is_lost) X(missed_key_is_not_raised) X(low_bits_are_ignored)
+enum wrong { TABLES(AS_MEMBER) WRONG_TABLES, WRONG_RANGES = question_is_loaded_once, WRONG_KEYS = node_is_not_compared, WRONG_HOLDS = key_without_a_hold };
 
 struct family {
     const char *name;
@@ -89,8 +95,9 @@ struct pass {
      * less some takes, and its place is empty. The takes that the node's word has lost whose place
      * the pass has. */
     uint8_t kept, lost;
-    /* The node that a call names, or 0. In the model: the file that the call means was
-     * closed, and the number of times that others changed the slot's word since the call began. */
+    /* The node that a call names, or 0; of a call by key, the node of the key's file when the call
+     * began. In the model: the file that the call means was closed, and the number of times that
+     * others changed the slot's word since the call began, or since it took the slot. */
     uint8_t key, is_stale, changes;
 };
 
@@ -131,6 +138,21 @@ void begin_installation(struct pass *it);
 enum step after_scan(void);
 /* Ends a swap or an exchange, once its slot is counted. */
 void end_change(struct pass *it, int who);
+
+/* A call by key in one pass (lasting_key.c): whether the pass makes one; its first step after a
+ * load, or after the birth of a node; and its steps. */
+bool is_by_key(const struct pass *it);
+enum step first_by_key(void);
+void begin_by_key(struct state *s, struct pass *it);
+void take_for_key(struct state *s, struct pass *it);
+void heat_for_key(struct state *s, struct pass *it);
+bool compare_key(struct pass *it, int nth);
+void exchange_by_key(struct state *s, struct pass *it, int who);
+/* Notes what a call expects in its slot's word, makes its swap, and ends it after its last try. */
+void expect(const struct state *s, struct pass *it);
+void swap(struct state *s, struct pass *it, int who);
+void miss(struct pass *it);
+void hold_file(struct state *s, struct pass *it, int node);
 
 /* Makes a step of lasting_range.c. */
 void take_step_of_range(struct state *s, struct pass *it, int who);
