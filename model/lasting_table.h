@@ -1,5 +1,5 @@
-/* The lasting table's words and passes, as lasting_table.c, lasting_range.c and lasting_key.c change
- * them and lasting_rule.c checks them. */
+/* The lasting table's words and passes, which lasting_table.c, lasting_range.c and lasting_key.c
+ * change, and which lasting_rule.c checks. */
 #include "step_table.h"
 
 /* A word of the list has the bits of PER_WORD passes, and not of 64, so that a round loads two
