@@ -1,0 +1,238 @@
+"""The numbers of the pages, and where they come from: each number of two digits or more, negated number and exit status of README.md, the
+pages of docs/use and of the crates, the newest part of CHANGELOG.md, the manual pages, and the comments of the headers is in a row of
+tests/numbers.txt.
+
+That file has the rows of each page after a line `== PAGE`. A row is a part of the page, word for word, in which {EXPRESSION} is a number
+that is computed: of constants (`fx_lasting.MOST_SLOTS`, `yachtjudge.YACHT_STATES`), of the functions below, and of Python's operators.
+{EXPRESSION;d} is the number without commas. A row without an expression is after a line `-- REASON`, which says why it has none."""
+import ast
+import errno
+import functools
+import glob
+import os
+import re
+
+from repository import ROOT, files_of, read
+
+ROWS = "tests/numbers.txt"
+# a number, as part of a word
+NUMBER = re.compile(r"(?<![\w.^])-?\d(?:[\d,.^]*\d)?(?!\w)")
+# an expression in a row
+EXPRESSION = re.compile(r"\{([^{}]+)\}")
+# the words before and after a number that a row gets
+AROUND = 2
+
+
+def pages():
+    ways = "README.md", "docs/use/*.md", "bindings/*/README.md", "CHANGELOG.md", "man/*.[0-9]", "include/*.h"
+    return [it for way in ways for it in sorted(glob.glob(way, root_dir=ROOT))]
+
+
+class Page:
+    """The words of a page, and where each of its numbers is in them. A word knows its line if that is one of an indented block."""
+
+    def __init__(self, path, text):
+        self.path, self.words, self.lines = path, [], []
+        if path == "CHANGELOG.md":
+            text = re.split(r"^## ", text, flags=re.MULTILINE)[1]
+        if path.endswith(".h"):
+            text = "\n".join(re.findall(r"/\*.*?\*/", text, re.DOTALL))
+        for number, line in enumerate(text.splitlines()):
+            found = re.sub(r"^\s*(\*(?=\s)|/\*|\|)", "", line).split()
+            self.words += found
+            self.lines += [number if line.startswith("    ") and path.endswith(".md") else None] * len(found)
+        self.text = " ".join(self.words)
+        self.numbers = [it for it in NUMBER.finditer(self.text) if self.is_one(it)]
+
+    def is_one(self, it):
+        is_status = re.search(r"\bstatus(?:es)?(?: is)? $", self.text[: it.start()])
+        return len(re.sub(r"\D", "", it[0])) > 1 or it[0].startswith("-") or is_status
+
+    def uncovered(self, parts):
+        """Returns the numbers that none of these parts of the page has."""
+        spans = [it.span() for part in parts for it in re.finditer(rf"(?<![\w.,]){re.escape(part)}(?![.,]?\w)", self.text)]
+        return [it for it in self.numbers if not any(begin <= it.start() and it.end() <= end for begin, end in spans)]
+
+    def parts_of(self, numbers):
+        """Yields a part of the page around each number: its line in an indented block, or some words; those that meet are one."""
+        begins = [0]
+        for word in self.words:
+            begins.append(begins[-1] + len(word) + 1)
+        ranges = []
+        for it in numbers:
+            at = max(nth for nth, begin in enumerate(begins) if begin <= it.start())
+            first, last = max(at - AROUND, 0), min(at + AROUND, len(self.words) - 1)
+            if self.lines[at] is not None:
+                those = [nth for nth, line in enumerate(self.lines) if line == self.lines[at]]
+                first, last = those[0], those[-1]
+            if ranges and first <= ranges[-1][1]:
+                ranges[-1][1] = max(last, ranges[-1][1])
+            else:
+                ranges.append([first, last])
+        for first, last in ranges:
+            yield " ".join(self.words[first : last + 1])
+
+
+@functools.cache
+def constant(crate, name):
+    """Returns a constant of a crate or of a header, or a kept number of cases."""
+    texts = [read(f"include/{crate}.h")] if crate.startswith("yacht") else [read(it) for it in files_of(crate, "src")]
+    found = {it for text in texts for it in re.findall(r"\b@(?:: \w+)? = (-?[\d_ <-]+)[;, }]".replace("@", name), text)}
+    if len(found) != 1:
+        raise ValueError(f"{crate} has {len(found)} constants {name}")
+    return eval(found.pop().replace("_", ""))
+
+
+class Constants:
+    def __init__(self, crate):
+        self.crate = crate
+
+    def __getattr__(self, name):
+        return constant(self.crate, name)
+
+
+class Sources(dict):
+    """What the expressions of rows may name."""
+
+    def __missing__(self, name):
+        if re.match("(fx|check|yacht)", name):
+            return Constants(name)
+        raise ValueError(f"there is no {name}")
+
+
+def lines(path):
+    return len(read(path).splitlines())
+
+
+def version():
+    return read("VERSION").strip()
+
+
+def python():
+    """Returns the least version of Python."""
+    return "3." + found("bindings/python/yachtlog.py", r"version_info < \(3, (\d+)\)")
+
+
+def answer(name):
+    """Returns what a request answers with an error."""
+    return -getattr(errno, name)
+
+
+def constant_of(path, name):
+    """Returns a constant of a script."""
+    names, values = re.search(rf"^(.*\b{name}\b.*?) = (.*)$", read(path), re.MULTILINE).groups()
+    values = ast.literal_eval(values)
+    return values[names.split(", ").index(name)] if isinstance(values, tuple) else values
+
+
+def width(number):
+    """Returns the number of bits of the numbers below a number."""
+    return (number - 1).bit_length()
+
+
+def narrow():
+    """Returns the number of bits of a small slot in a key of 64 bits."""
+    return number("bindings/rust/src/key.rs", r"const NARROW_SLOT: u32 = (\d+);")
+
+
+def width_of_slots():
+    return width(constant("fx_lasting", "MOST_SLOTS"))
+
+
+def found(path, pattern):
+    """Returns the one text that a pattern finds in a file."""
+    those = set(re.findall(pattern, read(path), re.MULTILINE))
+    if len(those) != 1:
+        raise ValueError(f"{path} has {len(those)} of {pattern}")
+    return those.pop()
+
+
+def number(path, pattern):
+    return int(found(path, pattern))
+
+
+def least_and_most(path, pattern, column):
+    """Returns the least and the greatest number in a column of the rows of a table that a pattern begins."""
+    rows = [re.split(r" {2,}", it.strip()) for it in read(path).splitlines()]
+    numbers = sorted((it[column] for it in rows if len(it) > column and re.match(pattern, it[0])), key=float)
+    return f"{numbers[0]} to {numbers[-1]}"
+
+
+FUNCTIONS = answer, constant_of, found, least_and_most, lines, narrow, number, python, version, width, width_of_slots
+SOURCES = Sources({it.__name__: it for it in FUNCTIONS})
+
+
+def rendered(row):
+    """Returns a row with the numbers that it computes."""
+    def value(match):
+        it = eval(match[1].removesuffix(";d"), {"__builtins__": {}}, SOURCES)
+        return f"{it:,}" if isinstance(it, int) and not match[1].endswith(";d") else str(it)
+
+    return EXPRESSION.sub(value, row)
+
+
+def read_rows(text=None):
+    """Returns the rows of each page: the row, and its reason, or "" if it has none."""
+    those, page, reason = {}, None, ""
+    for line in (read(ROWS) if text is None else text).splitlines():
+        if line.startswith("== "):
+            page, reason = those.setdefault(line[3:], []), ""
+        elif line.startswith("-- "):
+            reason = line[3:]
+        elif line and page is not None:
+            page.append((line, reason))
+    return those
+
+
+def complaints(path, text, rows):
+    """Yields a line for each row that a page doesn't have, and for each number without a row."""
+    page, parts = Page(path, text), []
+    for row, reason in rows:
+        try:
+            part = rendered(row)
+        except (ValueError, SyntaxError, OSError) as fault:
+            yield f"{path}: {row}: {fault}"
+            continue
+        if not EXPRESSION.search(row) and not reason:
+            yield f"{path}: nothing is said of where the number comes from: {row}"
+        if not page.numbers or part not in page.text:
+            yield f"{path} doesn't have what {ROWS} has of it: {part}"
+        parts.append(part)
+    for part in page.parts_of(page.uncovered(parts)):
+        yield f"{path}: {ROWS} doesn't say where this number comes from: {part}"
+
+
+def masked(text):
+    return re.sub(r"-?\d[\d,.]*", "0", text)
+
+
+def draft(reason):
+    """Writes the rows of all pages: without those that a page no longer has, unless their words are there with other numbers, and with a row
+    for each number that has none: the row of the same words on any page, or one for this reason."""
+    kept, lines = read_rows(), read(ROWS).partition("== ")[0].splitlines()
+    known = {rendered(row): (row, why) for those in kept.values() for row, why in those}
+    for path in pages():
+        page = Page(path, read(path))
+        rows = [(row, why) for row, why in kept.get(path, []) if rendered(row) in page.text or why == "" and masked(rendered(row)) in masked(page.text)]
+        rows += [known.get(part, (part, reason)) for part in page.parts_of(page.uncovered([rendered(row) for row, _ in rows]))]
+        lines += [f"== {path}"] if rows else []
+        for why in dict.fromkeys(["", *(why for _, why in rows)]):
+            lines += [f"-- {why}"] if why else []
+            lines += [row for row, its in dict.fromkeys(rows) if its == why]
+    with open(os.path.join(ROOT, ROWS), "w", encoding="utf-8") as file:
+        file.write("\n".join([*lines, ""]))
+
+
+def spoiled(random, count):
+    """Yields numbers of the pages with another digit: what was changed, and whether it is noticed."""
+    rows = read_rows()
+    those = [(path, it) for path in pages() for it in Page(path, read(path)).numbers]
+    for path, it in random.sample(those, count):
+        page = Page(path, read(path))
+        at = random.choice([nth for nth in range(it.start(), it.end()) if page.text[nth].isdigit()])
+        digit = random.choice([one for one in "0123456789" if one != page.text[at]])
+        page.text = page.text[:at] + digit + page.text[at + 1 :]
+        page.numbers = [one for one in NUMBER.finditer(page.text) if page.is_one(one)]
+        parts = [rendered(row) for row, _ in rows.get(path, [])]
+        is_noticed = bool(page.uncovered(parts)) or any(part not in page.text for part in parts)
+        yield f"{path}: {it[0]} as {page.text[it.start() : it.end()]}", is_noticed
