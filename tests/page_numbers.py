@@ -151,14 +151,19 @@ def number(path, pattern):
     return int(found(path, pattern))
 
 
-def least_and_most(path, pattern, column):
-    """Returns the least and the greatest number in a column of the rows of a table that a pattern begins."""
-    rows = [re.split(r" {2,}", it.strip()) for it in read(path).splitlines()]
-    numbers = sorted((it[column] for it in rows if len(it) > column and re.match(pattern, it[0])), key=float)
-    return f"{numbers[0]} to {numbers[-1]}"
+def on_four_threads(pattern):
+    """Returns the number in the last column of the row of docs/use/SPEED.md that a pattern begins, or the least and the greatest of several."""
+    rows = [re.split(r" {2,}", it.strip()) for it in read("docs/use/SPEED.md").splitlines()]
+    numbers = sorted((it[3] for it in rows if len(it) == 4 and re.match(pattern, it[0])), key=float)
+    return " to ".join([numbers[0], *numbers[1:][-1:]])
 
 
-FUNCTIONS = answer, constant_of, found, least_and_most, lines, narrow, number, python, version, width, width_of_slots
+def tails(pattern, word):
+    """Returns the microseconds after a word in the rows of bench/tails.txt that a pattern begins, in their order."""
+    return sorted(int(it) / 1000 for it in re.findall(rf"^tails: {pattern}.*? {word} (\d+)", read("bench/tails.txt"), re.MULTILINE))
+
+
+FUNCTIONS = answer, constant_of, found, lines, narrow, number, on_four_threads, python, round, tails, version, width, width_of_slots
 SOURCES = Sources({it.__name__: it for it in FUNCTIONS})
 
 
@@ -193,7 +198,7 @@ def complaints(path, text, rows):
         except (ValueError, SyntaxError, OSError) as fault:
             yield f"{path}: {row}: {fault}"
             continue
-        if not EXPRESSION.search(row) and not reason:
+        if not EXPRESSION.search(row) and reason in ("", "?"):
             yield f"{path}: nothing is said of where the number comes from: {row}"
         if not page.numbers or part not in page.text:
             yield f"{path} doesn't have what {ROWS} has of it: {part}"
