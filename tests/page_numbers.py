@@ -2,9 +2,9 @@
 pages of docs/use and of the crates, the newest part of CHANGELOG.md, the manual pages, and the comments of the headers is in a row of
 tests/numbers.txt.
 
-That file has the rows of each page after a line `== PAGE`. A row is a part of the page, word for word, in which {EXPRESSION} is a number
+That file has the rows of each page after a line `== PAGE`. A row is a part of the page, word for word, in which {=EXPRESSION} is a number
 that is computed: of constants (`fx_lasting.MOST_SLOTS`, `yachtjudge.YACHT_STATES`), of the functions below, and of Python's operators.
-{EXPRESSION;d} is the number without commas. A row without an expression is after a line `-- REASON`, which says why it has none."""
+{=EXPRESSION;d} is the number without commas. A row without an expression is after a line `-- REASON`, which says why it has none."""
 import ast
 import errno
 import functools
@@ -18,7 +18,7 @@ ROWS = "tests/numbers.txt"
 # a number, as part of a word
 NUMBER = re.compile(r"(?<![\w.^])-?\d(?:[\d,.^]*\d)?(?!\w)")
 # an expression in a row
-EXPRESSION = re.compile(r"\{([^{}]+)\}")
+EXPRESSION = re.compile(r"\{=([^{}]+)\}")
 # the words before and after a number that a row gets
 AROUND = 2
 
@@ -204,7 +204,7 @@ def complaints(path, text, rows):
             yield f"{path} doesn't have what {ROWS} has of it: {part}"
         parts.append(part)
     for part in page.parts_of(page.uncovered(parts)):
-        yield f"{path}: {ROWS} doesn't say where this number comes from: {part}"
+        yield f"{path}: {ROWS} doesn't say where this number comes from (check-claims --draft REASON adds a row): {part}"
 
 
 def masked(text):
