@@ -47,6 +47,7 @@ pub mod Passing
 pub mod Settled
 pub mod Removals
 pub mod Overtaking
+pub mod OvertakenCalls
 pub mod Questions
 pub mod Trying
 pub mod ByNode

@@ -34,5 +34,6 @@ pub mod Firsts
 pub mod Tries
 pub mod Keyed
 pub mod Vacant
+pub mod Retries
 pub mod Keys
 pub mod Showing

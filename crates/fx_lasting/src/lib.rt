@@ -31,6 +31,7 @@ mod pass;
 mod put_any;
 mod queries;
 mod question;
+pub mod retries;
 mod seek;
 mod shared_table;
 mod shown;
