@@ -100,10 +100,10 @@ off_none : (b : Bool) (g : ℕ) → uncounted b false g ≡ Outside
 off_none true g = refl
 off_none false g = refl
 
-at_once : {m m' : Sat} (range : ℕ × ℕ) (slot : ℕ) (f : File) {action : Action} {w : Work} {g : Glance}
-    → Stepped m ([] ▷ action) w g (account range slot (Some f)) m' → Runs m ([] ▷ action) w g Outside 1 m'
-at_once {m} {m'} range slot f {action} {w} {g} s =
-    subst (λ (z : Change). Runs m ([] ▷ action) w g z 1 m') (off_none (is_in range slot) (group_of range slot)) (runs_one s)
+pub at_once : {m m' : Sat} (range : ℕ × ℕ) (slot : ℕ) (f : File) {xs : List Action} {w : Work} {g : Glance}
+    → Stepped m xs w g (account range slot (Some f)) m' → Runs m xs w g Outside 1 m'
+at_once {m} {m'} range slot f {xs} {w} {g} s =
+    subst (λ (z : Change). Runs m xs w g z 1 m') (off_none (is_in range slot) (group_of range slot)) (runs_one s)
 
 failed_so : (k : Start) (slot node word : ℕ) (m m' : Sat) (miss : Miss) → SaysIf word node (Err miss) → WasIn k slot node miss m m'
     → FailedIf k slot node miss m m'
@@ -136,7 +136,7 @@ Swapped m₁ m₂ at found e = (file : Option File) × Names (node_of_number m�
     × Stepped (as_swapped e (name_in found - 1) m₁) ([] ▷ Take at file) (retiring_work m₁.0.start found file) m₁.0.glance
     (account (range_at_start m₁.0.start) at file) m₂ × (m₂.1 ≡ m₁.1) × IsOneOnItsNode m₁.0.start file (pass_in m₂).front
 
-its_own : (found node : ℕ) → full_name_in found ≡ node + 1 → name_in found - 1 ≡ node
+pub its_own : (found node : ℕ) → full_name_in found ≡ node + 1 → name_in found - 1 ≡ node
 its_own found node is = let a = name_of_file found node is in omega arith
 
 -- The last of some tries

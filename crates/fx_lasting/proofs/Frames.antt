@@ -104,6 +104,7 @@ module _ {at at' : ℕ → Option File} (size : ℕ) {takes_at takes_at' : ℕ �
   node_same (seated s f) same o = let z = same s f refl o.there in let a = o.counts in let b = z.1 in record {
     file = file_same later homed o.file;
     counts = omega arith;
+    few = let c = o.few in omega arith;
     unowed = owed ∙ o.unowed;
     inside = o.inside;
     there = z.0 ∙ o.there;

@@ -60,6 +60,7 @@ module _ {turn : Turn} {n : ℕ} {f : File} {h₁ : List Event} {debt' : ℕ →
       stays (seated s h) is (λ last. omega arith) calm record {
         file = o.file;
         counts = omega arith;
+        few = let z = o.few in omega arith;
         unowed = omega arith;
         inside = o.inside;
         there = o.there;

@@ -31,6 +31,7 @@ pub mod SlotLaws
 pub mod SwapsOut
 pub mod Seeing
 pub mod SwapsIf
+pub mod SwapsHeld
 pub mod Seats
 pub mod Openings
 pub mod FirstStocks
@@ -51,6 +52,7 @@ pub mod OvertakenCalls
 pub mod Questions
 pub mod Trying
 pub mod ByNode
+pub mod HeldTries
 pub mod EmptySlots
 pub mod GapSearches
 pub mod Taking

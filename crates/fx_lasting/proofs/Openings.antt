@@ -133,6 +133,7 @@ module _ (k : Start) (words : List ℕ) (homes : List (Option Closed)) (o : Open
               used = omega arith;
             };
             counts = omega arith;
+            few = omega arith;
             unowed = none_owed k.passes n;
             inside = low;
             there = is;

@@ -3,7 +3,7 @@ use Rattle.fx_lasting.proofs.Words.{◌≡◌, ◌≢◌, ℕ, ◌+◌, ◌^◌,
 use Rattle.fx_lasting.proofs.Words.{keeps, gives, rest, get_elem?, false, inl, inr, ◌⊎◌, eqb, Closed, File, numbered, Event, Action, Put, Clear, Take}
 use Rattle.fx_lasting.proofs.Words.{Allocate, ◌▷◌, State, with_removed, changed_at, changed_here, changed_else, pass_event, held_by, Agrees}
 use Rattle.fx_lasting.proofs.Words.{NodeAgrees, OwnerAgrees, WorkAgrees, IsHistory, state_after_all, slots_of, nodes_of, slot_place, word_of}
-use Rattle.fx_lasting.proofs.Words.{count_in, full_name_in, file_word_of, taken_of, taking, held_in, owed, sum_by, sum_set, Phase, placed, seated}
+use Rattle.fx_lasting.proofs.Words.{count_in, full_name_in, file_word_of, taken_of, taking, held_in, if_file, owed, sum_by, sum_set, Phase, placed, seated}
 use Rattle.fx_lasting.proofs.Words.{removed_in, Change, Idle, Placing, Removes, Installs, Exchanges, Stepped, IsOffCount, IsInRange, ClearsKeep}
 use Rattle.fx_lasting.proofs.Words.{TakesOutKeep, InstallsKeep, ExchangesKeep, account, uncounted, group_of, range_at_start, Outside, Bool, true}
 use Rattle.fx_lasting.proofs.Words.{step, set_here, set_else, length-set, exchanged, IsInside, retiring_work, ◌*◌, ◌-◌, ◌≤◌, HasNoFile, Whereabouts}
@@ -69,17 +69,20 @@ module _ (act : ℕ → Option File → Action) (does : IsRemoval act) (turn : T
   c₁ = account (range_at_start v.start) s old
 
   abbrev pub removal : After turn
-  removal = swap_after turn s inside old refl h₁ left None st.homes r.phase r.next_number c₁ r.where_is x.stock
+  removal = swap_after turn s inside old refl (found turn s inside) (refl, refl) h₁ left None st.homes r.phase r.next_number c₁ r.where_is x.stock
 
-  removes : Swap turn s inside old refl h₁ left None st.homes r.phase r.next_number c₁ r.where_is x.stock
+  removes : Swap turn s inside old refl (found turn s inside) (refl, refl) h₁ left None st.homes r.phase r.next_number c₁ r.where_is x.stock
   removes = let o = its_log turn in let h = holds_none free_of o.hold in let e = does turn s inside in record {
     grows = grows_one x.number r.history _ refl;
     legal = e.0;
     acted = (r.history, pass_event x (act s old), ([], refl), ([], refl), refl, e.3);
     fresh = (state_after_all v.start r.history).fresh;
+    holds = (state_after_all v.start r.history).holds;
     leads = e.1;
     fresh_on = r.fresh;
-    held = e.2;
+    held = e.2 ∙ (o.held ∙ no_file free_of);
+    let_go = λ n. let a = ap (if_file n) (no_file free_of) in omega arith;
+    taken = λ f is. let a = no_take free_of (r.node_of f.number) in omega arith;
     homes = refl;
     later = omega arith;
     removed_else = λ m. refl;
@@ -102,12 +105,12 @@ module _ (act : ℕ → Option File → Action) (does : IsRemoval act) (turn : T
     old_home = λ f is. refl;
     owners = λ n l apart. owner_stays st.views id v (w turn removal) here n (λ bad. let a = not_busy free_of in omega arith) (r.phase n) (r.each_owner n l);
     labels = λ n l apart. r.each_label n l;
-    idle_hands = (no_file free_of, no_take free_of, h.0, h.1);
+    no_hold = (h.0, h.1);
     counts = counts_swap id (w turn removal) here r.counts s old None (few_slots turn) refl (slot_alike turn s inside left) (asks_alike turn removal refl) refl
         (removal_balances (range_at_start v.start) s old off) (removal_keeps id (w turn removal) here s old off refl);
   }
     where
-      untaken : (n : ℕ) → taking n (d turn s inside old refl) ≡ 0
+      untaken : (n : ℕ) → taking n (d turn s inside old refl (found turn s inside) (refl, refl)) ≡ 0
       untaken n = go old
         where
           go : (o : Option File) → taking n (retiring_work v.start (found turn s inside) o) ≡ 0
@@ -115,7 +118,7 @@ module _ (act : ℕ → Option File → Action) (does : IsRemoval act) (turn : T
           go (Some f) = refl
 
   pub removal_agrees : Agrees v.start (end turn removal)
-  removal_agrees = swap_kept turn s inside old refl h₁ left None st.homes r.phase r.next_number c₁ r.where_is x.stock removes
+  removal_agrees = swap_kept turn s inside old refl (found turn s inside) (refl, refl) h₁ left None st.homes r.phase r.next_number c₁ r.where_is x.stock removes
 
   pub removal_tells : (carried : List (ℕ × Option Closed))
       → Stepped (v, carried) ([] ▷ act s old) (retiring_work v.start (found turn s inside) old) v.glance c₁ (w turn removal, carried)
@@ -203,7 +206,7 @@ module _ (turn : Turn) (s : ℕ) (inside : s < slots_of turn.v.start) (old : Opt
   c₂ = account (range_at_start v.start) s old
 
   abbrev pub installed : After turn
-  installed = swap_after turn s inside old was h₂ new_word (Some new_file) homes₁ phase₁ (number + 1) c₂ where₁ stock₁
+  installed = swap_after turn s inside old was (found turn s inside) (refl, refl) h₂ new_word (Some new_file) homes₁ phase₁ (number + 1) c₂ where₁ stock₁
 
   -- what the action does
   pub record Effect : Type 0 where
@@ -220,7 +223,7 @@ module _ (turn : Turn) (s : ℕ) (inside : s < slots_of turn.v.start) (old : Opt
   removed_same m = each_changed (λ q z. removed_in m z ≡ removed_in m (r.phase q)) r.phase
       (λ at. sym (ap (λ (q : ℕ). removed_in m (r.phase q)) at ∙ ap (removed_in m) its.1)) (λ _. refl)
 
-  untaken : (m : ℕ) → taking m (d turn s inside old was) ≡ 0
+  untaken : (m : ℕ) → taking m (d turn s inside old was (found turn s inside) (refl, refl)) ≡ 0
   untaken m = go old
     where
       go : (o : Option File) → taking m (retiring_work v.start (found turn s inside) o) ≡ 0
@@ -254,6 +257,7 @@ module _ (turn : Turn) (s : ℕ) (inside : s < slots_of turn.v.start) (old : Opt
             used = omega arith;
           };
           counts = omega arith;
+          few = omega arith;
           unowed = o.unowed;
           inside = inside;
           there = there_now;
@@ -266,15 +270,18 @@ module _ (turn : Turn) (s : ℕ) (inside : s < slots_of turn.v.start) (old : Opt
         (ap (λ (z : State). z.at i) does.state ∙ changed_else before.at s (Some new_file) i away, ap count_in (slot_else turn s inside new_word i away)))
         (r.each_node m l)
 
-    installs : Swap turn s inside old was h₂ new_word (Some new_file) homes₁ phase₁ (number + 1) c₂ where₁ stock₁
+    installs : Swap turn s inside old was (found turn s inside) (refl, refl) h₂ new_word (Some new_file) homes₁ phase₁ (number + 1) c₂ where₁ stock₁
     installs = let o = its_log turn in let h = rw works at o.hold in let apart = not_old turn s inside old was its.1 (λ g bad. cc bad) in record {
       grows = grows_one x.number r.history _ refl;
       legal = does.legal;
       acted = (r.history, pass_event x a, ([], refl), ([], refl), refl, does.acts);
       fresh = changed_at before.fresh number false;
+      holds = before.holds;
       leads = does.state;
       fresh_on = λ m l. changed_else before.fresh number false m (λ same. omega (arith, l, same)) ∙ r.fresh m (omega (arith, late, l));
-      held = does.held;
+      held = does.held ∙ (o.held ∙ ap held_in works);
+      let_go = λ m. let a = ap (if_file m) (ap held_in works) in omega arith;
+      taken = λ f is. let a = ap (taking (r.node_of f.number)) works in omega arith;
       homes = length-set st.homes n (some (Some file));
       later = omega (arith, late);
       removed_else = removed_same;
@@ -298,14 +305,14 @@ module _ (turn : Turn) (s : ℕ) (inside : s < slots_of turn.v.start) (old : Opt
       old_home = λ f is. set_else st.homes n (r.node_of f.number) (some (Some file)) (λ same. apart f is (sym same));
       owners = λ m l apart. each_changed (OwnerAgrees (set st.views id (w turn installed))) r.phase (λ same. tt)
           (λ other. owner_stays st.views id v (w turn installed) here m (λ bad. let b = ap busy works in other (omega arith)) (r.phase m) (r.each_owner m l));
-      idle_hands = (ap held_in works, λ m. ap (taking m) works, h.0, h.1);
+      no_hold = (h.0, h.1);
       counts = counts_swap id (w turn installed) here r.counts s old (Some new_file) (few_slots turn) was (slot_alike turn s inside new_word)
           (asks_alike turn installed refl) refl (fill_balances (range_at_start v.start) s old new_file out)
           (fill_keeps id (w turn installed) here s old new_file was refl);
     }
 
     pub installation_agrees : Agrees v.start (end turn installed)
-    installation_agrees = swap_kept turn s inside old was h₂ new_word (Some new_file) homes₁ phase₁ (number + 1) c₂ where₁ stock₁ installs
+    installation_agrees = swap_kept turn s inside old was (found turn s inside) (refl, refl) h₂ new_word (Some new_file) homes₁ phase₁ (number + 1) c₂ where₁ stock₁ installs
 
     pub installation_tells : (carried homes : List (ℕ × Option Closed)) (e : ℕ) → get_elem? (first_log v.logs).stock e ≡ some n
         → Stepped (as_swapped e (name_in (found turn s inside) - 1) (v, carried)) ([] ▷ a) (retiring_work v.start (found turn s inside) old) v.glance c₂

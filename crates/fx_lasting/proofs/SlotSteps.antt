@@ -154,6 +154,7 @@ module _ (turn : Turn) (s : ℕ) (inside : s < slots_of turn.v.start) (new : ℕ
         let k = slot_node turn s inside new n in record {
           file = o.file;
           counts = omega arith;
+          few = let b = o.few in omega arith;
           unowed = o.unowed;
           inside = o.inside;
           there = at_is i ∙ o.there;

@@ -1,5 +1,5 @@
 -- The words of slots, full and empty: what is read of a word that was made.
-use Rattle.std.proofs.Common.{◌≡◌, ◌≢◌, ℕ, ◌+◌, ◌/◌, ◌%◌, ◌^◌, ◌<◌, ◌≤◌, ap, ◌∙◌, arith, cond, eqb, eq-eqb, ne_eqb, Bool, true, false}
+use Rattle.std.proofs.Common.{◌≡◌, ◌≢◌, ℕ, ◌+◌, ◌-◌, ◌/◌, ◌%◌, ◌^◌, ◌<◌, ◌≤◌, ap, ◌∙◌, arith, cond, eqb, eq-eqb, ne_eqb, Bool, true, false}
 use Rattle.std.specs.Prelude.{bit_and}
 use Rattle.std.proofs.lemmas.Nat.Bits.{and_high_mask}
 use mathlib.Core.Logic.{dite}
@@ -25,6 +25,11 @@ name_of_file word n is = dite (ℕ_discrete (full_bit word) 1) (λ e. let a = wh
 -- words that agree in the name and in that bit
 pub same_full_name : (new old : ℕ) → name_in new ≡ name_in old → full_bit new ≡ full_bit old → full_name_in new ≡ full_name_in old
 same_full_name new old name bit = λ i. cond (eqb (bit i) 1) (name i) 0
+
+-- one take less, and nothing else
+pub one_less : (word : ℕ) → 0 < count_in word → (full_name_in (word - 1) ≡ full_name_in word) × (heat_in (word - 1) ≡ heat_in word)
+    × (count_in (word - 1) + 1 ≡ count_in word) × (entry_in (word - 1) ≡ entry_in word)
+one_less word some = (same_full_name (word - 1) word (omega arith) (omega arith), omega arith, omega arith, omega arith)
 
 -- the word of a slot with a file
 pub name_made : (node entry : ℕ) → entry < 2 ^ 8 → name_in (file_word_of node entry) ≡ node + 1

@@ -2,7 +2,7 @@
 -- stock, and the node that it named takes that node's place.
 use Rattle.fx_lasting.proofs.Words.{◌≡◌, ◌≢◌, ℕ, ◌-◌, ◌<◌, List, [], ◌∷◌, set, sym, refl, ap, ◌∙◌, subst, arith, Option, Some, None, none, some}
 use Rattle.fx_lasting.proofs.Words.{keeps, get_elem?, inl, Closed, File, Event, Action, Clear, Take, ◌▷◌, State, changed_else, pass_event, Log}
-use Rattle.fx_lasting.proofs.Words.{Agrees, slots_of, slot_place, state_after_all, count_in, taken_of, taking, sum_set, Change, Stepped, IsOffCount}
+use Rattle.fx_lasting.proofs.Words.{Agrees, slots_of, slot_place, state_after_all, count_in, taken_of, taking, if_file, sum_set, Change, Stepped, IsOffCount}
 use Rattle.fx_lasting.proofs.Words.{account, range_at_start, step, IsInside, retiring_work, HasNoFile, Whereabouts, IsInStock, as_stocked, as_swapped}
 use Rattle.fx_lasting.proofs.Words.{first_log, name_in, empty_word_of, empty_name_made, empty_file_made, empty_takes_made, SwapsOut, SwapsOutKeep}
 use Rattle.fx_lasting.proofs.StockMoves.{names_a_node, where_moved, stock_moved, moved_names, moved_slot, moved_stock, moved_stocks, one_entry}
@@ -40,17 +40,20 @@ module _ (act : ℕ → Option File → Action) (does : IsRemoval act) (turn : T
   stock₁ = stock_moved turn s inside n stocked
 
   abbrev pub removal : After turn
-  removal = swap_after turn s inside old refl h₁ left None st.homes r.phase r.next_number c₁ where₁ stock₁
+  removal = swap_after turn s inside old refl (found turn s inside) (refl, refl) h₁ left None st.homes r.phase r.next_number c₁ where₁ stock₁
 
-  removes : Swap turn s inside old refl h₁ left None st.homes r.phase r.next_number c₁ where₁ stock₁
+  removes : Swap turn s inside old refl (found turn s inside) (refl, refl) h₁ left None st.homes r.phase r.next_number c₁ where₁ stock₁
   removes = let o = its_log turn in let h = holds_none free_of o.hold in let e = does turn s inside in record {
     grows = grows_one x.number r.history _ refl;
     legal = e.0;
     acted = (r.history, pass_event x (act s old), ([], refl), ([], refl), refl, e.3);
     fresh = (state_after_all v.start r.history).fresh;
+    holds = (state_after_all v.start r.history).holds;
     leads = e.1;
     fresh_on = r.fresh;
-    held = e.2;
+    held = e.2 ∙ (o.held ∙ no_file free_of);
+    let_go = λ m. let a = ap (if_file m) (no_file free_of) in omega arith;
+    taken = λ f is. let a = no_take free_of (r.node_of f.number) in omega arith;
     homes = refl;
     later = omega arith;
     removed_else = λ m. refl;
@@ -73,12 +76,12 @@ module _ (act : ℕ → Option File → Action) (does : IsRemoval act) (turn : T
     old_home = λ f is. refl;
     owners = λ m l apart. owner_stays st.views id v (w turn removal) here m (λ bad. let a = not_busy free_of in omega arith) (r.phase m) (r.each_owner m l);
     labels = λ m l apart. r.each_label m l;
-    idle_hands = (no_file free_of, no_take free_of, h.0, h.1);
+    no_hold = (h.0, h.1);
     counts = counts_swap id (w turn removal) here r.counts s old None (few_slots turn) refl (slot_alike turn s inside left) (asks_alike turn removal refl) refl
         (removal_balances (range_at_start v.start) s old off) (removal_keeps id (w turn removal) here s old off refl);
   }
     where
-      untaken : (m : ℕ) → taking m (d turn s inside old refl) ≡ 0
+      untaken : (m : ℕ) → taking m (d turn s inside old refl (found turn s inside) (refl, refl)) ≡ 0
       untaken m = go old
         where
           go : (o : Option File) → taking m (retiring_work v.start (found turn s inside) o) ≡ 0
@@ -86,7 +89,7 @@ module _ (act : ℕ → Option File → Action) (does : IsRemoval act) (turn : T
           go (Some f) = refl
 
   pub removal_agrees : Agrees v.start (end turn removal)
-  removal_agrees = swap_kept turn s inside old refl h₁ left None st.homes r.phase r.next_number c₁ where₁ stock₁ removes
+  removal_agrees = swap_kept turn s inside old refl (found turn s inside) (refl, refl) h₁ left None st.homes r.phase r.next_number c₁ where₁ stock₁ removes
 
   pub removal_tells : (carried : List (ℕ × Option Closed)) (e : ℕ) → get_elem? (first_log v.logs).stock e ≡ some n
       → Stepped (as_swapped e (name_in (found turn s inside) - 1) (v, carried)) ([] ▷ act s old) (retiring_work v.start (found turn s inside) old) v.glance c₁

@@ -18,6 +18,7 @@ pub use Rattle.fx_lasting.specs.Laws.{ChecksKeep, BreaksKeep, BeginsKeep, Counts
 pub use Rattle.fx_lasting.specs.Laws.{LettingGoKeeps, SeeksKeep, BirthsKeep, RestsKeep, VisitsKeep, MarksKeep, ParksKeep, ResumesKeep, SettlesKeep}
 pub use Rattle.fx_lasting.specs.Laws.{HasItsPlace, TagsKeep, NumbersKeep, ReadsTagKeep, ReadsNumberKeep, RetiresKeep, IsInRange, ListsKeep, SkimsKeep}
 pub use Rattle.fx_lasting.specs.Laws.{IsPassed, SeesKeep, TakesIfKeep, SwapsIfKeep, ReplacesKeep, FinishesKeep, SwapsOutKeep}
+pub use Rattle.fx_lasting.specs.Laws.{SwapsHeldKeep, TakesHeldKeep}
 pub use Rattle.fx_lasting.specs.LabelSteps.{Tags, Numbers, ReadsTag, ReadsNumber}
 pub use Rattle.fx_lasting.specs.Labels.{number_of_mark, label_of, as_written, HasWritten}
 pub use Rattle.fx_lasting.specs.KeepSteps.{Parks, Resumes, SettlesNode}
@@ -36,7 +37,7 @@ pub use Rattle.fx_lasting.specs.Stocks.{Whereabouts, at_slot, in_stock, IsInStoc
 pub use Rattle.fx_lasting.proofs.SlotWords.{name_of_file, same_full_name, name_made, full_name_made, file_entry_made, file_takes_made, file_heat_made}
 pub use Rattle.fx_lasting.proofs.SlotWords.{empty_name_made, empty_file_made, empty_takes_made, name_left, no_file_left, no_takes_left}
 pub use Rattle.fx_lasting.proofs.SlotWords.{mask_leaves_name, name_carried, full_name_carried, entry_carried, takes_carried, heat_carried}
-pub use Rattle.fx_lasting.proofs.SlotWords.{takes_are_few}
+pub use Rattle.fx_lasting.proofs.SlotWords.{takes_are_few, one_less}
 pub use Rattle.std.specs.Prelude.{bit_and, sum_by, Contains, Ok, Err, Result, is_some, not, option_map, ok_or, is_err, ◌==◌, slice_set, vec_len}
 pub use Rattle.fx_lasting.specs.Phases.{Phase, owner, file_in, file_if_numbered, removed_in, written_in, free, placed, seated, leaving, retired}
 pub use Rattle.fx_lasting.specs.Phases.{emptied, kept}
@@ -144,7 +145,7 @@ pub use Rattle.std.proofs.Math.ListN.{get_or-eq_default, replicate}
 pub use Rattle.std.proofs.lemmas.Nat.Bits.{bit_at_or, bit_at-lt, bit_at-pow_same, bit_at-pow_other, and_pow, bit_at-zero, bit_at-trailing_zeros}
 pub use Rattle.std.proofs.lemmas.Nat.Bits.{bit_at_above}
 pub use Rattle.std.proofs.lemmas.Nat.{pow_below, div-mul-add, mod-mul-add, shr-shr}
-pub use Rattle.fx_lasting.specs.SwapSteps.{SwapsOut, HasEmptied, SwapsIf}
+pub use Rattle.fx_lasting.specs.SwapSteps.{SwapsOut, HasEmptied, SwapsIf, SwapsHeld, TakesHeld}
 pub use prog.Atomic.{either}
 pub use Rattle.fx_lasting.specs.Tries.{IsPlacing, HasAllocated, StillPlaces, group_steps}
 pub use Rattle.std.specs.Mem.Slots.Ownership.{Filled}

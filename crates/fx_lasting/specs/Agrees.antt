@@ -102,6 +102,7 @@ module _ (at : ℕ → Option File) (size : ℕ) (takes_at : ℕ → ℕ) (node_
   pub record IsAtSlot (slot : ℕ) (f : File) : Type 0 where
     pub file : IsFileOfNode node_of next_number node home f
     pub counts : word + takes_at slot ≡ birth_word + taken
+    pub few : word ≤ birth_word
     pub unowed : owing ≡ 0
     pub inside : slot < size
     pub there : at slot ≡ Some f

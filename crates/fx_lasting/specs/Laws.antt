@@ -370,6 +370,25 @@ SwapsIfKeep tells = (k : Start) (slots id i slot n old new : ℕ) (m : Sat) (x :
     → Allows (Agrees k) slots id m i (λ word. either (word == old) new word)
     (tells (step slots i old new none) m)
 
+-- a pass that holds the file of a node by a take exchanges the word of a slot that it saw, which
+-- names the node, for the word of an empty slot that names a node of its stock
+abbrev pub SwapsHeldKeep : Kind → Type 0
+SwapsHeldKeep tells = (k : Start) (slots id i slot n old new node : ℕ) (f : File) (m : Sat)
+    (x : Log) → HasPass k m x → m.0.work ≡ Counted f node → full_name_in old ≡ node + 1
+    → slot < slots_of k → IsOffCount k slot m.0.change → IsInStock x.stock n
+    → i ≡ slot_place slot → new ≡ empty_word_of n
+    → Allows (Agrees k) slots id m i (λ word. either (word == old) new word)
+    (tells (step slots i old new none) m)
+
+-- or for its name alone
+abbrev pub TakesHeldKeep : Kind → Type 0
+TakesHeldKeep tells = (k : Start) (slots id i slot old new node : ℕ) (f : File) (m : Sat)
+    (x : Log) → HasPass k m x → m.0.work ≡ Counted f node → full_name_in old ≡ node + 1
+    → slot < slots_of k → IsOffCount k slot m.0.change → i ≡ slot_place slot
+    → new ≡ without_file old
+    → Allows (Agrees k) slots id m i (λ word. either (word == old) new word)
+    (tells (step slots i old new none) m)
+
 -- a pass exchanges the word of a slot that it saw for the word of the file that it places
 abbrev pub ReplacesKeep : Kind → Type 0
 ReplacesKeep tells = (k : Start) (slots id i slot n lost old new : ℕ) (file : Identity) (m : Sat)

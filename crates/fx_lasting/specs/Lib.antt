@@ -36,4 +36,5 @@ pub mod Keyed
 pub mod Vacant
 pub mod Retries
 pub mod Keys
+pub mod Alone
 pub mod Showing

@@ -1,17 +1,17 @@
 -- The kinds of step that empty a slot by an exchange of names: the slot's word names a node of the
 -- pass's stock then, and the node that it named takes that node's place in the stock.
-use Rattle.std.specs.Prelude.{◌≡◌, ◌≢◌, ℕ, ◌-◌, List, [], Option}
+use Rattle.std.specs.Prelude.{◌≡◌, ◌≢◌, ℕ, ◌-◌, ◌<◌, List, [], Option, Some}
 use mathlib.Core.Option.{some}
 use lib.ListN.{get_elem?}
 use Rattle.fx_plain.specs.History.{◌▷◌}
 use Rattle.fx_plain.specs.declared.event.File.{File}
 use Rattle.fx_plain.specs.declared.event.Action.{Action}
-use Rattle.fx_plain.specs.declared.event.Action.TheVariants.{Take}
+use Rattle.fx_plain.specs.declared.event.Action.TheVariants.{Release, Take}
 use Rattle.fx_words.specs.Words.{name_in}
 use Rattle.fx_lasting.specs.Agrees.{Names}
 use Rattle.fx_lasting.specs.Groups.{account}
 use Rattle.fx_lasting.specs.HeldFiles.{IsOneOnItsNode}
-use Rattle.fx_lasting.specs.Parts.{empty_word_of}
+use Rattle.fx_lasting.specs.Parts.{count_in, empty_word_of}
 use Rattle.fx_lasting.specs.Passes.{Sat, range_at_start, node_of_number}
 use Rattle.fx_lasting.specs.Runs.{Runs}
 use Rattle.fx_lasting.specs.Stocks.{IsStockOf}
@@ -19,6 +19,7 @@ use Rattle.fx_lasting.specs.Effects.{At, Found, NamesANode, Sees, Stepped, as_st
 use Rattle.fx_lasting.specs.Effects.{pass_in}
 use Rattle.fx_lasting.specs.Effects.{retiring_work, slot_of}
 use Rattle.fx_lasting.specs.declared.view.Start.{Start}
+use Rattle.fx_lasting.specs.declared.view.Work.TheVariants.{Counted}
 
 -- Swap, to the word of an empty slot that names a node of the stock, by a clear or by a take
 pub record SwapsOut (action : ℕ → Option File → Action)
@@ -44,6 +45,29 @@ pub record SwapsIf (st : At) (m : Sat) (found : ℕ) (m' : Sat) : Type 0 where
       (retiring_work m.0.start found file) m.0.glance
       (account (range_at_start m.0.start) (slot_of st.word) file) m' × (m'.1 ≡ m.1)
       × IsOneOnItsNode m.0.start file (pass_in m').front
+  pub loses : found ≢ st.first → Sees st m found m'
+
+-- Swap, as by `SwapsIf`, by a pass that holds the slot's file by a take: the hold ends with the
+-- step, and the removal doesn't count the pass's own take; or nothing changed
+pub record SwapsHeld (st : At) (m : Sat) (found : ℕ) (m' : Sat) : Type 0 where
+  pub wins : (f : File) (node n entry : ℕ) → m.0.work ≡ Counted f node
+      → get_elem? (pass_in m).stock entry ≡ some n → st.second ≡ empty_word_of n → found ≡ st.first
+      → (0 < count_in found) × Names (node_of_number m.0.start) found (Some f)
+      × NamesANode m.0.start found
+      × Stepped (as_swapped entry (name_in found - 1) m)
+      ([] ▷ Release f ▷ Take (slot_of st.word) (Some f))
+      (retiring_work m.0.start (found - 1) (Some f)) m.0.glance
+      (account (range_at_start m.0.start) (slot_of st.word) (Some f)) m' × (m'.1 ≡ m.1)
+  pub loses : found ≢ st.first → Sees st m found m'
+
+-- Take, as by `TakesIf`, by a pass that holds the slot's file by a take: the hold ends with the
+-- step, and the removal doesn't count the pass's own take; or nothing changed
+pub record TakesHeld (st : At) (m : Sat) (found : ℕ) (m' : Sat) : Type 0 where
+  pub wins : (f : File) (node : ℕ) → m.0.work ≡ Counted f node → found ≡ st.first
+      → (0 < count_in found) × Names (node_of_number m.0.start) found (Some f)
+      × Stepped m ([] ▷ Release f ▷ Take (slot_of st.word) (Some f))
+      (retiring_work m.0.start (found - 1) (Some f)) m.0.glance
+      (account (range_at_start m.0.start) (slot_of st.word) (Some f)) m' × (m'.1 ≡ m.1)
   pub loses : found ≢ st.first → Sees st m found m'
 
 -- a pass emptied a slot, whose word was this, and has this stock now

@@ -10,8 +10,8 @@ ghost use Rattle.fx_table.specs.Opening.{size_of};
 ghost use Rattle.fx_table.specs.Pass.{IsIdle, IsHoldOf, IsRetiredOf};
 ghost use Rattle.fx_table.specs.declared.values.LookFault.TheVariants.{Spent};
 ghost use Rattle.fx_lasting.specs.Parts.{count_in, full_name_in};
-ghost use Rattle.fx_lasting.specs.Tables.{view_of, steps_taken, retired_at, opening_of_table};
-ghost use Rattle.fx_lasting.specs.Tables.{IsPassOfTable, IsSeatOfTable};
+ghost use Rattle.fx_lasting.specs.Tables.{view_of, meetings, steps_taken, retired_at};
+ghost use Rattle.fx_lasting.specs.Tables.{opening_of_table, IsPassOfTable, IsSeatOfTable};
 ghost use Rattle.fx_lasting.specs.Effects.{Found, first_visit, IsOnList};
 ghost use Rattle.fx_lasting.specs.declared.view.Glance.TheVariants.{Hot, Cold};
 ghost use Rattle.fx_lasting.specs.declared.view.Work.TheVariants.{Idle};
@@ -46,6 +46,7 @@ impl LastingTable {
             result.freed (view_of pass.new) }
         ensures never_spent { result.found ≢ Err Spent }
         ensures steps { steps_taken pass.new ≤ steps_taken pass.old + 9 }
+        ensures met { meetings pass.old ≤ meetings pass.new }
     {
         self.settle(pass);
         let shared = &self.table.shared;
@@ -81,6 +82,7 @@ impl LastingTable {
             result.freed (view_of pass.new) }
         ensures never_spent { result.found ≢ Err Spent }
         ensures steps { steps_taken pass.new ≤ steps_taken pass.old + 3 }
+        ensures met { meetings pass.old ≤ meetings pass.new }
     {
         let shared = &self.table.shared;
         let place = list_place(pass.number);
@@ -104,6 +106,7 @@ impl LastingTable {
             result.freed (view_of pass.new) }
         ensures never_spent { result.found ≢ Err Spent }
         ensures steps { steps_taken pass.new ≤ steps_taken pass.old + 7 }
+        ensures met { meetings pass.old ≤ meetings pass.new }
     {
         match self.guard(&mut pass.seat, pass.number, slot, node) {
             Some(entry) => {
@@ -136,6 +139,7 @@ impl LastingTable {
             (view_of pass.new) }
         ensures never_spent { result ≢ Err Spent }
         ensures steps { steps_taken pass.new ≤ steps_taken pass.old + 2 }
+        ensures met { meetings pass.old ≤ meetings pass.new }
     {
         let found = self.take_at(&mut pass.seat, slot);
         pass.idle = found.is_err();
@@ -154,6 +158,7 @@ impl LastingTable {
         ensures released { Released (opening_of_table self.now) (view_of pass.old) hold result
             (view_of pass.new) }
         ensures steps { steps_taken pass.new ≤ steps_taken pass.old + 3 }
+        ensures met { meetings pass.old ≤ meetings pass.new }
     {
         let Hold { node, entry: _ } = hold;
         pass.idle = true;

@@ -38,6 +38,30 @@ pub struct KeyTaken {
     pub released: Option<OpenFile>,
 }
 
+/// The result of a removal by key by one pass, without what is to be closed. It must be consumed:
+/// the compiler rejects a program that drops one.
+pub enum TakenByKey {
+    /// The file was removed, and is to be retired.
+    Removed(Retired),
+    /// Nothing was changed.
+    Missed(KeyFault),
+    /// Nothing was changed: the pass held the file of the key by its hold word, as it does at a hot
+    /// slot, and released it. A removal by two passes is to be made.
+    Hot,
+}
+
+/// The result of a removal by key by one pass. It must be consumed: the compiler rejects a program
+/// that drops one.
+pub struct KeyRemoval {
+    /// The removal of the file, or the reason why nothing changed.
+    pub taken: TakenByKey,
+    /// A removed file that the pass's look-up was the last to use, to be closed.
+    pub freed: Option<OpenFile>,
+    /// A file that the pass's release was the last to use, to be closed. It is `None` if the file
+    /// of the key was removed.
+    pub released: Option<OpenFile>,
+}
+
 /// The change that a replacement by key made. It must be consumed: the compiler rejects a program
 /// that drops one.
 pub enum PutOverKey {

@@ -114,7 +114,7 @@ impl LastingTable {
     // Reads which file is at the slot, in one step. Returns the slot's word if that file is on the
     // node.
     #[inline(always)]
-    fn see(
+    pub(crate) fn see(
         &self,
         seat: &mut Seat<Option<OpenFile>, View>,
         slot: u32,
@@ -283,7 +283,7 @@ impl LastingTable {
 }
 
 // Returns the slot's word if it names the node.
-fn named_by(word: u64, node: u32) -> Result<u64, Miss>
+pub(crate) fn named_by(word: u64, node: u32) -> Result<u64, Miss>
     ensures { SaysIf word node result }
 {
     match file_node_of(word) {
@@ -299,7 +299,7 @@ fn named_by(word: u64, node: u32) -> Result<u64, Miss>
 }
 
 // Returns the removal of the file of a node, from the word that named it.
-fn removed_by(word: u64, node: u32) -> Retired
+pub(crate) fn removed_by(word: u64, node: u32) -> Retired
     ensures node { result.node ≡ node }
     ensures entry { result.entry ≡ entry_in word }
     ensures takes { result.takes ≡ count_in word }

@@ -37,6 +37,7 @@ impl LastingTable {
         ensures looked { LookedByKey self.now.table.shared.key (view_of pass.old) key
             result.found result.freed result.released (view_of pass.new) }
         ensures steps { steps_taken pass.new ≤ steps_taken pass.old + 13 }
+        ensures met { meetings pass.old ≤ meetings pass.new }
     {
         if self.size <= key.slot {
             return KeyLook {
@@ -248,7 +249,7 @@ impl LastingTable {
 }
 
 // Returns the reason of a call by key for that of a call by node.
-fn fault_of(miss: Miss) -> KeyFault
+pub(crate) fn fault_of(miss: Miss) -> KeyFault
     ensures { result ≡ fault_for miss }
 {
     match miss {

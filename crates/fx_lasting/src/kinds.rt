@@ -320,6 +320,27 @@ impl Play<Option<OpenFile>, View> for SwappingIf {
     ghost then = { SwapsIf };
 }
 
+/// Swap, if the slot still has the word that the pass saw, by a pass that holds the slot's file by
+/// a take: the slot is emptied for a close as by [`SwappingIf`], and the hold ends with the step.
+pub struct SwappingHeld;
+
+impl Play<Option<OpenFile>, View> for SwappingHeld {
+    ghost use Rattle.fx_lasting.specs.SwapSteps.{SwapsHeld};
+
+    ghost then = { SwapsHeld };
+}
+
+/// Take, if the slot still has the word that the pass saw, by a pass without a stock that holds the
+/// slot's file by a take: the slot is emptied for a close as by [`TakingIf`], and the hold ends
+/// with the step.
+pub struct TakingHeld;
+
+impl Play<Option<OpenFile>, View> for TakingHeld {
+    ghost use Rattle.fx_lasting.specs.SwapSteps.{TakesHeld};
+
+    ghost then = { TakesHeld };
+}
+
 /// Replace, if the slot still has the word that the pass saw: the file that the pass places goes to
 /// the slot.
 pub struct Replacing;

@@ -19,15 +19,15 @@ ghost use Rattle.fx_lasting.specs.Laws.{ChecksKeep, BreaksKeep, RaisesKeep, Begi
 ghost use Rattle.fx_lasting.specs.Laws.{CountsKeep, DecidesKeep, PeeksKeep, SplitsKeep, JoinsKeep};
 ghost use Rattle.fx_lasting.specs.Laws.{ClearsKeep, TakesOutKeep, SwapsOutKeep, InstallsKeep};
 ghost use Rattle.fx_lasting.specs.Laws.{ExchangesKeep, SeesKeep, TakesIfKeep, SwapsIfKeep};
-ghost use Rattle.fx_lasting.specs.Laws.{ReplacesKeep};
+ghost use Rattle.fx_lasting.specs.Laws.{SwapsHeldKeep, TakesHeldKeep, ReplacesKeep};
 
 use crate::kinds::{
     Announcing, Asking, Beginning, Birth, Breaking, Checking, Clearing, Confirming, Counting, Deal,
     Deciding, Exchanging, Finishing, Gather, Glancing, HeatingUp, Installing, Letting, Listing,
     Lowering, Marking, Numbering, OneHistory, Parking, Peeking, Raising, ReadingNumber, ReadingTag,
     Replacing, Resting, Resuming, Retire, Seeing, Seeking, Settling, Skimming, SteppingDown,
-    SwappingClear, SwappingIf, SwappingTake, Tagging, Taking, TakingIf, TakingOut, Visiting,
-    Withdrawing,
+    SwappingClear, SwappingHeld, SwappingIf, SwappingTake, Tagging, Taking, TakingHeld, TakingIf,
+    TakingOut, Visiting, Withdrawing,
 };
 use crate::view::{Start, View};
 use atomic_table::{Join, Play, Split, TableRule};
@@ -301,6 +301,20 @@ pub fn take_if_keeps_rule()
 /// slot named goes into its stock.
 pub fn swap_if_keeps_rule()
     ensures { SwapsIfKeep ⟦<SwappingIf as Play<Option<OpenFile>, View>>⟧.then }
+{}
+
+/// A pass that holds the file of a node by a take, and exchanges the word of a slot that names the
+/// node for that of an empty slot that names a node of its stock, keeps the rule. Its hold ends. It
+/// has the file to retire, with one take less. The node that the slot named goes into its stock.
+pub fn swap_held_keeps_rule()
+    ensures { SwapsHeldKeep ⟦<SwappingHeld as Play<Option<OpenFile>, View>>⟧.then }
+{}
+
+/// A pass that holds the file of a node by a take, and exchanges the word of a slot that names the
+/// node for its name alone, keeps the rule. Its hold ends. It has the file to retire, with one take
+/// less.
+pub fn take_held_keeps_rule()
+    ensures { TakesHeldKeep ⟦<TakingHeld as Play<Option<OpenFile>, View>>⟧.then }
 {}
 
 /// A pass that exchanges the word of a slot that it saw for that of the file that it places keeps

@@ -6,6 +6,7 @@
 //! `layout.rt` (the places of the words).
 #![tactic(auto)]
 
+mod alone;
 mod answers;
 mod calls;
 mod change;
@@ -43,7 +44,7 @@ mod visit;
 
 pub use answers::{FoundSlot, Miss, PutEmpty, PutIf, TakenIf};
 pub use key::Key;
-pub use key_answers::{KeyFault, KeyLook, KeyPut, KeyTaken, PutOverKey};
+pub use key_answers::{KeyFault, KeyLook, KeyPut, KeyRemoval, KeyTaken, PutOverKey, TakenByKey};
 pub use layout::{MOST_INSTALLING, MOST_PASSES, MOST_SLOTS};
 pub use pass::LastingPass;
 pub use shown::LastingSeen;

@@ -16,4 +16,5 @@ returns c =
       looked = looked_so s c.args.slot c.take_at-found.new.seat.me c.take_at-found.result took.takes;
       never_spent = never_spent s c.args.slot c.take_at-found.new.seat.me c.take_at-found.result took.takes;
       steps = let few = run.2.steps in omega arith;
+      met = run.2.met;
     }

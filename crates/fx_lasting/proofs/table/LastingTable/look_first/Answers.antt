@@ -43,4 +43,5 @@ returns c =
           c.look_cold-found.result took.never_spent (adds_listed c.requires.seated c.requires.idle run) took.looked;
       never_spent = took.never_spent;
       steps = let a = run.steps in let b = took.steps in omega arith;
+      met = let a = run.met in let b = took.met in omega arith;
     }

@@ -19,6 +19,7 @@ returns-in-Some c =
       );
       never_spent = λ e. cc e;
       steps = let few = run.steps in omega arith;
+      met = run.met;
     }
 
 pub withdraw-freed-requires-clause-at : goal.withdraw-freed-requires-clause-at
@@ -59,4 +60,5 @@ returns-in-None c =
           c.in-None.ensures.guards c.withdraw-freed.new.seat.me c.withdraw-freed.ensures.withdraws cold.looked;
       never_spent = cold.never_spent;
       steps = let a = cold.steps in let b = lets.1.steps in let d = c.in-None.ensures.guards.steps in omega arith;
+      met = let a = cold.met in let b = lets.1.met in let d = c.in-None.ensures.guards.met in omega arith;
     }

@@ -35,6 +35,7 @@ returns-in_default c =
           (λ i. (here i, c.settle.ensures.same i)) (adds_so s run one_look);
       never_spent = λ e. cc e;
       steps = let few = run.steps in let one = c.settle.ensures.steps in omega arith;
+      met = let few = run.met in let one = c.settle.ensures.met in omega arith;
     }
 
 -- a pass whose field says so is listed
@@ -71,6 +72,7 @@ returns-then-not-pass c =
           c.look_first.result.freed first.never_spent (adds_so s run no_use) first.looked);
       never_spent = first.never_spent;
       steps = let a = run.steps in let b = first.steps in let one = c.settle.ensures.steps in omega arith;
+      met = let a = run.met in let b = first.met in let one = c.settle.ensures.met in omega arith;
     }
 
 pub look_hot-requires : goal.look_hot-requires
@@ -103,6 +105,7 @@ returns-then-is_hot c =
           c.look_hot.result.freed hot.never_spent (adds_so s run no_use) hot.looked);
       never_spent = hot.never_spent;
       steps = let a = run.steps in let b = hot.steps in let one = c.settle.ensures.steps in omega arith;
+      met = let a = run.met in let b = hot.met in let one = c.settle.ensures.met in omega arith;
     }
 
 pub look_cold-found-requires : goal.look_cold-found-requires
@@ -135,4 +138,5 @@ returns c =
           c.look_cold-found.result took.never_spent (adds_so s run no_use) took.looked);
       never_spent = took.never_spent;
       steps = let a = run.steps in let b = took.steps in let one = c.settle.ensures.steps in omega arith;
+      met = let a = run.met in let b = took.met in let one = c.settle.ensures.met in omega arith;
     }

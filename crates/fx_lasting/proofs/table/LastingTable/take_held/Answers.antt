@@ -1,0 +1,145 @@
+use Rattle.fx_lasting.proofs.Words.{ℕ, List, sym, IsStockOf, IsBetweenCalls, as_stocked, retiring_work, ◌-◌, ap, ◌∙◌, subst, arith, [], ◌▷◌, refl}
+use Rattle.fx_lasting.proofs.Words.{Release, Take, Some, Bool, true, uncounted, group_of, range_at_start, Start, Glance, Outside, Runs, full_name_in}
+use Rattle.fx_lasting.proofs.Words.{count_in, retired_at, opening_of, view_of, pass_of, Adds, no_use, Retired, File, Names, node_of_number, not, ◌≡◌}
+use Rattle.fx_table.specs.declared.values.Doing.TheVariants.{Retiring as Retires}
+use Rattle.fx_lasting.proofs.ByNode.{stands_then, missed_so, tried_none, tried_so, value_so, removal_so}
+use Rattle.fx_lasting.proofs.HeldTries.{adds_held, held_flags}
+use Rattle.fx_lasting.proofs.Passing.{at_rest, still_pass, its_counted, knows_removed, first_by}
+use Rattle.fx_lasting.proofs.Removals.{adds_stocked, stocked_pass, stocked_then}
+use Rattle.fx_lasting.proofs.Running.{still_at_work, turns_then, number_is}
+use Rattle.fx_lasting.proofs.table.LastingTable.take_held.Goals as goal
+
+pub see-requires-clause-slot : goal.see-requires-clause-slot
+see-requires-clause-slot c = omega (arith, c.requires.slot, c.args.self.now.same_size)
+
+pub returns-in-Err : goal.returns-in-Err
+returns-in-Err c =
+    let fits = c.requires.fits in
+    let s = fits.seated in
+    let h = c.requires.held in
+    let saw = c.in-Err.ensures.saw in
+    let run = at_rest fits saw.1 in
+    record {
+      fits = still_pass s _ run (refl, refl) c.see.ensures.table (c.see.ensures.places ∙ s.places) (refl, s.next) fits.knows;
+      taken = (h.0, h.1, saw.0, adds_held fits h.1 saw.1);
+      tries = tried_none c.args.self.now.table.shared.key c.args.slot c.in-Err.miss _ _ saw.2;
+      steps = let few = run.steps in omega arith;
+    }
+
+pub lower-requires-clause-at : goal.lower-requires-clause-at
+lower-requires-clause-at c = (c.args.pass.now.number, still_at_work c.requires.fits.seated.at c.in-Ok.ensures.saw.2)
+
+pub lower-requires-clause-change : goal.lower-requires-clause-change
+lower-requires-clause-change c = c.in-Ok.ensures.saw.2.change ∙ c.requires.fits.seated.change
+
+pub try_out_held-requires : goal.try_out_held-requires
+try_out_held-requires c =
+    let t = c.args.self.now in
+    let f = c.requires.fits in
+    let h = c.requires.held in
+    let saw = c.in-Ok.ensures.saw in
+    let began = c.lower.ensures in
+    record {
+      table = began.table ∙ (c.see.ensures.table ∙ f.seated.table);
+      at = (c.args.pass.now.number, still_at_work (still_at_work f.seated.at saw.2) began.runs);
+      held = (h.0, began.runs.work ∙ (saw.2.work ∙ its_counted f h.1 c.requires.counted));
+      slot = omega (arith, c.requires.slot, t.same_size);
+      stock = f.seated.stock ∙ sym (turns_then saw.2 began.runs).stock;
+      off = began.runs.change ∙ ap (λ (b : Bool). uncounted b true (group_of (range_at_start t.table.shared.key) c.args.slot)) c.is_in_range-inside.ensures;
+      named = saw.0;
+    }
+
+pub returns-in-Ok-try_out_held : goal.returns-in-Ok-try_out_held
+returns-in-Ok-try_out_held c =
+    let t = c.args.self.now in
+    let k : Start = t.table.shared.key in
+    let fits = c.requires.fits in
+    let s = fits.seated in
+    let h = c.requires.held in
+    let saw = c.in-Ok.ensures.saw in
+    let began = c.lower.ensures in
+    let took = c.in-Ok-try_out_held.ensures.tried in
+    let found = c.in-Ok-try_out_held.found in
+    let f = h.0 in
+    let x = c.removed_by.result in
+    let its = c.removed_by.ensures in
+    let stock = c.try_out_held.new.stock.items in
+    let m = c.args.pass.now.seat.me in
+    let m₂ = c.lower.new.seat.me in
+    let m₃ = c.try_out_held.new.seat.me in
+    let first = turns_then saw.2 began.runs in
+    let works = its_counted fits h.1 c.requires.counted in
+    let flags = held_flags k.passes c.args.pass.now works fits.knows in
+    let same : took.0 ≡ f = cc (sym took.1 ∙ (first.work ∙ works)) in
+    let names = subst (λ (z : File). Names (node_of_number k) found (Some z)) same took.3 in
+    let its_stock = subst (λ (n : ℕ). IsStockOf k n stock) (number_is (still_at_work s.at first)) took.4 in
+    let did = subst (λ (z : File × Glance). Runs (as_stocked stock m₂) ([] ▷ Release z.0 ▷ Take c.args.slot (Some z.0)) (retiring_work k found (Some z.0)) z.1 Outside 4 m₃)
+    (λ i. (same i, first.glance i)) took.5 in
+    let run = subst (λ (g : Glance). Runs (as_stocked stock m) ([] ▷ Release f ▷ Take c.args.slot (Some f)) (retiring_work k found (Some f)) g Outside 8 m₃) fits.calm
+    (stocked_then stock first did) in
+    let v = view_of c.args.pass.now in
+    let w = pass_of c.try_out_held.new.seat.me.0 in
+    record {
+      fits = stocked_pass s stock its_stock _ run (refl, refl) (c.try_out_held.ensures.table ∙ (began.table ∙ c.see.ensures.table))
+          (c.try_out_held.ensures.places ∙ (began.places ∙ (c.see.ensures.places ∙ s.places))) (refl, s.next)
+          (knows_removed k found (Some f) (Some (retired_at f (full_name_in found - 1) (count_in found))) _ c.args.pass.now.guarded _ _ c.args.pass.now.next_entry stock flags.1 refl
+          (ap not (sym flags.0)) (c.first_visit-pass.ensures ∙ first_by t found));
+      taken = (
+        f,
+        h.1,
+        removal_so found x its.node its.entry its.takes took.2 f k names.1,
+        subst (λ (z : Retired). Adds (opening_of k) v ([] ▷ Release f ▷ Take c.args.slot (Some f)) (Retires f z) no_use w)
+            (value_so found x its.node its.entry its.takes took.2 f names.1) (adds_stocked s stock run no_use),
+      );
+      tries = tt;
+      steps = let few = run.steps in omega arith;
+    }
+
+pub raise-requires : goal.raise-requires
+raise-requires c =
+    let f = c.requires.fits in
+    let saw = c.in-Ok.ensures.saw in
+    let began = c.lower.ensures in
+    let tried = stands_then (turns_then saw.2 began.runs) c.in-Err-try_out_held.ensures.tried.1 in
+    record {
+      table = c.try_out_held.ensures.table ∙ (began.table ∙ (c.see.ensures.table ∙ f.seated.table));
+      at = (c.args.pass.now.number, still_at_work f.seated.at tried);
+      inside = c.is_in_range-inside.ensures;
+      change = tried.change;
+    }
+
+pub returns-in-Err-try_out_held : goal.returns-in-Err-try_out_held
+returns-in-Err-try_out_held c =
+    let k : Start = c.args.self.now.table.shared.key in
+    let fits = c.requires.fits in
+    let s = fits.seated in
+    let h = c.requires.held in
+    let saw = c.in-Ok.ensures.saw in
+    let began = c.lower.ensures in
+    let failed = c.in-Err-try_out_held.ensures.tried in
+    let end = c.raise.ensures in
+    let p = c.args.pass.now in
+    let m = p.seat.me in
+    let m₁ = c.see.new.seat.me in
+    let m₂ = c.lower.new.seat.me in
+    let m₃ = c.try_out_held.new.seat.me in
+    let m₄ = c.raise.new.seat.me in
+    let first = turns_then saw.2 began.runs in
+    let run = turns_then (stands_then first failed.1) end.runs in
+    let same_stock = failed.2 ∙ (first.stock ∙ sym s.stock) in
+    record {
+      fits = still_pass s _ (subst (λ (g : Glance). Runs m [] m.0.work g Outside 9 m₄) fits.calm run) (refl, refl)
+          (end.table ∙ (c.try_out_held.ensures.table ∙ (began.table ∙ c.see.ensures.table)))
+          (end.places ∙ (c.try_out_held.ensures.places ∙ (began.places ∙ (c.see.ensures.places ∙ s.places)))) (same_stock, s.next)
+          (subst (λ (l : List ℕ). IsBetweenCalls k.passes p.idle p.guarded p.keeps p.next_visit l p.next_entry m.0.work) (sym same_stock) fits.knows);
+      taken = (
+        h.0,
+        h.1,
+        missed_so k c.args.slot c.args.hold.now.node m m₁ m₂ m₃ m₄ c.in-Err-try_out_held.miss saw.1 failed.0 first.seen
+            (turns_then (stands_then began.runs failed.1) end.runs).seen end.runs.seen,
+        adds_held fits h.1 run,
+      );
+      tries = tried_so k c.args.slot c.args.hold.now.node p (record p { seat = c.raise.new.seat; stock = c.try_out_held.new.stock }) m₂ m₃
+          first.number (first.start ∙ s.at.pass.0) first.seen first.met end.runs.seen end.runs.met c.in-Err-try_out_held.miss failed.0;
+      steps = let few = run.steps in omega arith;
+    }

@@ -1,0 +1,84 @@
+use Rattle.fx_lasting.proofs.Words.{◌≡◌, ◌≤◌, ◌+◌, ℕ, List, get_elem?, some, pass_in, refl, ap, ◌∙◌, sym, arith, slot_of, full_name_in, subst}
+use Rattle.fx_lasting.proofs.Calling.{slot_inside, slot_low, few_nodes, stock_inside}
+use Rattle.fx_lasting.proofs.HeldTries.{won_swap_held}
+use Rattle.fx_lasting.proofs.ByNode.{lost_run, lost_so, stands_then}
+use Rattle.fx_lasting.proofs.Overtaking.{Tried, tried_nothing, tried_more}
+use Rattle.fx_lasting.proofs.Places.{slot_back}
+use Rattle.fx_lasting.proofs.Running.{placed_none, still_at_work, runs_goes, runs_within, stock_is}
+use Rattle.fx_lasting.proofs.SwapsHeld.{swaps_held_keep}
+use Rattle.fx_lasting.proofs.table.LastingTable.try_swap_held.Goals as goal
+
+pub empty_word-new-requires : goal.empty_word-new-requires
+empty_word-new-requires c =
+    let t = c.args.self.now in
+    let s = c.requires.stocked in
+    omega (arith, stock_inside t.table.shared.key c.requires.at.0 s.0 c.args.own c.args.seat.now.me c.requires.at.1 s.1, few_nodes t)
+
+pub loop-init : goal.loop-init
+loop-init c = record { table = refl; places = refl; named = c.requires.named; still = placed_none c.requires.at.1 refl; tries = tried_nothing c.args.slot c.args.word c.args.seat.now.me }
+
+pub compare_exchange-was-requires : goal.compare_exchange-was-requires
+compare_exchange-was-requires c =
+    let t = c.args.self.now in
+    let i = c.loop.invariant in
+    let s = c.requires.stocked in
+    let at = still_at_work c.requires.at.1 i.still in (
+      i.table ∙ c.requires.table,
+      slot_inside t c.requires.slot c.slot_place-place.ensures,
+      swaps_held_keep _ _ _ _ c.args.slot c.args.own c.loop.expected _ c.args.node c.requires.held.0 c.loop.seat.me _ at.pass
+          (i.still.work ∙ c.requires.held.1) i.named (slot_low t c.requires.slot)
+          (i.still.change ∙ c.requires.off) (s.0, ap (λ (l : List ℕ). get_elem? l s.0) (sym (stock_is at)) ∙ (ap (λ (l : List ℕ). get_elem? l s.0) i.still.stock ∙ s.1)) c.slot_place-place.ensures c.empty_word-new.ensures,
+    )
+
+pub returns-then-was-expected : goal.returns-then-was-expected
+returns-then-was-expected c =
+    let i = c.loop.invariant in
+    let start = (still_at_work c.requires.at.1 i.still).pass.0 in
+    let s = c.requires.stocked in
+    let h = c.requires.held in
+    let won = λ (e : ℕ) (at : get_elem? (pass_in c.loop.seat.me).stock e ≡ some c.args.own). c.compare_exchange-was.ensures.2.wins h.0 c.args.node c.args.own e
+    (i.still.work ∙ h.1) at c.empty_word-new.ensures c.if-was-expected.true in
+    let first = won s.0 (ap (λ (l : List ℕ). get_elem? l s.0) i.still.stock ∙ s.1) in
+    record {
+      table = c.compare_exchange-was.ensures.0 ∙ i.table;
+      places = first.4 ∙ i.places;
+      tried = won_swap_held c.args.node c.compare_exchange-was.result c.compare_exchange-was.new.seat.me h.0 h.1 start (ap slot_of c.slot_place-place.ensures ∙ slot_back c.args.slot) i.still
+          (omega (arith, c.loop-test.true)) (ap (λ (z : ℕ). full_name_in z) c.if-was-expected.true ∙ i.named) first.0 first.1 c.args.own s
+          (λ e at. let z = won e at in (z.2, z.3));
+    }
+
+pub loop-preserved : goal.loop-preserved
+loop-preserved c =
+    let i = c.loop.invariant in
+    let saw = c.compare_exchange-was.ensures.2.loses c.if-was-expected.false in
+    let says = c.in-Ok.ensures in
+    record {
+      table = c.compare_exchange-was.ensures.0 ∙ i.table;
+      places = saw.goes.carried ∙ i.places;
+      named = ap (λ (z : ℕ). full_name_in z) says.0 ∙ says.1;
+      still = stands_then i.still (runs_goes saw.goes);
+      tries = subst (λ (z : ℕ). Tried c.args.slot z (c.loop.counter + 1) c.args.seat.now.me c.compare_exchange-was.new.seat.me) (sym says.0)
+          (tried_more i.still saw (ap slot_of c.slot_place-place.ensures ∙ slot_back c.args.slot) c.if-was-expected.false i.tries);
+    }
+
+pub returns-in-Err : goal.returns-in-Err
+returns-in-Err c =
+    let i = c.loop.invariant in
+    let saw = c.compare_exchange-was.ensures.2.loses c.if-was-expected.false in
+    let start = (still_at_work c.requires.at.1 i.still).pass.0 in
+    let few : c.loop.counter + 1 ≤ 4 = omega (arith, c.loop-test.true) in
+    record {
+      table = c.compare_exchange-was.ensures.0 ∙ i.table;
+      places = saw.goes.carried ∙ i.places;
+      tried = (
+        lost_so i.still few saw c.args.node start (ap slot_of c.slot_place-place.ensures ∙ slot_back c.args.slot) c.in-Err.miss c.in-Err.ensures,
+        lost_run i.still few saw,
+      );
+    }
+
+pub returns : goal.returns
+returns c = let i = c.loop.invariant in record {
+  table = i.table;
+  places = i.places;
+  tried = (i.tries.overtaken (omega (arith, c.loop.auto.counter-end)), runs_within (omega (arith, c.loop.auto.counter-end)) i.still);
+}
