@@ -101,7 +101,7 @@ any_none o v (Some retired) removal u it = retired_none o v retired removal u it
 
 insert_none : (w w' : TableWorker) (tag number : ℕ) (reason : ServerRefusal) → PutsAny w tag number (Err reason) w' → AddsNone (its w) (its w')
 insert_none w w' tag number NoFree it = added_none (its_opening w) (its_pass w) _ _ _ (its_pass w') it (refl, tt)
-insert_none w w' tag number Again it = added_none (its_opening w) (its_pass w) _ _ _ (its_pass w') it tt
+insert_none w w' tag number Again it = added_none (its_opening w) (its_pass w) _ _ _ (its_pass w') it.0 tt
 insert_none w w' tag number Busy it = same w w' it.1
 insert_none w w' tag number Reader it = same w w' it.1
 insert_none w w' tag number Empty it = absurd it
@@ -132,9 +132,9 @@ as_it_was : (w w' : TableWorker) → w' ≡ w → Unchanged w w'
 as_it_was w w' is = record { none = same w w' is; holder = holder_same w w' (ap (λ (u : TableWorker). u.holder) is) }
 
 replace_fails : (w w' : TableWorker) (key : Key) (tag number : ℕ) (why : KeyFault) (freed released : Option ℕ) → PutsNoKey w key tag number why freed released w' → Unchanged w w'
-replace_fails w w' key tag number why freed released it =
-    let both = fails_none (its_start w) (view_of it.holder.before) (its_pass w) key why it.out it.back (view_of it.holder.after) (its_pass w') it.placed.1 in
-    record { none = both.1; holder = holder_more w w' it.holder both.0 }
+replace_fails w w' key tag number why freed released (puts, tries) =
+    let both = fails_none (its_start w) (view_of puts.holder.before) (its_pass w) key why puts.out puts.back (view_of puts.holder.after) (its_pass w') puts.placed.1 in
+    record { none = both.1; holder = holder_more w w' puts.holder both.0 }
 
 replace_unchanged : (w w' : TableWorker) (key : Key) (tag number : ℕ) (reason : ServerRefusal) (freed released : Option ℕ) → ReplacesByKey w key tag number (Err reason) freed released w'
     → Unchanged w w'
@@ -151,9 +151,9 @@ replace_unchanged w w' key tag number BadArgument freed released it = absurd it
 replace_unchanged w w' key tag number NoMemory freed released it = absurd it
 
 remove_fails : (w w' : TableWorker) (key : Key) (why : KeyFault) (freed released : Option ℕ) → RemovesNoKey w key why freed released w' → Unchanged w w'
-remove_fails w w' key why freed released it =
-    let both = fails_none (its_start w) (view_of it.holder.before) (its_pass w) key why it.out it.back (view_of it.holder.after) (its_pass w') it.taken in
-    record { none = both.1; holder = holder_more w w' it.holder both.0 }
+remove_fails w w' key why freed released (takes, tries) =
+    let both = fails_none (its_start w) (view_of takes.holder.before) (its_pass w) key why takes.out takes.back (view_of takes.holder.after) (its_pass w') takes.taken in
+    record { none = both.1; holder = holder_more w w' takes.holder both.0 }
 
 remove_unchanged : (w w' : TableWorker) (key : Key) (result : Result Removal ServerRefusal) (freed released : Option ℕ) → RemovesByKey w key result freed released w' → Unchanged w w'
 remove_unchanged w w' key (Ok removal) freed released it =

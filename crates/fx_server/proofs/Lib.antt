@@ -12,3 +12,4 @@ pub mod FromEnd
 pub mod Looking
 pub mod OpenedNumbers
 pub mod Sending
+pub mod StaleKeys

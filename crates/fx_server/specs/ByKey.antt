@@ -5,7 +5,7 @@ use Rattle.fx_base.specs.Identity.{Identity}
 use Rattle.fx_table.specs.Pass.{PassView}
 use Rattle.fx_table.specs.declared.values.Hold.{Hold}
 use Rattle.fx_table.specs.declared.values.Retired.{Retired}
-use Rattle.fx_lasting.specs.Keys.{LookedByKey, PutsOverKey, TakesByKey}
+use Rattle.fx_lasting.specs.Keys.{LookedByKey, PutsOverKey, TakesByKey, TriesKey}
 use Rattle.fx_lasting.specs.Tables.{view_of}
 use Rattle.fx_lasting.specs.declared.key.Key.{Key}
 use Rattle.fx_lasting.specs.declared.key_answers.KeyFault.{KeyFault}
@@ -94,10 +94,13 @@ pub record RemovesFileOf (w : TableWorker) (key : Key) (removal : Removal)
   pub takes : TakesKey w key (Ok retired) freed released w' between
   pub retires : RetiresAs (its_opening w) between retired removal (its_pass w')
 
--- the slot was left as it was, for this reason
+-- the slot was left as it was, for this reason: `Again` only if another pass was at the slot after
+-- the holder's look-up
 abbrev pub RemovesNoKey : TableWorker → Key → KeyFault → (freed released : Option ℕ) → TableWorker
     → Type 0
-RemovesNoKey w key why freed released w' = TakesKey w key (Err why) freed released w' (its_pass w')
+RemovesNoKey w key why freed released w' =
+    (takes : TakesKey w key (Err why) freed released w' (its_pass w'))
+    × TriesKey (its_start w) (view_of takes.holder.before) key why takes.out w.pass w'.pass
 
 -- a removal by key
 abbrev pub RemovesByKey : TableWorker → Key → Result Removal ServerRefusal
@@ -134,11 +137,14 @@ pub record ReplacesFileOf (w : TableWorker) (key : Key) (tag number : ℕ) (remo
   pub puts : PutsKey w key (file_with tag number) (Replaced retired) freed released w' between
   pub retires : RetiresAs (its_opening w) between retired removal (its_pass w')
 
--- the slot was left as it was, for this reason
+-- the slot was left as it was, for this reason: `Again` only if another pass was at the slot after
+-- the holder's look-up
 abbrev pub PutsNoKey : TableWorker → Key → (tag number : ℕ) → KeyFault
     → (freed released : Option ℕ) → TableWorker → Type 0
-PutsNoKey w key tag number why freed released w' = PutsKey w key (file_with tag number)
-    (Missed why (file_with tag number)) freed released w' (its_pass w')
+PutsNoKey w key tag number why freed released w' =
+    (puts : PutsKey w key (file_with tag number) (Missed why (file_with tag number)) freed released
+    w' (its_pass w'))
+    × TriesKey (its_start w) (view_of puts.holder.before) key why puts.out w.pass w'.pass
 
 -- a replacement by key
 abbrev pub ReplacesByKey : TableWorker → Key → (tag number : ℕ) → Result Removal ServerRefusal

@@ -10,4 +10,5 @@ pub mod Lending
 pub mod Opened
 pub mod Outcomes
 pub mod Places
+pub mod StaleKeys
 pub mod Workers

@@ -25,7 +25,7 @@ use Rattle.fx_lasting.specs.declared.answers.PutEmpty.{PutEmpty}
 use Rattle.fx_lasting.specs.declared.answers.PutEmpty.TheVariants as empty
 use Rattle.fx_lasting.specs.declared.pass.LastingPass.{LastingPass}
 use Rattle.fx_lasting.specs.declared.table.LastingTable.{LastingTable}
-use Rattle.fx_lasting.specs.Vacant.{HasPutEmpty, HasSearched}
+use Rattle.fx_lasting.specs.Vacant.{FellShort, HasPutEmpty, HasSearched}
 use Rattle.fx_lasting.specs.declared.view.Start.{Start}
 use Rattle.fx_server.specs.Files.{file_with}
 use Rattle.fx_server.specs.declared.answers.FoundFile.{FoundFile}
@@ -54,6 +54,9 @@ its_opening w = opening_of_table (its_table w)
 
 abbrev pub its_pass : TableWorker → PassView
 its_pass w = view_of w.pass
+
+abbrev pub its_start : TableWorker → Start
+its_start w = (its_table w).table.shared.key
 
 -- the hold with the worker's fields
 abbrev pub hold_in : Held → Hold
@@ -164,7 +167,7 @@ Puts w slot tag number (Err Reader) w' = IsReader w w'
 Puts w slot tag number (Err _) w' = ⊥
 
 -- one round of an installation: the file is at the slot; or every slot had a file at one step, or
--- nothing was done
+-- nothing was done, and the table's call says what it saw
 abbrev pub PutsAny : TableWorker → (tag number : ℕ) → Result ℕ ServerRefusal → TableWorker → Type 0
 PutsAny w tag number (Ok slot) w' = (slot < size_of (its_opening w)) × ((new : File)
     × IsNewFile (its_opening w) (its_pass w) (file_with tag number) new
@@ -174,6 +177,7 @@ PutsAny w tag number (Err NoFree) w' =
     Adds (its_opening w) (its_pass w) ([] ▷ Full) DoesNothing no_use (its_pass w')
 PutsAny w tag number (Err Again) w' =
     Adds (its_opening w) (its_pass w) [] DoesNothing no_use (its_pass w')
+    × FellShort (its_start w) w.pass w'.pass
 PutsAny w tag number (Err Busy) w' = IsBusy w w'
 PutsAny w tag number (Err Reader) w' = IsReader w w'
 PutsAny w tag number (Err _) w' = ⊥
@@ -194,9 +198,6 @@ RemovesFrom w slot (Err NoSlot) w' = HasNoSlot w slot w'
 RemovesFrom w slot (Err Reader) w' = IsReader w w'
 RemovesFrom w slot (Err Busy) w' = IsBusy w w'
 RemovesFrom w slot (Err _) w' = ⊥
-
-abbrev pub its_start : TableWorker → Start
-its_start w = (its_table w).table.shared.key
 
 -- the worker is unchanged, since the slot isn't in the allocation range
 abbrev pub HasNoSuchSlot : TableWorker → ℕ → TableWorker → Type 0

@@ -5,7 +5,7 @@ ghost use Rattle.fx_server.specs.ByKey.{key_refusal};
 ghost use Rattle.fx_server.specs.Workers.{IsGood};
 
 use crate::answers::{LookAnswer, PlaceAnswer, Placed, RemoveAnswer, ServerRefusal};
-use crate::shared::Shared;
+use crate::shared::file_with;
 use crate::worker::{TableWorker, not_found, not_removed, note, retire, tag_of};
 use fx_lasting::{Key, KeyFault, KeyLook, KeyPut, KeyTaken, PutOverKey};
 
@@ -133,12 +133,11 @@ impl TableWorker {
         let Some(holder) = &mut self.holder else {
             return not_removed(ServerRefusal::Reader);
         };
-        let shared: &Shared = &self.shared;
-        let table = &shared.table;
+        let table = &self.shared.table;
         if !table.installs(&self.pass) {
             return not_removed(ServerRefusal::Reader);
         }
-        let file = shared.file(tag, next);
+        let file = file_with(tag, next);
         let KeyPut {
             put,
             freed,

@@ -3,6 +3,7 @@ ghost use Rattle.fx_server.specs.EndsOfKeys.{DoneRemovalsEndKeys, DoneReplacemen
 ghost use Rattle.fx_server.specs.FileNumbers.{NumbersAreDrawnOnce, NumbersLast};
 ghost use Rattle.fx_server.specs.FilesNumbers.{ExportsKeepNumbers, FilesHaveTheirOwnNumbers};
 ghost use Rattle.fx_server.specs.FilesNumbers.{OpenedWorkersDrawTheirNumbers};
+ghost use Rattle.fx_server.specs.StaleKeys.{StaleKeysHadAnother};
 
 /// States that no number but 0 is drawn twice by the workers of a table, so that no key names two
 /// values, and how many numbers a worker has.
@@ -18,6 +19,13 @@ pub fn a_key_ends_once()
     ensures once { KeysEndOnce }
     ensures removals { DoneRemovalsEndKeys }
     ensures replacements { DoneReplacementsEndKeys }
+{}
+
+/// States that a call by key says `Stale` only if the slot had another file than that of the key at
+/// a moment of the call: after what a pass of the worker had seen before it, and within what a pass
+/// of the worker has seen after it.
+pub fn a_stale_key_had_another_file()
+    ensures { StaleKeysHadAnother }
 {}
 
 /// States that no two files of a history have one number but 0, if each pass installs files with

@@ -9,7 +9,7 @@ ghost use Rattle.fx_server.specs.declared.answers.ServerRefusal.TheVariants.{Bad
 
 use crate::answers::ServerRefusal;
 use crate::file_numbers::FileNumbers;
-use crate::shared::{Shared, one_file};
+use crate::shared::Shared;
 use crate::worker::{TableWorker, abandon};
 use fx_lasting::{LastingPass, LastingTable, MOST_INSTALLING, MOST_PASSES, MOST_SLOTS};
 use std::alloc::{AllocError, Global};
@@ -45,20 +45,11 @@ pub fn open(
     if count > MOST_PASSES {
         return Err(ServerRefusal::BadArgument);
     }
-    let Ok(catalogue) = one_file(alloc) else {
-        return Err(ServerRefusal::NoMemory);
-    };
     let opened = LastingTable::open_sparse(alloc, slots, (0, slots), count, installing);
     let Ok((table, passes)) = opened else {
         return Err(ServerRefusal::NoMemory);
     };
-    let list = share(
-        alloc,
-        Shared { table, catalogue },
-        passes,
-        workers,
-        installing,
-    )?;
+    let list = share(alloc, Shared { table }, passes, workers, installing)?;
     Ok(list)
 }
 

@@ -3,7 +3,7 @@ ghost use Rattle.std.specs.Prelude.{◌≡◌};
 ghost use Rattle.fx_server.specs.Workers.{FindsSlot, IsGood, Puts, PutsAny, PutsEmpty};
 
 use crate::answers::{Removal, ServerRefusal};
-use crate::shared::Shared;
+use crate::shared::file_with;
 use crate::worker::{TableWorker, retire};
 use fx_lasting::{FoundSlot, PutEmpty, TriedPut};
 
@@ -29,15 +29,14 @@ impl TableWorker {
         if self.held.is_some() {
             return Err(ServerRefusal::Busy);
         }
-        let shared: &Shared = &self.shared;
-        let table = &shared.table;
+        let table = &self.shared.table;
         if slot >= table.size() {
             return Err(ServerRefusal::NoSlot);
         }
         if !table.installs(&self.pass) {
             return Err(ServerRefusal::Reader);
         }
-        let file = shared.file(tag, number);
+        let file = file_with(tag, number);
         match table.put(&mut self.pass, slot, file) {
             None => Ok(Removal::Nothing),
             Some(retired) => Ok(retire(table, &mut self.pass, retired)),
@@ -61,12 +60,11 @@ impl TableWorker {
         if self.held.is_some() {
             return Err(ServerRefusal::Busy);
         }
-        let shared: &Shared = &self.shared;
-        let table = &shared.table;
+        let table = &self.shared.table;
         if !table.installs(&self.pass) {
             return Err(ServerRefusal::Reader);
         }
-        let file = shared.file(tag, number);
+        let file = file_with(tag, number);
         match table.try_put_any(&mut self.pass, file) {
             TriedPut::At(slot) => Ok(slot),
             TriedPut::Full(file) => {
@@ -102,15 +100,14 @@ impl TableWorker {
         if self.held.is_some() {
             return Err(ServerRefusal::Busy);
         }
-        let shared: &Shared = &self.shared;
-        let table = &shared.table;
+        let table = &self.shared.table;
         if !table.allocates(slot) {
             return Err(ServerRefusal::NoSlot);
         }
         if !table.installs(&self.pass) {
             return Err(ServerRefusal::Reader);
         }
-        let file = shared.file(tag, number);
+        let file = file_with(tag, number);
         match table.put_empty(&mut self.pass, slot, file) {
             PutEmpty::Installed => Ok(()),
             PutEmpty::HasFile(file) => {

@@ -30,7 +30,7 @@ pub struct Held {
 pub struct TableWorker {
     pub shared: Arc<Shared, Global>,
     pub held: Option<Held>,
-    pub numbers: FileNumbers,
+    pub(crate) numbers: FileNumbers,
     pub holder: Option<LastingPass>,
     pub pass: LastingPass,
 }

@@ -1,0 +1,167 @@
+-- A call by key that says `Stale`: the slot had another file at a moment of the call.
+use Rattle.fx_table.proofs.Calls.{follows_shown, seen_further}
+use Rattle.fx_table.proofs.Words.{◌≡◌, ◌≢◌, ◌⊎◌, ⊎_elim, inl, inr, ℕ, ◌++◌, List, [], ◌∷◌, map, refl, sym, ap, subst, ◌∙◌, append_assoc, dite, ℕ_discrete, eq-eqb, ne_eqb, Option, Some, Result}
+use Rattle.std.proofs.Common.{None, Ok, Err, ℤ}
+use Rattle.fx_base.specs.Identity.{Identity}
+use Rattle.fx_plain.specs.History.{◌▷◌, ◌▷▷◌, AllowsAll, IsSeenBy, action_of, part_of_pass, state_after}
+use Rattle.fx_plain.specs.State.{State}
+use Rattle.fx_plain.specs.Step.{Allows}
+use Rattle.fx_plain.specs.declared.event.Action.{Action}
+use Rattle.fx_plain.specs.declared.event.Action.TheVariants.{Close, Look, Release}
+use Rattle.fx_plain.specs.declared.event.Event.{Event}
+use Rattle.fx_plain.specs.declared.event.File.{File}
+use Rattle.fx_table.specs.Calls.{Adds, LookedUp, ReleasesFile, Use, one_look}
+use Rattle.fx_table.specs.Opening.{Opening}
+use Rattle.fx_table.specs.Pass.{IsFront, PassView, event_of}
+use Rattle.fx_table.specs.declared.values.Doing.{Doing}
+use Rattle.fx_table.specs.declared.values.Doing.TheVariants.{Holding}
+use Rattle.fx_table.specs.declared.values.Hold.{Hold}
+use Rattle.fx_lasting.specs.Keyed.{FitsMiss, IsOn, WasSo}
+use Rattle.fx_lasting.specs.Keys.{FailsByKey, HeldByKey, HoldsAtKey, IsKeyOf, LeftIt, LookedByKey, fault_for}
+use Rattle.fx_lasting.specs.Passes.{state_at_start}
+use Rattle.fx_lasting.specs.Tables.{IsPassOfTable, opening_of, view_of}
+use Rattle.fx_lasting.specs.declared.answers.Miss.{Miss}
+use Rattle.fx_lasting.specs.declared.answers.Miss.TheVariants as miss
+use Rattle.fx_lasting.specs.declared.key.Key.{Key}
+use Rattle.fx_lasting.specs.declared.key_answers.KeyFault.TheVariants.{Other}
+use Rattle.fx_lasting.specs.declared.pass.LastingPass.{LastingPass}
+use Rattle.fx_lasting.specs.declared.view.Start.{Start}
+use Rattle.fx_server.specs.ByKey.{FindsByKey, HasHolder, RemovesByKey, ReplacesByKeyNext}
+use Rattle.fx_server.specs.StaleKeys.{HadAnother, HasSeen, IsAnother, StaleKeysHadAnother}
+use Rattle.fx_server.specs.Workers.{HolderIsIdle, IsGood, its_pass, its_start, its_table}
+use Rattle.fx_server.specs.declared.answers.FoundFile.{FoundFile}
+use Rattle.fx_server.specs.declared.answers.Placed.{Placed}
+use Rattle.fx_server.specs.declared.answers.Removal.{Removal}
+use Rattle.fx_server.specs.declared.answers.ServerRefusal.{ServerRefusal}
+use Rattle.fx_server.specs.declared.answers.ServerRefusal.TheVariants.{Stale}
+use Rattle.fx_server.specs.declared.worker.TableWorker.{TableWorker}
+
+-- a history, split at its last event of a pass
+record SplitAt (since : List Event) (e : Event) : Type 0 where
+  earlier : List Event
+  later : List Event
+  is : since ≡ later ++ (e ∷ earlier)
+
+split : (p : ℕ) (since : List Event) (e : Event) (es : List Event) → part_of_pass p since ≡ e ∷ es → SplitAt since e
+split p [] e es is = absurd (cc is)
+split p (x ∷ xs) e es is = dite (ℕ_discrete x.pass p)
+    (λ same. let first : x ∷ part_of_pass p xs ≡ e ∷ es = rw (eq-eqb x.pass p same) at is in record { earlier = xs; later = []; is = cc first })
+    (λ other. let more = split p xs e es (rw (ne_eqb x.pass p other) at is) in
+    record { earlier = more.earlier; later = x ∷ more.later; is = ap (λ (l : List Event). x ∷ l) more.is })
+
+-- an event of a legal history was allowed
+allowed_at : (start : State) (h later : List Event) (e : Event) → AllowsAll start (map action_of (later ++ (e ∷ h))) → Allows (state_after start (map action_of h)) e.action
+allowed_at start h [] e may = may.1
+allowed_at start h (x ∷ later) e may = allowed_at start h later e may.0
+
+module _ (k : Start) (slot : ℕ) (f : File) where
+  -- a look-up that found the file: the slot had it
+  look_was : (v w : PassView) (earlier : List Action) (doing : Doing) (used : Use) → IsFront (opening_of k) v → Adds (opening_of k) v (earlier ▷ Look slot (Some f)) doing used w
+      → WasSo k slot (λ there. there ≡ Some f) v.front w.front
+  look_was v w earlier doing used front adds =
+      let made = follows_shown (opening_of k) v.front v w (earlier ▷ Look slot (Some f)) doing used front ([], refl) adds in
+      let at = split v.number made.since (event_of v (Look slot (Some f))) (map (event_of v) earlier) made.part in
+      let h = at.earlier ++ v.front in
+      let look = event_of v (Look slot (Some f)) in
+      let whole : w.front ≡ at.later ++ (look ∷ h) = made.front ∙ (ap (λ (l : List Event). l ++ v.front) at.is ∙ append_assoc at.later (look ∷ at.earlier) v.front) in
+      let may = allowed_at (state_at_start k) h at.later look (subst (λ (l : List Event). AllowsAll (state_at_start k) (map action_of l)) whole w_legal) in record {
+        history = h;
+        later = (at.earlier, refl);
+        seen = (at.later ++ (look ∷ []), whole ∙ sym (append_assoc at.later (look ∷ []) h));
+        there = sym may.1;
+      }
+    where
+      w_legal : AllowsAll (state_at_start k) (map action_of w.front)
+      w_legal = adds.front.legal.leads.0
+
+  looked_was : (v w : PassView) (hold : Hold) (freed : Option Identity) → IsFront (opening_of k) v → LookedUp (opening_of k) v slot (Ok hold) freed w → w.doing ≡ Holding f hold
+      → WasSo k slot (λ there. there ≡ Some f) v.front w.front
+  looked_was v w hold None front (g, is, adds) holds =
+      let same : g ≡ f = cc (sym adds.now ∙ holds) in look_was v w [] (Holding g hold) one_look front (subst (λ (z : File). Adds (opening_of k) v ([] ▷ Look slot (Some z)) (Holding g hold) one_look w) same adds)
+  looked_was v w hold (Some file) front (c, out, (g, is, adds)) holds =
+      let same : g ≡ f = cc (sym adds.now ∙ holds) in look_was v w ([] ▷ Close c) (Holding g hold) one_look front (subst (λ (z : File). Adds (opening_of k) v ([] ▷ Close c ▷ Look slot (Some z)) (Holding g hold) one_look w) same adds)
+
+looked_on : (o : Opening) (v w : PassView) (slot : ℕ) (hold : Hold) (freed : Option Identity) → LookedUp o v slot (Ok hold) freed w → IsSeenBy v.front w.front
+looked_on o v w slot hold None it = it.2.seen
+looked_on o v w slot hold (Some file) it = it.2.2.seen
+
+released_on : (o : Opening) (v : PassView) (f : File) (out : Option Identity) (w : PassView) → ReleasesFile o v f out w → IsSeenBy v.front w.front
+released_on o v f None w it = it.seen
+released_on o v f (Some file) w it = it.1.seen
+
+module _ (k : Start) (key : Key) where
+  -- that the slot had another file
+  abbrev Had : List Event → List Event → Type 0
+  Had before after = WasSo k key.slot (IsAnother key) before after
+
+  had_until : (a b c : List Event) → Had a b → IsSeenBy b c → Had a c
+  had_until a b c was more = record { history = was.history; later = was.later; seen = seen_further was.history b c was.seen more; there = was.there }
+
+  -- the file that a look-up found, and that the key doesn't name
+  had_other : (v w : PassView) (freed released : Option Identity) → IsFront (opening_of k) v → LookedByKey k v key (Err Other) freed released w → Had v.front w.front
+  had_other v w freed released front it =
+      let was = looked_was k key.slot it.file v it.between it.hold freed front it.held.looked it.held.holds in
+      had_until v.front it.between.front w.front
+      (record { history = was.history; later = was.later; seen = was.seen; there = (it.file, was.there, λ named. absurd (it.other named)) })
+      (released_on (opening_of k) it.between it.file released w it.releases)
+
+  -- a file on another node than that of the key's file, after that was found
+  had_after : (vh wh w : PassView) (hold : Hold) (freed released : Option Identity) (held : HeldByKey k vh key hold freed released wh)
+      → WasSo k key.slot (FitsMiss k hold.node miss.Other) held.between.front w.front → Had vh.front w.front
+  had_after vh wh w hold freed released held was = record {
+    history = was.history;
+    later = seen_further vh.front held.between.front was.history (looked_on (opening_of k) vh held.between key.slot hold freed held.held.looked) was.later;
+    seen = was.seen;
+    there = (was.there.0, was.there.1, λ named. (held.file, held.its_key, λ same. was.there.2 (subst (λ (f : File). IsOn k hold.node f) same held.held.node)));
+  }
+
+  left_other : (v between w : PassView) (node : ℕ) (m : Miss) → Other ≡ fault_for m → WasSo k key.slot (FitsMiss k node m) between.front w.front
+      → WasSo k key.slot (FitsMiss k node miss.Other) between.front w.front
+  left_other v between w node miss.Empty is was = cc
+  left_other v between w node miss.Other is was = was
+  left_other v between w node miss.Again is was = cc
+
+module _ (w w' : TableWorker) (key : Key) (good : IsGood w) where
+  -- a pass of the worker found the other file
+  by_pass : (out back : Option Identity) → LookedByKey (its_start w) (its_pass w) key (Err Other) out back (its_pass w') → HadAnother w key w'
+  by_pass out back looked = record {
+    before = (its_pass w).front;
+    after = (its_pass w').front;
+    from = inl refl;
+    until = inl refl;
+    was = had_other (its_start w) key (its_pass w) (its_pass w') out back good.fits.front looked;
+  }
+
+  holder_front : (p : LastingPass) → w.holder ≡ Some p → IsFront (opening_of (its_start w)) (view_of p)
+  holder_front p is = let its : HolderIsIdle (its_table w) (Some p) = subst (HolderIsIdle (its_table w)) is good.holder in its.0.front
+
+  by_holder : (h : HasHolder w w') (out back : Option Identity)
+      → FailsByKey (its_start w) (view_of h.before) (its_pass w) key Other out back (view_of h.after) (its_pass w') → HadAnother w key w'
+  by_holder h out back (inl (looked, same)) = record {
+    before = (view_of h.before).front;
+    after = (view_of h.after).front;
+    from = inr (h.before, h.was, refl);
+    until = inr (h.after, h.is, refl);
+    was = had_other (its_start w) key (view_of h.before) (view_of h.after) out back (holder_front h.before h.was) looked;
+  }
+  by_holder h out back (inr it) = record {
+    before = (view_of h.before).front;
+    after = (its_pass w').front;
+    from = inr (h.before, h.was, refl);
+    until = inl refl;
+    was = had_after (its_start w) key (view_of h.before) (view_of h.after) (its_pass w') it.hold out back it.holder
+        (left_other (its_start w) key (its_pass w) it.holder.between (its_pass w') it.hold.node it.left.miss it.left.same it.left.was);
+  }
+
+pub stale_keys : StaleKeysHadAnother
+stale_keys = record {
+  gets = λ w w' key answer out done good is.
+      let found = subst (λ (r : Result FoundFile ServerRefusal). FindsByKey w key r done.call.freed done.call.released w') is done.found in
+      by_pass w w' key good found.1.out found.1.back found.1.looked;
+  removes = λ w w' key answer out done good is.
+      let removed = subst (λ (r : Result Removal ServerRefusal). RemovesByKey w key r done.call.freed done.call.released w') is done.removed in
+      by_holder w w' key good removed.0.holder removed.0.out removed.0.back removed.0.taken;
+  replaces = λ w w' key tag answer out done good is.
+      let placed = subst (λ (r : Result Placed ServerRefusal). ReplacesByKeyNext w key tag r done.call.freed done.call.released w') is done.placed in
+      by_holder w w' key good placed.1.0.holder placed.1.0.out placed.1.0.back placed.1.0.placed.1;
+}
