@@ -8,8 +8,8 @@ from pages import anchors
 from repository import ROOT, read, write
 
 PAGES = {"docs/use/ARCHIVE.md": "README.md"} | {
-    it: it for it in (*(f"docs/{name}.md" for name in ("use/BAD_ENTRY", "use/BINDINGS", "use/C", "use/CHECKING", "use/DIRECT", "inside/FLIGHT", "use/KERNEL", "use/LIMITS", "use/LINUX", "use/LITMUS", "inside/MODEL", "use/PYTHON", "use/RECORDING", "use/RUST", "use/SCRIPT")), "examples/README.md")}
-ARM_PAGES = {"docs/use/ARCHIVE_ARM64.md": "README.md"} | {it: it for it in (f"docs/use/{name}.md" for name in ("BINDINGS", "C", "DIRECT", "PYTHON", "RUST"))}
+    it: it for it in (*(f"docs/{name}.md" for name in ("use/BAD_ENTRY", "use/BINDINGS", "use/C", "use/CHECKING", "use/CHOOSING", "use/DIRECT", "inside/FLIGHT", "use/KERNEL", "use/LIMITS", "use/LINUX", "use/LITMUS", "inside/MODEL", "use/PYTHON", "use/RECORDING", "use/RUST", "use/SCRIPT")), "examples/README.md")}
+ARM_PAGES = {"docs/use/ARCHIVE_ARM64.md": "README.md"} | {it: it for it in (f"docs/use/{name}.md" for name in ("BINDINGS", "C", "CHOOSING", "DIRECT", "PYTHON", "RUST"))}
 # what the archives have beside pages and scripts
 FOLDERS = ("LICENSE", "c", "completions", "docs/pictures", "examples", "kernel", "man")
 ARM_FOLDERS = ("LICENSE", "c", "examples", "man")
