@@ -1,47 +1,150 @@
-"""Rows for yachtjudge, each derived by hand: every field of a verdict and of a list of texts, both limits, the types of arguments, and the
-faults that are raised."""
+"""Rows for yachtjudge and yachtlog, each derived by hand: those of bindings/rust_judge/tests/rows.txt, which describes their form, with each
+field, the command's line and its status; and those of Python alone: types of arguments, limits, faults that are raised, and hints. The
+variable JUDGE_ROWS, which names the file to a stand-in for the library, adds the rows that only that answers."""
+import contextlib
+import io
+import os
+import re
+import sys
+import tempfile
 import typing
 from pathlib import Path
 
 import yachtjudge
+import yachtlog
 from rows import end, raised, raises, want
-from yachtjudge import judge, outcomes
+from yachtjudge import BadEvent, BadScript, LogVerdict, NoMemory, Outcomes, Verdict, judge, judge_events, outcomes
 
-script = "file a.txt 68656c6c6f\nsparse 2\nopen a.txt at 0 link\nread 0 0 5 link\nclose 0\nsubmit\n"
-text = "sparse 0\n1.1.1 0\n1.1.2 5 68656c6c6f\n1.1.3 0\nclosed 1.1.1.0 a.txt\n"
-two = "file a 61\nsparse 2\nopen a any\nopen a any\nsubmit\n"
+ROOT = Path(__file__).resolve().parents[2]
+sys.path.append(str(ROOT / "model"))
+import flight_states
 
-# a verdict's fields
-legal = judge(script, text)
-want(legal == yachtjudge.Verdict("legal", 0, 0, 0, "") and bool(legal), f"the text is {legal}")
-broken = judge(script, text.replace("1.1.2 5", "1.1.2 4"))
-want(broken.word == "not legal" and not broken, f"a text with another result is {broken}")
-want((broken.commands, broken.at, broken.submission) == (1, 9, 0), f"it breaks after the first command and its nine bytes: {broken}")
-want(judge(script, "").expected == "sparse 0\n", "the expected first line is missing")
-undecided = judge(script, text, states=1)
-want((undecided.word, bool(undecided), undecided.submission) == ("undecided", False, 1), f"within one state the text is {undecided}")
-want((undecided.commands, undecided.at, undecided.expected) == (0, 0, ""), f"an undecided text has other details: {undecided}")
-want(judge(script, text, states=1_000_000, memory=1).word == "legal", "within a MiB the text isn't legal")
-want(judge("", "").word == "legal", "nothing isn't legal for nothing")
+WORDS = ["legal", "not legal", "undecided"]
+# the names of the faults and of the flaws by number, as docs/use/FLIGHT.md and the header have them
+FAULTS = "wrong-number", "not-one-chain", "not-called", "out-of-turn", "answered-twice", "not-held", "still-open"
+FLAWS = "unknown-event", "unknown-request", "unknown-flags", "unknown-file", "past-the-end"
+# the exit status of the command for what the library returns
+STATUSES = {0: 0, 1: 1, 2: 6, 4: 5, 5: 3, 6: 3}
+is_stand_in = "JUDGE_ROWS" in os.environ
 
-# bytes of each kind, and a NUL
-want(judge("sparse 1\n", "sparse 0\n\0").word == "not legal", "a text with a NUL at its end is legal")
-raises(yachtjudge.BadScript, "line 2: not-text", lambda: judge("sparse 1\n\0", "sparse 0\n"))
-for kind in (bytes, bytearray, memoryview):
-    want(judge(kind(script.encode()), kind(text.encode())) == legal, f"{kind.__name__} is judged otherwise")
 
-# lists of texts
-first, second = ("sparse 0\n1.1.1 %d\n1.2.1 %d\nteardown\nclosed 1.1.1.0 a\nclosed 1.2.1.0 a\n" % it for it in ((0, 1), (1, 0)))
-both = outcomes(two)
-want(set(both) == {first.encode(), second.encode()} and len(both) == 2 and both.are_all, f"there are other texts: {both}")
-want(not outcomes(two, states=1).are_all, "within one state all texts are listed")
-want(outcomes(two, memory=1).are_all and len(outcomes(two, memory=1)) == 2, "within a MiB not all texts are listed")
+def expanded(field):
+    """Returns the bytes of a field."""
+    field = re.sub(r"\{(\d+):([^}]*)\}", lambda it: int(it[1]) * it[2], field).replace("|", "\n")
+    return re.sub(rb"%(..)", lambda it: bytes.fromhex(it[1].decode()), field.encode())
+
+
+def rows():
+    """Yields each row: its kind, whether only a stand-in answers it, the script above it, and its fields."""
+    script, above, is_refused = b"", "", False
+    for line in (ROOT / "bindings/rust_judge/tests/rows.txt").read_text().splitlines():
+        kind, *fields = line.split("\t")
+        is_refused |= kind == "refused"
+        if is_refused and not is_stand_in:
+            return
+        if kind == "script":
+            script = expanded(fields[0])
+        elif kind in ("judge", "list", "log"):
+            if kind == "log":
+                above = fields[3] = above if fields[3] == "=" else fields[3]
+            numbers = [int(it) for it in fields[0].split()]
+            yield kind, is_refused, script, numbers, int(fields[1]), fields[2:]
+
+
+def result(call):
+    """Returns what a call returns, or what it raises: the kind, and the words."""
+    try:
+        return call()
+    except (ValueError, MemoryError) as fault:
+        return type(fault), str(fault)
+
+
+def bad_script(script):
+    """Returns what a bad script raises, by the row that has its fault."""
+    return next((BadScript, f"line {more[0].split()[3]}: {expanded(more[1]).decode()}") for kind, _, it, _, number, more in rows()
+                if kind == "judge" and it == script and number == 3)
+
+
+NONE = NoMemory, "an allocation of the judge failed"
+
+
+def judged(_, script, limits, number, fields, note, text):
+    commands, at, submission, _ = map(int, fields.split())
+    expected = expanded(note).decode(errors="replace")
+    wanted = Verdict(WORDS[number], commands, at, submission, expected) if number < 3 else bad_script(script) if number == 3 else NONE
+    found = result(lambda: judge(script, expanded(text), *limits))
+    want(found == wanted and (number > 2 or bool(found) == (number == 0)), f"{found} in place of {wanted}")
+
+
+def listed(_, script, limits, number, line, texts):
+    found = result(lambda: outcomes(script, *limits))
+    wanted = tuple(expanded(texts).split(b"^")[:-1])
+    if number > 2:
+        want(found == (bad_script(script) if number == 3 else NONE), f"{found} of a list with the number {number}")
+        return
+    is_subset = number == 1 and not is_stand_in and set(found.texts) <= set(wanted)
+    want(is_subset or sorted(found.texts) == sorted(wanted), f"there are other texts of {script}: {found.texts[:4]}")
+    want(found.are_all == (number == 0) and len(found) == len(found.texts) == len(list(found)), f"there may be more texts: {found.are_all}")
+
+
+def judged_log(is_refused, script, limits, number, fields, lines):
+    """Judges a log by the module and by the command. What the module doesn't read as a log isn't one, at the same line."""
+    slots, *limits = limits
+    at, fault, _ = map(int, fields.split())
+    files = script.count(b"\n")
+    line = files + 3 + at
+    text = script.decode() + f"call 1 sparse {slots}\ndone 1.1 0\n" + expanded(lines).decode()
+    bad_line = 1 if number == 3 else files + 1 if not 0 < slots <= 1_048_576 else line if number == 5 and not is_refused else 0
+    if bad_line:
+        fault = raised(lambda: yachtlog.Log(text))
+        want(type(fault) is yachtlog.BadLog and fault.line == bad_line, f"{fault!r} of what is not a log at line {bad_line}: {lines}")
+        return
+    log = yachtlog.Log(text)
+    found = result(lambda: judge_events(log, None, *limits))
+    wanted = {0: LogVerdict("legal"), 1: LogVerdict("not legal", line), 2: LogVerdict("undecided"), 4: NONE}.get(number)
+    if number in (5, 6):
+        wanted = BadEvent, f"line {line}: {(FAULTS if number == 5 else FLAWS)[fault - 1]}"
+    if number == 7:
+        wanted = ValueError, f"the table has too many slots: {slots}"
+    want(found == wanted, f"{found} in place of {wanted}: {lines}")
+    if number < 3 and not is_stand_in and limits == [1_000_000, 1_024] and not log.lacking:
+        want(flight_states.judged(log).word == WORDS[number], f"the oracle finds another verdict than {found}: {lines}")
+    if number != 7 and not log.lacking:
+        want(command(text, limits) == said(text, number, line, wanted), f"the command prints something else: {command(text, limits)}, {lines}")
+
+
+def command(text, limits):
+    """Returns what the command prints of a log, and its status."""
+    with tempfile.TemporaryDirectory() as room, contextlib.redirect_stdout(io.StringIO()) as printed, contextlib.redirect_stderr(printed):
+        Path(room, "log").write_text(text)
+        sys.argv[1:], given = ["--states", str(limits[0]), "--memory", str(limits[1]), f"{room}/log"], sys.argv[1:]
+        status = yachtlog.main()
+        sys.argv[1:] = given
+        return printed.getvalue().replace(f"{room}/", ""), status
+
+
+def said(text, number, line, wanted):
+    """Returns what the command should print of a log, and its status."""
+    shown = text.splitlines()[line - 1] if number == 1 else ""
+    lines = {0: "log: legal", 1: f"log: not legal: line {line}: {shown}", 2: "log: undecided", 4: "yachtlog: log: there is no memory to judge it"}
+    return (lines.get(number) or f"log: not a log: {wanted[1]}") + "\n", STATUSES[number]
+
+
+for kind, *row, more in rows():
+    {"judge": judged, "list": listed, "log": judged_log}[kind](*row, *more)
+if is_stand_in:
+    end()
+
+# a text for bytes, and bytes of each kind
+script, text = "file a.txt 68656c6c6f\nsparse 1\nopen a.txt at 0\nsubmit\n", "sparse 0\n1.1.1 0\nteardown\nclosed 1.1.1.0 a.txt\n"
+for kind in (str, str.encode, lambda it: bytearray(it.encode()), lambda it: memoryview(it.encode())):
+    want(judge(kind(script), kind(text)) == Verdict("legal", 0, 0, 0, ""), f"{kind} is judged otherwise")
+want(isinstance(outcomes(script), Outcomes) and set(outcomes(script.encode())) == {text.encode()}, "there are other texts")
 
 # faults
 for call in (lambda: judge("sparse 1\nsparse\n", ""), lambda: outcomes("sparse 1\nsparse\n")):
     fault = raised(call)
-    want(isinstance(fault, yachtjudge.BadScript) and isinstance(fault, ValueError), f"a bad script raises {fault!r}")
-    want((fault.line, fault.fault, str(fault)) == (2, "word-count", "line 2: word-count"), f"a bad script has the fault {fault}")
+    want(isinstance(fault, ValueError) and (fault.line, fault.fault) == (2, "word-count"), f"a bad script raises {fault!r}")
 raises(TypeError, "script must be str or bytes, not int", lambda: judge(5, ""))
 raises(TypeError, "text must be str or bytes, not int", lambda: judge("", 5))
 raises(TypeError, f"script must be str or bytes, not {type(Path()).__name__}", lambda: judge(Path("x"), ""))
@@ -49,7 +152,8 @@ raises(TypeError, "script must be str or bytes, not list", lambda: outcomes([115
 raises(TypeError, "script must be str or bytes, not NoneType", lambda: outcomes(None))
 raises(TypeError, "str", lambda: judge("", "", states="5"))
 raises(TypeError, "float", lambda: judge("", "", memory=1.0))
-for call in (lambda **limit: judge("", "", **limit), lambda **limit: outcomes("", **limit)):
+log = yachtlog.Log("file a 61\ncall 1 sparse 1\ndone 1.1 0\n")
+for call in (lambda **limit: judge("", "", **limit), lambda **limit: outcomes("", **limit), lambda **limit: judge_events(log, **limit)):
     raises(ValueError, "states must be from 0 to 4294967295, not -1", lambda call=call: call(states=-1))
     raises(ValueError, "states must be from 0 to 4294967295, not 4294968296", lambda call=call: call(states=2**32 + 1000))
     raises(ValueError, "memory must be from 0 to 4294967295, not -1", lambda call=call: call(memory=-1))

@@ -1,5 +1,5 @@
-"""Rows for yachtjudge.judge_events and yachtevents, each derived by hand: verdicts with their lines, the faults of a log, and the structs
-that an event and a request become."""
+"""Rows for yachtjudge.judge_events and yachtevents that only Python has (judge_rows.py has the others), each derived by hand: numbers of calls,
+tags, the caller's own events, what is raised, and the structs that an event and a request become."""
 import sys
 from pathlib import Path
 
@@ -37,46 +37,11 @@ def verdict(word, line, *lines):
 
 opened = "call 2 open a at 0", "done 2.1 0"
 read = *opened, "call 3 read 0 0 4", "call 4 close 0", "done 4.1 0"
-closed = "closed 2.1.0 a", "settled"
-verdict("legal", 0)
-verdict("legal", 0, *read, "done 3.1 1 61", *closed)
-verdict("legal", 0, *read, "done 3.1 -9", *closed)
-verdict("not legal", 10, *read, "done 3.1 1 62", *closed)
-verdict("not legal", 10, *read, "done 3.1 0", *closed)
-verdict("not legal", 7, *opened, "closed 2.1.0 a")
-verdict("not legal", 11, *read, "done 3.1 1 61", "settled")
 # the calls of a text may have any numbers, and so have the marks of their files
-verdict("legal", 0, "call 7 open b any", "call 5 update 0 -2,0", "done 5.1 2", "done 7.1 1", "closed 7.1.0 b")
 verdict("legal", 0, "call 7 open b any", "call 5 update 0 -2,0", "call 9 close 1", "done 5.1 2", "done 7.1 1", "done 9.1 0", "closed 5.1.1 a")
 verdict("not legal", 9, "call 7 open b any", "call 5 update 0 -2,0", "done 5.1 2", "done 7.1 1", "closed 5.1.1 a")
 verdict("legal", 0, "call 2 regupdate 1 1", "call 3 open missing at 0 link ; close 1", "done 3.1 -2", "done 3.2 -125", "done 2.1 1")
 verdict("not legal", 8, "call 2 regupdate 1 1", "call 3 open missing at 0 hardlink ; close 1", "done 3.1 -2", "done 3.2 -125", "done 2.1 1")
-verdict("legal", 0, "call 2 open a at 2", "done 2.1 -22", "call 3 update 1 0,0", "done 3.1 -22", "call 4 update 0 -3", "done 4.1 -9")
-verdict("legal", 0, "call 2 update 0 0,0", "done 2.1 2", "call 3 open b any", "done 3.1 -23")
-
-verdict("legal", 0, "call 2 update 0 0,1", "done 2.1 2", "call 3 read 0 0 1", "done 3.1 1 61", "call 4 read 1 1 1", "done 4.1 1 62")
-
-# a look that waits while the file leaves its slot: it finds the file, which is closed after the
-# hold, or nothing
-looked_at = *opened, "call 3 look 0", "call 4 close 0", "done 4.1 0"
-verdict("legal", 0, *looked_at, "done 3.1 0 2.1.0", "free 3", *closed)
-verdict("not legal", 11, *looked_at, "done 3.1 0 2.1.0", "closed 2.1.0 a", "free 3", "settled")
-verdict("not legal", 11, *looked_at, "done 3.1 0 2.1.0", "settled")
-verdict("not legal", 11, *looked_at, "closed 2.1.0 a", "done 3.1 0 2.1.0", "free 3", "settled")
-verdict("legal", 0, *looked_at, "closed 2.1.0 a", "done 3.1 -9", "settled")
-verdict("legal", 0, "call 2 look 0", "call 3 open a at 0", "done 3.1 0", "done 2.1 0 3.1.0", "free 2")
-verdict("legal", 0, "call 2 look 0", "call 3 open a at 0", "done 3.1 0", "done 2.1 -9")
-verdict("not legal", 8, *opened, "call 3 look 0", "done 3.1 -9")
-verdict("not legal", 10, *opened, "call 3 look 1", "done 3.1 -9", "call 4 look 1", "done 4.1 0 2.1.0")
-verdict("not legal", 10, *opened, "call 3 look 2", "done 3.1 -9", "call 4 look 2", "done 4.1 0 2.1.0")
-
-# limits, and answers that lack memory
-undecided, lacking = LogVerdict("undecided"), log(*opened, "call 3 read 0 0 1", "done 3.1 -12")
-want(outcome(lambda: judge_events(log(*read, "done 3.1 1 61"), states=0)) == undecided, "within no states a log is decided")
-want(outcome(lambda: judge_events(log(*read, "done 3.1 1 61"), memory=0)) == undecided, "within no memory a log is decided")
-want(outcome(lambda: judge_events(lacking)) == undecided, "an answer -12 is decided")
-raises(ValueError, "states must be from 0 to 4294967295, not -1", lambda: judge_events(log(), states=-1))
-raises(ValueError, "memory must be from 0 to 4294967295, not -1", lambda: judge_events(log(), memory=-1))
 
 # the tag of a file in place of its close, and events of the caller's choice
 tagged = log(*read, "done 3.1 1 61", "closed 2.1.0 a", "settled", "tag 2.1.0")

@@ -58,20 +58,31 @@ without_library() {
     tail -n 1 "$room/found" | grep -qF "ImportError: The library $2" && tail -n 1 "$room/found" | grep -qF 'Set YACHTBANYAN_LIB_DIR to the folder that has it.'
 }
 
-# wrong_module MODULE ROWS SED: a wrong change of a module, which a row must refuse
+# over_the_stand_in_of_rows: the rows over the stand-in for the library
+over_the_stand_in_of_rows() {
+    stand_in_of_judge && JUDGE_ROWS=$rows_of_judge library=$room/judge python tests/bindings/judge_rows.py "$@"
+}
+
+# refused_by COMMAND..: a row is wrong, or the stand-in has none with the arguments of a call
+refused_by() {
+    ! "$@" --first > "$room/found" 2>&1 && grep -qE '[1-9][0-9]* wrong$|: no row has these arguments' "$room/found"
+}
+
+# wrong_module MODULE SED: a wrong change of a module, which a row must refuse
 wrong_module() {
     rm -rf "$room/python" && cp -r bindings/python "$room/python"
-    sed -i "$3" "$room/python/$1.py"
+    sed -i "$2" "$room/python/$1.py"
     ! cmp -s "bindings/python/$1.py" "$room/python/$1.py" || return 1
     python3 -B -m py_compile "$room/python/$1.py" || return 1
-    module=$room/python python "tests/bindings/$2.py" --first > "$room/found" 2>&1 && return 1
-    tail -n 1 "$room/found" | grep -qE '[1-9][0-9]* wrong$'
+    local module=$room/python
+    refused_by over_the_stand_in_of_rows || refused_by python tests/bindings/log_rows.py || refused_by python tests/bindings/judge_rows.py
 }
 
 in_python() {
     want 'the judge from Python is wrong over the examples' judges_examples
-    want 'the judge from Python is wrong' judges_rows judge_rows 41
-    want 'the judge of logs from Python is wrong' judges_rows log_rows 84
+    want 'the judge from Python is wrong' judges_rows judge_rows 208
+    want 'the judge from Python is wrong over the stand-in' over_the_stand_in_of_rows
+    want 'the judge of logs from Python is wrong' judges_rows log_rows 37
     want 'the verified judge of yachtlog is wrong' proved_logs
     want 'a missing library is not explained' without_library "$room" "$room/libyachtjudge.so.5 was not found."
     echo > "$room/libyachtjudge.so.5"
@@ -80,16 +91,16 @@ in_python() {
     want 'a library of another version is not refused' another_version 'the version 4.9.1' 'const char *yacht_judge_version(void) { return "4.9.1"; }'
 }
 
-# wrong_modules ROWS: takes modules with wrong changes, which the rows must refuse
+# takes modules with wrong changes, which the rows must refuse
 wrong_modules() {
     local module change
     while IFS=' ' read -r module change; do
-        want "a wrong change of $module.py is not noticed: $change" wrong_module "$module" "$1" "$change"
+        want "a wrong change of $module.py is not noticed: $change" wrong_module "$module" "$change"
     done
 }
 
 wrong_python() {
-    wrong_modules judge_rows << 'END'
+    wrong_modules << 'END'
 yachtjudge s/else "undecided"$/else "legal"/
 yachtjudge s/word: Literal\[.*\] = "legal" if code == LEGAL/word = "legal" if code != NOT_LEGAL/
 yachtjudge s/return self.word == "legal"/return self.word != "not legal"/
@@ -112,12 +123,15 @@ yachtjudge s/    numbers = operator.index(states), operator.index(memory)/    nu
 yachtjudge s/        if not 0 <= number <= MOST:/        if number > MOST:/
 yachtjudge s/        if not 0 <= number <= MOST:/        if number < 0:/
 yachtjudge s/__version__ = "5.0/__version__ = "5.1/
+yachtjudge s/        if verdict.note <= room:/        if room:/
+yachtjudge s/        at += length/        at += 1/
+yachtjudge s/    if code == NO_MEMORY:/    if code == MALFORMED:/
 END
 }
 
 # wrong changes of how a log is passed to the verified judge, and of how its verdict is read
 wrong_logs() {
-    wrong_modules log_rows << 'END'
+    wrong_modules << 'END'
 yachtjudge s/LogVerdict("not legal", those\[judgement.at\].line)/LogVerdict("not legal", those[judgement.at - 1].line)/
 yachtjudge s/LogVerdict("legal" if code == LEGAL else "undecided")/LogVerdict("legal")/
 yachtjudge s/(FAULTS if code == FAULTY else FLAWS)/FAULTS/
@@ -133,5 +147,8 @@ yachtevents s/len(self.bytes), len(found)/0, len(found)/
 yachtevents s/return self._numbers.get(by, 0), member/return by, member/
 yachtevents s/max(self._log.file_of(mark), 0)/0/
 yachtevents s/elif answer.result == EBADF:/elif True:/
+yachtlog s/"undecided": 6/"undecided": 0/
+yachtlog s/        return NO_MEMORY$/        return MISSING/
+yachtlog s/judge_events(self, before, states, memory)/judge_events(self, before, memory, states)/
 END
 }

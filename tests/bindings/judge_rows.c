@@ -1,0 +1,98 @@
+/* The rows of the judge in C (judge_rows.h): each number and field, with less and less room, and
+ * with each allocation failing in turn. Without JUDGE_ROWS, which names the file to the stand-in,
+ * it leaves out the rows that only that answers. */
+#include "judge_rows.h"
+#include "refusing.h"
+
+enum { ROOM = 4 << 20, MOST_TEXTS = 8192 };
+static uint8_t words[ROOM];
+static uint64_t lengths[MOST_TEXTS];
+static const judge_row *row;
+static yacht_verdict verdict;
+static yacht_texts found;
+static yacht_judgement judgement;
+
+/* Calls the library with the arguments of a row, and room for as many bytes and texts. */
+static uint32_t call(size_t room, size_t count) {
+    const judge_row *it = row;
+    const judge_log *log = &it->log;
+    memset(words, '?', room + 1);
+    switch (it->kind) {
+    case JUDGE:
+        return yacht_judge(it->script.bytes, it->script.length, it->text.bytes, it->text.length, it->states, it->memory, words, room, &verdict);
+    case LIST:
+        return yacht_outcomes(it->script.bytes, it->script.length, it->states, it->memory, words, room, lengths, count, &found);
+    default:
+        return yacht_judge_events(it->script.bytes, it->script.length, it->slots, log->requests, log->requests_length, log->entries, log->entries_length,
+                                  log->bytes, log->bytes_length, log->events, log->events_length, it->states, it->memory, &judgement);
+    }
+}
+
+static void judges(void) {
+    size_t whole = row->note.length, rooms[] = {whole + 1, whole, whole / 2, 0};
+    for (size_t nth = 0; nth < sizeof rooms / sizeof *rooms; nth++) {
+        size_t written = rooms[nth] < whole ? rooms[nth] : whole;
+        memset(&verdict, '?', sizeof verdict);
+        WANT(call(rooms[nth], 0) == row->number);
+        WANT(verdict.commands == row->commands && verdict.at == row->at && verdict.submission == row->submission && verdict.line == row->line);
+        WANT(verdict.note == whole && !memcmp(words, row->note.bytes, written) && words[written] == '?');
+    }
+}
+
+/* Checks that each text found is another one of the row's, and that all are found if the list is of
+ * all texts. */
+static int are_of_row(void) {
+    static uint8_t is_taken[MOST_TEXTS];
+    memset(is_taken, 0, sizeof is_taken);
+    size_t at = 0;
+    for (size_t nth = 0; nth < found.count; at += lengths[nth++]) {
+        size_t begin = 0, other = 0;
+        while (other < row->count && (is_taken[other] || row->lengths[other] != lengths[nth] || memcmp(row->text.bytes + begin, words + at, lengths[nth]))) {
+            begin += row->lengths[other++];
+        }
+        if (other == row->count) return 0;
+        is_taken[other] = 1;
+    }
+    return at == found.bytes && (row->number != YACHT_ALL || found.count == row->count);
+}
+
+static void lists(void) {
+    memset(&found, '?', sizeof found);
+    WANT(call(ROOM - 1, MOST_TEXTS) == row->number);
+    WANT(found.line == row->line && are_of_row() && words[found.bytes] == '?');
+    size_t bytes = found.bytes, count = found.count;
+    WANT(call(bytes, count) == row->number);
+    if (bytes) WANT(call(bytes - 1, count) == YACHT_NO_ROOM && found.bytes == bytes && found.count == count && words[0] == '?');
+    if (count) WANT(call(bytes, count - 1) == YACHT_NO_ROOM && found.bytes == bytes && found.count == count && words[0] == '?');
+}
+
+static void judges_log(void) {
+    memset(&judgement, '?', sizeof judgement);
+    WANT(call(0, 0) == row->number);
+    WANT(judgement.at == row->at && judgement.fault == row->fault && judgement.line == row->line);
+}
+
+/* Each allocation of the library fails in turn. */
+static void refused(void) {
+    int is_refused = 0;
+    uint32_t answer = YACHT_JUDGE_NO_MEMORY;
+    for (long count = 0; answer == YACHT_JUDGE_NO_MEMORY; count++) {
+        allowed = count;
+        answer = call(1 << 16, MOST_TEXTS);
+        allowed = -1;
+        is_refused |= answer == YACHT_JUDGE_NO_MEMORY;
+    }
+    WANT(answer == row->number && (is_refused || !row->script.length || row->number > YACHT_NO_ROOM));
+}
+
+int main(void) {
+    int is_stand_in = getenv("JUDGE_ROWS") != NULL;
+    read_judge_rows("bindings/rust_judge/tests/rows.txt");
+    for (size_t nth = 0; nth < judge_rows_length; nth++) {
+        row = &judge_rows[nth];
+        if (row->is_refused && !is_stand_in) continue;
+        row->kind == JUDGE ? judges() : row->kind == LIST ? lists() : judges_log();
+        if (!is_stand_in) refused();
+    }
+    return report("rows of the judge");
+}
