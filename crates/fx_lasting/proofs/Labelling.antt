@@ -4,7 +4,7 @@ use Rattle.fx_lasting.proofs.Words.{none, keeps, step, length-set, get_or-set_ot
 use Rattle.fx_lasting.proofs.Words.{Labels, slots_of, nodes_of, slot_place, group_place, list_place, question_place, word_of, hold_word_of}
 use Rattle.fx_lasting.proofs.Words.{tag_word_of, number_word_of, held_in, if_file, taken_of, taking, HoldsOn, Phase, placed, owner, file_in}
 use Rattle.fx_lasting.proofs.Words.{removed_in, written_in, changed_here, sum_set, Work, Placing, Placement, Written, as_written, Unlabelled, Tag}
-use Rattle.fx_lasting.proofs.Words.{Label, label_of, number_of_mark, Goes, Log, first_log, Tags, Numbers, ReadsTag, ReadsNumber, TagsKeep}
+use Rattle.fx_lasting.proofs.Words.{Label, label_of, number_of_mark, Goes, Log, first_log, Tags, Numbers, ReadsTag, ReadsNumber, TagsKeep, RecallsTag, RecallsTagKeep}
 use Rattle.fx_lasting.proofs.Words.{NumbersKeep, ReadsTagKeep, ReadsNumberKeep}
 use Rattle.fx_lasting.proofs.Histories.{grows_none, each_changed}
 use Rattle.fx_lasting.proofs.Frames.{busy, does_now, written_of}
@@ -105,23 +105,49 @@ module _ (turn : Turn) where
     goes : (carried : List (ℕ × Option Closed)) → Goes (v, carried) [] (Placing n l') v.glance (w turn stored_after, carried)
     goes carried = record { stepped = tells turn stored_after refl carried carried [] (grows_none x.number r.history) r.legal refl its.0; carried = refl }
 
-  -- the tag
-  tag : (n lost tag : ℕ) → v.work ≡ Placing n (as_written lost Unlabelled) → (slots : ℕ) (carried : List (ℕ × Option Closed))
-      → Made turn carried (tag_word_of v.start n) (λ _. tag) (λ _. Tags (step slots (tag_word_of v.start n) tag 0 none) (v, carried) tag)
-  tag n lost t works slots carried = let place = tag_word_of v.start n in
-      let low : word_of v.start n < place = omega arith in let high : place < word_of v.start n + 4 = omega arith in
-      let inside = (its n (as_written lost Unlabelled) works place t low high (as_written lost (Tag t)) refl).0 in (
-        w turn (stored_after n (as_written lost Unlabelled) works place t low high (as_written lost (Tag t)) refl),
-        keeps,
-        tt,
-        stored n (as_written lost Unlabelled) works place t low high (as_written lost (Tag t)) refl
-            (λ m other. (
-              get_or-set_other st.words place (tag_word_of v.start m) t 0 (λ bad. other (omega (arith, bad))),
-              get_or-set_other st.words place (number_word_of v.start m) t 0 (λ bad. omega (arith, bad)),
-            ))
-            (get_or-set_same st.words place t 0 (omega (arith, r.shape.words, inside))),
-        record { goes = λ m more works'. let e : n ≡ m = cc (sym works ∙ works') in let f : lost ≡ more = ap (λ (d : Work). (placement_in d).lost) (sym works ∙ works') in rw (← e, ← f) (goes n (as_written lost Unlabelled) works place t low high (as_written lost (Tag t)) refl carried) },
-      )
+  -- The tag's word has this tag after the step
+  module _ (n lost t : ℕ) (u : Written) (works : v.work ≡ Placing n (as_written lost u)) where
+    abbrev tag_place : ℕ
+    tag_place = tag_word_of v.start n
+
+    low_tag : word_of v.start n < tag_place
+    low_tag = omega arith
+
+    high_tag : tag_place < word_of v.start n + 4
+    high_tag = omega arith
+
+    abbrev tagged_after : After turn
+    tagged_after = stored_after n (as_written lost u) works tag_place t low_tag high_tag (as_written lost (Tag t)) refl
+
+    tagged : Agrees v.start (end turn tagged_after)
+    tagged = let inside = (its n (as_written lost u) works tag_place t low_tag high_tag (as_written lost (Tag t)) refl).0 in
+        stored n (as_written lost u) works tag_place t low_tag high_tag (as_written lost (Tag t)) refl
+        (λ m other. (
+          get_or-set_other st.words tag_place (tag_word_of v.start m) t 0 (λ bad. other (omega (arith, bad))),
+          get_or-set_other st.words tag_place (number_word_of v.start m) t 0 (λ bad. omega (arith, bad)),
+        ))
+        (get_or-set_same st.words tag_place t 0 (omega (arith, r.shape.words, inside)))
+
+    tag_goes : (carried : List (ℕ × Option Closed)) (m more : ℕ) (u' : Written) → v.work ≡ Placing m (as_written more u')
+        → Goes (v, carried) [] (Placing m (as_written more (Tag t))) v.glance (w turn tagged_after, carried)
+    tag_goes carried m more u' works' = let e : n ≡ m = cc (sym works ∙ works') in
+        let f : lost ≡ more = ap (λ (d : Work). (placement_in d).lost) (sym works ∙ works') in
+        rw (← e, ← f) (goes n (as_written lost u) works tag_place t low_tag high_tag (as_written lost (Tag t)) refl carried)
+
+    tag : (slots : ℕ) (carried : List (ℕ × Option Closed))
+        → Made turn carried (tag_word_of v.start n) (λ _. t) (λ _. Tags (step slots (tag_word_of v.start n) t 0 none) (v, carried) t)
+    tag slots carried = (w turn tagged_after, keeps, tt, tagged, record { goes = tag_goes carried })
+
+  -- the tag that it has already
+  recall : (n lost : ℕ) (works : v.work ≡ Placing n (as_written lost Unlabelled)) (slots : ℕ) (carried : List (ℕ × Option Closed))
+      → Made turn carried (tag_word_of v.start n) (λ word. word) (RecallsTag (step slots (tag_word_of v.start n) 0 0 none) (v, carried))
+  recall n lost works slots carried = let t = word_at st.words (tag_word_of v.start n) in (
+    w turn (tagged_after n lost t Unlabelled works),
+    keeps,
+    tt,
+    tagged n lost t Unlabelled works,
+    record { goes = λ m more works'. tag_goes n lost t Unlabelled works carried m more Unlabelled works' },
+  )
 
   -- the number
   number : (n lost t number : ℕ) → v.work ≡ Placing n (as_written lost (Tag t)) → (slots : ℕ) (carried : List (ℕ × Option Closed))
@@ -205,9 +231,14 @@ module _ (turn : Turn) where
     )
 
 pub tags_keep : TagsKeep Tags
-tags_keep k slots id i n lost t m x has works place = by_turn slots (λ _. Unit {0}) (λ k. tag_word_of k n) (λ _. t)
+tags_keep k slots id i n lost t u m x has works place = by_turn slots (λ _. Unit {0}) (λ k. tag_word_of k n) (λ _. t)
     (λ i _. Tags (step slots i t 0 none) m t) has tt place
-    (λ st r here _ fits. tag (turn_of m x has.1 id st r here) n lost t works slots m.1)
+    (λ st r here _ fits. tag (turn_of m x has.1 id st r here) n lost t u works slots m.1)
+
+pub recalls_tag_keep : RecallsTagKeep RecallsTag
+recalls_tag_keep k slots id i n lost m x has works place = by_turn slots (λ _. Unit {0}) (λ k. tag_word_of k n) (λ word. word)
+    (λ i. RecallsTag (step slots i 0 0 none) m) has tt place
+    (λ st r here _ fits. recall (turn_of m x has.1 id st r here) n lost works slots m.1)
 
 pub numbers_keep : NumbersKeep Numbers
 numbers_keep k slots id i n lost t new m x has works place = by_turn slots (λ _. Unit {0}) (λ k. number_word_of k n) (λ _. new)

@@ -16,10 +16,10 @@ pub use Rattle.fx_lasting.specs.Laws.{HasToLetGo, IsOffCount, ClearsKeep, TakesO
 pub use Rattle.fx_lasting.specs.Laws.{ConfirmsKeep, WithdrawsKeep, TakesOnceKeep, HeatsKeep, SplitsKeep, JoinsKeep, LowersKeep, RaisesKeep, AsksKeep}
 pub use Rattle.fx_lasting.specs.Laws.{ChecksKeep, BreaksKeep, BeginsKeep, CountsKeep, DecidesKeep, IsGroup, PeeksKeep, InstallsKeep, StepsDownKeep}
 pub use Rattle.fx_lasting.specs.Laws.{LettingGoKeeps, SeeksKeep, BirthsKeep, RestsKeep, VisitsKeep, MarksKeep, ParksKeep, ResumesKeep, SettlesKeep}
-pub use Rattle.fx_lasting.specs.Laws.{HasItsPlace, TagsKeep, NumbersKeep, ReadsTagKeep, ReadsNumberKeep, RetiresKeep, IsInRange, ListsKeep, SkimsKeep}
+pub use Rattle.fx_lasting.specs.Laws.{HasItsPlace, RecallsTagKeep, TagsKeep, NumbersKeep, ReadsTagKeep, ReadsNumberKeep, RetiresKeep, IsInRange, ListsKeep, SkimsKeep}
 pub use Rattle.fx_lasting.specs.Laws.{IsPassed, SeesKeep, TakesIfKeep, SwapsIfKeep, ReplacesKeep, FinishesKeep, SwapsOutKeep}
 pub use Rattle.fx_lasting.specs.Laws.{SwapsHeldKeep, TakesHeldKeep}
-pub use Rattle.fx_lasting.specs.LabelSteps.{Tags, Numbers, ReadsTag, ReadsNumber}
+pub use Rattle.fx_lasting.specs.LabelSteps.{RecallsTag, Tags, Numbers, ReadsTag, ReadsNumber}
 pub use Rattle.fx_lasting.specs.Labels.{number_of_mark, label_of, as_written, HasWritten}
 pub use Rattle.fx_lasting.specs.KeepSteps.{Parks, Resumes, SettlesNode}
 pub use Rattle.fx_lasting.specs.Layout.{question_place, group_place, list_place, slot_place, hold_place, node_place, stock_start, stock_for, stock_of}

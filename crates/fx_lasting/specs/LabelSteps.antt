@@ -5,11 +5,18 @@ use Rattle.fx_lasting.specs.Labels.{number_of_mark, as_written}
 use Rattle.fx_lasting.specs.Passes.{Sat, HoldsOn, node_of_number}
 use Rattle.fx_lasting.specs.Effects.{At, Goes, pass_in}
 use Rattle.fx_lasting.specs.declared.view.Work.TheVariants.{Placing}
+use Rattle.fx_lasting.specs.declared.view.Written.{Written}
 use Rattle.fx_lasting.specs.declared.view.Written.TheVariants.{Nothing, Tag, Label}
+
+-- Recall, of the tag's word: it has the tag of the file that the node had before, as if the pass
+-- had stored that one
+pub record RecallsTag (st : At) (m : Sat) (found : ℕ) (m' : Sat) : Type 0 where
+  pub goes : (node lost : ℕ) → m.0.work ≡ Placing node (as_written lost Nothing)
+      → Goes m [] (Placing node (as_written lost (Tag found))) m.0.glance m'
 
 -- Tag: the pass has stored the tag of the file that it places
 pub record Tags (st : At) (m : Sat) (found : ℕ) (m' : Sat) : Type 0 where
-  pub goes : (node lost : ℕ) → m.0.work ≡ Placing node (as_written lost Nothing)
+  pub goes : (node lost : ℕ) (written : Written) → m.0.work ≡ Placing node (as_written lost written)
       → Goes m [] (Placing node (as_written lost (Tag st.first))) m.0.glance m'
 
 -- Number: the pass has stored the number of the file that it places, and so its label

@@ -34,6 +34,7 @@ use Rattle.fx_lasting.specs.declared.view.Work.TheVariants.{Idle, Announced, Cou
 use Rattle.fx_lasting.specs.declared.view.Work.TheVariants.{Owing}
 use Rattle.fx_lasting.specs.declared.view.Work.TheVariants.{Yielding, Searching, Placing, Retiring}
 use Rattle.fx_lasting.specs.declared.view.Work.TheVariants.{Emptying, Keeping}
+use Rattle.fx_lasting.specs.declared.view.Written.{Written}
 use Rattle.fx_lasting.specs.declared.view.Written.TheVariants.{Nothing as Unlabelled, Tag}
 
 -- the effect of a kind of step on its pass
@@ -124,10 +125,16 @@ BirthsKeep tells = (k : Start) (slots id i node : ℕ) (m : Sat) (x : Log) → H
     → Allows (Agrees k) slots id m i (λ _. birth_word)
     (λ _. tells (step slots i birth_word 0 none) m birth_word)
 
+-- a pass loads the tag that the node's word for it has, before it stores one
+abbrev pub RecallsTagKeep : Kind → Type 0
+RecallsTagKeep tells = (k : Start) (slots id i node lost : ℕ) (m : Sat) (x : Log) → HasPass k m x
+    → m.0.work ≡ Placing node (as_written lost Unlabelled) → i ≡ tag_word_of k node
+    → Allows (Agrees k) slots id m i (λ word. word) (tells (step slots i 0 0 none) m)
+
 -- a pass stores the tag of its file in the node's word for it
 abbrev pub TagsKeep : Kind → Type 0
-TagsKeep tells = (k : Start) (slots id i node lost tag : ℕ) (m : Sat) (x : Log) → HasPass k m x
-    → m.0.work ≡ Placing node (as_written lost Unlabelled) → i ≡ tag_word_of k node
+TagsKeep tells = (k : Start) (slots id i node lost tag : ℕ) (written : Written) (m : Sat) (x : Log)
+    → HasPass k m x → m.0.work ≡ Placing node (as_written lost written) → i ≡ tag_word_of k node
     → Allows (Agrees k) slots id m i (λ _. tag) (λ _. tells (step slots i tag 0 none) m tag)
 
 -- and then the number

@@ -20,7 +20,7 @@ ghost use Rattle.fx_lasting.specs.Tables.{view_of, steps_taken, meetings, IsPass
 ghost use Rattle.fx_lasting.specs.Effects.{pass_in};
 ghost use Rattle.fx_lasting.specs.declared.view.Work.TheVariants.{Emptying, Placing};
 
-use crate::kinds::{Birth, Parking, Resting, Resuming, Settling};
+use crate::kinds::{Birth, Parking, Resting, Resuming, Settling, Tagging};
 use crate::parts::{BORN, may_carry};
 use crate::pass::LastingPass;
 use crate::table::LastingTable;
@@ -63,12 +63,14 @@ impl LastingTable {
             let node = stock[start as usize];
             let place = self.node_place(node);
             let word = shared.load::<Resuming>(seat, place);
+            self.put_tag(seat, node, place, file.tag());
             self.put_in(seat, node, place, file);
             return (start, node, BORN - word);
         }
         let (entry, node) = self.seek(seat, number, stock, start);
         let place = self.node_place(node);
         shared.store::<Birth>(seat, place, BORN);
+        shared.store::<Tagging>(seat, place + 1, file.tag());
         self.put_in(seat, node, place, file);
         (entry, node, 0)
     }

@@ -127,6 +127,7 @@ impl LastingTable {
     /// the holder found by the key, and is to be retired. Otherwise the slot is left as it is, and
     /// the new file comes back. The answer is `Again` only if another pass was at the slot after
     /// the holder's look-up.
+    #[inline(always)]
     pub fn put_over_key(
         &self,
         holder: &mut LastingPass,

@@ -140,6 +140,16 @@ impl Play<Option<OpenFile>, View> for Birth {
     ghost then = { Births };
 }
 
+/// Recall: a pass loads the tag that the label of the node has already, before it stores that of
+/// the file that it is about to install.
+pub struct RecallingTag;
+
+impl Play<Option<OpenFile>, View> for RecallingTag {
+    ghost use Rattle.fx_lasting.specs.LabelSteps.{RecallsTag};
+
+    ghost then = { RecallsTag };
+}
+
 /// Tag: a pass stores the tag of the file that it is about to install.
 pub struct Tagging;
 

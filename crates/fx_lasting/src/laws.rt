@@ -11,7 +11,7 @@ ghost use Rattle.fx_lasting.specs.WholeHistory.{HasOneHistory, RemovedFilesHaveU
 ghost use Rattle.fx_lasting.specs.declared.layout.TheConstants.{MOST_SLOTS, MOST_NODES, MOST_PASSES, MOST_INSTALLING};
 ghost use Rattle.fx_lasting.specs.Laws.{GlancesKeep, ListsKeep, AnnouncesKeep, ConfirmsKeep};
 ghost use Rattle.fx_lasting.specs.Laws.{WithdrawsKeep, TakesOnceKeep, HeatsKeep, StepsDownKeep};
-ghost use Rattle.fx_lasting.specs.Laws.{LettingGoKeeps, SeeksKeep, BirthsKeep, TagsKeep};
+ghost use Rattle.fx_lasting.specs.Laws.{LettingGoKeeps, SeeksKeep, BirthsKeep, RecallsTagKeep, TagsKeep};
 ghost use Rattle.fx_lasting.specs.Laws.{NumbersKeep, ReadsTagKeep, ReadsNumberKeep, RestsKeep};
 ghost use Rattle.fx_lasting.specs.Laws.{ParksKeep, ResumesKeep, SettlesKeep, SkimsKeep, VisitsKeep};
 ghost use Rattle.fx_lasting.specs.Laws.{MarksKeep, FinishesKeep, RetiresKeep, LowersKeep};
@@ -25,9 +25,9 @@ use crate::kinds::{
     Announcing, Asking, Beginning, Birth, Breaking, Checking, Clearing, Confirming, Counting, Deal,
     Deciding, Exchanging, Finishing, Gather, Glancing, HeatingUp, Installing, Letting, Listing,
     Lowering, Marking, Numbering, OneHistory, Parking, Peeking, Raising, ReadingNumber, ReadingTag,
-    Replacing, Resting, Resuming, Retire, Seeing, Seeking, Settling, Skimming, SteppingDown,
-    SwappingClear, SwappingHeld, SwappingIf, SwappingTake, Tagging, Taking, TakingHeld, TakingIf,
-    TakingOut, Visiting, Withdrawing,
+    RecallingTag, Replacing, Resting, Resuming, Retire, Seeing, Seeking, Settling, Skimming,
+    SteppingDown, SwappingClear, SwappingHeld, SwappingIf, SwappingTake, Tagging, Taking,
+    TakingHeld, TakingIf, TakingOut, Visiting, Withdrawing,
 };
 use crate::view::{Start, View};
 use atomic_table::{Join, Play, Split, TableRule};
@@ -108,6 +108,12 @@ pub fn seek_keeps_rule()
 /// and has its place.
 pub fn birth_keeps_rule()
     ensures { BirthsKeep ⟦<Birth as Play<Option<OpenFile>, View>>⟧.then }
+{}
+
+/// A pass that loads the tag of the node on which it places a file keeps the rule: that tag is
+/// written.
+pub fn recall_keeps_rule()
+    ensures { RecallsTagKeep ⟦<RecallingTag as Play<Option<OpenFile>, View>>⟧.then }
 {}
 
 /// A pass that stores the tag of the file that it places in the word for it keeps the rule.

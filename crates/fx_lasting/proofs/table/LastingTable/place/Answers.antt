@@ -1,10 +1,11 @@
-use Rattle.fx_lasting.proofs.Words.{◌≡◌, ◌∙◌, ◌∷◌, ℕ, List, ap, sym, subst, arith, Bool, true, None, Option, Closed, some, get_or, Keeping, MayPlace}
+use Rattle.fx_lasting.proofs.Words.{◌≡◌, ◌∙◌, ◌∷◌, ℕ, List, ap, sym, subst, arith, Bool, true, None, Option, Closed, some, get_or, Keeping, MayPlace, Unlabelled, Tag, tag_place}
 use Rattle.fx_lasting.proofs.Words.{Placing, as_written, label_of, ◌-◌, ◌+◌, [], read_at}
 use Rattle.fx_lasting.specs.Ends.{Does}
 use Rattle.fx_lasting.proofs.Births.{births_keep}
-use Rattle.fx_lasting.proofs.Calling.{node_inside, node_word, few_nodes}
+use Rattle.fx_lasting.proofs.Calling.{node_inside, node_word, few_nodes, tag_inside, tag_word}
 use Rattle.fx_lasting.proofs.KeptNodes.{resumes_keep}
-use Rattle.fx_lasting.proofs.Running.{its_inside, still_at_work, does_then, runs_one, runs_within}
+use Rattle.fx_lasting.proofs.Labelling.{tags_keep}
+use Rattle.fx_lasting.proofs.Running.{its_inside, still_at_work, does_then, runs_one, runs_goes, runs_within}
 use Rattle.fx_lasting.proofs.table.LastingTable.place.Goals.{Then-keeps}
 use Rattle.fx_lasting.proofs.table.LastingTable.place.Goals as goal
 
@@ -38,13 +39,27 @@ load-word-requires c =
 
 pub put_in-requires-clause-placing : goal.put_in-requires-clause-placing
 put_in-requires-clause-placing c =
-    let a = (goal.at.put_in-requires-clause-placing c).Then-keeps in
+    let a = (goal.at.put_in-requires-clause-placing c).Then-keeps in (
+      (kept a).1,
+      (c.put_tag.ensures.stored (kept a).1 (c.load-word.ensures.2.goes (node a) (kept a).1 (works a)).0.work).work
+          ∙ ap (λ (z : ℕ). Placing (node a) (as_written (kept a).1 (Tag z))) c.tag.ensures,
+    )
+
+pub put_in-requires-clause-at : goal.put_in-requires-clause-at
+put_in-requires-clause-at c =
+    let a = (goal.at.put_in-requires-clause-at c).Then-keeps in
+    let resumed = c.load-word.ensures.2.goes (node a) (kept a).1 (works a) in
+    (c.args.number, still_at_work (still_at_work c.requires.at (runs_one resumed.0)) (c.put_tag.ensures.stored (kept a).1 resumed.0.work))
+
+pub put_tag-requires-clause-placing : goal.put_tag-requires-clause-placing
+put_tag-requires-clause-placing c =
+    let a = (goal.at.put_tag-requires-clause-placing c).Then-keeps in
     ((kept a).1, (c.load-word.ensures.2.goes (node a) (kept a).1 (works a)).0.work)
 
 pub put_in-requires-clause-place : goal.put_in-requires-clause-place
 put_in-requires-clause-place c =
     let a = (goal.at.put_in-requires-clause-place c).Then-keeps in
-    (c.load-word.ensures.2.goes (node a) (kept a).1 (works a)).1 ∙ ap (λ (l : List (ℕ × Option Closed)). (node a, None) ∷ l) c.requires.places
+    c.put_tag.ensures.places ∙ (c.load-word.ensures.2.goes (node a) (kept a).1 (works a)).1 ∙ ap (λ (l : List (ℕ × Option Closed)). (node a, None) ∷ l) c.requires.places
 
 pub overflow_sub-result : goal.overflow_sub-result
 overflow_sub-result c =
@@ -59,9 +74,10 @@ returns-then-keeps-clause-placed c =
     let resumed = c.load-word.ensures.2.goes (node a) (kept a).1 (works a) in
     let counts = resumed.2 in
     let lost : (kept a).1 ≡ 4294967297 - c.load-word.result = omega (arith, counts) in
-    let stored = c.put_in.ensures.stored (kept a).1 resumed.0.work in
+    let tagged = c.put_tag.ensures.stored (kept a).1 resumed.0.work in
+    let stored = c.put_in.ensures.stored (kept a).1 (tagged.work ∙ ap (λ (z : ℕ). Placing (node a) (as_written (kept a).1 (Tag z))) c.tag.ensures) in
     subst (λ (z : ℕ). Does m [] (Placing (node a) (as_written z (label_of c.args.file))) (c.args.self.now.passes + 3) c.put_in.new.seat.me) lost
-    (runs_within (omega arith) (does_then (runs_one resumed.0) stored))
+    (runs_within (omega (arith, c.requires.start)) (does_then (does_then (runs_one resumed.0) tagged) stored))
 
 pub returns-then-keeps-clause-few_lost : goal.returns-then-keeps-clause-few_lost
 returns-then-keeps-clause-few_lost c =
@@ -77,7 +93,12 @@ returns-then-keeps-clause-stocked c =
     (kept a).3 ∙ ap some (sym (same a))
 
 pub put_in-requires-2-clause-placing : goal.put_in-requires-2-clause-placing
-put_in-requires-2-clause-placing c = (0, (c.store.ensures.2.goes c.seek-entry.result.1 c.seek-entry.ensures.found.work).0.work)
+put_in-requires-2-clause-placing c =
+    let born = c.store.ensures.2.goes c.seek-entry.result.1 c.seek-entry.ensures.found.work in (
+      0,
+      (c.store-2.ensures.2.goes c.seek-entry.result.1 0 Unlabelled born.0.work).stepped.work
+          ∙ ap (λ (z : ℕ). Placing c.seek-entry.result.1 (as_written 0 (Tag z))) c.tag-2.ensures,
+    )
 
 pub store-requires : goal.store-requires
 store-requires c =
@@ -94,9 +115,29 @@ pub returns-clause-placed : goal.returns-clause-placed
 returns-clause-placed c =
     let found = c.seek-entry.ensures.found in
     let born = c.store.ensures.2.goes c.seek-entry.result.1 found.work in
-    does_then found (does_then (runs_one born.0) (c.put_in-2.ensures.stored 0 born.0.work))
+    let tagged = c.store-2.ensures.2.goes c.seek-entry.result.1 0 Unlabelled born.0.work in
+    does_then found (does_then (does_then (runs_one born.0) (runs_goes tagged)) (c.put_in-2.ensures.stored 0
+    (tagged.stepped.work ∙ ap (λ (z : ℕ). Placing c.seek-entry.result.1 (as_written 0 (Tag z))) c.tag-2.ensures)))
 
 pub returns-then-keeps-clause-inside : goal.returns-then-keeps-clause-inside
 returns-then-keeps-clause-inside c =
     let a = (goal.at.returns-then-keeps-clause-inside c).Then-keeps in
     its_inside c.requires.at (works a)
+
+pub overflow_add-place : goal.overflow_add-place
+overflow_add-place c =
+    let t = c.args.self.now in
+    omega (arith, c.node_place-place-2.ensures, its_inside (still_at_work c.requires.at c.seek-entry.ensures.found) c.seek-entry.ensures.found.work, few_nodes t, t.few_slots, t.bounds.1)
+
+pub store-requires-2 : goal.store-requires-2
+store-requires-2 c =
+    let t = c.args.self.now in
+    let n = c.seek-entry.result.1 in
+    let found = c.seek-entry.ensures.found in
+    let born = c.store.ensures.2.goes n found.work in
+    let at = still_at_work (still_at_work c.requires.at found) (runs_one born.0) in
+    let is : c.node_place-place-2.result + 1 ≡ tag_place t.size t.passes n = ap (λ (z : ℕ). z + 1) c.node_place-place-2.ensures in (
+      c.store.ensures.0 ∙ (c.seek-entry.ensures.table ∙ c.requires.table),
+      tag_inside t (its_inside (still_at_work c.requires.at found) found.work) is,
+      tags_keep _ _ _ _ n 0 c.tag-2.result Unlabelled c.store.new.seat.me _ at.pass born.0.work (tag_word t n is),
+    )
