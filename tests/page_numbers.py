@@ -77,7 +77,7 @@ class Page:
 def constant(crate, name):
     """Returns a constant of a crate or of a header, or a kept number of cases."""
     texts = [read(f"include/{crate}.h")] if crate.startswith("yacht") else [read(it) for it in files_of(crate, "src")]
-    found = {it for text in texts for it in re.findall(r"\b@(?:: \w+)? = (-?[\d_ <-]+)[;, }]".replace("@", name), text)}
+    found = {it.strip() for text in texts for it in re.findall(r"\b@(?:: \w+)? = (-?[\d_ <()-]+)[;,\s}]".replace("@", name), text)}
     if len(found) != 1:
         raise ValueError(f"{crate} has {len(found)} constants {name}")
     return eval(found.pop().replace("_", ""))
