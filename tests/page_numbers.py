@@ -28,13 +28,18 @@ def pages():
     return [it for way in ways for it in sorted(glob.glob(way, root_dir=ROOT))]
 
 
+def newest(changes):
+    """Returns the part of CHANGELOG.md of the newest version."""
+    return re.split(r"^## ", changes, flags=re.MULTILINE)[1]
+
+
 class Page:
     """The words of a page, and where each of its numbers is in them. A word knows its line if that is one of an indented block."""
 
     def __init__(self, path, text):
         self.path, self.words, self.lines = path, [], []
         if path == "CHANGELOG.md":
-            text = re.split(r"^## ", text, flags=re.MULTILINE)[1]
+            text = newest(text)
         if path.endswith(".h"):
             text = "\n".join(re.findall(r"/\*.*?\*/", text, re.DOTALL))
         for number, line in enumerate(text.splitlines()):
