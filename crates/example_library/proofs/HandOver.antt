@@ -21,9 +21,9 @@ use Rattle.fx_table.specs.declared.values.LookFault.TheVariants.{Spent, Empty as
 use Rattle.fx_table.specs.declared.values.LookUp.{LookUp}
 use Rattle.fx_table.specs.declared.values.Retired.{Retired}
 use Rattle.fx_table.proofs.Calls.{follows_shown}
-use Rattle.fx_table.proofs.Finding.{finds_what_was_left}
+use Rattle.fx_table.proofs.Finding.{finds_the_change, finds_what_was_left}
 use Rattle.fx_table.proofs.SumLemmas.{contains_none, contains_head, contains_tail, contains_cases}
-use Rattle.example_library.specs.HandOver.{HasPut, FindsThePut}
+use Rattle.example_library.specs.HandOver.{HasPut, FindsThePut, entry_seen}
 
 -- an event of a pass's part is one of the history
 from_part : (p : ℕ) (h : List Event) (e : Event) → Contains (part_of_pass p h) e → Contains h e
@@ -89,12 +89,17 @@ pub put_is_shown : (o : Opening) (v w : PassView) (slot entry : ℕ) (file : Ide
 put_is_shown o v w slot entry file result shown placed is all =
     subst (HasPut slot entry) (sym all) (subst (λ (n : ℕ). HasPut slot n w.front) is (put_is_seen o v w slot file result placed))
 
+-- the entry of a file that a look-up found
+abbrev pub entry_in : Result Hold LookFault → Option ℕ
+entry_in (Ok hold) = Some hold.entry
+entry_in (Err _) = None
+
 -- a look-up of a pass with look-ups left makes one, and returns what it finds
 record MakesLook (o : Opening) (v : PassView) (earlier : List Action) (slot : ℕ) (found : Result Hold LookFault) (w : PassView) : Type 0 where
   seen : Option File
   doing : Doing
   adds : Adds o v (earlier ▷ Look slot seen) doing one_look w
-  entry : (new : File) → seen ≡ Some new → (hold : Hold) × (found ≡ Ok hold) × (hold.entry ≡ new.identity.entry)
+  is : entry_in found ≡ entry_seen seen
 
 makes_look : (o : Opening) (v : PassView) (earlier : List Action) (slot : ℕ) (found : Result Hold LookFault) (w : PassView) → 0 < v.looks_left
     → LookedAfter o v earlier slot found w → MakesLook o v earlier slot found w
@@ -102,15 +107,10 @@ makes_look o v earlier slot (Ok hold) w some_left l = record {
   seen = Some l.0;
   doing = Holding l.0 hold;
   adds = l.2;
-  entry = λ new e. let same : l.0 ≡ new = cc e in (hold, refl, l.1.entry ∙ ap (λ (f : File). f.identity.entry) same);
+  is = ap (λ (n : ℕ). Some n) l.1.entry;
 }
 makes_look o v earlier slot (Err Spent) w some_left l = absurd (omega (arith, some_left, l.0))
-makes_look o v earlier slot (Err EmptySlot) w some_left l = record { seen = None; doing = Idle; adds = l; entry = λ new e. absurd (cc e) }
-
--- the entry of a file that a look-up found
-abbrev pub entry_in : Result Hold LookFault → Option ℕ
-entry_in (Ok hold) = Some hold.entry
-entry_in (Err _) = None
+makes_look o v earlier slot (Err EmptySlot) w some_left l = record { seen = None; doing = Idle; adds = l; is = refl }
 
 module _ (o : Opening) (shown : List Event) (v u w : PassView) (earlier : List Action) (slot entry : ℕ) (found : Result Hold LookFault)
     (learns : Learns o shown v u) (put : HasPut slot entry shown) (looks : MakesLook o u earlier slot found w) where
@@ -158,8 +158,10 @@ module _ (o : Opening) (shown : List Event) (v u w : PassView) (earlier : List A
     leaves = put.leaves;
     its_entry = put.its_entry;
     looks = refl;
-    finds = λ keep. let is = finds_what_was_left o put.before between put.put look slot (Some put.new) looks.seen legal put.leaves refl keep in
-        let held = looks.entry put.new is in ap entry_in held.1 ∙ ap (λ (n : ℕ). Some n) (held.2 ∙ put.its_entry);
+    is = looks.is;
+    left = finds_the_change o put.before between put.put look slot (Some put.new) looks.seen legal put.leaves refl;
+    finds = λ keep. let seen_new = finds_what_was_left o put.before between put.put look slot (Some put.new) looks.seen legal put.leaves refl keep in
+        looks.is ∙ (ap entry_seen seen_new ∙ ap (λ (n : ℕ). Some n) put.its_entry);
   }
 
 looks_left_then : (o : Opening) (shown : List Event) (v u : PassView) → Learns o shown v u → 0 < v.looks_left → 0 < u.looks_left
@@ -192,6 +194,8 @@ finds_then slot entry found h more f seen = record {
   leaves = f.leaves;
   its_entry = f.its_entry;
   looks = f.looks;
+  is = f.is;
+  left = f.left;
   finds = f.finds;
 }
 
