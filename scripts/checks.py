@@ -12,16 +12,16 @@ import sys
 
 from repository import read
 
-# the number of cases of each check
-CASES = "tests/cases.txt"
+# the number of cases of each check, and how many times it there may be if it is "about" so many
+CASES, MOST = "tests/cases.txt", 1.05
 # the words of the command that are no paths
 WORDS = [it for it in sys.argv[1:] if not os.path.exists(it)]
 
 
 def kept_numbers():
-    """Returns for each name in tests/cases.txt whether its number is the least one, and the number."""
-    lines = re.findall(r"^([^#:\n]+): (at least )?(\d+)$", read(CASES), re.MULTILINE)
-    return {name: (least != "", int(number)) for name, least, number in lines}
+    """Returns for each name in tests/cases.txt the words before its number, if it is not exact, and the number."""
+    lines = re.findall(r"^([^#:\n]+): (at least |about )?(\d+)$", read(CASES), re.MULTILINE)
+    return {name: (words.strip(), int(number)) for name, words, number in lines}
 
 
 def wrong_parts(name, left_out, kept):
@@ -38,8 +38,8 @@ def comment(text):
     return "# " + text.replace("\n", "\n# ")
 
 
-def fits(seen, is_least, number):
-    return seen == number or is_least and seen > number
+def fits(seen, words, number):
+    return seen == number or words and number < seen and (words == "at least" or seen <= number * MOST)
 
 
 def name_of(key):
@@ -47,8 +47,8 @@ def name_of(key):
 
 
 def protocol(seen, wrong, left_out, is_least, number):
-    """Yields the plan, and a line for each case: first those of the wrong ones. If `number` is the least number of cases, the plan has one
-    case more, which stands for all further ones. So a check that looks at fewer cases than it should doesn't fulfil its plan."""
+    """Yields the plan, and a line for each case: first those of the wrong ones. If `number` isn't exact, the plan has one case more, which
+    stands for all further ones. So a check that looks at fewer cases than it should doesn't fulfil its plan."""
     each = [("not ok", "")] * wrong + [("ok", "")] * (seen - wrong) + [("ok", f" # SKIP no {tool}") for count, tool in left_out for _ in range(count)]
     yield f"1..{number + is_least}"
     for nth, (word, why) in enumerate(each[:number] if is_least else each, 1):
@@ -62,15 +62,15 @@ def last_line(key, seen, wrong, what="looked at", left_out=()):
     check's name and its options. Options without a kept number must have some case. `left_out` has numbers of cases that are left out,
     each with the missing tool."""
     cases = seen + sum(count for count, _ in left_out)
-    is_least, number = kept_numbers().get(key, (False, max(cases, 1) if key != name_of(key) else sys.maxsize))
+    words, number = kept_numbers().get(key, ("", max(cases, 1) if key != name_of(key) else sys.maxsize))
     if "HARNESS_ACTIVE" in os.environ or not sys.stdout.isatty():
-        print(*protocol(seen, wrong, left_out, is_least, number), sep="\n")
-    is_kept = number > 0 and fits(cases, is_least, number)
+        print(*protocol(seen, wrong, left_out, bool(words), number), sep="\n")
+    is_kept = number > 0 and fits(cases, words, number)
     others = wrong_parts(name_of(key), left_out, kept_numbers())
     for tool in others:
         print(f"# {key}: {CASES} has another number of cases that are left out if there is no {tool}, or none")
     if not is_kept:
-        print(f"# {key}: {cases} cases were looked at, and {CASES} has {'at least ' if is_least else ''}{number}")
+        print(f"# {key}: {cases} cases were looked at, and {CASES} has {words and words + ' '}{number}")
     also = f" and {cases - seen} left out" if cases > seen else ""
     print(f"# {name_of(key)}: {seen} {what}{also}, {wrong} wrong", flush=True)
     return 0 if is_kept and not wrong and not others else 1
