@@ -27,10 +27,13 @@ mod seats;
 #[cfg(yachtbanyan_stand_in)]
 mod stand_in;
 mod storage;
+mod sync;
 mod table;
 mod table_keys;
 #[cfg(test)]
 mod tests;
+#[cfg(all(test, yachtbanyan_stand_in))]
+mod turns;
 mod values;
 mod with;
 

@@ -1,6 +1,6 @@
 //! One slot that every thread looks up: a look-up that others overtake drops the value that it saw
 //! first, and each value is dropped once. `YACHTBANYAN_DROPS` sets the number of such drops after
-//! which the test ends. The stand-in has no hot slots, so there this is no test.
+//! which the test ends.
 mod support;
 
 use std::cell::Cell;
@@ -91,9 +91,6 @@ fn counts() -> [usize; 2] {
 }
 
 fn main() {
-    if cfg!(yachtbanyan_stand_in) {
-        return;
-    }
     let enough = std::env::var("YACHTBANYAN_DROPS").map_or(20, |it| it.parse().unwrap());
     let table = Options::new(1).handles(2 * THREADS).open().unwrap();
     table.insert(Value::new(7)).unwrap();

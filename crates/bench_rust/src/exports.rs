@@ -1,9 +1,8 @@
 //! The proved table that never has to be closed, by the exports for C that the Rust crate calls.
 //! A file is known to it by its tag.
-use crate::declared::*;
+use crate::access::core::*;
 use crate::table::{read_entry, File, Shape, Table, FILE};
-use std::ffi::c_void;
-use std::sync::atomic::{AtomicPtr, Ordering::Relaxed};
+use std::cell::UnsafeCell;
 
 /// The fewest workers of a table. A stock has a node for each worker. After the first 4,096 nodes
 /// two share a cache line, and so would those of small stocks.
@@ -11,7 +10,13 @@ pub const WORKERS: usize = 16;
 
 /// A table with a worker for each thread, and as many more as it takes to have 16. Its allocation
 /// range is all its slots.
-pub struct Exports(Vec<AtomicPtr<c_void>>);
+pub(crate) struct Exports(Vec<Place>);
+
+/// The place of a worker.
+struct Place(UnsafeCell<Core>);
+
+// SAFETY: one thread uses the worker.
+unsafe impl Sync for Place {}
 
 fn tag_of(file: File) -> u64 {
     file.mark + 1
@@ -36,13 +41,14 @@ impl Table for Exports {
 
     fn open(shape: Shape) -> Exports {
         let count = shape.threads.max(WORKERS);
-        let mut workers: Vec<Core> = (0..count).map(|_| Core(std::ptr::null_mut())).collect();
+        let mut workers: Vec<Core> = (0..count).map(|_| Core::none()).collect();
         let slots = shape.slots as u32;
         // SAFETY: there are `count` places.
         let installing = shape.threads as u32;
         let answer = unsafe { yacht_core_open(slots, installing, workers.as_mut_ptr(), count) };
         assert_eq!(answer, 0, "memory");
-        let table = Exports(workers.into_iter().map(|it| AtomicPtr::new(it.0)).collect());
+        let places = workers.into_iter().map(|it| Place(UnsafeCell::new(it)));
+        let table = Exports(places.collect());
         for slot in 0..shape.full {
             table.put(&mut table.pass(0), slot, FILE);
         }
@@ -50,7 +56,7 @@ impl Table for Exports {
     }
 
     fn pass(&self, thread: usize) -> *mut Core {
-        self.0[thread].as_ptr().cast()
+        self.0[thread].0.get()
     }
 
     fn look(&self, worker: &mut *mut Core, slot: usize) -> u64 {
@@ -89,9 +95,9 @@ impl Table for Exports {
 
 impl Drop for Exports {
     fn drop(&mut self) {
-        for worker in &self.0 {
-            // SAFETY: no thread uses the workers any more.
-            unsafe { yacht_core_close(Core(worker.load(Relaxed))) };
+        for Place(worker) in self.0.drain(..) {
+            // SAFETY: no thread uses the worker any more.
+            unsafe { yacht_core_close(worker.into_inner()) };
         }
     }
 }

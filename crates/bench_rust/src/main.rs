@@ -2,8 +2,8 @@
 //! plain, unproved Rust tables of the same words, and all next to arc-swap, crossbeam-epoch,
 //! sharded-slab and a lock of std, in turn in one process. Each line has the times of one round,
 //! for `bench/ratios.py`. With the argument `tails` it prints how long single calls take instead.
+mod access;
 mod bindings;
-mod declared;
 mod exports;
 mod lasting_words;
 mod locked;

@@ -1,9 +1,10 @@
 //! Seats: the workers of the core, and which of them are free.
 use super::core::{self, Core};
+use super::sync::{self, AtomicU32, AtomicU64, Ordering};
 use crate::errors::{NoSeat, OpenError};
 use crate::options::Options;
 use std::cell::{Cell, UnsafeCell};
-use std::sync::atomic::{AtomicU32, AtomicU64, AtomicUsize, Ordering};
+use std::sync::atomic::AtomicUsize;
 
 /// A worker of the core, which this value owns. The seats of two threads share no cache line.
 #[repr(align(128))]
@@ -66,6 +67,13 @@ unsafe impl Sync for Installer {}
 #[repr(align(128))]
 struct Line(AtomicU64);
 
+/// The number of seats in a word.
+const IN_WORD: u32 = if cfg!(all(test, yachtbanyan_stand_in)) {
+    2
+} else {
+    u64::BITS
+};
+
 /// A set of free numbers.
 pub(super) struct Free(Box<[Line]>);
 
@@ -73,10 +81,10 @@ impl Free {
     /// Returns the set of the numbers below `count`.
     fn new(count: u32) -> Free {
         let bits = |first: u32| match count - first {
-            rest if rest < 64 => (1 << rest) - 1,
-            _ => u64::MAX,
+            rest if rest < IN_WORD => (1 << rest) - 1,
+            _ => u64::MAX >> (u64::BITS - IN_WORD),
         };
-        let firsts = (0..count).step_by(64);
+        let firsts = (0..count).step_by(IN_WORD as usize);
         Free(firsts.map(|it| Line(AtomicU64::new(bits(it)))).collect())
     }
 
@@ -98,7 +106,7 @@ impl Free {
             match bits.compare_exchange_weak(found, without, Ordering::Acquire, Ordering::Relaxed) {
                 Ok(_) => {
                     begin_at(word);
-                    return Some(word as u32 * 64 + found.trailing_zeros());
+                    return Some(word as u32 * IN_WORD + found.trailing_zeros());
                 }
                 Err(now) => found = now,
             }
@@ -108,10 +116,10 @@ impl Free {
 
     /// Adds a number to the set again. The caller has it from `claim`, and uses its seat no more.
     pub(super) fn give_back(&self, number: u32) {
-        let word = number as usize / 64;
+        let word = (number / IN_WORD) as usize;
         self.0[word]
             .0
-            .fetch_or(1 << (number % 64), Ordering::Release);
+            .fetch_or(1 << (number % IN_WORD), Ordering::Release);
         begin_at(word);
     }
 }
@@ -123,6 +131,12 @@ thread_local! {
         static NEXT: AtomicUsize = AtomicUsize::new(0);
         Cell::new(NEXT.fetch_add(1, Ordering::Relaxed) % 16)
     };
+}
+
+/// Exchanges the word at which the thread begins to look, for threads that take turns.
+#[cfg(all(test, yachtbanyan_stand_in))]
+pub(super) fn exchange_first_word(word: usize) -> usize {
+    FIRST_WORD.replace(word)
 }
 
 fn begin_at(word: usize) {
@@ -203,7 +217,7 @@ impl Seats {
         loop {
             match self.free_handles.claim() {
                 Some(number) => return Ok(self.place(number)),
-                None => std::thread::yield_now(),
+                None => sync::yield_now(),
             }
         }
     }
@@ -222,7 +236,7 @@ impl Seats {
             if in_use == self.most_handles() {
                 return Err(NoSeat::Handle { in_use });
             }
-            std::thread::yield_now();
+            sync::yield_now();
         }
     }
 

@@ -1,6 +1,7 @@
 //! The values of a table, and the calls of the core on them.
 use super::core::{self, Core, Outcome};
 use super::seats::Seats;
+use super::sync;
 use crate::errors::{Full, GetError, NoSlot, OpenError, Reason};
 use crate::key::Key;
 use crate::old::Old;
@@ -103,6 +104,7 @@ unsafe fn value_of<T>(tag: u64) -> Box<T> {
 #[inline]
 fn tag_of<T>(value: Box<T>) -> u64 {
     let tag = Box::into_raw(value) as usize as u64;
+    sync::names(tag);
     order::release(tag);
     tag
 }
@@ -282,7 +284,7 @@ impl<T> Values<T> {
                 // (`allocated`).
                 return Err(unsafe { value_of(tag) });
             }
-            std::thread::yield_now();
+            sync::yield_now();
         }
     }
 
@@ -367,7 +369,7 @@ impl<T> Values<T> {
             if answer != core::AGAIN {
                 return (Err(self.get_error(answer, slot)), unused);
             }
-            std::thread::yield_now();
+            sync::yield_now();
         }
     }
 
@@ -403,7 +405,7 @@ impl<T> Values<T> {
                 let value = unsafe { value_of(tag) };
                 return (Err((value, self.get_error(answer, slot))), unused);
             }
-            std::thread::yield_now();
+            sync::yield_now();
         }
     }
 }

@@ -1,6 +1,7 @@
 //! Installations of a value that is made from its key.
 use super::handle::Handle;
 use super::storage;
+use super::sync;
 use super::values::Round;
 use crate::errors::Full;
 use crate::key::Key;
@@ -48,7 +49,7 @@ impl<T> Handle<T> {
                 Ok(key) => key,
                 Err(Round::Full) => return Err(values.full()),
                 Err(Round::Again) => {
-                    std::thread::yield_now();
+                    sync::yield_now();
                     continue;
                 }
             };

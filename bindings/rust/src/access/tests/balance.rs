@@ -1,8 +1,8 @@
 //! After each call, also one that is refused: each seat is free that no handle, reader or guard
 //! has, and each value that was made is at a slot or was dropped.
+use crate::{GetError, Handle, Key, NoSeat, Options, Reader, Table};
 use std::sync::atomic::{AtomicUsize, Ordering::SeqCst};
 use std::sync::Arc;
-use yachtbanyan::{GetError, Handle, Key, NoSeat, Options, Reader, Table};
 
 const HANDLES: u32 = 2;
 const READERS: u32 = 1;
@@ -88,7 +88,7 @@ const CALLS: &[(&str, Call)] = &[
         drop(it.handle.try_insert(it.value()))
     }),
     ("Handle::insert_with", |it, _| {
-        drop(it.handle.insert_with(|_| it.value()))
+        let _ = it.handle.insert_with(|_| it.value());
     }),
     ("Table::insert", |it, _| drop(it.table.insert(it.value()))),
     ("Handle::replace_at", |it, key| {
