@@ -99,7 +99,7 @@ static void read_judge_rows(const char *path) {
             fields[count] = next;
             if ((next = strchr(next, '\t'))) *next++ = 0;
         }
-        if (*line == '#' || !strcmp(fields[0], "refused")) {
+        if (*line == '#' || !strcmp(fields[0], "refused") || !strcmp(fields[0], "status")) {
             is_refused |= *line == 'r';
         } else if (!strcmp(fields[0], "script")) {
             script = expanded(fields[1], row);

@@ -23,9 +23,8 @@ WORDS = ["legal", "not legal", "undecided"]
 # the names of the faults and of the flaws by number, as docs/use/FLIGHT.md and the header have them
 FAULTS = "wrong-number", "not-one-chain", "not-called", "out-of-turn", "answered-twice", "not-held", "still-open"
 FLAWS = "unknown-event", "unknown-request", "unknown-flags", "unknown-file", "past-the-end"
-# the exit status of the command for what the library returns
-STATUSES = {0: 0, 1: 1, 2: 6, 4: 5, 5: 3, 6: 3}
 is_stand_in = "JUDGE_ROWS" in os.environ
+ROWS = (ROOT / "bindings/rust_judge/tests/rows.txt").read_text().splitlines()
 
 
 def expanded(field):
@@ -37,7 +36,7 @@ def expanded(field):
 def rows():
     """Yields each row: its kind, whether only a stand-in answers it, the script above it, and its fields."""
     script, above, is_refused = b"", "", False
-    for line in (ROOT / "bindings/rust_judge/tests/rows.txt").read_text().splitlines():
+    for line in ROWS:
         kind, *fields = line.split("\t")
         is_refused |= kind == "refused"
         if is_refused and not is_stand_in:
@@ -101,16 +100,17 @@ def judged_log(is_refused, script, limits, number, fields, lines):
         return
     log = yachtlog.Log(text)
     found = result(lambda: judge_events(log, None, *limits))
+    name = (FAULTS if number == 5 else FLAWS)[fault - 1] if fault else ""
     wanted = {0: LogVerdict("legal"), 1: LogVerdict("not legal", line), 2: LogVerdict("undecided"), 4: NONE}.get(number)
     if number in (5, 6):
-        wanted = BadEvent, f"line {line}: {(FAULTS if number == 5 else FLAWS)[fault - 1]}"
+        wanted = BadEvent, f"line {line}: {name}"
     if number == 7:
         wanted = ValueError, f"the table has too many slots: {slots}"
     want(found == wanted, f"{found} in place of {wanted}: {lines}")
     if number < 3 and not is_stand_in and limits == [1_000_000, 1_024] and not log.lacking:
         want(flight_states.judged(log).word == WORDS[number], f"the oracle finds another verdict than {found}: {lines}")
     if number != 7 and not log.lacking:
-        want(command(text, limits) == said(text, number, line, wanted), f"the command prints something else: {command(text, limits)}, {lines}")
+        want(command(text, limits) == said(text, number, line, name), f"the command prints something else: {command(text, limits)}, {lines}")
 
 
 def command(text, limits):
@@ -123,11 +123,10 @@ def command(text, limits):
         return printed.getvalue().replace(f"{room}/", ""), status
 
 
-def said(text, number, line, wanted):
+def said(text, number, line, fault):
     """Returns what the command should print of a log, and its status."""
-    shown = text.splitlines()[line - 1] if number == 1 else ""
-    lines = {0: "log: legal", 1: f"log: not legal: line {line}: {shown}", 2: "log: undecided", 4: "yachtlog: log: there is no memory to judge it"}
-    return (lines.get(number) or f"log: not a log: {wanted[1]}") + "\n", STATUSES[number]
+    status, words = next(it.split("\t")[2:] for it in ROWS if it.startswith(f"status\t{number}\t"))
+    return words.replace("LINE", str(line)).replace("TEXT", text.splitlines()[line - 1] if number == 1 else "").replace("FAULT", fault) + "\n", int(status)
 
 
 for kind, *row, more in rows():
