@@ -1,0 +1,332 @@
+//! The orders of a window of a log: those that its events show, and then those that the rules of
+//! certificates add, until a point comes before itself.
+
+use crate::graph::{Edge, Graph, Pair, in_order};
+use crate::reading::Reading;
+use crate::shown::{Shown, ShownAccess, left_by};
+use crate::window::{Window, WindowFile};
+use check_certificate::{Point, Step};
+use fx_base::{Closed as File, NoMemory};
+use fx_flight::LogEvent;
+
+/// An access, and the number of its point.
+#[derive(Clone, Copy, Debug)]
+struct AccessPoint {
+    shown: ShownAccess,
+    point: usize,
+}
+
+/// A file at its slot, and the numbers of the points at which it is installed and gone.
+#[derive(Clone, Copy, Debug)]
+struct FilePoints {
+    file: File,
+    slot: u32,
+    put: usize,
+    gone: usize,
+}
+
+/// The orders of a window.
+#[derive(Drop)]
+pub(crate) struct Problem {
+    /// The graph.
+    pub(crate) graph: Graph,
+    accesses: Vec<AccessPoint>,
+    files: Vec<FilePoints>,
+}
+
+// Returns the step that says that a call comes before an access.
+fn begins(shown: &ShownAccess) -> Step {
+    Step::Begins {
+        call: shown.call,
+        answer: shown.answer,
+        access: shown.access,
+    }
+}
+
+// Returns the step that says that an access comes before its answer.
+fn ends(shown: &ShownAccess) -> Step {
+    Step::Ends {
+        call: shown.call,
+        answer: shown.answer,
+        access: shown.access,
+    }
+}
+
+impl Problem {
+    /// Returns the orders that the events of a window show.
+    pub(crate) fn of(log: &Reading<'_>, window: &Window) -> Result<Problem, NoMemory> {
+        let mut problem = Problem {
+            graph: Graph::new(log.alloc),
+            accesses: Vec::new(log.alloc),
+            files: Vec::new(log.alloc),
+        };
+        problem.add_points(window)?;
+        problem.graph.begin(log.alloc)?;
+        problem.add_events(window)?;
+        for i in 0..problem.accesses.len() {
+            if let Some(access) = problem.accesses.get(i).copied() {
+                problem.add_access(window, &access)?;
+            }
+        }
+        for file in &window.files {
+            problem.add_file(window, file)?;
+        }
+        Ok(problem)
+    }
+
+    // Adds the points: first those of the events, in the order of their positions.
+    fn add_points(&mut self, window: &Window) -> Result<(), NoMemory> {
+        for at in &window.positions {
+            self.graph.add_point(Point::Event(*at))?;
+        }
+        for shown in &window.accesses {
+            let own = Point::Access(shown.answer, shown.access);
+            let point = self.graph.add_point(own)?;
+            self.accesses.push(AccessPoint {
+                shown: *shown,
+                point,
+            })?;
+        }
+        for known in &window.files {
+            let file = known.file;
+            let put = self.graph.add_point(Point::Put(file))?;
+            if let Some(slot) = known.slot {
+                let gone = self.graph.add_point(Point::Gone(file, slot))?;
+                self.files.push(FilePoints {
+                    file,
+                    slot,
+                    put,
+                    gone,
+                })?;
+            }
+        }
+        Ok(())
+    }
+
+    // Adds the order of the events.
+    fn add_events(&mut self, window: &Window) -> Result<(), NoMemory> {
+        let mut last = None;
+        for (point, at) in window.positions.iter().enumerate() {
+            if let Some((before, earlier)) = last {
+                let later = *at;
+                self.graph
+                    .add_known(before, point, Step::Events { earlier, later })?;
+            }
+            last = Some((point, *at));
+        }
+        Ok(())
+    }
+
+    // Adds the orders of an access: with its call, its answer, and the file that it finds.
+    fn add_access(&mut self, window: &Window, access: &AccessPoint) -> Result<(), NoMemory> {
+        let (shown, point) = (access.shown, access.point);
+        let (call, answer) = (shown.call, shown.answer);
+        if let Ok(event) = window.positions.binary_search(&call) {
+            self.graph.add_known(event, point, begins(&shown))?;
+        }
+        if let Ok(event) = window.positions.binary_search(&answer) {
+            self.graph.add_known(point, event, ends(&shown))?;
+        }
+        if let Shown::Finds(slot, file) = shown.shown
+            && let Some(own) = self.points_of(file)
+        {
+            self.graph
+                .add_known(own.put, point, Step::Follows { call, answer })?;
+            if own.slot == slot {
+                self.graph
+                    .add_known(point, own.gone, Step::Finds { call, answer })?;
+            }
+        }
+        Ok(())
+    }
+
+    // Returns the points of a file.
+    fn points_of(&self, file: File) -> Option<FilePoints> {
+        self.files.iter().find(|own| own.file == file).copied()
+    }
+
+    // Adds the orders of a file: with its call, the answer of its installation, and its close.
+    fn add_file(&mut self, window: &Window, known: &WindowFile) -> Result<(), NoMemory> {
+        let file = known.file;
+        let Some(own) = self.points_of(file) else {
+            return Ok(());
+        };
+        let call = known.call;
+        if let Ok(event) = window.positions.binary_search(&call) {
+            self.graph
+                .add_known(event, own.put, Step::Calls { call, file })?;
+        }
+        if let Some(shown) = known.install {
+            self.add_install(window, &shown, &own)?;
+        }
+        if let Some(close) = known.close
+            && let Ok(event) = window.positions.binary_search(&close)
+        {
+            let slot = own.slot;
+            self.graph
+                .add_known(own.gone, event, Step::Closes { close, slot })?;
+        }
+        Ok(())
+    }
+
+    // Adds the orders of an access that installs a file.
+    fn add_install(
+        &mut self,
+        window: &Window,
+        shown: &ShownAccess,
+        own: &FilePoints,
+    ) -> Result<(), NoMemory> {
+        let (call, answer, access) = (shown.call, shown.answer, shown.access);
+        let places = Step::Places {
+            call,
+            answer,
+            access,
+        };
+        self.graph.add_known(own.put, own.gone, places)?;
+        let installs = Step::Installs {
+            call,
+            answer,
+            access,
+        };
+        if let Ok(event) = window.positions.binary_search(&answer) {
+            self.graph.add_known(own.put, event, installs)?;
+        }
+        Ok(())
+    }
+
+    // Adds an order by a rule with premises, if they hold and the order isn't known.
+    fn add_by(
+        &mut self,
+        new: Pair,
+        step: Step,
+        first: Pair,
+        second: Option<Pair>,
+    ) -> Result<bool, NoMemory> {
+        if self.graph.loops.is_some() || self.graph.holds(new) || !self.graph.holds(first) {
+            return Ok(false);
+        }
+        if matches!(second, Some(second) if !self.graph.holds(second)) {
+            return Ok(false);
+        }
+        self.graph.add(Edge {
+            pair: new,
+            step,
+            premises: (Some(first), second),
+        })?;
+        Ok(true)
+    }
+
+    // Applies the rules of an access that leaves a slot without a file.
+    fn by_access(&mut self, z: &AccessPoint, f: &FilePoints) -> Result<bool, NoMemory> {
+        let (slot, left) = left_by(z.shown.shown);
+        if slot != f.slot || left == Some(f.file) {
+            return Ok(false);
+        }
+        let (call, answer, access) = (z.shown.call, z.shown.answer, z.shown.access);
+        let empties = Step::Empties {
+            call,
+            answer,
+            access,
+            installed: 0,
+        };
+        let new = in_order(f.gone, z.point, false);
+        let one = self.add_by(new, empties, in_order(f.put, z.point, false), None)?;
+        let precedes = Step::Precedes {
+            call,
+            answer,
+            access,
+            there: 0,
+        };
+        let new = in_order(z.point, f.put, true);
+        let other = self.add_by(new, precedes, in_order(z.point, f.gone, true), None)?;
+        Ok(one || other)
+    }
+
+    // Applies the rules of two files of a slot.
+    fn by_files(&mut self, f: &FilePoints, g: &FilePoints) -> Result<bool, NoMemory> {
+        if f.slot != g.slot || f.file == g.file {
+            return Ok(false);
+        }
+        let placed = Some(in_order(g.put, g.gone, true));
+        let displaces = Step::Displaces {
+            installed: 0,
+            placed: 0,
+        };
+        let new = in_order(f.gone, g.put, false);
+        let one = self.add_by(new, displaces, in_order(f.put, g.put, false), placed)?;
+        let outlives = Step::Outlives {
+            there: 0,
+            placed: 0,
+        };
+        let new = in_order(g.put, f.put, true);
+        let other = self.add_by(new, outlives, in_order(g.put, f.gone, true), placed)?;
+        Ok(one || other)
+    }
+
+    // Applies the rule of the moments at which all was settled to a file.
+    fn by_settled(
+        &mut self,
+        log: &Reading<'_>,
+        window: &Window,
+        f: &FilePoints,
+        close: Option<usize>,
+    ) -> Result<bool, NoMemory> {
+        let mut is_new = false;
+        for (event, at) in window.positions.iter().enumerate() {
+            let settled = *at;
+            let is_settled = matches!(log.events.get(settled), Some(LogEvent::Settled));
+            let is_closed = matches!(close, Some(close) if close < settled);
+            if !is_settled || is_closed {
+                continue;
+            }
+            let step = Step::Settles {
+                settled,
+                installed: 0,
+                placed: 0,
+            };
+            let new = in_order(event, f.gone, true);
+            let installed = in_order(f.put, event, true);
+            let placed = Some(in_order(f.put, f.gone, true));
+            if self.add_by(new, step, installed, placed)? {
+                is_new = true;
+            }
+        }
+        Ok(is_new)
+    }
+
+    // Applies each rule with premises once to everything. Returns whether an order was added.
+    fn go_on(&mut self, log: &Reading<'_>, window: &Window) -> Result<bool, NoMemory> {
+        let mut is_new = false;
+        for i in 0..self.files.len() {
+            let Some(f) = self.files.get(i).copied() else {
+                break;
+            };
+            for j in 0..self.accesses.len() {
+                let Some(z) = self.accesses.get(j).copied() else {
+                    break;
+                };
+                is_new |= self.by_access(&z, &f)?;
+            }
+            for j in 0..self.files.len() {
+                let Some(g) = self.files.get(j).copied() else {
+                    break;
+                };
+                is_new |= self.by_files(&f, &g)?;
+            }
+            let close = window.files.iter().find(|known| known.file == f.file);
+            let close = close.and_then(|known| known.close);
+            is_new |= self.by_settled(log, window, &f, close)?;
+        }
+        Ok(is_new)
+    }
+
+    /// Applies the rules until they add nothing, or a point comes before itself.
+    pub(crate) fn saturate(&mut self, log: &Reading<'_>, window: &Window) -> Result<(), NoMemory> {
+        for _ in 0..usize::MAX {
+            if self.graph.loops.is_some() || !self.go_on(log, window)? {
+                break;
+            }
+        }
+        Ok(())
+    }
+}

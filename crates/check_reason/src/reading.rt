@@ -1,0 +1,157 @@
+//! The beginning of a log as the search for a reason reads it: its calls, the positions of their
+//! answers, and the files that answered calls installed at each slot.
+
+use crate::shown::{Shown, ShownAccess};
+use fx_base::{Catalogue, Closed as File, Mark, NoMemory};
+use fx_flight::LogEvent;
+use std::alloc::Global;
+
+/// The positions of a call's events.
+#[derive(Drop)]
+pub(crate) struct CallEvents {
+    /// The position of the call.
+    pub(crate) at: usize,
+    /// The positions of its answers.
+    pub(crate) answers: Vec<usize>,
+}
+
+/// The beginning of a log.
+#[derive(Drop)]
+pub(crate) struct Reading<'a> {
+    /// The allocator.
+    pub(crate) alloc: Global,
+    /// The catalogue.
+    pub(crate) catalogue: &'a Catalogue,
+    /// The number of slots.
+    pub(crate) size: u32,
+    /// The events.
+    pub(crate) events: &'a [LogEvent],
+    /// The calls, by their numbers from 1.
+    pub(crate) calls: Vec<CallEvents>,
+    /// The accesses that installed files at each slot, by the positions of their answers.
+    pub(crate) installs: Vec<Vec<ShownAccess>>,
+}
+
+/// Returns the number of the call that installs a file, or 0 for a file of a registration.
+pub(crate) fn number_of(file: File) -> u32 {
+    match file.mark {
+        Mark::Submitted {
+            submission,
+            chain: _,
+            member: _,
+            entry: _,
+        } => submission,
+        _ => 0,
+    }
+}
+
+/// Returns the number of the call to which an event belongs, or 0 if it belongs to none.
+pub(crate) fn call_number(event: &LogEvent) -> u32 {
+    match event {
+        LogEvent::Call { id, chain: _ } => *id,
+        LogEvent::Look { id, slot: _ } => *id,
+        LogEvent::Done(c) => c.place.submission,
+        LogEvent::Found { id, file: _ } => *id,
+        _ => 0,
+    }
+}
+
+impl<'a> Reading<'a> {
+    /// Reads events at a table of `size` slots.
+    pub(crate) fn of(
+        alloc: Global,
+        catalogue: &'a Catalogue,
+        size: u32,
+        events: &'a [LogEvent],
+    ) -> Result<Reading<'a>, NoMemory> {
+        let mut reading = Reading {
+            alloc,
+            catalogue,
+            size,
+            events,
+            calls: Vec::new(alloc),
+            installs: Vec::new(alloc),
+        };
+        reading.read_calls()?;
+        reading.read_installs()?;
+        Ok(reading)
+    }
+
+    // Notes the positions of each call's events.
+    fn read_calls(&mut self) -> Result<(), NoMemory> {
+        for (at, event) in self.events.iter().enumerate() {
+            if matches!(event, LogEvent::Call { .. } | LogEvent::Look { .. }) {
+                let answers = Vec::new(self.alloc);
+                self.calls.push(CallEvents { at, answers })?;
+                continue;
+            }
+            let call = (call_number(event) as usize).checked_sub(1);
+            if let Some(call) = call
+                && let Some(own) = self.calls.get_mut(call)
+            {
+                own.answers.push(at)?;
+            }
+        }
+        Ok(())
+    }
+
+    // Notes the accesses that installed files.
+    fn read_installs(&mut self) -> Result<(), NoMemory> {
+        for _ in 0..self.size {
+            self.installs.push(Vec::new(self.alloc))?;
+        }
+        for at in 0..self.events.len() {
+            for access in 0..self.accesses_at(at) {
+                let Some(shown) = self.shown_at(at, access) else {
+                    continue;
+                };
+                if let Shown::Installs(slot, _) = shown.shown
+                    && let Some(own) = self.installs.get_mut(slot as usize)
+                {
+                    own.push(shown)?;
+                }
+            }
+        }
+        Ok(())
+    }
+
+    /// Returns the events of the call with a number, from 1.
+    pub(crate) fn call(&self, id: u32) -> Option<&CallEvents> {
+        self.calls.get((id as usize).checked_sub(1)?)
+    }
+
+    /// Returns the access that installed a file, if its answer shows it.
+    pub(crate) fn install_of(&self, file: File) -> Option<ShownAccess> {
+        let Mark::Submitted {
+            submission,
+            chain: _,
+            member,
+            entry: _,
+        } = file.mark
+        else {
+            return None;
+        };
+        let call = self.call(submission)?;
+        let answer = *call.answers.get((member as usize).checked_sub(1)?)?;
+        for access in 0..self.accesses_at(answer) {
+            let shown = self.shown_at(answer, access);
+            if let Some(shown) = shown
+                && let Shown::Installs(_, other) = shown.shown
+                && other == file
+            {
+                return Some(shown);
+            }
+        }
+        None
+    }
+
+    /// Returns the position of the close of a file, from a position on.
+    pub(crate) fn close_of(&self, from: usize, file: File) -> Option<usize> {
+        for at in from..self.events.len() {
+            if matches!(&self.events[at], LogEvent::Closed(other) if *other == file) {
+                return Some(at);
+            }
+        }
+        None
+    }
+}

@@ -1,0 +1,109 @@
+//! The reason why a beginning of a log has no flight: a search proposes a certificate, and the
+//! checker of certificates takes it or not.
+ghost use Rattle.std.specs.Prelude.{◌≡◌, ℕ, IfOk, IfSome, take};
+ghost use Rattle.fx_base.specs.Catalogue.{IsCatalogue};
+ghost use Rattle.fx_order.specs.Slots.{ring_of_slots};
+ghost use Rattle.fx_flight.specs.Events.{all_happenings};
+ghost use Rattle.fx_flight.specs.Flight.{IsLegalLog};
+
+use crate::assembly::{ReasonStep, certificate_of};
+use crate::direct::direct;
+use crate::problem::Problem;
+use crate::reading::Reading;
+use crate::window::Window;
+use check_certificate::{Step, is_refuted};
+use fx_base::{Catalogue, NoMemory};
+use fx_flight::LogEvent;
+use fx_order::Slots;
+use std::alloc::Global;
+
+/// The reason why a beginning of a log has no flight.
+#[derive(Debug, Drop)]
+pub struct LogReason {
+    /// The number of events of the beginning.
+    pub count: usize,
+    /// The steps. The last one says that a point comes before itself.
+    pub steps: Vec<ReasonStep>,
+}
+
+// The numbers of events of the windows that are tried.
+const WIDTHS: [usize; 6] = [16, 32, 64, 128, 256, 512];
+
+// The number of points above which a window isn't tried.
+const MOST_POINTS: usize = 4_000;
+
+// Proposes a certificate from the window of the last `width` events. It is empty if the search
+// finds none.
+fn propose(log: &Reading<'_>, width: usize) -> Result<Vec<ReasonStep>, NoMemory> {
+    let from = log.events.len().saturating_sub(width);
+    let window = Window::of(log, from)?;
+    let points = window.positions.len().saturating_add(window.accesses.len());
+    if points.saturating_add(window.files.len().saturating_mul(2)) > MOST_POINTS {
+        return Ok(Vec::new(log.alloc));
+    }
+    let mut problem = Problem::of(log, &window)?;
+    problem.saturate(log, &window)?;
+    match problem.graph.loops {
+        Some(point) => certificate_of(log.alloc, &problem.graph, point),
+        None => Ok(Vec::new(log.alloc)),
+    }
+}
+
+// Returns the steps without their orders.
+fn steps_of(alloc: Global, steps: &[ReasonStep]) -> Result<Vec<Step>, NoMemory> {
+    let mut all = Vec::new(alloc);
+    for step in steps {
+        all.push(step.step)?;
+    }
+    Ok(all)
+}
+
+// Proposes a certificate of the beginning. It is empty if the search finds none.
+fn search(log: &Reading<'_>) -> Result<Vec<ReasonStep>, NoMemory> {
+    if let Some(step) = direct(log) {
+        let mut steps = Vec::new(log.alloc);
+        steps.push(step)?;
+        return Ok(steps);
+    }
+    for width in &WIDTHS {
+        let steps = propose(log, *width)?;
+        if !steps.is_empty() || *width >= log.events.len() {
+            return Ok(steps);
+        }
+    }
+    Ok(Vec::new(log.alloc))
+}
+
+/// Looks for the reason why the first `count` events of a log have no flight, from a table with
+/// these slots on. Returns `None` if it finds none.
+///
+/// # Errors
+/// `NoMemory` if an allocation fails.
+pub fn explain(
+    alloc: Global,
+    catalogue: &Catalogue,
+    slots: &Slots,
+    events: &[LogEvent],
+    count: usize,
+) -> Result<Option<LogReason>, NoMemory>
+    requires { IsCatalogue catalogue.now }
+    ensures count { IfOk result (λ reason. IfSome reason (λ reason. reason.count ≡ count)) }
+    ensures refuted { IfOk result (λ reason. IfSome reason (λ reason.
+        (submissions registrations : ℕ)
+        → IsLegalLog (ring_of_slots catalogue.now slots.now submissions registrations)
+        (all_happenings (take count events.now)) → ⊥)) }
+{
+    let Ok(size) = u32::try_from(slots.at.len()) else {
+        return Ok(None);
+    };
+    if count > events.len() {
+        return Ok(None);
+    }
+    let log = Reading::of(alloc, catalogue, size, &events[..count])?;
+    let steps = search(&log)?;
+    let certificate = steps_of(alloc, &steps)?;
+    if !is_refuted(alloc, catalogue, slots, events, count, &certificate)? {
+        return Ok(None);
+    }
+    Ok(Some(LogReason { count, steps }))
+}

@@ -1,0 +1,182 @@
+//! The part of a log around a wrong event that a search for a reason looks at: calls, the accesses
+//! that their answers show, files, and the positions of all their events.
+
+use crate::reading::{Reading, call_number, number_of};
+use crate::shown::{Shown, ShownAccess, left_by};
+use fx_base::{Closed as File, NoMemory};
+use fx_flight::LogEvent;
+use std::alloc::Global;
+
+/// A file, and what the log says of it.
+#[derive(Clone, Copy, Debug)]
+pub(crate) struct WindowFile {
+    /// The file.
+    pub(crate) file: File,
+    /// Its slot, if the log says it.
+    pub(crate) slot: Option<u32>,
+    /// The position of the call that installs it.
+    pub(crate) call: usize,
+    /// The access that installed it, if its answer shows it.
+    pub(crate) install: Option<ShownAccess>,
+    /// The position of its close.
+    pub(crate) close: Option<usize>,
+}
+
+/// The part of a log.
+#[derive(Drop)]
+pub(crate) struct Window {
+    /// The first position of the window. The window ends with the log.
+    pub(crate) from: usize,
+    /// The accesses, except those that install files.
+    pub(crate) accesses: Vec<ShownAccess>,
+    /// The files.
+    pub(crate) files: Vec<WindowFile>,
+    /// The positions of events in the window, and of others that concern its calls and files, in
+    /// order.
+    pub(crate) positions: Vec<usize>,
+    // The calls with events in the window, and their slots.
+    calls: Vec<u32>,
+    slots: Vec<u32>,
+}
+
+// Appends a value unless it is there.
+fn note(list: &mut Vec<u32>, value: u32) -> Result<(), NoMemory> {
+    if !list.contains(&value) {
+        list.push(value)?;
+    }
+    Ok(())
+}
+
+impl Window {
+    /// Returns the window from a position on.
+    pub(crate) fn of(log: &Reading<'_>, from: usize) -> Result<Window, NoMemory> {
+        let alloc: Global = log.alloc;
+        let mut window = Window {
+            from,
+            accesses: Vec::new(alloc),
+            files: Vec::new(alloc),
+            positions: Vec::new(alloc),
+            calls: Vec::new(alloc),
+            slots: Vec::new(alloc),
+        };
+        for at in from..log.events.len() {
+            window.positions.push(at)?;
+            let id = call_number(&log.events[at]);
+            if id > 0 {
+                note(&mut window.calls, id)?;
+            }
+        }
+        window.take_calls(log)?;
+        window.take_closed(log)?;
+        window.take_present(log)?;
+        window.positions.sort_unstable();
+        window.positions.dedup();
+        Ok(window)
+    }
+
+    // Adds the accesses of the calls, and their files.
+    fn take_calls(&mut self, log: &Reading<'_>) -> Result<(), NoMemory> {
+        for i in 0..self.calls.len() {
+            let Some(id) = self.calls.get(i).copied() else {
+                break;
+            };
+            let Some(call) = log.call(id) else {
+                continue;
+            };
+            self.positions.push(call.at)?;
+            for answer in &call.answers {
+                self.positions.push(*answer)?;
+                for access in 0..log.accesses_at(*answer) {
+                    if let Some(shown) = log.shown_at(*answer, access) {
+                        self.take_access(log, shown)?;
+                    }
+                }
+            }
+        }
+        Ok(())
+    }
+
+    // Adds an access, and its file.
+    fn take_access(&mut self, log: &Reading<'_>, shown: ShownAccess) -> Result<(), NoMemory> {
+        let (slot, left) = left_by(shown.shown);
+        note(&mut self.slots, slot)?;
+        if let Some(file) = left {
+            self.take_file(log, file, Some(slot))?;
+        }
+        if !matches!(shown.shown, Shown::Installs(_, _)) {
+            self.accesses.push(shown)?;
+        }
+        Ok(())
+    }
+
+    // Adds a file, unless it is there. `slot` is one at which it was found.
+    fn take_file(
+        &mut self,
+        log: &Reading<'_>,
+        file: File,
+        slot: Option<u32>,
+    ) -> Result<(), NoMemory> {
+        if self.files.iter().any(|other| other.file == file) {
+            return Ok(());
+        }
+        let Some(call) = log.call(number_of(file)) else {
+            return Ok(());
+        };
+        let install = log.install_of(file);
+        let mut slot = slot;
+        if let Some(shown) = install {
+            slot = Some(left_by(shown.shown).0);
+            self.positions.push(shown.answer)?;
+        }
+        self.positions.push(call.at)?;
+        let close = log.close_of(self.from, file);
+        self.files.push(WindowFile {
+            file,
+            slot,
+            call: call.at,
+            install,
+            close,
+        })?;
+        Ok(())
+    }
+
+    // Adds the files that are closed in the window.
+    fn take_closed(&mut self, log: &Reading<'_>) -> Result<(), NoMemory> {
+        for at in self.from..log.events.len() {
+            if let LogEvent::Closed(file) = &log.events[at] {
+                self.take_file(log, *file, None)?;
+            }
+        }
+        Ok(())
+    }
+
+    // Adds the files that may still be at the window's slots when it begins: each one that no
+    // answered call is known to have followed there.
+    fn take_present(&mut self, log: &Reading<'_>) -> Result<(), NoMemory> {
+        for i in 0..self.slots.len() {
+            let Some(slot) = self.slots.get(i).copied() else {
+                break;
+            };
+            let Some(own) = log.installs.get(slot as usize) else {
+                continue;
+            };
+            let mut latest = 0;
+            for back in 0..own.len() {
+                let Some(shown) = own.get(own.len().saturating_sub(back).saturating_sub(1)) else {
+                    break;
+                };
+                if shown.answer >= self.from {
+                    continue;
+                }
+                if shown.answer < latest {
+                    break;
+                }
+                latest = latest.max(shown.call);
+                if let Shown::Installs(slot, file) = shown.shown {
+                    self.take_file(log, file, Some(slot))?;
+                }
+            }
+        }
+        Ok(())
+    }
+}
