@@ -24,6 +24,7 @@ mod handle;
 mod keys;
 mod reader;
 mod seats;
+#[allow(dead_code)]
 #[cfg(yachtbanyan_stand_in)]
 mod stand_in;
 mod storage;

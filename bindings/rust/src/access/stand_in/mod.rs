@@ -345,7 +345,14 @@ pub(crate) unsafe fn yacht_core_put_empty(handle: *mut Core, slot: u32, tag: u64
 ///
 /// # Safety
 /// As of the core's functions.
-#[cfg(test)]
-pub(super) unsafe fn draw_next(handle: *mut Core, number: u64) {
+pub(crate) unsafe fn draw_next(handle: *mut Core, number: u64) {
     unsafe { worker(handle) }.number = number;
+}
+
+/// Returns the words of a worker's table.
+///
+/// # Safety
+/// As of the core's functions.
+pub(crate) unsafe fn words_of(handle: *mut Core) -> Vec<u64> {
+    unsafe { worker(handle) }.table.words().collect()
 }

@@ -198,7 +198,6 @@ impl Table {
     }
 
     /// Returns the words, to be compared with those of the core.
-    #[allow(dead_code)]
     pub(crate) fn words(&self) -> impl Iterator<Item = u64> + '_ {
         self.words.iter().map(|it| it.load(SeqCst))
     }
