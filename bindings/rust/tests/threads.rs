@@ -130,9 +130,15 @@ fn serve(handle: &Handle<Value>, mut seed: u64, rounds: u64) {
                     .ok()
                     .map(|key| (key, number))
             }
-            14 => {
+            14 if round % 2 == 0 => {
                 own = handle
                     .try_insert(Value::new(number))
+                    .ok()
+                    .map(|key| (key, number))
+            }
+            14 => {
+                own = handle
+                    .insert_with(|_| Value::new(number))
                     .ok()
                     .map(|key| (key, number))
             }
