@@ -105,6 +105,12 @@ class Sources(dict):
         raise ValueError(f"there is no {name}")
 
 
+def gate():
+    """Returns what the gate counts: the crates, and the edits that the prover must refuse."""
+    edits = glob.glob("crates/*/must-fail/*.edit", root_dir=ROOT)
+    return len(re.findall(r"^\w[^#\n]*:", read("crates.txt"), re.MULTILINE)) + len(edits)
+
+
 def lines(path):
     return len(read(path).splitlines())
 
@@ -168,7 +174,7 @@ def tails(pattern, word):
     return sorted(int(it) / 1000 for it in re.findall(rf"^tails: {pattern}.*? {word} (\d+)", read("bench/tails.txt"), re.MULTILINE))
 
 
-FUNCTIONS = answer, constant_of, found, lines, narrow, number, on_four_threads, python, round, tails, version, width, width_of_slots
+FUNCTIONS = answer, constant_of, found, gate, lines, narrow, number, on_four_threads, python, round, tails, version, width, width_of_slots
 SOURCES = Sources({it.__name__: it for it in FUNCTIONS})
 
 
