@@ -262,6 +262,18 @@ fn no_order_of_steps_is_wrong() {
     Family::steps(16, 1, &[INSERT, REMOVE]).has(285);
 }
 
+/// An optimized build takes ten seconds for it.
+#[test]
+#[ignore = "slow unless it is optimized"]
+fn no_order_of_the_steps_of_three_is_wrong() {
+    Family::steps(0, 1, &[LOOK, LOOK, PUT]).has(221_651);
+    Family::steps(0, 1, &[LOOK, PUT, REMOVE]).has(22_518);
+    Family::steps(1, 1, &[LOOK, LOOK, REMOVE]).has(28_231);
+    Family::steps(16, 1, &[LOOK, PUT, PUT]).has(5_408);
+    Family::steps(16, 1, &[LOOK, PUT, REMOVE_KEY]).has(27_322);
+    Family::steps(16, 1, &[INSERT, INSERT, REMOVE]).has(37_345);
+}
+
 /// A thread's steps at an atomic and a place of memory.
 type Steps = fn(&AtomicU32, *const u8);
 
