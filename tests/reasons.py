@@ -1,0 +1,308 @@
+"""reasons.py LOG FACTS: checks the reason why a log of calls in flight is not legal: whether each of its steps follows from the log and from
+earlier steps, and whether they contradict each other. Written from docs/use/FLIGHT.md and docs/inside/MODEL.md alone; it shares nothing with
+the library. FACTS has a list in JSON, with a list for each step: the rule, the lines of the events that it is applied to, the number of an
+access, the numbers of earlier steps, the earlier point, the later point, and whether the points differ in time. A point is ["event", LINE],
+["access", LINE OF THE ANSWER, NUMBER], ["put", MARK] or ["gone", MARK, SLOT]. Prints what is wrong, or nothing."""
+import json
+import re
+import sys
+
+EVENT, ACCESS, PUT, GONE = "event", "access", "put", "gone"
+CANCELED = -125
+
+
+class Wrong(Exception):
+    """Why a step doesn't follow."""
+
+
+def want(holds, why):
+    if not holds:
+        raise Wrong(why)
+
+
+class Log:
+    """The lines of a log, from 1. With `tags`, the tag of a file comes in place of its close."""
+
+    def __init__(self, text, tags=False):
+        self.lines = [""] + text.split("\n")[:-1]
+        self.names = [it.split()[1] for it in self.lines if re.match("(file|pipe) ", it)]
+        self.is_of_pipes = any(it.startswith("pipe ") for it in self.lines)
+        self.size = next(int(it.split()[3]) for it in self.lines if re.match(r"call \d+ sparse ", it))
+        self.calls = {int(it.split()[1]): at for at, it in enumerate(self.lines) if re.match(r"call \d+ (?!sparse)", it)}
+        tagged = {it.split()[1] for it in self.lines if it.startswith("tag ")} if tags else set()
+        self.closes = {}
+        for at, it in enumerate(self.lines):
+            word, *rest = it.split() or [""]
+            if word == "tag" and tags:
+                self.closes[at] = mark_of(rest[0])
+            if word == "closed" and rest[0] not in tagged:
+                self.closes[at] = mark_of(rest[0]) if self.file_of(mark_of(rest[0])) == rest[1] else (0, 0, 0)
+        self.fed = {it.split()[2].lower(): it.split()[1] for it in self.lines if it.startswith("fed ")}
+
+    def chain(self, call):
+        """Returns the requests of a call, each as its words without its link."""
+        want(call in self.calls, f"there is no call {call}")
+        requests = self.lines[self.calls[call]].split(" ", 2)[2].split(" ; ")
+        return [[it for it in request.split() if it not in ("link", "hardlink")] for request in requests]
+
+    def file_of(self, mark):
+        """Returns the name of the file that the request of a mark installs, or None."""
+        call, member, entry = mark
+        chain = self.chain(call) if call in self.calls else []
+        request = chain[member - 1] if 1 <= member <= len(chain) else [""]
+        if request[0] == "open" and entry == 0:
+            return request[1] if request[1] in self.names else None
+        if request[0] in ("update", "regupdate"):
+            entries = list(map(int, request[2].split(",")))
+            number = entries[entry] if entry < len(entries) else -1
+            return self.names[number] if 0 <= number < len(self.names) else None
+        return None
+
+    def call_at(self, line):
+        """Returns the call that a line begins."""
+        words = self.line(line).split()
+        want(words[0] == "call" and int(words[1]) in self.calls, f"line {line} begins no call")
+        return int(words[1])
+
+    def line(self, line):
+        want(0 < line < len(self.lines), f"there is no line {line}")
+        return self.lines[line]
+
+    def answer_at(self, line):
+        """Returns the call and the member that a line answers, the result and what follows it."""
+        words = self.line(line).split()
+        want(words[0] == "done", f"line {line} is no answer")
+        call, member = map(int, words[1].split("."))
+        want(call in self.calls, f"line {line} answers no call")
+        return call, member, int(words[2]), words[3:]
+
+    def is_event(self, line):
+        words = self.line(line).split()
+        if words[0] in ("call", "done"):
+            return int(words[1].split(".")[0]) in self.calls
+        return line in self.closes if words[0] in ("closed", "tag") else words[0] in ("free", "settled")
+
+    def found_at(self, line):
+        """Returns the look that a line answers, and the file that it found."""
+        call, _, result, more = self.answer_at(line)
+        request = self.chain(call)[0]
+        want(result >= 0 and (request[0] == "look" or self.is_of_pipes and request[0] == "read"), f"line {line} finds no file")
+        return call, mark_of(more[0]) if request[0] == "look" else self.pipe_of(more[0])
+
+    def pipe_of(self, byte):
+        """Returns the mark of the pipe that a read found, by the byte that the pipe alone was fed."""
+        marks = [(call, member, entry) for call in self.calls for member, request in enumerate(self.chain(call), 1)
+                 for entry in range(len(request[2].split(",")) if request[0] in ("update", "regupdate") else 0)
+                 if self.file_of((call, member, entry)) == self.fed.get(byte.lower(), "")]
+        return marks[0] if len(marks) == 1 else (0, 0, 0)
+
+    def access(self, call_line, line, number):
+        """Returns what is known of an access of the member that a line answers, by the answer: the slot that the access leaves, with the file
+        there or None; or None if nothing is known of it. Raises Wrong if the member didn't surely make that access."""
+        call = self.call_at(call_line)
+        answered, member, result, _ = self.answer_at(line)
+        want(answered == call, f"line {line} doesn't answer call {call}")
+        requests = self.chain(call)
+        want(1 <= member <= len(requests), f"call {call} has no member {member}")
+        made = self.accesses((call, member), requests[member - 1], result, line)
+        want(0 <= number < len(made), f"member {call}.{member} made no access {number}, as it answered {result}")
+        return made[number]
+
+    def accesses(self, place, request, result, line):
+        """Returns what is known of the accesses of a member that answered this."""
+        kind, slot = request[0], int(request[1]) if request[0] not in ("open",) else 0
+        if result in (CANCELED, -12):
+            return []
+        if kind == "open":
+            return self.of_open(place, request, result)
+        if kind in ("update", "regupdate"):
+            entries = list(map(int, request[2].split(",")))
+            rows = [(slot + at, (*place, at) if it >= 0 else None) for at, it in enumerate(entries) if it >= -1]
+            return rows if result == len(entries) else []
+        if slot >= self.size:
+            return []
+        if kind == "look" or kind == "read" and self.is_of_pipes:
+            return [(slot, self.found_at(line)[1])] if result >= 0 else [(slot, None)]
+        # a close leaves its slot empty, whatever it finds; a read that answers -9 found it empty
+        return [(slot, None) if kind == "close" or result < 0 else None]
+
+    def of_open(self, place, request, result):
+        if request[1] not in self.names:
+            return []
+        if request[2] == "any":
+            return [(result, (*place, 0)) if result >= 0 else None]
+        return [(int(request[3]), (*place, 0))] if int(request[3]) < self.size else []
+
+
+def mark_of(word):
+    return tuple(map(int, word.split(".")))
+
+
+def is_put(point):
+    want(point[0] == PUT, f"{point} is no installation")
+    return point[1]
+
+
+class Reason:
+    """The steps of a reason up to some step: `known` has the order of each."""
+
+    def __init__(self, log):
+        self.log, self.known = log, []
+
+    def order(self, rule, lines, access, premises):
+        """Returns the order that a step adds: both points, and whether they differ in time."""
+        wanted = getattr(self, "_" + rule.replace("-", "_"), None)
+        want(wanted, f"there is no rule {rule}")
+        want(all(0 <= it < len(self.known) for it in premises), "an earlier step is none")
+        return wanted(lines, access, [self.known[it] for it in premises])
+
+    def _events(self, lines, access, premises):
+        want(lines[0] < lines[1] and all(map(self.log.is_event, lines)), "the lines are in another order, or no events")
+        return (EVENT, lines[0]), (EVENT, lines[1]), True
+
+    def _begins(self, lines, access, premises):
+        self.log.access(*lines, access)
+        return (EVENT, lines[0]), (ACCESS, lines[1], access), True
+
+    def _ends(self, lines, access, premises):
+        self.log.access(*lines, access)
+        return (ACCESS, lines[1], access), (EVENT, lines[1]), True
+
+    def _calls(self, lines, access, premises, file):
+        want(self.log.call_at(lines[0]) == file[0], f"line {lines[0]} doesn't call what installs {file}")
+        return (EVENT, lines[0]), (PUT, file), True
+
+    def _installed(self, lines, access):
+        """Returns the slot and the file that an access installs."""
+        left = self.log.access(*lines, access)
+        call, member, _, _ = self.log.answer_at(lines[1])
+        want(left and left[1] and left[1][:2] == (call, member), "the access installs no file")
+        return left
+
+    def _installs(self, lines, access, premises):
+        return (PUT, self._installed(lines, access)[1]), (EVENT, lines[1]), True
+
+    def _places(self, lines, access, premises):
+        slot, file = self._installed(lines, access)
+        return (PUT, file), (GONE, file, slot), True
+
+    def _found(self, lines):
+        """Returns the slot and the file that a look found."""
+        _, file = self.log.found_at(lines[1])
+        left = self.log.access(*lines, 0)
+        want(left and left[1] == file, "the look found no file")
+        return left
+
+    def _follows(self, lines, access, premises):
+        return (PUT, self._found(lines)[1]), (ACCESS, lines[1], 0), True
+
+    def _finds(self, lines, access, premises):
+        slot, file = self._found(lines)
+        return (ACCESS, lines[1], 0), (GONE, file, slot), True
+
+    def _closed(self, line):
+        want(line in self.log.closes, f"line {line} closes no file")
+        return self.log.closes[line]
+
+    def _closes(self, lines, access, premises, slot):
+        return (GONE, self._closed(lines[0]), slot), (EVENT, lines[0]), True
+
+    def _settles(self, lines, access, premises):
+        (line,) = lines
+        (put, event, is_before), (there, gone, is_there) = premises
+        want(self.log.line(line) == "settled" and is_before and event == (EVENT, line), "nothing is settled after the installation")
+        want(is_there and gone[0] == GONE and put == there == (PUT, gone[1]), "the file isn't known to be at a slot")
+        want(all(file != gone[1] for at, file in self.log.closes.items() if at < line), "the file was closed before")
+        return (EVENT, line), gone, True
+
+    def _empties(self, lines, access, premises):
+        ((put, point, _),) = premises
+        file, left = is_put(put), self.log.access(*lines, access)
+        want(point == (ACCESS, lines[1], access), "the file isn't known to be installed before")
+        want(left and left[1] != file, "the access doesn't leave the slot without the file")
+        return (GONE, file, left[0]), (ACCESS, lines[1], access), False
+
+    def _precedes(self, lines, access, premises):
+        ((point, gone, is_strict),) = premises
+        left = self.log.access(*lines, access)
+        want(is_strict and point == (ACCESS, lines[1], access) and gone[0] == GONE, "the file isn't known to be there later")
+        want(left and left[0] == gone[2] and left[1] != gone[1], "the access doesn't leave the slot without the file")
+        return (ACCESS, lines[1], access), (PUT, gone[1]), True
+
+    def _stays(self, premise):
+        """Returns the file and the slot of the premise that an installed file was then at its slot."""
+        put, gone, is_strict = premise
+        want(is_strict and gone[0] == GONE and put == (PUT, gone[1]), "the file isn't known to be at the slot")
+        return gone[1], gone[2]
+
+    def _displaces(self, lines, access, premises):
+        (put, later, _), placed = premises
+        file, (other, slot) = is_put(put), self._stays(placed)
+        want(later == (PUT, other) and file != other, "the other file isn't known to be installed later")
+        return (GONE, file, slot), (PUT, other), False
+
+    def _outlives(self, lines, access, premises):
+        (put, gone, is_strict), placed = premises
+        other, slot = self._stays(placed)
+        want(is_strict and put == (PUT, other) and gone[0] == GONE and gone[2] == slot and gone[1] != other, "the file isn't known to be there later")
+        return (PUT, other), (PUT, gone[1]), True
+
+    def _then(self, lines, access, premises):
+        (before, middle, is_strict), (same, after, is_later) = premises
+        want(middle == same, "the second order begins elsewhere")
+        return before, after, is_strict or is_later
+
+    def _finds_closed(self, lines, access, premises):
+        want(lines[0] < lines[1] and self._closed(lines[0]) == self.log.found_at(lines[1])[1], "the file was not closed before")
+        return (EVENT, lines[1]), (EVENT, lines[1]), True
+
+    def _closes_twice(self, lines, access, premises):
+        want(lines[0] < lines[1] and self._closed(lines[0]) == self._closed(lines[1]), "another file was closed")
+        return (EVENT, lines[1]), (EVENT, lines[1]), True
+
+    def _closes_held(self, lines, access, premises):
+        look, file = self.log.found_at(lines[0])
+        want(lines[0] < lines[1] and self._closed(lines[1]) == file, "another file was closed, or before the look")
+        want(f"free {look}" not in self.log.lines[: lines[1]] and not self.log.is_of_pipes, "the look doesn't hold the file")
+        return (EVENT, lines[1]), (EVENT, lines[1]), True
+
+
+def point_of(words):
+    """Returns a point as this program writes it."""
+    kind, *rest = words
+    return kind, *(tuple(it) if isinstance(it, list) else it for it in rest)
+
+
+def facts_of(steps):
+    """Returns steps that yachtjudge.explain_events returns as this program reads them."""
+    def point(it):
+        return it.kind, *{EVENT: (it.line,), ACCESS: (it.line, it.access), PUT: (it.file,), GONE: (it.file, it.slot)}[it.kind]
+
+    return [(*it[:4], point(it.before), point(it.after), it.is_strict) for it in steps]
+
+
+def complaint(text, facts, tags=False):
+    """Returns what is wrong with a reason, or nothing."""
+    try:
+        reason = Reason(Log(text, tags))
+        for nth, (rule, lines, access, premises, before, after, is_strict) in enumerate(facts):
+            order = point_of(before), point_of(after), bool(is_strict)
+            # the file of a call and the slot of a close are named by the order alone
+            named = {"calls": order[1][1:2], "closes": order[0][2:3]}.get(rule, ())
+            try:
+                adds = reason.order(rule, lines, access, premises) if not named else getattr(reason, f"_{rule}")(lines, access, [], *named)
+                want(adds == order, f"it adds {adds}, not {order}")
+            except (Wrong, ValueError, IndexError, KeyError, TypeError) as why:
+                return f"step {nth}, {rule} of lines {list(lines)}: {why}"
+            reason.known.append(order)
+    except (ValueError, IndexError, StopIteration) as fault:
+        return f"the log or the facts can't be read: {fault!r}"
+    before, after, is_strict = reason.known[-1] if reason.known else ("", "-", False)
+    return "" if is_strict and before == after else "the last step has no point before itself"
+
+
+if __name__ == "__main__":
+    with open(sys.argv[1], encoding="latin-1") as log, open(sys.argv[2], encoding="ascii") as given:
+        wrong = complaint(log.read(), json.load(given))
+    print(wrong, end="\n" if wrong else "")
+    sys.exit(bool(wrong))
