@@ -68,10 +68,10 @@ typedef struct yacht_verdict {
 /* Decides whether a script may print a text. For each part of a submission that has slots of its
  * own, the search keeps at most `states` states and `memory` MiB of them.
  * The note is advice for a person. For a text that isn't legal it is what is expected at the break:
- * the likeliest text, or a line in words, or nothing if no order of a submission's requests
- * explains its lines. For bytes that aren't a script it is the name of the first fault, such as
- * `word-count`. Its first bytes are written, at most note_length, without a 0 at the end. No
- * contract speaks of it.
+ * the likeliest text, or a line in words; or, if no order of a submission's requests explains its
+ * lines, the submission and the reason, as in `submission 2: slot 3 alone has no order`. For bytes
+ * that aren't a script it is the name of the first fault, such as `word-count`. Its first bytes are
+ * written, at most note_length, without a 0 at the end. No contract speaks of it.
  * Returns YACHT_LEGAL, YACHT_NOT_LEGAL, YACHT_UNDECIDED, YACHT_BAD_SCRIPT or
  * YACHT_JUDGE_NO_MEMORY, and writes *verdict. */
 uint32_t yacht_judge(const uint8_t *script, size_t script_length, const uint8_t *text,
@@ -190,6 +190,91 @@ uint32_t yacht_judge_events(const uint8_t *script, size_t script_length, uint32_
                             const int32_t *entries, size_t entries_length, const uint8_t *bytes,
                             size_t bytes_length, const yacht_event *events, size_t events_length,
                             uint32_t states, uint32_t memory, yacht_judgement *judgement);
+
+/* The kinds of the points in time of a flight, and the fields that each uses beside `kind`. */
+enum {
+    YACHT_POINT_EVENT = 1,  /* the event at a position: at */
+    YACHT_POINT_ACCESS = 2, /* an access of what the event at a position answers: at, access */
+    YACHT_POINT_PUT = 3,    /* the file is installed; the end of the flight if it never is */
+    YACHT_POINT_GONE = 4    /* the last time at which the file is at the slot: slot, the file; the
+                             * end of the flight if it stays, the start if it is never there */
+};
+
+/* A point in time of a flight. A field that its kind doesn't use is 0. */
+typedef struct yacht_point {
+    uint32_t kind;      /* one of the kinds of points */
+    uint32_t slot;      /* the slot, from 0 */
+    uint64_t at;        /* the position of the event or of the answer, from 0 */
+    uint64_t access;    /* the number of the access among those of its member, from 0 */
+    uint32_t by_call;   /* of the file: the call that installed it, */
+    uint32_t by_member; /* that call's member, from 1, */
+    uint32_t by_entry;  /* the position in the list of that member, from 0; 0 for an open, */
+    uint8_t file;       /* and the number of the file in the catalogue, from 0 */
+} yacht_point;
+
+/* The rules of the steps of a reason, and the fields that each uses beside those of every step:
+ * `first` and `second` are positions of events, mostly of a call and its answer, and `premise` and
+ * `other` are numbers of earlier steps. */
+enum {
+    YACHT_RULE_EVENTS = 1,    /* an event comes before a later one: first, second */
+    YACHT_RULE_BEGINS = 2,    /* a call comes before its accesses: first, second, access */
+    YACHT_RULE_ENDS = 3,      /* an access comes before its answer: first, second, access */
+    YACHT_RULE_CALLS = 4,     /* a call comes before it installs a file: first */
+    YACHT_RULE_INSTALLS = 5,  /* an answered member has installed its file: first, second, access */
+    YACHT_RULE_PLACES = 6,    /* the file was then at its slot: first, second, access */
+    YACHT_RULE_FOLLOWS = 7,   /* a file was installed before a look found it: first, second */
+    YACHT_RULE_FINDS = 8,     /* a look found a file before it left its slot: first, second */
+    YACHT_RULE_CLOSES = 9,    /* a file left its slot before it was closed: first */
+    YACHT_RULE_SETTLES = 10,  /* a file that was installed (premise), at a slot (other) and not
+                               * closed when all was settled was still there: first */
+    YACHT_RULE_EMPTIES = 11,  /* an access leaves a slot without a file that was installed before
+                               * (premise): the file left it by then: first, second, access */
+    YACHT_RULE_PRECEDES = 12, /* an access leaves a slot without a file that is there later
+                               * (premise): it was installed after that: first, second, access */
+    YACHT_RULE_DISPLACES = 13, /* a file left its slot when another one was installed there:
+                                * premise, other */
+    YACHT_RULE_OUTLIVES = 14, /* a file that is at a slot after another one was installed there was
+                               * installed after that one: premise, other */
+    YACHT_RULE_THEN = 15,     /* the orders of two steps make one: premise, other */
+    YACHT_RULE_FINDS_CLOSED = 16, /* a look found a file that was closed before: first, second */
+    YACHT_RULE_CLOSES_TWICE = 17, /* a file was closed twice: first, second */
+    YACHT_RULE_CLOSES_HELD = 18   /* a file was closed while a look held it: first, second */
+};
+
+/* A step of a reason: by its rule, the point `from` comes before the point `to` in each flight. The
+ * last step of a reason has a point before itself. */
+typedef struct yacht_step {
+    uint32_t rule;      /* one of the rules */
+    uint32_t is_strict; /* 1: at another time; 0: perhaps at the same time */
+    uint64_t first;     /* the position of the first event of the rule, from 0 */
+    uint64_t second;    /* the position of the second event of the rule, from 0 */
+    uint64_t access;    /* the number of the access among those of its member, from 0 */
+    uint64_t premise;   /* the number of an earlier step, from 0 */
+    uint64_t other;     /* the number of another earlier step, from 0 */
+    yacht_point from;   /* the earlier point */
+    yacht_point to;     /* the later point */
+} yacht_step;
+
+/* The details of a reason. A field is 0 unless its number is returned. */
+typedef struct yacht_reason {
+    uint64_t steps; /* YACHT_NOT_LEGAL: the number of steps of the whole reason */
+    uint64_t at;    /* YACHT_MALFORMED: the position of the first event with a flaw, from 0 */
+    uint32_t fault; /* YACHT_MALFORMED: the number of the flaw */
+    uint32_t line;  /* YACHT_BAD_SCRIPT: as in a verdict */
+} yacht_reason;
+
+/* Looks for the reason why a log of calls in flight has no flight up to and with the event at a
+ * position, such as the one that yacht_judge_events writes. The first steps of the reason are
+ * written to `steps`, at most steps_length. Each follows from the log and from steps before it.
+ * Returns YACHT_NOT_LEGAL if it finds a reason, YACHT_UNDECIDED if it finds none or no event has
+ * this position, YACHT_BAD_SCRIPT, YACHT_JUDGE_NO_MEMORY, YACHT_MALFORMED or YACHT_TOO_MANY_SLOTS,
+ * and writes *reason. */
+uint32_t yacht_explain_events(const uint8_t *script, size_t script_length, uint32_t slots,
+                              const yacht_request *requests, size_t requests_length,
+                              const int32_t *entries, size_t entries_length, const uint8_t *bytes,
+                              size_t bytes_length, const yacht_event *events, size_t events_length,
+                              uint64_t at, yacht_step *steps, size_t steps_length,
+                              yacht_reason *reason);
 
 #ifdef __cplusplus
 }

@@ -154,6 +154,10 @@ MORE = "call 7 open b at 1\ndone 7.1 0\ncall 4 look 0\ndone 4.1 0 2.1.0\nfree 4\
 EARLIER = "call 8 open b at 0\ndone 8.1 0\ncall 9 close 0\ndone 9.1 0\nclosed 8.1.0 b\nsettled\n"
 HELD = "call 2 open a at 0\ndone 2.1 0\ncall 3 look 0\ndone 3.1 0 2.1.0\n"
 REMOVERS = ["call 4 close 0\ndone 4.1 0\n", "call 5 open b at 0\ndone 5.1 0\n"]
+WHY_STALE = """    2.1.0 was gone from slot 0 after close 3, which answered 0, since open 2 had installed 2.1.0 at line 6 and close 3 was called at line 7
+    look 5 found 2.1.0 at slot 0; but 2.1.0 was gone from slot 0 after close 3, close 3 was answered at line 8 and look 5 was called at line 9
+"""
+WHY_EARLY = "    look 3 held 2.1.0 from line 8 on, and it was closed by line 11\n"
 FILES = {"right": OPENED, "wrong": OPENED.replace("done 2.1 0", "done 2.1 7"), "none": "x\n", "stale": f"{STALE}free 5\nsettled\n".replace("call 3", MORE),
          "early": f"{HEAD}{EARLIER}{HELD}{''.join(REMOVERS)}closed 2.1.0 a\nfree 3\n"}
 ARGUMENTS = [
@@ -168,8 +172,9 @@ ARGUMENTS = [
     (["--shorten", "right", "wrong"], USAGE, "--shorten takes one log"),
     (["--shorten", "right"], LEGAL, "right: legal"),
     (["--shorten", "wrong"], NOT_LEGAL, f"^{HEAD}call 2 open a at 0\ndone 2.1 7\n.*wrong: not legal: line 6: done 2.1 7\n$"),
-    (["--shorten", "stale"], NOT_LEGAL, f"^{STALE}.*stale: not legal: line 10: done 5.1 0 2.1.0\n$"),
-    (["--shorten", "early"], NOT_LEGAL, f"^{HEAD}{HELD}({'|'.join(REMOVERS)})closed 2.1.0 a\n.*early: not legal: line 11: closed 2.1.0 a\n$"),
+    (["--shorten", "stale"], NOT_LEGAL, f"^{STALE}.*stale: not legal: line 10: done 5.1 0 2.1.0\n{WHY_STALE}$"),
+    (["--full-reason", "--shorten", "stale"], NOT_LEGAL, f"^{STALE}.*stale: not legal: line 10: done 5.1 0 2.1.0\n{WHY_STALE}$"),
+    (["--shorten", "early"], NOT_LEGAL, f"^{HEAD}{HELD}({'|'.join(REMOVERS)})closed 2.1.0 a\n.*early: not legal: line 11: closed 2.1.0 a\n{WHY_EARLY}$"),
     (["--shorten", "none"], NOT_A_LOG, "not a log: line 1"),
     (["right", "right"], LEGAL, "right: legal\n.*right: legal\n$"),
     (["right", "wrong", "none", "/nonexistent"], NOT_LEGAL, "right: legal\n.*wrong: not legal: line 6: done 2.1 7\n.*none: not a log: line 1: "),
@@ -220,6 +225,7 @@ WRONG = [
      "return max(status_of(it, options) for it in options.logs)"),
     ("yachtlog", "NO_MEMORY, MISSING, NOT_A_LOG = 5, 4, 3", "NO_MEMORY, MISSING, NOT_A_LOG = 5, 1, 3"),
     ("yachtlog", "except OSError as fault", "except ZeroDivisionError as fault"),
+    ("yachtlog", "print(shown(log.reason(verdict.line), options.full_reason)", "print(shown([], options.full_reason)"),
     ("yachtlog", 'nargs="+"', 'nargs="*"'),
     ("yachtlog", "except BadLog as fault:\n        print", "except BadLog as fault:\n        return 0\n        print"),
 ]

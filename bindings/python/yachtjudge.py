@@ -25,11 +25,13 @@ from pathlib import Path
 from typing import TYPE_CHECKING, Any, Literal, Union
 
 from yachtevents import BadEvent, Events
+from yachtsteps import Point, Step, Steps, _Reason, _Step
 
 if TYPE_CHECKING:
     import yachtlog
 
-__all__ = ["BadEvent", "BadScript", "LogVerdict", "NoMemory", "Outcomes", "Verdict", "judge", "judge_events", "outcomes"]
+__all__ = ["BadEvent", "BadScript", "LogVerdict", "NoMemory", "Outcomes", "Point", "Step", "Verdict", "explain_events", "judge", "judge_events",
+           "outcomes"]
 __version__ = "5.0.0"
 
 # what a script or a text may be
@@ -68,8 +70,8 @@ class Verdict:
     """A verdict: `word` is 'legal', 'not legal' or 'undecided'. It is true if it is 'legal'.
 
     Of a text that is not legal, `commands` is the number of commands that may have printed its first `at` bytes; no play prints a beginning
-    of the text with one command more. `expected` is advice: the likeliest text there, or a line in words, or '' if no order of a submission's
-    requests explains its lines. Of an undecided text, `submission` was not decided within the limits, counted from 1."""
+    of the text with one command more. `expected` is advice: the likeliest text there, or a line in words, or the reason if no order of a
+    submission's requests explains its lines. Of an undecided text, `submission` was not decided within the limits, counted from 1."""
 
     word: Literal["legal", "not legal", "undecided"]
     commands: int = 0
@@ -234,6 +236,24 @@ _library.yacht_judge_events.argtypes = [
     c_uint32,
     POINTER(_Judgement),
 ]
+_library.yacht_explain_events.restype = c_uint32
+_library.yacht_explain_events.argtypes = [
+    POINTER(c_uint8),
+    c_size_t,
+    c_uint32,
+    POINTER(_Request),
+    c_size_t,
+    POINTER(c_int32),
+    c_size_t,
+    POINTER(c_uint8),
+    c_size_t,
+    POINTER(_Event),
+    c_size_t,
+    c_uint64,
+    POINTER(_Step),
+    c_size_t,
+    POINTER(_Reason),
+]
 
 
 def _bytes(of: Words, name: str) -> tuple[Any, int]:
@@ -308,37 +328,72 @@ def _array(kind: type[Any], data: bytearray) -> tuple[Any, int]:
     return (kind * max(len(data) // size, 1)).from_buffer_copy(data or bytes(size)), len(data) // size
 
 
+class _Passed:
+    """A log as C reads it: the events, the catalogue as a script, and all arguments up to the events. Raises ValueError if two files have one
+    name."""
+
+    def __init__(self, log: yachtlog.Log, events: Sequence[yachtlog.Event] | None) -> None:
+        if len(log.names) < len(log.contents):
+            raise ValueError("two files have one name")
+        self.slots = log.slots
+        self.events = [it for it in log.events if it.word != "tag"] if events is None else list(events)
+        self.catalogue = "".join(f"file {name} {log.contents[at] or '-'}\n" for name, at in log.names.items())
+        said = Events(log, self.events)
+        self.arguments = (
+            *_bytes(self.catalogue, "catalogue"),
+            min(log.slots, MOST),
+            *_array(_Request, said.requests),
+            *_array(c_int32, said.entries),
+            *_array(c_uint8, said.bytes),
+            *_array(_Event, said.events),
+        )
+
+    def check(self, code: int, at: int, fault: int) -> None:
+        """Raises what a number other than a verdict's says."""
+        if code == BAD_SCRIPT:
+            # the judge names the fault
+            judge(self.catalogue, b"", 0, 0)
+        if code == NO_MEMORY:
+            raise NoMemory("an allocation of the judge failed")
+        if code == TOO_MANY_SLOTS:
+            raise ValueError(f"the table has too many slots: {self.slots}")
+        if code in (FAULTY, MALFORMED):
+            raise BadEvent(self.events[at].line, (FAULTS if code == FAULTY else FLAWS)[fault - 1])
+
+    def reason(self, at: int) -> list[_Step]:
+        """Returns the structs of the reason up to and with the event at a position."""
+        reason, room = _Reason(), 256
+        while True:
+            steps = (_Step * room)()
+            code = _library.yacht_explain_events(*self.arguments, at, steps, room, byref(reason))
+            if reason.steps <= room:
+                break
+            room = reason.steps
+        self.check(code, reason.at, reason.fault)
+        return steps[: reason.steps]
+
+
 def judge_events(log: yachtlog.Log, events: Sequence[yachtlog.Event] | None = None, states: int = STATES, memory: int = MEMORY) -> LogVerdict:
     """Decides whether a log of calls in flight that yachtlog has read is legal, by searches of at most `states` states and `memory` MiB. Its
     events are those of the log, without its tags, or others of the same calls. A log with an answer -12 is undecided.
 
     Raises BadEvent if an event has a fault, or says what no call can; BadScript if its files aren't a catalogue; NoMemory if an allocation
     fails; TypeError or ValueError if a limit is none; and ValueError if two files have one name, or the table has too many slots."""
-    if len(log.names) < len(log.contents):
-        raise ValueError("two files have one name")
-    limits, slots = _limits(states, memory), min(log.slots, MOST)
-    those = [it for it in log.events if it.word != "tag"] if events is None else events
-    said, judgement = Events(log, those), _Judgement()
-    catalogue = "".join(f"file {name} {log.contents[at] or '-'}\n" for name, at in log.names.items())
-    code = _library.yacht_judge_events(
-        *_bytes(catalogue, "catalogue"),
-        slots,
-        *_array(_Request, said.requests),
-        *_array(c_int32, said.entries),
-        *_array(c_uint8, said.bytes),
-        *_array(_Event, said.events),
-        *limits,
-        byref(judgement),
-    )
-    if code == BAD_SCRIPT:
-        # the judge names the fault
-        judge(catalogue, b"", 0, 0)
-    if code == NO_MEMORY:
-        raise NoMemory("an allocation of the judge failed")
-    if code == TOO_MANY_SLOTS:
-        raise ValueError(f"the table has too many slots: {log.slots}")
-    if code in (FAULTY, MALFORMED):
-        raise BadEvent(those[judgement.at].line, (FAULTS if code == FAULTY else FLAWS)[judgement.fault - 1])
+    limits, passed, judgement = _limits(states, memory), _Passed(log, events), _Judgement()
+    code = _library.yacht_judge_events(*passed.arguments, *limits, byref(judgement))
+    passed.check(code, judgement.at, judgement.fault)
     if code == NOT_LEGAL:
-        return LogVerdict("not legal", those[judgement.at].line)
+        return LogVerdict("not legal", passed.events[judgement.at].line)
     return LogVerdict("legal" if code == LEGAL else "undecided")
+
+
+def explain_events(log: yachtlog.Log, line: int, events: Sequence[yachtlog.Event] | None = None) -> tuple[Step, ...]:
+    """Returns the steps of the reason why a log has no flight up to and with the event of a line, such as that of its verdict, or no steps if
+    none is found. Each step follows from the log and from steps before it; the last one has a point in time before itself.
+
+    Raises what `judge_events` raises but for limits, and ValueError if the line has no event."""
+    passed = _Passed(log, events)
+    those = [Steps(passed.events, passed.reason(at)).all for at, it in enumerate(passed.events) if it.line == line]
+    if not those:
+        raise ValueError(f"line {line} has no event")
+    return next(filter(None, those), ())

@@ -1,10 +1,10 @@
 """Logs of calls in flight (docs/inside/FLIGHT.md): reads a log as the recorders print it, and has the verified judge decide whether it is legal
 (yachtjudge.judge_events). That the lines are read rightly is tested.
 
-    python3 yachtlog.py [--states N] [--memory MIB] LOG..
+    python3 yachtlog.py [--full-reason] [--states N] [--memory MIB] LOG..
 
-prints for each log `legal`, `not legal` with the line at which no flight is left, `undecided`, or `not a log` with the first line that no
-log has there. A log `-` is read from standard input. `python3 yachtlog.py --shorten LOG` prints a log with fewer calls and the same wrong
+prints for each log `legal`, `not legal` with the line at which no flight is left and the reason, `undecided`, or `not a log` with the first
+line that no log has there. Of a long reason the last sentences are printed, and with --full-reason all of them. A log `-` is read from standard input. `python3 yachtlog.py --shorten LOG` prints a log with fewer calls and the same wrong
 line. Without the library yachtjudge a log is read, and not judged.
 
 The exit status is 1 if a log is not legal, whatever the others are. Else it is 5 if an allocation of the judge failed, 4 if a log can't be
@@ -30,6 +30,9 @@ import os
 from typing import Literal, NamedTuple
 
 from yachtlines import Answer, BadLog, Event, Lines, Request
+
+# the largest number of sentences of a reason that are printed
+SENTENCES = 12
 
 __all__ = ["Answer", "BadLog", "Event", "Log", "Request", "Verdict"]
 
@@ -73,6 +76,25 @@ class Log(Lines):
             return Verdict(verdict.word, verdict.line)
         return Verdict("undecided", self.lacking)
 
+    def reason(self, line: int) -> list[str]:
+        """Returns the reason why the log is not legal up to and with the event of a line, in sentences, or none if no reason is found. The last
+        one is a contradiction, and each of the others follows from the log and from sentences before it.
+
+        Raises what `judge` raises."""
+        import yachtjudge
+        from yachtreason import Words
+
+        for events in self.readings():
+            if all(it.line != line for it in events):
+                continue
+            try:
+                steps = yachtjudge.explain_events(self, line, events)
+            except yachtjudge.BadEvent as bad:
+                raise BadLog(bad.line, bad.fault) from bad
+            if steps:
+                return Words(self, events, steps).sentences()
+        return []
+
     def shortened(self, verdict: Verdict, states: int = STATES, memory: int = MEMORY) -> str:
         """Returns the log up to the line of its verdict, 'not legal', with fewer calls: a log of which this is the first wrong line, too. It
         takes at most a minute, of which the last log that is tried may take more than its share."""
@@ -103,6 +125,7 @@ def arguments() -> argparse.Namespace:
     parser = argparse.ArgumentParser(prog="yachtlog.py", description="Judges logs of calls in flight (docs/use/RECORDING.md).")
     parser.add_argument("logs", nargs="+", metavar="LOG", help="the path of a log, or - for standard input")
     parser.add_argument("--states", type=limit, default=STATES, metavar="N", help=f"largest number of states of a search (default {STATES})")
+    parser.add_argument("--full-reason", action="store_true", help=f"print the whole reason, not its last {SENTENCES} sentences")
     parser.add_argument("--shorten", action="store_true", help="print a log with fewer calls and the same wrong line, and the verdict on standard error")
     parser.add_argument("--memory", type=limit, default=MEMORY, metavar="MIB", help=f"largest number of MiB for them (default {MEMORY})")
     options = parser.parse_args()
@@ -141,9 +164,18 @@ def status_of(path: str, options: argparse.Namespace) -> int:
         log = Log(log.shortened(verdict, options.states, options.memory))
         print(log.source, end="")
         verdict = Verdict(verdict.word, log.source.count("\n"))
-    line = f": line {verdict.line}: {log.line(verdict.line)}" if verdict.line else ""
-    print(f"{path}: {verdict.word}{line}", file=sys.stderr if options.shorten else sys.stdout)
+    line, to = f": line {verdict.line}: {log.line(verdict.line)}" if verdict.line else "", sys.stderr if options.shorten else sys.stdout
+    print(f"{path}: {verdict.word}{line}", file=to)
+    if verdict.word == "not legal":
+        print(shown(log.reason(verdict.line), options.full_reason), end="", file=to)
     return STATUSES[verdict.word]
+
+
+def shown(sentences: list[str], is_full: bool) -> str:
+    """Returns the lines of a reason: the last sentences, and how many there are before them."""
+    left = 0 if is_full else max(len(sentences) - SENTENCES, 0)
+    more = [f"{left} sentences before these: --full-reason prints them"] if left else []
+    return "".join(f"    {it}\n" for it in [*more, *sentences[left:]])
 
 
 def main() -> int:

@@ -114,13 +114,13 @@ def judged_log(is_refused, script, limits, number, fields, lines):
 
 
 def command(text, limits):
-    """Returns what the command prints of a log, and its status."""
+    """Returns what the command prints of a log, without the reason, which log_rows.py looks at; and its status."""
     with tempfile.TemporaryDirectory() as room, contextlib.redirect_stdout(io.StringIO()) as printed, contextlib.redirect_stderr(printed):
         Path(room, "log").write_text(text)
         sys.argv[1:], given = ["--states", str(limits[0]), "--memory", str(limits[1]), f"{room}/log"], sys.argv[1:]
         status = yachtlog.main()
         sys.argv[1:] = given
-        return printed.getvalue().replace(f"{room}/", ""), status
+        return re.sub(r"^ {4}.*\n", "", printed.getvalue().replace(f"{room}/", ""), flags=re.MULTILINE), status
 
 
 def said(text, number, line, fault):

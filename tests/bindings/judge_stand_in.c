@@ -83,3 +83,12 @@ uint32_t yacht_judge_events(const uint8_t *script, size_t script_length, uint32_
     *judgement = (yacht_judgement){it->at, it->fault, it->line};
     return it->number;
 }
+
+uint32_t yacht_explain_events(const uint8_t *script, size_t script_length, uint32_t slots, const yacht_request *requests, size_t requests_length,
+                              const int32_t *entries, size_t entries_length, const uint8_t *bytes, size_t bytes_length, const yacht_event *events,
+                              size_t events_length, uint64_t at, yacht_step *steps, size_t steps_length, yacht_reason *reason) {
+    (void)script, (void)script_length, (void)slots, (void)requests, (void)requests_length, (void)entries, (void)entries_length, (void)bytes;
+    (void)bytes_length, (void)events, (void)events_length, (void)at, (void)steps, (void)steps_length;
+    *reason = (yacht_reason){0};
+    return YACHT_UNDECIDED;
+}

@@ -1,5 +1,5 @@
-"""Rows for yachtjudge.judge_events and yachtevents that only Python has (judge_rows.py has the others), each derived by hand: numbers of calls,
-tags, the caller's own events, what is raised, and the structs that an event and a request become."""
+"""Rows for yachtjudge.judge_events, explain_events and yachtevents that only Python has (judge_rows.py has the others), each derived by hand:
+numbers of calls, tags, the caller's own events, the reason of a log, what is raised, and the structs that an event and a request become."""
 import sys
 from pathlib import Path
 
@@ -7,10 +7,11 @@ import yachtevents
 import yachtjudge
 import yachtlog
 from rows import end, raises, want
-from yachtjudge import LogVerdict, judge_events
+from yachtjudge import LogVerdict, Point, Step, explain_events, judge_events
 
-sys.path.append(str(Path(__file__).resolve().parents[2] / "model"))
+sys.path += [str(Path(__file__).resolve().parents[2] / it) for it in ("model", "tests")]
 import flight_states
+import reasons
 
 HEAD = "file a 61\nfile b 6262\ncall 1 sparse 2\ndone 1.1 0\n"
 
@@ -55,6 +56,29 @@ between = log("call 2 update 0 0,0", "call 3 read 0 0 1", "done 3.1 1 61", "call
 want(outcome(between.judge) == ("legal", 0), "no request comes between two entries of an update")
 want(flight_states.judged(between, is_whole=True) == ("not legal", 9), "a request comes between two entries of an update of one step")
 want(flight_states.judged(log("call 2 update 0 0,-2,0", "done 2.1 -22", "call 3 update 0 0,-1", "done 3.1 2"), is_whole=True).word == "legal", "an update isn't one step")
+
+# the reason of a log, by its lines and the numbers of its calls: the look finds a file that left
+# before the look was called
+stale = log("call 7 open a at 0", "done 7.1 0", "call 5 close 0", "done 5.1 0", "call 9 look 0", "done 9.1 0 7.1.0")
+steps = outcome(lambda: explain_events(stale, 10))
+want(steps and steps[-1].is_strict and steps[-1].before == steps[-1].after, f"a reason has no contradiction: {steps}")
+want(reasons.complaint(stale.source, reasons.facts_of(steps)) == "", f"a reason doesn't follow: {steps}")
+want(Step("finds", (9, 10), 0, (), Point("access", 10), Point("gone", file=(7, 1, 0)), True) in steps, f"a reason lacks the look: {steps}")
+want(stale.reason(10) == ["7.1.0 was gone from slot 0 after close 5, which answered 0, since open 7 had installed 7.1.0 at line 6 and close 5 was called"
+                          " at line 7",
+                          "look 9 found 7.1.0 at slot 0; but 7.1.0 was gone from slot 0 after close 5, close 5 was answered at line 8 and look 9 was called"
+                          " at line 9"], f"the reason has other words: {stale.reason(10)}")
+want(explain_events(stale, 8) == () and stale.reason(8) == [], "a beginning that is legal has a reason")
+raises(ValueError, "line 3 has no event", lambda: explain_events(stale, 3))
+early = log(*opened, "call 3 look 0", "call 4 close 0", "done 4.1 0", "done 3.1 0 2.1.0", "closed 2.1.0 a", "free 3")
+want(early.reason(11) == ["look 3 held 2.1.0 from line 10 on, and it was closed by line 11"], f"the reason of an early close is {early.reason(11)}")
+twice = log(*opened, "call 3 close 0", "done 3.1 0", "closed 2.1.0 a", "tag 2.1.0", "tag 2.1.0")
+want(twice.reason(11) == ["2.1.0 was closed by line 10, and again by line 11"], f"the reason of a second tag is {twice.reason(11)}")
+want(reasons.complaint(twice.source, reasons.facts_of(explain_events(twice, 11, list(twice.readings())[1])), True) == "", "the reason of a tag is wrong")
+sentences = [str(it) for it in range(14)]
+last = "".join(f"    {it}\n" for it in sentences[2:])
+want(yachtlog.shown(sentences, False) == "    2 sentences before these: --full-reason prints them\n" + last, "a long reason is printed otherwise")
+want(yachtlog.shown(sentences, True) == "    0\n    1\n" + last and yachtlog.shown(sentences[2:], False) == last, "a whole reason is printed otherwise")
 
 # faults: what is not a log isn't read (tests/log_lines.py); other events, or those of another
 # table, are named by their lines

@@ -82,7 +82,7 @@ in_python() {
     want 'the judge from Python is wrong over the examples' judges_examples
     want 'the judge from Python is wrong' judges_rows judge_rows 208
     want 'the judge from Python is wrong over the stand-in' over_the_stand_in_of_rows
-    want 'the judge of logs from Python is wrong' judges_rows log_rows 37
+    want 'the judge of logs from Python is wrong' judges_rows log_rows 48
     want 'the verified judge of yachtlog is wrong' proved_logs
     want 'a missing library is not explained' without_library "$room" "$room/libyachtjudge.so.5 was not found."
     echo > "$room/libyachtjudge.so.5"
@@ -132,12 +132,22 @@ END
 # wrong changes of how a log is passed to the verified judge, and of how its verdict is read
 wrong_logs() {
     wrong_modules << 'END'
-yachtjudge s/LogVerdict("not legal", those\[judgement.at\].line)/LogVerdict("not legal", those[judgement.at - 1].line)/
+yachtjudge s/LogVerdict("not legal", passed.events\[judgement.at\].line)/LogVerdict("not legal", passed.events[judgement.at - 1].line)/
 yachtjudge s/LogVerdict("legal" if code == LEGAL else "undecided")/LogVerdict("legal")/
 yachtjudge s/(FAULTS if code == FAULTY else FLAWS)/FAULTS/
-yachtjudge s/judgement.fault - 1\]/judgement.fault - 2]/
-yachtjudge s/\[it for it in log.events if it.word != "tag"\] if events is None else events/[it for it in log.events if it.word != "tag"]/
+yachtjudge s/fault - 1\])/fault - 2])/
+yachtjudge s/\[it for it in log.events if it.word != "tag"\] if events is None else list(events)/[it for it in log.events if it.word != "tag"]/
 yachtjudge s/min(log.slots, MOST)/log.slots/
+yachtjudge s/if it.line == line\]/if it.line >= line]/
+yachtsteps s/self._calls\[it.by_call\]/it.by_call/
+yachtsteps s/self._events\[at\].line for at/at for at/
+yachtsteps s/"finds": (2, False, 0)/"finds": (2, False, 1)/
+yachtsteps s/bool(it.is_strict)/not it.is_strict/
+yachtreason s/todo += reversed(step.premises)/todo += step.premises/
+yachtreason s/if it.premises and it.rule/if it.rule/
+yachtlog s/        return \[\]$/        return ["none"]/
+yachtlog s/len(sentences) - SENTENCES, 0/len(sentences) - SENTENCES, 1/
+yachtlog s/left = 0 if is_full/left = 1 if is_full/
 yachtevents s/enumerate(calls, 1)/enumerate(sorted(calls), 1)/
 yachtevents s/"hardlink": 8/"hardlink": 4/
 yachtevents s/flags | FIXED_FILE/flags/

@@ -4,11 +4,11 @@
 //! ```
 //! use std::panic::{RefUnwindSafe, UnwindSafe};
 //! use yachtjudge::{File, JudgeError, Limits, Link, Log, LogFault, LogVerdict, Op, Outcomes};
-//! use yachtjudge::{Request, Verdict};
+//! use yachtjudge::{Point, Request, Rule, Step, Verdict};
 //!
 //! fn plain<T: Clone + Send + Sync + UnwindSafe + RefUnwindSafe + Unpin + 'static>() {}
 //! fn error<T: std::error::Error>() {}
 //! plain::<(File, JudgeError, Limits, Link, Log, LogFault, LogVerdict, Op, Outcomes)>();
-//! plain::<(Request, Verdict)>();
+//! plain::<(Point, Request, Rule, Step, Verdict)>();
 //! error::<JudgeError>();
 //! ```

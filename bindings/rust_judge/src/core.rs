@@ -35,6 +35,11 @@ pub(crate) const REQUEST_READ: u32 = 4;
 pub(crate) const REQUEST_CLOSE: u32 = 5;
 pub(crate) const REQUEST_UPDATE: u32 = 6;
 
+// The kinds of points. What is neither of these is the removal of a file.
+pub(crate) const POINT_EVENT: u32 = 1;
+pub(crate) const POINT_ACCESS: u32 = 2;
+pub(crate) const POINT_PUT: u32 = 3;
+
 /// The details of a verdict on a text.
 #[repr(C)]
 #[derive(Default)]
@@ -93,6 +98,45 @@ pub(crate) struct Judgement {
     pub(crate) line: u32,
 }
 
+/// A point in time of a flight.
+#[repr(C)]
+#[derive(Clone, Copy, Debug, Default)]
+pub(crate) struct Point {
+    pub(crate) kind: u32,
+    pub(crate) slot: u32,
+    pub(crate) at: u64,
+    pub(crate) access: u64,
+    pub(crate) by_call: u32,
+    pub(crate) by_member: u32,
+    pub(crate) by_entry: u32,
+    pub(crate) file: u8,
+}
+
+/// A step of a reason.
+#[repr(C)]
+#[derive(Clone, Copy, Debug, Default)]
+pub(crate) struct Step {
+    pub(crate) rule: u32,
+    pub(crate) is_strict: u32,
+    pub(crate) first: u64,
+    pub(crate) second: u64,
+    pub(crate) access: u64,
+    pub(crate) premise: u64,
+    pub(crate) other: u64,
+    pub(crate) from: Point,
+    pub(crate) to: Point,
+}
+
+/// The details of a reason.
+#[repr(C)]
+#[derive(Default)]
+pub(crate) struct Reason {
+    pub(crate) steps: u64,
+    pub(crate) at: u64,
+    pub(crate) fault: u32,
+    pub(crate) line: u32,
+}
+
 unsafe extern "C" {
     pub(crate) fn yacht_judge(
         script: *const u8,
@@ -131,5 +175,22 @@ unsafe extern "C" {
         states: u32,
         memory: u32,
         judgement: *mut Judgement,
+    ) -> u32;
+    pub(crate) fn yacht_explain_events(
+        script: *const u8,
+        script_length: usize,
+        slots: u32,
+        requests: *const Request,
+        requests_length: usize,
+        entries: *const i32,
+        entries_length: usize,
+        bytes: *const u8,
+        bytes_length: usize,
+        events: *const Event,
+        events_length: usize,
+        at: u64,
+        steps: *mut Step,
+        steps_length: usize,
+        reason: *mut Reason,
     ) -> u32;
 }

@@ -1,6 +1,6 @@
 //! The verified judge of io_uring's registered file table: decides whether a script may print a
 //! text ([`judge`]), lists the texts that a script may print ([`outcomes`]), and judges logs of
-//! calls in flight ([`Log::judge`]).
+//! calls in flight ([`Log::judge`]), with the reason ([`Log::explain`]).
 //!
 //! A script is what `fixfiles` plays. A text is what `fixfiles`, or a kernel, prints for it. The
 //! library `libyachtjudge.a` is proved; this crate passes arguments to it.
@@ -23,10 +23,12 @@ mod bounds;
 mod core;
 mod errors;
 mod log;
+mod reason;
 mod script;
 
 pub use errors::{JudgeError, LogFault};
 pub use log::{File, Link, Log, LogVerdict, Op, Request};
+pub use reason::{Point, Rule, Step};
 pub use script::{judge, outcomes, Outcomes, Verdict};
 
 /// The limits of a search. [`Limits::default`] are those of `fixcheck`.

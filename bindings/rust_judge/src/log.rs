@@ -116,6 +116,26 @@ pub enum LogVerdict {
 /// log.done(late, 1, 5, b"hello");
 /// assert_eq!(log.judge(Limits::default()), Ok(LogVerdict::NotLegal { at: 9 }));
 /// ```
+///
+/// A look of the slot that the close emptied before can't find the file. The reason ends with a
+/// point in time that comes before itself:
+///
+/// ```
+/// use yachtjudge::{File, Limits, Link, Log, LogVerdict, Op, Request};
+///
+/// let one = |op| [Request { op, link: Link::None }];
+/// let mut log = Log::new("file page.html 68656c6c6f\n", 1);
+/// let page = log.call(&one(Op::Open { file: 0, slot: 0 }));
+/// log.done(page, 1, 0, b"");
+/// let close = log.call(&one(Op::Close { slot: 0 }));
+/// log.done(close, 1, 0, b"");
+/// let look = log.look(0);
+/// log.found(look, Some(File { call: page, member: 1, entry: 0, file: 0 }));
+/// assert_eq!(log.judge(Limits::default()), Ok(LogVerdict::NotLegal { at: 5 }));
+/// let reason = log.explain(5).unwrap();
+/// let last = reason.last().unwrap();
+/// assert!(last.is_strict && last.before == last.after);
+/// ```
 #[derive(Clone, Debug)]
 pub struct Log {
     catalogue: String,
@@ -301,21 +321,58 @@ impl Log {
             core::LEGAL => Ok(LogVerdict::Legal),
             core::NOT_LEGAL => Ok(LogVerdict::NotLegal { at }),
             core::UNDECIDED => Ok(LogVerdict::Undecided),
-            core::BAD_SCRIPT => match crate::judge(self.catalogue.as_bytes(), b"", limits) {
-                Err(fault) => Err(fault),
-                Ok(_) => unreachable!("the judge finds the fault again"),
-            },
-            core::NO_MEMORY => Err(JudgeError::NoMemory),
-            core::FAULTY => Err(JudgeError::BadEvent {
+            _ => Err(self.error(number, at, judgement.fault)),
+        }
+    }
+
+    /// Returns the error that a number other than a verdict's says.
+    pub(crate) fn error(&self, number: u32, at: usize, fault: u32) -> JudgeError {
+        match number {
+            core::BAD_SCRIPT => {
+                match crate::judge(self.catalogue.as_bytes(), b"", Limits::default()) {
+                    Err(fault) => fault,
+                    Ok(_) => unreachable!("the judge finds the fault again"),
+                }
+            }
+            core::NO_MEMORY => JudgeError::NoMemory,
+            core::FAULTY => JudgeError::BadEvent {
                 at,
-                fault: LogFault::of(judgement.fault),
-            }),
+                fault: LogFault::of(fault),
+            },
             // the other flaws are none that a log of these types can have
-            core::MALFORMED => Err(JudgeError::BadEvent {
+            core::MALFORMED => JudgeError::BadEvent {
                 at,
                 fault: LogFault::UnknownFile,
-            }),
-            _ => Err(JudgeError::TooManySlots),
+            },
+            _ => JudgeError::TooManySlots,
         }
+    }
+
+    /// Looks for a reason with room for this number of steps. Returns its number, the details, and
+    /// the first steps.
+    pub(crate) fn explained(&self, at: usize, room: usize) -> (u32, core::Reason, Vec<core::Step>) {
+        let mut reason = core::Reason::default();
+        let mut steps = vec![core::Step::default(); room];
+        // SAFETY: the slices are valid for their lengths, and the written ones overlap no other.
+        let number = unsafe {
+            core::yacht_explain_events(
+                self.catalogue.as_ptr(),
+                self.catalogue.len(),
+                self.slots,
+                self.requests.as_ptr(),
+                self.requests.len(),
+                self.entries.as_ptr(),
+                self.entries.len(),
+                self.bytes.as_ptr(),
+                self.bytes.len(),
+                self.events.as_ptr(),
+                self.events.len(),
+                at as u64,
+                steps.as_mut_ptr(),
+                steps.len(),
+                &mut reason,
+            )
+        };
+        (number, reason, steps)
     }
 }

@@ -14,7 +14,7 @@ pub enum Verdict {
         commands: u64,
         /// The number of bytes of the text before the break.
         at: u64,
-        /// Advice for a person: the likeliest text there, or a line in words, or nothing if no
+        /// Advice for a person: the likeliest text there, or a line in words, or the reason if no
         /// order of a submission's requests explains its lines.
         expected: String,
     },

@@ -40,6 +40,16 @@ module _ (catalogue : List FileEntry) (slots : Slots) (events : List LogEvent) {
         (subst (λ (l : List Happening). HasNoFlight (ring_of_slots catalogue slots 0 0) l) front (none at is 0 0));
   }
 
+  -- a reason is one of the log that was read
+  pub of_reason : (count : ℕ) → table_of_slots slots ≡ record { size = n; range = (0, n); at = λ _. None } → all_happenings events ≡ log
+      → ((submissions registrations : ℕ) → IsLegalLog (ring_of_slots catalogue slots submissions registrations) (all_happenings (take count events)) → ⊥)
+      → IsLegalLog (registered_sparse (new_ring catalogue) n) (take count log) → ⊥
+  of_reason count table same none legal =
+      let front : all_happenings (take count events) ≡ take count log = sym (take-map happening_of count events) ∙ ap (take count) same in
+      let read : IsLegalLog (registered_sparse (new_ring catalogue) n) (all_happenings (take count events)) =
+      subst (λ (l : List Happening). IsLegalLog (registered_sparse (new_ring catalogue) n) l) (sym front) legal in
+      none 0 0 (subst (λ (r : RingState). IsLegalLog r (all_happenings (take count events))) (sym (sparse_ring catalogue slots table)) read)
+
 -- a log whose verdict isn't a fault has none
 
 no_fault : (log : List Happening) (fault : Option LogFault) → fault_of_log 0 [] log ≡ fault
@@ -50,6 +60,15 @@ no_fault log (Some f) same none = absurd (none f same)
 pub is_readable : (p : PassedLog) (meaning : Meaning) (catalogue : List FileEntry) → IsScript p.script meaning → catalogue ≡ meaning.catalogue
     → flaw_of_log 0 (arrays_of p catalogue) p.events ≡ None → IsReadable p catalogue
 is_readable p meaning catalogue read files flawless = record { meaning = meaning; read = read; files = files; flawless = flawless }
+
+-- a beginning with a reason has not happened
+pub not_explained : {p : PassedLog} {catalogue : List FileEntry} (at count : ℕ) → IsReadable p catalogue → count ≡ at + 1
+    → (IsLegalLog (ring_passed p catalogue) (take count (events_passed p catalogue)) → ⊥) → HasNotHappened p at
+not_explained {p} {catalogue} at count readable is none = record {
+  catalogue = catalogue;
+  readable = readable;
+  none = λ legal memory. none (subst (λ (n : ℕ). IsLegalLog (ring_passed p catalogue) (take n (events_passed p catalogue))) (sym is) legal);
+}
 
 module _ {p : PassedLog} {catalogue : List FileEntry} (readable : IsReadable p catalogue) (code : ℕ) (judgement : YachtJudgement) where
   without : ((f : LogFault) → fault_of_log 0 [] (events_passed p catalogue) ≡ Some f → ⊥) → AreLogEvents p

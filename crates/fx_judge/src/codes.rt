@@ -112,3 +112,69 @@ pub const FLAW_FILE: u32 = 4;
 
 /// A range ends after the array that it is of.
 pub const FLAW_RANGE: u32 = 5;
+
+/// The kind of a point in time: the event at a position.
+pub const POINT_EVENT: u32 = 1;
+
+/// An access of the member, or of the look, that the event at a position answers.
+pub const POINT_ACCESS: u32 = 2;
+
+/// The access that installs a file, or the end of the flight.
+pub const POINT_PUT: u32 = 3;
+
+/// The last time at which a file is at a slot.
+pub const POINT_GONE: u32 = 4;
+
+/// The rule of a step: an event comes before a later event.
+pub const RULE_EVENTS: u32 = 1;
+
+/// A call comes before its accesses.
+pub const RULE_BEGINS: u32 = 2;
+
+/// An access comes before the answer of its member.
+pub const RULE_ENDS: u32 = 3;
+
+/// A call comes before it installs a file.
+pub const RULE_CALLS: u32 = 4;
+
+/// An answered request has installed its file.
+pub const RULE_INSTALLS: u32 = 5;
+
+/// A file that an answered request installed was then at its slot.
+pub const RULE_PLACES: u32 = 6;
+
+/// A file was installed before a look found it.
+pub const RULE_FOLLOWS: u32 = 7;
+
+/// A look found a file before it left its slot.
+pub const RULE_FINDS: u32 = 8;
+
+/// A file left its slot before it was closed.
+pub const RULE_CLOSES: u32 = 9;
+
+/// A file that was installed and not closed when all was settled was still at its slot.
+pub const RULE_SETTLES: u32 = 10;
+
+/// An access that leaves a slot without a file comes after the file left it.
+pub const RULE_EMPTIES: u32 = 11;
+
+/// The same access comes before the file was installed if the file is at the slot later.
+pub const RULE_PRECEDES: u32 = 12;
+
+/// A file left its slot when another one was installed there.
+pub const RULE_DISPLACES: u32 = 13;
+
+/// A file at a slot after another one was installed there was installed after it.
+pub const RULE_OUTLIVES: u32 = 14;
+
+/// Two orders make one.
+pub const RULE_THEN: u32 = 15;
+
+/// A contradiction: a look found a file that was closed before.
+pub const RULE_FINDS_CLOSED: u32 = 16;
+
+/// A contradiction: a file was closed twice.
+pub const RULE_CLOSES_TWICE: u32 = 17;
+
+/// A contradiction: a file was closed while a look held it.
+pub const RULE_CLOSES_HELD: u32 = 18;

@@ -74,8 +74,8 @@ fn number(verdict: FlightVerdict, judgement: &mut YachtJudgement) -> u32
     }
 }
 
-// Returns the slots of a table without files.
-fn empty_slots(alloc: Global, n: u32) -> Result<Slots, NoMemory>
+/// Returns the slots of a table without files.
+pub fn empty_slots(alloc: Global, n: u32) -> Result<Slots, NoMemory>
     ensures { IfOk result (λ slots. table_of_slots slots
         ≡ record { size = n; range = (0, n); at = λ _. None }) }
 {

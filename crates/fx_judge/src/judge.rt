@@ -41,7 +41,7 @@ fn no_details() -> YachtVerdict {
 }
 
 // Writes the details and the note of a judgement. Returns its number.
-fn conclude(judgement: Judgement, note: &mut [u8], verdict: &mut YachtVerdict) -> u32
+fn conclude(alloc: Global, judgement: Judgement, note: &mut [u8], verdict: &mut YachtVerdict) -> u32
     ensures { IsConclusion judgement result verdict.new }
 {
     match judgement {
@@ -49,7 +49,7 @@ fn conclude(judgement: Judgement, note: &mut [u8], verdict: &mut YachtVerdict) -
         Judgement::NotLegal(broken) => {
             verdict.commands = broken.commands as u64;
             verdict.at = broken.at as u64;
-            verdict.note = note_expected(&broken.fault, note);
+            verdict.note = note_expected(alloc, &broken.fault, note);
             NOT_LEGAL
         }
         Judgement::Undecided(submission, _) => {
@@ -95,5 +95,5 @@ pub fn judge_text(
     let Ok(judgement) = judge(alloc, &read, text, limits) else {
         return NO_MEMORY;
     };
-    conclude(judgement, note, verdict)
+    conclude(alloc, judgement, note, verdict)
 }

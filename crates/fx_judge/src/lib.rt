@@ -12,8 +12,12 @@ mod judge;
 mod limits;
 mod note;
 mod outcomes;
+mod reasons;
+mod steps;
 
 pub use events::{YachtEvent, YachtRequest};
 pub use flights::{YachtJudgement, judge_log};
 pub use judge::{YachtVerdict, judge_text};
 pub use outcomes::{YachtTexts, list_texts};
+pub use reasons::{YachtReason, explain_log};
+pub use steps::{YachtPoint, YachtStep};

@@ -10,8 +10,8 @@ ghost use Rattle.fx_judge.specs.declared.codes.TheConstants.{NO_MEMORY, NOT_LEGA
 ghost use Rattle.fx_judge.specs.declared.codes.TheConstants.{TOO_MANY_SLOTS, UNDECIDED};
 
 use fx_judge::{
-    YachtEvent, YachtJudgement, YachtRequest, YachtTexts, YachtVerdict, judge_log, judge_text,
-    list_texts,
+    YachtEvent, YachtJudgement, YachtReason, YachtRequest, YachtStep, YachtTexts, YachtVerdict,
+    explain_log, judge_log, judge_text, list_texts,
 };
 use std::alloc::Global;
 
@@ -88,5 +88,34 @@ pub extern "C" fn yacht_judge_events(
 {
     judge_log(
         alloc, script, slots, requests, entries, bytes, events, states, memory, judgement,
+    )
+}
+
+/// Looks for the reason why a log of calls in flight is not legal: `fx_judge::explain_log`.
+#[unsafe(no_mangle)]
+pub extern "C" fn yacht_explain_events(
+    alloc: Global,
+    script: &[u8],
+    slots: u32,
+    requests: &[YachtRequest],
+    entries: &[i32],
+    bytes: &[u8],
+    events: &[YachtEvent],
+    at: u64,
+    steps: &mut [YachtStep],
+    reason: &mut YachtReason,
+) -> u32
+    ensures known { result ≤ TOO_MANY_SLOTS }
+    ensures not_legal { result ≡ NOT_LEGAL
+        → HasNotHappened (passed script.now slots requests.now entries.now bytes.now events.now)
+        at }
+    ensures malformed { result ≡ MALFORMED
+        → HasFlaw (passed script.now slots requests.now entries.now bytes.now events.now)
+        reason.new.at reason.new.fault }
+    ensures bad_script { result ≡ BAD_SCRIPT → HasFaultOnLine script.now reason.new.line }
+    ensures too_many { result ≡ TOO_MANY_SLOTS → MOST_LOG_SLOTS < slots }
+{
+    explain_log(
+        alloc, script, slots, requests, entries, bytes, events, at, steps, reason,
     )
 }

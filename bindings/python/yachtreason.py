@@ -1,0 +1,131 @@
+"""The reason why a log of calls in flight is not legal, in words (docs/use/FLIGHT.md): a sentence for each order in time that follows from
+others, and at last the orders that contradict each other."""
+from __future__ import annotations
+
+from collections.abc import Iterable, Iterator, Sequence
+from typing import TYPE_CHECKING
+
+from yachtsteps import Step
+
+if TYPE_CHECKING:
+    from yachtlines import Event, Lines, Mark
+
+
+def name_of(mark: Mark) -> str:
+    return ".".join(map(str, mark))
+
+
+def listed(parts: Iterable[str]) -> str:
+    """Joins the clauses that say something."""
+    *most, last = [it for it in parts if it] or [""]
+    return f"{', '.join(most)} and {last}" if most else last
+
+
+class Words:
+    """The words for the steps of a reason of a log."""
+
+    def __init__(self, log: Lines, events: Sequence[Event], steps: Sequence[Step]) -> None:
+        self._log, self._steps = log, steps
+        # a read of a pipe ends its hold in the line of its answer
+        self._events = {it.line: it for it in reversed(events)}
+
+    def sentences(self) -> list[str]:
+        """Returns the sentences of the reason. The last one is the contradiction."""
+        derived = (it for it in self._steps[:-1] if it.premises and it.rule != "then")
+        return [*(f"{self._link(it)}{self._evidence(it)}, since {self._premises(it)}" for it in derived), self._contradiction()]
+
+    def _premises(self, step: Step) -> str:
+        """Returns the orders that a step follows from."""
+        return listed(self._link(it) for nth in step.premises for it in self._parts(nth))
+
+    def _evidence(self, step: Step) -> str:
+        """Returns what shows that an access leaves a slot without a file, or that a file isn't closed."""
+        if step.rule == "settles":
+            return " and it was not closed"
+        if step.rule not in ("empties", "precedes"):
+            return ""
+        event = self._events[step.lines[1]]
+        answer = self._log.answers[event.call, event.member]
+        if isinstance(answer.found, str):
+            return f", which answered {answer.result}"
+        return f", which found {name_of(answer.found)}"
+
+    def _contradiction(self) -> str:
+        last = len(self._steps) - 1
+        parts = list(self._parts(last))
+        # the cycle begins with what the last line shows
+        begin = max(range(len(parts)), key=lambda at: (max(parts[at].lines, default=0), parts[at].rule in ("finds", "closes")))
+        first, *rest = filter(None, map(self._link, parts[begin:] + parts[:begin]))
+        return f"{first}; but {listed(rest)}" if rest else first
+
+    def _parts(self, nth: int) -> Iterator[Step]:
+        """Yields the steps whose orders make that of a step, one after another."""
+        todo = [nth]
+        while todo:
+            step = self._steps[todo.pop()]
+            if step.rule == "then":
+                todo += reversed(step.premises)
+            else:
+                yield step
+
+    def _who(self, line: int) -> str:
+        """Returns the member that a line answers, such as 2.1, or the look."""
+        event = self._events[line]
+        kind = self._log.chains[event.call][event.member - 1].kind
+        return f"{kind} {event.call}" if len(self._log.chains[event.call]) == 1 else f"{kind} {event.call}.{event.member}"
+
+    def _link(self, step: Step) -> str:
+        """Returns the order of a step in words, or nothing: lines have numbers."""
+        if step.rule == "events":
+            return ""
+        return str(getattr(self, f"_{step.rule.replace('-', '_')}")(step))
+
+    def _begins(self, it: Step) -> str:
+        return f"{self._who(it.lines[1])} was called at line {it.lines[0]}"
+
+    def _ends(self, it: Step) -> str:
+        return f"{self._who(it.lines[1])} was answered at line {it.lines[1]}"
+
+    def _calls(self, it: Step) -> str:
+        return f"the call that installs {name_of(it.after.file)} began at line {it.lines[0]}"
+
+    def _installs(self, it: Step) -> str:
+        return f"{self._who(it.lines[1])} had installed {name_of(it.before.file)} at line {it.lines[1]}"
+
+    def _places(self, it: Step) -> str:
+        return f"{self._who(it.lines[1])} installed {name_of(it.after.file)} at slot {it.after.slot}"
+
+    def _follows(self, it: Step) -> str:
+        return f"{name_of(it.before.file)} was installed before {self._who(it.lines[1])} found it"
+
+    def _finds(self, it: Step) -> str:
+        return f"{self._who(it.lines[1])} found {name_of(it.after.file)} at slot {it.after.slot}"
+
+    def _closes(self, it: Step) -> str:
+        return f"{name_of(it.before.file)} was closed by line {it.lines[0]}"
+
+    def _settles(self, it: Step) -> str:
+        return f"{name_of(it.after.file)} was still at slot {it.after.slot} when all was settled at line {it.lines[0]}"
+
+    def _empties(self, it: Step) -> str:
+        return f"{name_of(it.before.file)} was gone from slot {it.before.slot} after {self._who(it.lines[1])}"
+
+    def _precedes(self, it: Step) -> str:
+        return f"{name_of(it.after.file)} was installed after {self._who(it.lines[1])}"
+
+    def _displaces(self, it: Step) -> str:
+        return f"{name_of(it.before.file)} was gone from slot {it.before.slot} when {name_of(it.after.file)} was installed"
+
+    def _outlives(self, it: Step) -> str:
+        return f"{name_of(it.after.file)} was installed after {name_of(it.before.file)}"
+
+    def _finds_closed(self, it: Step) -> str:
+        file = name_of(self._events[it.lines[0]].mark)
+        return f"{self._who(it.lines[1])} found {file} at line {it.lines[1]}, which was closed by line {it.lines[0]}"
+
+    def _closes_twice(self, it: Step) -> str:
+        return f"{name_of(self._events[it.lines[0]].mark)} was closed by line {it.lines[0]}, and again by line {it.lines[1]}"
+
+    def _closes_held(self, it: Step) -> str:
+        file = name_of(self._events[it.lines[1]].mark)
+        return f"{self._who(it.lines[0])} held {file} from line {it.lines[0]} on, and it was closed by line {it.lines[1]}"

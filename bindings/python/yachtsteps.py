@@ -1,0 +1,104 @@
+"""The steps of the reason why a log of calls in flight is not legal, as the verified judge writes them (include/yachtjudge.h): the structs
+that C fills, and what they say in the lines and the marks of the log."""
+from __future__ import annotations
+
+import ctypes
+from collections.abc import Sequence
+from ctypes import c_uint8, c_uint32, c_uint64
+from typing import TYPE_CHECKING, NamedTuple
+
+from yachtlines import NO_FILE, Mark
+
+if TYPE_CHECKING:
+    from yachtlines import Event
+
+# the rules and the kinds of points, in the order of their numbers from 1
+RULES = ["events", "begins", "ends", "calls", "installs", "places", "follows", "finds", "closes", "settles", "empties", "precedes", "displaces",
+         "outlives", "then", "finds-closed", "closes-twice", "closes-held"]
+POINTS = ["event", "access", "put", "gone"]
+# for each rule the number of its events, whether it names an access, and the number of its premises
+SHAPES = {
+    "events": (2, False, 0), "begins": (2, True, 0), "ends": (2, True, 0), "calls": (1, False, 0), "installs": (2, True, 0),
+    "places": (2, True, 0), "follows": (2, False, 0), "finds": (2, False, 0), "closes": (1, False, 0), "settles": (1, False, 2),
+    "empties": (2, True, 1), "precedes": (2, True, 1), "displaces": (0, False, 2), "outlives": (0, False, 2), "then": (0, False, 2),
+    "finds-closed": (2, False, 0), "closes-twice": (2, False, 0), "closes-held": (2, False, 0),
+}
+
+
+class Point(NamedTuple):
+    """A point in time of a flight. `kind` is 'event', the event of `line`; 'access', the access with the number `access` of what `line`
+    answers; 'put', the installation of `file`, or the end of the flight; or 'gone', the last time at which `file` is at `slot`."""
+
+    kind: str
+    line: int = 0
+    access: int = 0
+    file: Mark = NO_FILE
+    slot: int = 0
+
+
+class Step(NamedTuple):
+    """A step of a reason: by its `rule`, `before` comes before `after` in each flight, or, unless `is_strict`, at the same time. `lines` are
+    those of the events that the rule is applied to, mostly of a call and its answer, `access` is the number of the access among those of its
+    member, and `premises` are the numbers of earlier steps, from 0."""
+
+    rule: str
+    lines: tuple[int, ...]
+    access: int
+    premises: tuple[int, ...]
+    before: Point
+    after: Point
+    is_strict: bool
+
+
+class _Point(ctypes.Structure):
+    _fields_ = [
+        ("kind", c_uint32),
+        ("slot", c_uint32),
+        ("at", c_uint64),
+        ("access", c_uint64),
+        ("by_call", c_uint32),
+        ("by_member", c_uint32),
+        ("by_entry", c_uint32),
+        ("file", c_uint8),
+    ]
+
+
+class _Step(ctypes.Structure):
+    _fields_ = [
+        ("rule", c_uint32),
+        ("is_strict", c_uint32),
+        ("first", c_uint64),
+        ("second", c_uint64),
+        ("access", c_uint64),
+        ("premise", c_uint64),
+        ("other", c_uint64),
+        ("from", _Point),
+        ("to", _Point),
+    ]
+
+
+class _Reason(ctypes.Structure):
+    _fields_ = [("steps", c_uint64), ("at", c_uint64), ("fault", c_uint32), ("line", c_uint32)]
+
+
+class Steps:
+    """Steps, by the events of a log, and by the numbers of its calls in their order: `all` has what the structs say."""
+
+    def __init__(self, events: Sequence[Event], steps: Sequence[_Step]) -> None:
+        self._events = events
+        self._calls = [0, *(it.call for it in events if it.word == "call")]
+        self.all = tuple(map(self._step, steps))
+
+    def _point(self, it: _Point) -> Point:
+        kind = POINTS[it.kind - 1]
+        if kind in ("event", "access"):
+            return Point(kind, self._events[it.at].line, it.access)
+        return Point(kind, file=(self._calls[it.by_call], it.by_member, it.by_entry), slot=it.slot)
+
+    def _step(self, it: _Step) -> Step:
+        rule = RULES[it.rule - 1]
+        events, is_of_access, premises = SHAPES[rule]
+        lines = tuple(self._events[at].line for at in (it.first, it.second)[:events])
+        before, after = self._point(getattr(it, "from")), self._point(it.to)
+        access = it.access if is_of_access else 0
+        return Step(rule, lines, access, (it.premise, it.other)[:premises], before, after, bool(it.is_strict))

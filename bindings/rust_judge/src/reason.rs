@@ -1,0 +1,179 @@
+//! The reason why a log of calls in flight is not legal.
+use crate::core;
+use crate::errors::JudgeError;
+use crate::log::{File, Log};
+
+/// A point in time of a flight. Positions of events and numbers of accesses are from 0.
+#[derive(Clone, Copy, Debug, PartialEq, Eq)]
+pub enum Point {
+    /// The event at this position.
+    Event(usize),
+    /// An access of the member, or of the look, that an event answers.
+    Access {
+        /// The position of the answer.
+        answer: usize,
+        /// The number of the access among those of its member.
+        access: usize,
+    },
+    /// The installation of the file; the end of the flight if it never is installed.
+    Put(File),
+    /// The last time at which a file is at a slot; the end of the flight if the file stays there,
+    /// and its start if it is never there.
+    Gone {
+        /// The file.
+        file: File,
+        /// The slot.
+        slot: u32,
+    },
+}
+
+/// A rule of the steps of a reason.
+#[derive(Clone, Copy, Debug, PartialEq, Eq)]
+#[non_exhaustive]
+pub enum Rule {
+    /// An event comes before a later event.
+    Events,
+    /// A call comes before its accesses.
+    Begins,
+    /// An access comes before the answer of its member.
+    Ends,
+    /// A call comes before it installs a file.
+    Calls,
+    /// An answered member has installed its file.
+    Installs,
+    /// The file that an answered member installed was then at its slot.
+    Places,
+    /// A file was installed before a look found it.
+    Follows,
+    /// A look found a file before it left its slot.
+    Finds,
+    /// A file left its slot before it was closed.
+    Closes,
+    /// A file that was installed and not closed when all was settled was still at its slot.
+    Settles,
+    /// An access leaves a slot without a file that was installed before: the file left it by then.
+    Empties,
+    /// An access leaves a slot without a file that is there later: the file was installed after it.
+    Precedes,
+    /// A file left its slot when another one was installed there.
+    Displaces,
+    /// A file that is at a slot after another one was installed there was installed after it.
+    Outlives,
+    /// The orders of two steps make one.
+    Then,
+    /// A contradiction: a look found a file that was closed before.
+    FindsClosed,
+    /// A contradiction: a file was closed twice.
+    ClosesTwice,
+    /// A contradiction: a file was closed while a look held it.
+    ClosesHeld,
+}
+
+const RULES: [Rule; 18] = [
+    Rule::Events,
+    Rule::Begins,
+    Rule::Ends,
+    Rule::Calls,
+    Rule::Installs,
+    Rule::Places,
+    Rule::Follows,
+    Rule::Finds,
+    Rule::Closes,
+    Rule::Settles,
+    Rule::Empties,
+    Rule::Precedes,
+    Rule::Displaces,
+    Rule::Outlives,
+    Rule::Then,
+    Rule::FindsClosed,
+    Rule::ClosesTwice,
+    Rule::ClosesHeld,
+];
+
+/// A step of a reason: a point comes before another one in each flight. `first`, `second`,
+/// `access`, `premise` and `other` are 0 if the rule doesn't use them
+/// (`include/yachtjudge.h`, `YACHT_RULE_EVENTS` and the others).
+#[derive(Clone, Copy, Debug, PartialEq, Eq)]
+pub struct Step {
+    /// The rule.
+    pub rule: Rule,
+    /// The position of the first event of the rule: mostly a call.
+    pub first: usize,
+    /// The position of the second event of the rule: mostly the answer of the call.
+    pub second: usize,
+    /// The number of the access among those of its member, from 0.
+    pub access: usize,
+    /// The number of an earlier step that the rule follows from, from 0.
+    pub premise: usize,
+    /// The number of another earlier step, from 0.
+    pub other: usize,
+    /// The earlier point.
+    pub before: Point,
+    /// The later point.
+    pub after: Point,
+    /// Whether the points differ in time.
+    pub is_strict: bool,
+}
+
+// Returns what a point of C says.
+fn point_of(it: core::Point) -> Point {
+    let file = File {
+        call: it.by_call,
+        member: it.by_member,
+        entry: it.by_entry,
+        file: it.file,
+    };
+    match it.kind {
+        core::POINT_EVENT => Point::Event(it.at as usize),
+        core::POINT_ACCESS => Point::Access {
+            answer: it.at as usize,
+            access: it.access as usize,
+        },
+        core::POINT_PUT => Point::Put(file),
+        _ => Point::Gone {
+            file,
+            slot: it.slot,
+        },
+    }
+}
+
+impl Step {
+    /// Returns what a step of C says.
+    pub(crate) fn of(it: &core::Step) -> Step {
+        Step {
+            rule: RULES[it.rule as usize - 1],
+            first: it.first as usize,
+            second: it.second as usize,
+            access: it.access as usize,
+            premise: it.premise as usize,
+            other: it.other as usize,
+            before: point_of(it.from),
+            after: point_of(it.to),
+            is_strict: it.is_strict == 1,
+        }
+    }
+}
+
+impl Log {
+    /// Returns the steps of the reason why the log has no flight up to and with the event at a
+    /// position, such as that of its verdict. Each follows from the log and from steps before it,
+    /// and the last one has a point before itself. There are none if no reason is found, or no
+    /// event has the position.
+    ///
+    /// # Errors
+    /// [`JudgeError::BadScript`], [`JudgeError::BadEvent`] if the catalogue lacks a file,
+    /// [`JudgeError::TooManySlots`] or [`JudgeError::NoMemory`].
+    pub fn explain(&self, at: usize) -> Result<Vec<Step>, JudgeError> {
+        let (mut number, mut reason, mut steps) = self.explained(at, 256);
+        if reason.steps as usize > steps.len() {
+            (number, reason, steps) = self.explained(at, reason.steps as usize);
+        }
+        match number {
+            core::NOT_LEGAL | core::UNDECIDED => {
+                steps.truncate(reason.steps as usize);
+                Ok(steps.iter().map(Step::of).collect())
+            }
+            _ => Err(self.error(number, reason.at as usize, reason.fault)),
+        }
+    }
+}

@@ -1,0 +1,96 @@
+/* The reason of a log in C, by hand, and with each allocation failing in turn. */
+#include "judge_log.h"
+#include "refusing.h"
+
+enum { ROOM = 64 };
+static const char catalogue[] = "file a 61\n";
+static judge_log held;
+static yacht_step steps[ROOM];
+static yacht_reason reason;
+
+static uint32_t explain(uint64_t at, size_t room) {
+    memset(steps, '?', sizeof steps), memset(&reason, '?', sizeof reason);
+    return yacht_explain_events((const uint8_t *)catalogue, strlen(catalogue), 1, held.requests, held.requests_length, held.entries,
+                                held.entries_length, held.bytes, held.bytes_length, held.events, held.events_length, at, steps, room, &reason);
+}
+
+static int is_untouched(size_t nth) { return steps[nth].rule == 0x3f3f3f3f; }
+
+static int is_point(const yacht_point *it, uint32_t kind, uint64_t at, uint64_t access) {
+    return it->kind == kind && it->at == at && it->access == access && !it->slot && !it->by_call && !it->by_member && !it->by_entry && !it->file;
+}
+
+/* the file of call 1 leaves slot 0 */
+static int is_removal(const yacht_point *it) {
+    return it->kind == YACHT_POINT_GONE && !it->at && !it->access && !it->slot && it->by_call == 1 && it->by_member == 1 && !it->by_entry && !it->file;
+}
+
+/* the look found that file before it left */
+static int is_find(const yacht_step *it) {
+    return it->rule == YACHT_RULE_FINDS && it->first == 4 && it->second == 5 && !it->access && !it->premise && !it->other && it->is_strict == 1 &&
+           is_point(&it->from, YACHT_POINT_ACCESS, 5, 0) && is_removal(&it->to);
+}
+
+/* the close left the slot without the file, which was installed before */
+static int is_emptied(const yacht_step *it) {
+    return it->rule == YACHT_RULE_EMPTIES && it->first == 2 && it->second == 3 && !it->access && it->premise < reason.steps && !it->other &&
+           it->is_strict == 0 && is_removal(&it->from) && is_point(&it->to, YACHT_POINT_ACCESS, 3, 0);
+}
+
+static int count(int (*holds)(const yacht_step *)) {
+    int found = 0;
+    for (uint64_t nth = 0; nth < reason.steps; nth++) found += holds(&steps[nth]);
+    return found;
+}
+
+static int has_details(uint64_t all, uint64_t at, uint32_t fault, uint32_t line) {
+    return reason.steps == all && reason.at == at && reason.fault == fault && reason.line == line;
+}
+
+/* A look finds a file that a close removed before the look was called. */
+static void stale(void) {
+    char lines[] = "call 2 open a at 0\ndone 2.1 0\ncall 3 close 0\ndone 3.1 0\ncall 4 look 0\ndone 4.1 0 2.1.0";
+    read_log(&held, catalogue, lines);
+    uint32_t number = explain(5, ROOM);
+    uint64_t all = reason.steps;
+    WANT(number == YACHT_NOT_LEGAL && all > 5 && all < ROOM && has_details(all, 0, 0, 0) && is_untouched(all));
+    const yacht_point *from = &steps[all - 1].from, *to = &steps[all - 1].to;
+    WANT(steps[all - 1].is_strict == 1 && !memcmp(from, to, sizeof(uint32_t) * 2) && from->at == to->at && from->by_call == to->by_call);
+    WANT(count(is_find) == 1 && count(is_emptied) == 1);
+    /* with less room the first steps are written, and the number of all of them */
+    WANT(explain(5, 1) == YACHT_NOT_LEGAL && reason.steps == all && !is_untouched(0) && is_untouched(1));
+    WANT(explain(5, 0) == YACHT_NOT_LEGAL && reason.steps == all && is_untouched(0));
+    /* nothing is wrong before, and no event has these positions */
+    WANT(explain(4, ROOM) == YACHT_UNDECIDED && has_details(0, 0, 0, 0) && is_untouched(0));
+    WANT(explain(6, ROOM) == YACHT_UNDECIDED && explain(UINT64_MAX, ROOM) == YACHT_UNDECIDED && has_details(0, 0, 0, 0));
+}
+
+static void refused(void) {
+    held.events[5].file = 1;
+    WANT(explain(5, ROOM) == YACHT_MALFORMED && has_details(0, 5, YACHT_FLAW_FILE, 0));
+    held.events[5].file = 0;
+    WANT(yacht_explain_events((const uint8_t *)"file a\n", 7, 1, held.requests, 0, held.entries, 0, held.bytes, 0, held.events, 0, 0, steps, ROOM,
+                              &reason) == YACHT_BAD_SCRIPT && has_details(0, 0, 0, 1));
+    WANT(yacht_explain_events((const uint8_t *)catalogue, strlen(catalogue), YACHT_MOST_LOG_SLOTS + 1, held.requests, 0, held.entries, 0, held.bytes, 0,
+                              held.events, 0, 0, steps, ROOM, &reason) == YACHT_TOO_MANY_SLOTS && has_details(0, 0, 0, 0));
+}
+
+static void refused_allocations(void) {
+    int refused = 0;
+    uint32_t answer = YACHT_JUDGE_NO_MEMORY;
+    for (long number = 0; answer == YACHT_JUDGE_NO_MEMORY; number++) {
+        allowed = number;
+        answer = explain(5, ROOM);
+        allowed = -1;
+        refused += answer == YACHT_JUDGE_NO_MEMORY;
+    }
+    WANT(answer == YACHT_NOT_LEGAL && refused > 10);
+}
+
+int main(void) {
+    stale();
+    refused();
+    refused_allocations();
+    WANT(reason.steps > 5);
+    return report("judge_reasons");
+}
