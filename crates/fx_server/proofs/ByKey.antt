@@ -1,5 +1,6 @@
 -- A call by key of the table is one of the worker.
-use Rattle.std.proofs.Common.{◌≡◌, ℕ, Option, Result, Ok, Err, sym, subst}
+use Rattle.std.proofs.Common.{◌≡◌, ℕ, Bool, true, false, Option, Some, None, Result, Ok, Err, inl, inr, refl, ap, sym, subst, ◌∙◌}
+use Rattle.std.specs.Prelude.{is_some, not}
 use Rattle.fx_base.specs.Identity.{Identity}
 use Rattle.fx_table.specs.Pass.{PassView}
 use Rattle.fx_table.specs.declared.values.Hold.{Hold}
@@ -7,11 +8,24 @@ use Rattle.fx_lasting.specs.Keys.{LookedByKey}
 use Rattle.fx_lasting.specs.declared.key.Key.{Key}
 use Rattle.fx_lasting.specs.declared.key_answers.KeyFault.{KeyFault}
 use Rattle.fx_lasting.specs.declared.key_answers.KeyFault.TheVariants.{NoSlot, Empty, Other, Again}
-use Rattle.fx_server.specs.ByKey.{FindsByKey, PutsNoKey, RemovesByKey, RemovesNoKey, ReplacesFileOf, ReplacesByKey, key_refusal}
+use Rattle.fx_lasting.specs.Alone.{TakesAlone}
+use Rattle.fx_lasting.specs.Keys.{HeldByKey}
+use Rattle.fx_lasting.specs.Tables.{opening_of, view_of}
+use Rattle.fx_lasting.specs.declared.key_answers.TakenByKey.{TakenByKey}
+use Rattle.fx_lasting.specs.declared.key_answers.TakenByKey.TheVariants.{Removed, Hot, Missed as Failed}
+use Rattle.fx_lasting.specs.declared.pass.LastingPass.{LastingPass}
+use Rattle.fx_lasting.specs.declared.view.Start.{Start}
+use Rattle.fx_lasting.proofs.ByKey.{idle_after}
+use Rattle.fx_table.specs.Calls.{ReleasesFile}
+use Rattle.fx_table.specs.Opening.{Opening}
+use Rattle.fx_table.specs.Pass.{IsIdle}
+use Rattle.fx_plain.specs.declared.event.File.{File}
+use Rattle.fx_server.specs.ByKey.{FindsByKey, LeavesAlone, PutsNoKey, RemovesByKey, RemovesByTwo, RemovesNoKey, ReplacesFileOf, ReplacesByKey, TakesKeyAlone, key_refusal}
 use Rattle.fx_server.specs.Workers.{Notes, its_pass, its_start, tag_in}
 use Rattle.fx_server.specs.declared.answers.FoundFile.{FoundFile}
 use Rattle.fx_server.specs.declared.answers.Removal.{Removal}
 use Rattle.fx_server.specs.declared.answers.ServerRefusal.{ServerRefusal}
+use Rattle.fx_server.specs.declared.answers.ServerRefusal.TheVariants as refusal
 use Rattle.fx_server.specs.declared.file_numbers.FileNumbers.{FileNumbers}
 use Rattle.fx_server.specs.declared.worker.TableWorker.{TableWorker}
 
@@ -30,11 +44,34 @@ finds w w' key hold out back result freed released v same notes its_freed its_re
 
 module _ (w w' : TableWorker) (key : Key) (freed released : Option ℕ) where
   -- a slot that the table left as it was is one that the worker left so
-  pub removes_not : (why : KeyFault) (refusal : ServerRefusal) → refusal ≡ key_refusal why → RemovesNoKey w key why freed released w' → RemovesByKey w key (Err refusal) freed released w'
+  pub removes_not : (why : KeyFault) (refusal : ServerRefusal) → refusal ≡ key_refusal why → RemovesNoKey w key why freed released w' → RemovesByTwo w key (Err refusal) freed released w'
   removes_not NoSlot refusal is takes = rw is takes
   removes_not Empty refusal is takes = rw is takes
   removes_not Other refusal is takes = rw is takes
   removes_not Again refusal is takes = rw is takes
+
+  -- a slot that the pass alone left as it was
+  pub leaves_alone : (why : KeyFault) (refusal : ServerRefusal) → refusal ≡ key_refusal why → LeavesAlone w key (Failed why) freed released w'
+      → RemovesByKey w key (Err refusal) freed released w'
+  leaves_alone NoSlot refusal is leaves = rw is (inl leaves)
+  leaves_alone Empty refusal is leaves = rw is (inl leaves)
+  leaves_alone Other refusal is leaves = rw is (inl leaves)
+  leaves_alone Again refusal is leaves = rw is (inl (inl leaves))
+
+  -- a removal by two passes from a slot that was hot
+  pub removes_hot : (hot : LastingPass) (result : Result Removal ServerRefusal) → TakesKeyAlone w key Hot None None hot → (w.holder ≡ None → ⊥)
+      → RemovesByTwo (record w { pass = hot }) key result freed released w' → RemovesByKey w key result freed released w'
+  removes_hot hot (Ok removal) found some both = inr (record { hot = hot; found = found; both = both })
+  removes_hot hot (Err refusal.NoSlot) found some both = inr (record { hot = hot; found = found; both = both })
+  removes_hot hot (Err refusal.Empty) found some both = inr (record { hot = hot; found = found; both = both })
+  removes_hot hot (Err refusal.Stale) found some both = inr (record { hot = hot; found = found; both = both })
+  removes_hot hot (Err refusal.Again) found some both = inl (inr (record { hot = hot; found = found; both = both }))
+  removes_hot hot (Err refusal.Reader) found some both = absurd (some both)
+  removes_hot hot (Err refusal.Busy) found some both = absurd both
+  removes_hot hot (Err refusal.Idle) found some both = absurd both
+  removes_hot hot (Err refusal.Full) found some both = absurd both
+  removes_hot hot (Err refusal.BadArgument) found some both = absurd both
+  removes_hot hot (Err refusal.NoMemory) found some both = absurd both
 
   pub replaces_not : (tag number : ℕ) (why : KeyFault) (refusal : ServerRefusal) → refusal ≡ key_refusal why → PutsNoKey w key tag number why freed released w'
       → ReplacesByKey w key tag number (Err refusal) freed released w'
@@ -60,3 +97,24 @@ module _ (w w' : TableWorker) (key : Key) (freed released : Option ℕ) where
         retires = was.retires;
       }
       )
+
+-- a pass that left the slot as it was is idle again
+released_idle : (o : Opening) (v : PassView) (f : File) (out : Option Identity) (w : PassView) → ReleasesFile o v f out w → IsIdle w
+released_idle o v f None w it = it.now
+released_idle o v f (Some file) w it = it.1.now
+
+pub missed_idle : (k : Start) (p : LastingPass) (key : Key) (why : KeyFault) (out back : Option Identity) (p' : LastingPass) → IsIdle (view_of p)
+    → TakesAlone k p key (Failed why) out back p' → IsIdle (view_of p')
+missed_idle k p key why out back p' idle (inl looked) = idle_after k (view_of p) key why out back (view_of p') idle looked
+missed_idle k p key why out back p' idle (inr left) = released_idle (opening_of k) left.holder.between left.holder.file back (view_of p') left.holder.releases
+
+pub hot_idle : (k : Start) (p : LastingPass) (key : Key) (out back : Option Identity) (p' : LastingPass) → TakesAlone k p key Hot out back p' → IsIdle (view_of p')
+hot_idle k p key out back p' (hold, held) = released_idle (opening_of k) held.between held.file back (view_of p') held.releases
+
+pub none_of : {A : Type 0} (x : Option A) (b : Bool) → is_some x ≡ not b → b ≡ true → x ≡ None
+none_of None b is so = refl
+none_of (Some a) b is so = let bad : true ≡ false = is ∙ ap not so in cc
+
+pub some_of : {A : Type 0} (x : Option A) (b : Bool) → is_some x ≡ not b → b ≡ false → x ≡ None → ⊥
+some_of None b is so none = let bad : false ≡ true = is ∙ ap not so in cc
+some_of (Some a) b is so none = cc

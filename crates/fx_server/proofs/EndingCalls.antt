@@ -1,20 +1,26 @@
 -- A removal or a replacement by key that is done has made the event that ends the key.
-use Rattle.std.proofs.Common.{◌≡◌, ℕ, ℤ, ◌++◌, List, [], ◌∷◌, map, Option, Some, None, Ok, Result, refl, sym, ap, subst, ◌∙◌}
+use Rattle.std.proofs.Common.{◌≡◌, inl, inr, ℕ, ℤ, ◌++◌, List, [], ◌∷◌, map, Option, Some, None, Ok, Result, refl, sym, ap, subst, ◌∙◌}
 use Rattle.fx_base.specs.Identity.{Identity}
 use Rattle.fx_plain.specs.History.{◌▷◌, ◌▷▷◌}
 use Rattle.fx_plain.specs.declared.event.Action.{Action}
-use Rattle.fx_plain.specs.declared.event.Action.TheVariants.{Close, Put, Take}
+use Rattle.fx_plain.specs.declared.event.Action.TheVariants.{Close, Look, Put, Release, Take}
 use Rattle.fx_plain.specs.declared.event.Event.{Event}
 use Rattle.fx_plain.specs.declared.event.File.{File}
+use Rattle.fx_table.specs.Calls.{LookedUp, ReleasesFile}
 use Rattle.fx_table.specs.Opening.{Opening}
+use Rattle.fx_table.specs.declared.values.Hold.{Hold}
+use Rattle.fx_lasting.specs.Tables.{opening_of, view_of}
+use Rattle.fx_lasting.specs.declared.key_answers.TakenByKey.TheVariants.{Hot}
+use Rattle.fx_lasting.specs.declared.pass.LastingPass.{LastingPass}
+use Rattle.fx_table.proofs.Words.{append_assoc}
 use Rattle.fx_table.specs.Pass.{PassView, event_of}
 use Rattle.fx_table.specs.declared.values.Retired.{Retired}
 use Rattle.fx_lasting.specs.Keys.{IsKeyOf}
 use Rattle.fx_lasting.specs.declared.key.Key.{Key}
 use Rattle.fx_server.specs.Answers.{RemovesAs, ReplacesAs}
-use Rattle.fx_server.specs.ByKey.{RemovesByKey, RemovesFileOf, ReplacesByKeyNext, ReplacesFileOf}
+use Rattle.fx_server.specs.ByKey.{RemovesByKey, ReplacesByKeyNext, ReplacesFileOf, TakesKeyAlone}
 use Rattle.fx_server.specs.EndsOfKeys.{DoneRemovalsEndKeys, DoneReplacementsEndKeys, EndsKey, HasEnded, file_leaving}
-use Rattle.fx_server.specs.Workers.{RetiresAs, its_opening, its_pass}
+use Rattle.fx_server.specs.Workers.{RetiresAs, its_opening, its_pass, its_start}
 use Rattle.fx_server.specs.declared.answers.CoreOutcome.{CoreOutcome}
 use Rattle.fx_server.specs.declared.answers.Placed.{Placed}
 use Rattle.fx_server.specs.declared.answers.Removal.{Removal}
@@ -32,29 +38,66 @@ retired_adds o v retired Nothing v' it = absurd it
 retired_adds o v retired InUse v' it = record { since = []; made = it.2.1.own }
 retired_adds o v retired (Closed tag) v' it = record { since = event_of v (Close it.2.0) ∷ []; made = it.2.2.1.own }
 
--- the event of an action of the worker's pass that ends the key
-ended : (w w' : TableWorker) (key : Key) (a : Action) (f : File) (between : PassView) (retired : Retired) (removal : Removal) → file_leaving a ≡ Some f → IsKeyOf key f
-    → between.own ≡ (its_pass w).own ▷ event_of (its_pass w) a → RetiresAs (its_opening w) between retired removal (its_pass w') → HasEnded key w w'
-ended w w' key a f between retired removal removes its_key made retires =
+-- an event of the worker's pass that ends the key, after some others
+ended : (w w' : TableWorker) (key : Key) (e : Event) (earlier : List Event) (f : File) (between : PassView) (retired : Retired) (removal : Removal)
+    → e.pass ≡ (its_pass w).number → file_leaving e.action ≡ Some f → IsKeyOf key f → between.own ≡ (its_pass w).own ▷▷ earlier ▷ e
+    → RetiresAs (its_opening w) between retired removal (its_pass w') → HasEnded key w w'
+ended w w' key e earlier f between retired removal mine removes its_key made retires =
     let more = retired_adds (its_opening w) between retired removal (its_pass w') retires in
     record {
-      event = event_of (its_pass w) a;
+      event = e;
       ends = record { file = f; removes = removes; its_key = its_key };
-      mine = refl;
+      mine = mine;
+      earlier = earlier;
       since = more.since;
       made = more.made ∙ ap (λ (own : List Event). own ▷▷ more.since) made;
     }
 
-removal_ends : (w w' : TableWorker) (key : Key) (removal : Removal) (freed released : Option ℕ) → RemovesFileOf w key removal freed released w' → HasEnded key w w'
-removal_ends w w' key removal freed released it =
-    let taken = it.takes.taken in
-    ended w w' key (Take key.slot (Some taken.holder.file)) taken.holder.file it.between it.retired removal refl taken.holder.its_key taken.adds.own it.retires
+-- a pass that has made some events more
+record Grown (v w : PassView) : Type 0 where
+  earlier : List Event
+  own : w.own ≡ v.own ▷▷ earlier
+  number : w.number ≡ v.number
+
+grown_look : (o : Opening) (v w : PassView) (slot : ℕ) (hold : Hold) (freed : Option Identity) → LookedUp o v slot (Ok hold) freed w → Grown v w
+grown_look o v w slot hold None it = record { earlier = map (event_of v) ([] ▷ Look slot (Some it.0)); own = it.2.own; number = it.2.number }
+grown_look o v w slot hold (Some file) it = record { earlier = map (event_of v) ([] ▷ Close it.0 ▷ Look slot (Some it.2.0)); own = it.2.2.own; number = it.2.2.number }
+
+grown_release : (o : Opening) (v : PassView) (f : File) (out : Option Identity) (w : PassView) → ReleasesFile o v f out w → Grown v w
+grown_release o v f None w it = record { earlier = map (event_of v) ([] ▷ Release f); own = it.own; number = it.number }
+grown_release o v f (Some file) w it = record { earlier = map (event_of v) ([] ▷ Release f ▷ Close f); own = it.1.own; number = it.1.number }
+
+grown_then : (u v w : PassView) → Grown u v → Grown v w → Grown u w
+grown_then u v w one two = record {
+  earlier = two.earlier ++ one.earlier;
+  own = two.own ∙ (ap (λ (l : List Event). two.earlier ++ l) one.own ∙ sym (append_assoc two.earlier one.earlier u.own));
+  number = two.number ∙ one.number;
+}
+
+-- the pass found the slot hot
+grown_hot : (w : TableWorker) (key : Key) (hot : LastingPass) → TakesKeyAlone w key Hot None None hot → Grown (its_pass w) (view_of hot)
+grown_hot w key hot found =
+    let held = found.takes.1 in
+    grown_then (its_pass w) held.between (view_of hot) (grown_look (opening_of (its_start w)) (its_pass w) held.between key.slot found.takes.0 found.out held.held.looked)
+    (grown_release (opening_of (its_start w)) held.between held.file found.back (view_of hot) held.releases)
+
+removal_ends : (w w' : TableWorker) (key : Key) (removal : Removal) (freed released : Option ℕ) → RemovesByKey w key (Ok removal) freed released w' → HasEnded key w w'
+removal_ends w w' key removal freed released (inl it) =
+    let r = it.takes.takes in
+    let look = grown_look (opening_of (its_start w)) (its_pass w) r.between key.slot r.hold it.takes.out r.held.looked in
+    ended w w' key (event_of r.between (Take key.slot (Some r.file))) (look.earlier ▷ event_of r.between (Release r.file)) r.file (view_of it.between) it.retired removal
+    look.number refl r.its_key (r.adds.own ∙ ap (λ (own : List Event). own ▷ event_of r.between (Release r.file) ▷ event_of r.between (Take key.slot (Some r.file))) look.own) it.retires
+removal_ends w w' key removal freed released (inr it) =
+    let taken = it.both.takes.taken in
+    let grown = grown_hot w key it.hot it.found in
+    ended w w' key (event_of (view_of it.hot) (Take key.slot (Some taken.holder.file))) grown.earlier taken.holder.file it.both.between it.both.retired removal
+    grown.number refl taken.holder.its_key (taken.adds.own ∙ ap (λ (own : List Event). own ▷ event_of (view_of it.hot) (Take key.slot (Some taken.holder.file))) grown.own) it.both.retires
 
 replacement_ends : (w w' : TableWorker) (key : Key) (tag number : ℕ) (removal : Removal) (freed released : Option ℕ) → ReplacesFileOf w key tag number removal freed released w'
     → HasEnded key w w'
 replacement_ends w w' key tag number removal freed released it =
     let placed = it.puts.placed in
-    ended w w' key (Put key.slot placed.new (Some placed.holder.file)) placed.holder.file it.between it.retired removal refl placed.holder.its_key placed.adds.own it.retires
+    ended w w' key (event_of (its_pass w) (Put key.slot placed.new (Some placed.holder.file))) [] placed.holder.file it.between it.retired removal refl refl placed.holder.its_key placed.adds.own it.retires
 
 pub done_removals : DoneRemovalsEndKeys
 done_removals w w' key answer out removal done is =

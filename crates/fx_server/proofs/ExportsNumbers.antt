@@ -16,9 +16,13 @@ use Rattle.fx_lasting.specs.Tables.{opening_of, view_of}
 use Rattle.fx_lasting.specs.declared.key.Key.{Key}
 use Rattle.fx_lasting.specs.declared.key_answers.KeyFault.{KeyFault}
 use Rattle.fx_lasting.specs.declared.key_answers.KeyFault.TheVariants as fault
+use Rattle.fx_lasting.specs.Alone.{TakesAlone}
+use Rattle.fx_lasting.specs.declared.key_answers.TakenByKey.{TakenByKey}
+use Rattle.fx_lasting.specs.declared.key_answers.TakenByKey.TheVariants.{Hot, Missed as Failed}
 use Rattle.fx_lasting.specs.declared.pass.LastingPass.{LastingPass}
+use Rattle.fx_lasting.specs.declared.view.Start.{Start}
 use Rattle.fx_server.specs.Answers.{FindsAs, GetsAs, GetsAtAs, InsertsAs, PutsEmptyAs, ReleasesAs, RemovesAs, RemovesAtAs, ReplacesAs, ReplacesAtAs, StaysInTable}
-use Rattle.fx_server.specs.ByKey.{FindsByKey, HasHolder, LooksKey, PutsNoKey, RemovesByKey, RemovesNoKey, ReplacesByKey, ReplacesByKeyNext}
+use Rattle.fx_server.specs.ByKey.{FindsByKey, HasHolder, LeavesAlone, LooksKey, PutsNoKey, RemovesByKey, RemovesByOne, RemovesByTwo, RemovesHot, RemovesNoKey, RemovesNone, ReplacesByKey, ReplacesByKeyNext, TakesKeyAlone, key_refusal}
 use Rattle.fx_server.specs.Files.{file_with}
 use Rattle.fx_server.specs.FilesNumbers.{DrawsItsNumbers, ExportsKeepNumbers, InstallsNothing, KeepsItsNumbers}
 use Rattle.fx_server.specs.Installing.{FindsNext, PutsAnyNext, PutsEmptyKept, PutsNext, having_spent}
@@ -155,17 +159,61 @@ remove_fails w w' key why freed released (takes, tries) =
     let both = fails_none (its_start w) (view_of takes.holder.before) (its_pass w) key why takes.out takes.back (view_of takes.holder.after) (its_pass w') takes.taken in
     record { none = both.1; holder = holder_more w w' takes.holder both.0 }
 
-remove_unchanged : (w w' : TableWorker) (key : Key) (result : Result Removal ServerRefusal) (freed released : Option ℕ) → RemovesByKey w key result freed released w' → Unchanged w w'
-remove_unchanged w w' key (Ok removal) freed released it =
+-- a removal by two passes
+two_remove : (w w' : TableWorker) (key : Key) (removal : Removal) (freed released : Option ℕ) → RemovesByTwo w key (Ok removal) freed released w' → Unchanged w w'
+two_remove w w' key removal freed released it =
     let taken = it.takes.taken in let h = it.takes.holder in record {
       none = both_none (its w) it.between.own (its w') (added_none (opening_of (its_start w)) (its_pass w) _ _ _ it.between taken.adds (refl, tt))
           (retired_none (its_opening w) it.between it.retired removal (its_pass w') it.retires);
       holder = holder_more w w' h (held_none (its_start w) (view_of h.before) key taken.hold it.takes.out it.takes.back (view_of h.after) taken.holder);
     }
-remove_unchanged w w' key (Err NoSlot) freed released it = remove_fails w w' key fault.NoSlot freed released it
-remove_unchanged w w' key (Err Empty) freed released it = remove_fails w w' key fault.Empty freed released it
-remove_unchanged w w' key (Err Stale) freed released it = remove_fails w w' key fault.Other freed released it
-remove_unchanged w w' key (Err Again) freed released it = remove_fails w w' key fault.Again freed released it
+
+two_fail : (w w' : TableWorker) (key : Key) (why : KeyFault) (freed released : Option ℕ) → RemovesByTwo w key (Err (key_refusal why)) freed released w' → Unchanged w w'
+two_fail w w' key fault.NoSlot freed released it = remove_fails w w' key fault.NoSlot freed released it
+two_fail w w' key fault.Empty freed released it = remove_fails w w' key fault.Empty freed released it
+two_fail w w' key fault.Other freed released it = remove_fails w w' key fault.Other freed released it
+two_fail w w' key fault.Again freed released it = remove_fails w w' key fault.Again freed released it
+
+-- a pass alone that left the slot as it was
+alone_none : (k : Start) (p : LastingPass) (key : Key) (why : KeyFault) (out back : Option Identity) (p' : LastingPass) → TakesAlone k p key (Failed why) out back p'
+    → AddsNone (view_of p).own (view_of p').own
+alone_none k p key why out back p' (inl looked) = key_none k (view_of p) key (Err why) out back (view_of p') looked
+alone_none k p key why out back p' (inr left) = held_none k (view_of p) key left.hold out back (view_of p') left.holder
+
+hot_none : (k : Start) (p : LastingPass) (key : Key) (out back : Option Identity) (p' : LastingPass) → TakesAlone k p key Hot out back p' → AddsNone (view_of p).own (view_of p').own
+hot_none k p key out back p' (hold, held) = held_none k (view_of p) key hold out back (view_of p') held
+
+-- two passes, after one found the slot hot
+after_hot : (w w' : TableWorker) (key : Key) (hot : LastingPass) → TakesKeyAlone w key Hot None None hot → Unchanged (record w { pass = hot }) w' → Unchanged w w'
+after_hot w w' key hot found un = record {
+  none = both_none (its w) (view_of hot).own (its w') (hot_none (its_start w) w.pass key found.out found.back hot found.takes) un.none;
+  holder = un.holder;
+}
+
+one_removes : (w w' : TableWorker) (key : Key) (removal : Removal) (freed released : Option ℕ) → RemovesByOne w key removal freed released w' → Unchanged w w'
+one_removes w w' key removal freed released it = let r = it.takes.takes in record {
+  none = both_none (its w) r.between.own (its w') (looked_none (opening_of (its_start w)) (its_pass w) key.slot (Ok r.hold) it.takes.out r.between r.held.looked)
+      (both_none r.between.own (view_of it.between).own (its w') (added_none (opening_of (its_start w)) r.between _ _ _ (view_of it.between) r.adds (refl, (refl, tt)))
+      (retired_none (its_opening w) (view_of it.between) it.retired removal (its_pass w') it.retires));
+  holder = holder_same w w' it.holder;
+}
+
+none_removed : (w w' : TableWorker) (key : Key) (why : KeyFault) (freed released : Option ℕ) → RemovesNone w key why freed released w' → Unchanged w w'
+none_removed w w' key why freed released (inl it) =
+    record { none = alone_none (its_start w) w.pass key why it.takes.out it.takes.back w'.pass it.takes.takes; holder = holder_same w w' it.holder }
+none_removed w w' key why freed released (inr it) =
+    after_hot w w' key it.hot it.found (two_fail (record w { pass = it.hot }) w' key why freed released it.both)
+
+remove_unchanged : (w w' : TableWorker) (key : Key) (result : Result Removal ServerRefusal) (freed released : Option ℕ) → RemovesByKey w key result freed released w' → Unchanged w w'
+remove_unchanged w w' key (Ok removal) freed released (inl it) = one_removes w w' key removal freed released it
+remove_unchanged w w' key (Ok removal) freed released (inr it) =
+    after_hot w w' key it.hot it.found (two_remove (record w { pass = it.hot }) w' key removal freed released it.both)
+remove_unchanged w w' key (Err NoSlot) freed released it = none_removed w w' key fault.NoSlot freed released it
+remove_unchanged w w' key (Err Empty) freed released it = none_removed w w' key fault.Empty freed released it
+remove_unchanged w w' key (Err Stale) freed released it = none_removed w w' key fault.Other freed released it
+remove_unchanged w w' key (Err Again) freed released (inl it) = none_removed w w' key fault.Again freed released it
+remove_unchanged w w' key (Err Again) freed released (inr (it, one)) =
+    record { none = hot_none (its_start w) w.pass key it.takes.out it.takes.back w'.pass it.takes.takes; holder = holder_same w w' it.holder }
 remove_unchanged w w' key (Err Busy) freed released it = as_it_was w w' it.2.1
 remove_unchanged w w' key (Err Reader) freed released it = as_it_was w w' it.3
 remove_unchanged w w' key (Err Idle) freed released it = absurd it

@@ -1,10 +1,12 @@
 -- The calls of a worker by key: the slot of a file and its number. A second pass of the worker, its
--- holder, holds the file of the key during a removal and a replacement.
-use Rattle.std.specs.Prelude.{◌≡◌, ◌⊎◌, ℕ, Option, Some, None, Result, Ok, Err}
+-- holder, holds the file of the key during a replacement, and during a removal from a hot slot.
+use Rattle.std.specs.Prelude.{◌≡◌, ◌⊎◌, ◌&&◌, ℕ, false, Option, Some, None, is_none, Result, Ok}
+use Rattle.std.specs.Prelude.{Err}
 use Rattle.fx_base.specs.Identity.{Identity}
 use Rattle.fx_table.specs.Pass.{PassView}
 use Rattle.fx_table.specs.declared.values.Hold.{Hold}
 use Rattle.fx_table.specs.declared.values.Retired.{Retired}
+use Rattle.fx_lasting.specs.Alone.{TakesAlone}
 use Rattle.fx_lasting.specs.Keys.{LookedByKey, PutsOverKey, TakesByKey, TriesKey}
 use Rattle.fx_lasting.specs.Tables.{view_of}
 use Rattle.fx_lasting.specs.declared.key.Key.{Key}
@@ -12,6 +14,9 @@ use Rattle.fx_lasting.specs.declared.key_answers.KeyFault.{KeyFault}
 use Rattle.fx_lasting.specs.declared.key_answers.KeyFault.TheVariants as fault
 use Rattle.fx_lasting.specs.declared.key_answers.PutOverKey.{PutOverKey}
 use Rattle.fx_lasting.specs.declared.key_answers.PutOverKey.TheVariants.{Replaced, Missed}
+use Rattle.fx_lasting.specs.declared.key_answers.TakenByKey.{TakenByKey}
+use Rattle.fx_lasting.specs.declared.key_answers.TakenByKey.TheVariants.{Removed, Hot}
+use Rattle.fx_lasting.specs.declared.key_answers.TakenByKey.TheVariants.{Missed as Failed}
 use Rattle.fx_lasting.specs.declared.pass.LastingPass.{LastingPass}
 use Rattle.fx_server.specs.Files.{file_with}
 use Rattle.fx_server.specs.Installing.{DrawsNone, UsesNumber}
@@ -102,18 +107,76 @@ RemovesNoKey w key why freed released w' =
     (takes : TakesKey w key (Err why) freed released w' (its_pass w'))
     × TriesKey (its_start w) (view_of takes.holder.before) key why takes.out w.pass w'.pass
 
+-- a removal by key by both passes of the worker
+abbrev pub RemovesByTwo : TableWorker → Key → Result Removal ServerRefusal
+    → (freed released : Option ℕ) → TableWorker → Type 0
+RemovesByTwo w key (Ok removal) freed released w' = RemovesFileOf w key removal freed released w'
+RemovesByTwo w key (Err NoSlot) freed released w' =
+    RemovesNoKey w key fault.NoSlot freed released w'
+RemovesByTwo w key (Err Empty) freed released w' =
+    RemovesNoKey w key fault.Empty freed released w'
+RemovesByTwo w key (Err Stale) freed released w' =
+    RemovesNoKey w key fault.Other freed released w'
+RemovesByTwo w key (Err Again) freed released w' =
+    RemovesNoKey w key fault.Again freed released w'
+RemovesByTwo w key (Err Reader) freed released w' = w.holder ≡ None
+RemovesByTwo w key (Err _) freed released w' = ⊥
+
+-- a removal by key by the worker's pass alone, which is `p` afterwards
+pub record TakesKeyAlone (w : TableWorker) (key : Key) (taken : TakenByKey)
+    (freed released : Option ℕ) (p : LastingPass) : Type 0 where
+  pub out : Option Identity
+  pub back : Option Identity
+  pub tags : LastUses freed released out back
+  pub takes : TakesAlone (its_start w) w.pass key taken out back p
+
+-- the file of the key was removed from its slot by the worker's pass alone, and retired
+pub record RemovesByOne (w : TableWorker) (key : Key) (removal : Removal)
+    (freed released : Option ℕ) (w' : TableWorker) : Type 0 where
+  pub retired : Retired
+  pub between : LastingPass
+  pub takes : TakesKeyAlone w key (Removed retired) freed released between
+  pub retires : RetiresAs (its_opening w) (view_of between) retired removal (its_pass w')
+  pub holder : w'.holder ≡ w.holder
+
+-- the worker's pass alone left the slot as it was
+pub record LeavesAlone (w : TableWorker) (key : Key) (taken : TakenByKey)
+    (freed released : Option ℕ) (w' : TableWorker) : Type 0 where
+  pub takes : TakesKeyAlone w key taken freed released w'.pass
+  pub holder : w'.holder ≡ w.holder
+
+-- the slot was hot, and the worker's pass left it as it was; then both passes made a removal
+pub record RemovesHot (w : TableWorker) (key : Key) (result : Result Removal ServerRefusal)
+    (freed released : Option ℕ) (w' : TableWorker) : Type 0 where
+  pub hot : LastingPass
+  pub found : TakesKeyAlone w key Hot None None hot
+  pub both : RemovesByTwo (record w { pass = hot }) key result freed released w'
+
+-- the slot was left as it was, for this reason: `Again` only if another pass was at the slot after
+-- the look-up
+abbrev pub RemovesNone : TableWorker → Key → KeyFault → (freed released : Option ℕ) → TableWorker
+    → Type 0
+RemovesNone w key why freed released w' = LeavesAlone w key (Failed why) freed released w'
+    ⊎ RemovesHot w key (Err (key_refusal why)) freed released w'
+
+-- the slot was hot and was left as it was, and the call closed a removed file
+abbrev pub ClosesOne : TableWorker → Key → (freed released : Option ℕ) → TableWorker → Type 0
+ClosesOne w key freed released w' = LeavesAlone w key Hot freed released w'
+    × ((is_none freed && is_none released) ≡ false)
+
 -- a removal by key
 abbrev pub RemovesByKey : TableWorker → Key → Result Removal ServerRefusal
     → (freed released : Option ℕ) → TableWorker → Type 0
-RemovesByKey w key (Ok removal) freed released w' = RemovesFileOf w key removal freed released w'
+RemovesByKey w key (Ok removal) freed released w' = RemovesByOne w key removal freed released w'
+    ⊎ RemovesHot w key (Ok removal) freed released w'
 RemovesByKey w key (Err NoSlot) freed released w' =
-    RemovesNoKey w key fault.NoSlot freed released w'
+    RemovesNone w key fault.NoSlot freed released w'
 RemovesByKey w key (Err Empty) freed released w' =
-    RemovesNoKey w key fault.Empty freed released w'
+    RemovesNone w key fault.Empty freed released w'
 RemovesByKey w key (Err Stale) freed released w' =
-    RemovesNoKey w key fault.Other freed released w'
+    RemovesNone w key fault.Other freed released w'
 RemovesByKey w key (Err Again) freed released w' =
-    RemovesNoKey w key fault.Again freed released w'
+    RemovesNone w key fault.Again freed released w' ⊎ ClosesOne w key freed released w'
 RemovesByKey w key (Err Busy) freed released w' = (freed ≡ None) × (released ≡ None) × IsBusy w w'
 RemovesByKey w key (Err Reader) freed released w' =
     (freed ≡ None) × (released ≡ None) × (w.holder ≡ None) × (w' ≡ w)

@@ -50,8 +50,9 @@ pub record HasEnded (key : Key) (w w' : TableWorker) : Type 0 where
   pub event : Event
   pub ends : EndsKey key event
   pub mine : event.pass ≡ (its_pass w).number
+  pub earlier : List Event
   pub since : List Event
-  pub made : (its_pass w').own ≡ (its_pass w).own ▷ event ▷▷ since
+  pub made : (its_pass w').own ≡ (its_pass w).own ▷▷ earlier ▷ event ▷▷ since
 
 -- a removal by key that is done has ended the key, and so has a replacement
 abbrev pub DoneRemovalsEndKeys : Type 0

@@ -1,13 +1,13 @@
 //! The calls by key: the slot of a file and its number.
 ghost use Rattle.std.specs.Prelude.{◌≡◌, None, Err};
-ghost use Rattle.fx_server.specs.ByKey.{FindsByKey, RemovesByKey, ReplacesByKey, ReplacesByKeyNext, key_of};
+ghost use Rattle.fx_server.specs.ByKey.{FindsByKey, RemovesByKey, RemovesByTwo, ReplacesByKey, ReplacesByKeyNext, key_of};
 ghost use Rattle.fx_server.specs.ByKey.{key_refusal};
 ghost use Rattle.fx_server.specs.Workers.{IsGood};
 
 use crate::answers::{LookAnswer, PlaceAnswer, Placed, RemoveAnswer, ServerRefusal};
 use crate::shared::file_with;
 use crate::worker::{TableWorker, not_found, not_removed, note, retire, tag_of};
-use fx_lasting::{Key, KeyFault, KeyLook, KeyPut, KeyTaken, PutOverKey};
+use fx_lasting::{Key, KeyFault, KeyLook, KeyPut, KeyRemoval, KeyTaken, PutOverKey, TakenByKey};
 
 impl TableWorker {
     /// Looks up the file of a key. The worker holds it until `release`.
@@ -43,11 +43,13 @@ impl TableWorker {
         }
     }
 
-    /// Removes the file of a key. The worker's second pass holds it meanwhile.
+    /// Removes the file of a key. The worker's pass holds it meanwhile, and its hold ends with the
+    /// removal. At a hot slot its second pass does.
     ///
     /// # Errors
     /// `Busy`, `Reader`, `NoSlot`, in this order; `Empty` if the slot has no file, `Stale` if it
-    /// has another one, `Again` if look-ups changed the slot's word before each of four tries.
+    /// has another one, `Again` if look-ups changed the slot's word before each of four tries, or
+    /// if the call closed a removed file at a hot slot.
     #[inline(always)]
     pub fn remove(&mut self, slot: u32, number: u64) -> RemoveAnswer
         requires good { IsGood self.old }
@@ -61,6 +63,46 @@ impl TableWorker {
         if self.held.is_some() {
             return not_removed(ServerRefusal::Busy);
         }
+        if self.holder.is_none() {
+            return not_removed(ServerRefusal::Reader);
+        }
+        let table = &self.shared.table;
+        let KeyRemoval {
+            taken,
+            freed,
+            released,
+        } = table.take_key_alone(&mut self.pass, Key { slot, number });
+        let freed = tag_of(freed);
+        let released = tag_of(released);
+        let removal = match taken {
+            TakenByKey::Removed(retired) => Ok(retire(table, &mut self.pass, retired)),
+            TakenByKey::Missed(fault) => Err(key_refusal(fault)),
+            TakenByKey::Hot => {
+                if freed.is_none() && released.is_none() {
+                    return self.remove_hot(slot, number);
+                }
+                Err(ServerRefusal::Again)
+            }
+        };
+        RemoveAnswer {
+            removal,
+            freed,
+            released,
+        }
+    }
+
+    // Removes the file of a key from a hot slot. The second pass holds it meanwhile.
+    #[inline(never)]
+    fn remove_hot(&mut self, slot: u32, number: u64) -> RemoveAnswer
+        requires good { IsGood self.old }
+        requires idle { self.old.held ≡ None }
+        ensures good { IsGood self.new }
+        ensures table { self.new.shared ≡ self.old.shared }
+        ensures held { self.new.held ≡ self.old.held }
+        ensures numbers { self.new.numbers ≡ self.old.numbers }
+        ensures removed { RemovesByTwo self.old (key_of slot number) result.removal result.freed
+            result.released self.new }
+    {
         let Some(holder) = &mut self.holder else {
             return not_removed(ServerRefusal::Reader);
         };

@@ -24,9 +24,9 @@ pub struct Held {
 }
 
 /// A pass with its table. It holds at most one file at a time, by the user's look-up. A worker that
-/// installs files has a second pass, its holder, which holds the file of a key within a removal or
-/// a replacement. The pass is last, so that the workers of two threads share no cache line
-/// (`LastingPass`).
+/// installs files has a second pass, its holder, which holds the file of a key within a
+/// replacement, or within a removal from a hot slot. The pass is last, so that the workers of two
+/// threads share no cache line (`LastingPass`).
 pub struct TableWorker {
     pub shared: Arc<Shared, Global>,
     pub held: Option<Held>,
