@@ -23,5 +23,6 @@ mod search;
 mod state;
 mod step;
 mod verdict;
+mod wrong;
 
 pub use verdict::{FlightVerdict, judge_events};

@@ -81,7 +81,7 @@ fn plan_found(
     most: usize,
     search: &mut Search,
 ) -> Result<bool, NoMemory> {
-    if !search.run(log, calls, start, most)? {
+    if !search.run(log, calls, 0, start, most)? {
         return Ok(false);
     }
     let plan = &mut search.plan;

@@ -42,6 +42,18 @@ pub(crate) struct Frame {
     has_more: bool,
 }
 
+/// A state that a search went on from, and the number of events before it.
+#[derive(Drop)]
+pub(crate) struct SavedState {
+    /// The number of events.
+    pub(crate) at: usize,
+    /// The state.
+    pub(crate) state: FlightState,
+}
+
+/// The number of events from a saved state to the next one.
+pub(crate) const SAVED_EVERY: usize = 1_000;
+
 /// A search: the states from the first one that may be tried again to the last one, the moves that
 /// led there, and the numbers of the states that lead nowhere.
 #[derive(Drop)]
@@ -50,6 +62,10 @@ pub(crate) struct Search {
     pub(crate) frames: Vec<Frame>,
     /// The moves, and an empty list of calls.
     pub(crate) plan: FlightPlan,
+    /// The greatest number of events before a state that was tried.
+    pub(crate) furthest: usize,
+    /// The last two saved states.
+    pub(crate) saved: Vec<SavedState>,
     dead: IndexSet<u64>,
     // More than the number of events before each of those states.
     dead_until: usize,
@@ -230,9 +246,32 @@ impl Search {
                 calls: Vec::new(alloc),
                 moves: Vec::new(alloc),
             },
+            furthest: 0,
+            saved: Vec::new(alloc),
             dead: IndexSet::new(alloc),
             dead_until: 0,
         }
+    }
+
+    // Saves the last state if it is far enough from the last one that was saved.
+    fn save(&mut self, alloc: Global) -> Result<(), NoMemory> {
+        let Some(frame) = self.frames.last() else {
+            return Ok(());
+        };
+        let next = match self.saved.last() {
+            Some(last) => last.at.saturating_add(SAVED_EVERY),
+            None => SAVED_EVERY,
+        };
+        if frame.at < next {
+            return Ok(());
+        }
+        let state = frame.state.copy(alloc, frame.state.base, 0)?;
+        let at = frame.at;
+        if self.saved.len() > 1 {
+            self.saved.remove(0);
+        }
+        self.saved.push(SavedState { at, state })?;
+        Ok(())
     }
 
     // Checks whether the state of a move leads nowhere.
@@ -305,18 +344,20 @@ impl Search {
         Ok(())
     }
 
-    /// Looks for a flight of the log from a state on. Returns true if the moves are one, and the
-    /// last state is that after them: it tries at most `most` moves after each event, and goes back
-    /// over as many states.
+    /// Looks for a flight of the log from a state after `from` events on. Returns true if the moves
+    /// are one, and the last state is that after them: it tries at most `most` moves after each
+    /// event, and goes back over as many states.
     pub(crate) fn run(
         &mut self,
         log: &JudgedLog<'_>,
         calls: &[ChainCall<'_>],
+        from: usize,
         start: FlightState,
         most: usize,
     ) -> Result<bool, NoMemory> {
-        self.frames.push(Frame::new(0, 0, start))?;
-        let (mut furthest, mut tries) = (0, 0);
+        self.frames.push(Frame::new(from, 0, start))?;
+        self.furthest = from;
+        let mut tries = 0;
         for _ in 0..usize::MAX {
             let Some(frame) = self.frames.last_mut() else {
                 return Ok(false);
@@ -324,14 +365,18 @@ impl Search {
             if frame.at >= log.events.len() {
                 return Ok(true);
             }
-            if frame.at > furthest {
-                furthest = frame.at;
+            if frame.at > self.furthest {
+                self.furthest = frame.at;
                 tries = 0;
+                self.save(log.setting.alloc)?;
             }
             if tries >= most {
                 return Ok(false);
             }
             tries += 1;
+            let Some(frame) = self.frames.last_mut() else {
+                return Ok(false);
+            };
             match frame.next(log, calls)? {
                 Some(lead) => self.enter(log, lead, most)?,
                 None => self.leave(log.setting.alloc, most)?,

@@ -8,6 +8,7 @@ ghost use Rattle.fx_flight.specs.Faults.{fault_of_log};
 ghost use Rattle.fx_flight.specs.Flight.{IsLegalLog};
 ghost use Rattle.check_flight.specs.Judged.{catalogue_in, log_in, HaveNoFlight, IsReachedFrom, IsTableOf};
 ghost use Rattle.check_flight.specs.States.{HasNoFlight};
+ghost use Rattle.check_flight.specs.declared.verdict.Decision.TheVariants.{Flight, Wrong};
 ghost use Rattle.check_flight.specs.declared.verdict.FlightVerdict.TheVariants.{Faulty, Legal, NotLegal};
 
 use crate::judged::JudgedLog;
@@ -17,6 +18,7 @@ use crate::propose::propose;
 use crate::reached::ReachedStates;
 use crate::refute::{beginning_of, refute};
 use crate::search::Search;
+use crate::wrong::{explained_beginning, is_refuted_alone, wrong_beginning};
 use check_search::Limits;
 use fx_base::{Catalogue, Errno, NoMemory};
 use fx_flight::{LogEvent, LogFault, fault_of_log};
@@ -40,6 +42,17 @@ pub enum FlightVerdict {
     Undecided,
 }
 
+// A decision on a log.
+#[derive(Clone, Copy)]
+enum Decision {
+    // It has a flight.
+    Flight,
+    // Its beginning with this number of events has none.
+    Wrong(usize),
+    // Nothing was shown.
+    Neither,
+}
+
 // Returns the largest number of states at an event, and of those that a search goes back over: a
 // state counts as 88 bytes for each slot, and 768 beside them.
 fn room_for(slots: &Slots, limits: Limits) -> usize {
@@ -48,6 +61,9 @@ fn room_for(slots: &Slots, limits: Limits) -> usize {
         .states
         .min(limits.bytes.checked_div(weight).unwrap_or(0))
 }
+
+// The largest number of states that the first search for a flight goes back over.
+const FIRST_STATES: usize = 10_000;
 
 // The number of events from the front that is saved to the one after which no state is left.
 const SAVED_BEFORE: usize = 1_000;
@@ -147,16 +163,20 @@ fn shortest_refuted<'a>(
 }
 
 // Returns the number of events of a beginning of the log that was refuted, the shortest one that
-// was found, or `None` if the log wasn't refuted.
+// was found, or `None` if the log wasn't refuted. The beginning of `hint` events is tried first.
 fn refuted_beginning(
     log: &JudgedLog<'_>,
     slots: &Slots,
+    hint: usize,
     most: usize,
 ) -> Result<Option<usize>, NoMemory>
     requires { IsTableOf log.now slots.now }
     ensures { IfOk result (λ count. IfSome count (λ count. HaveNoFlight log.now slots.now
         (take count (log_in log.now)))) }
 {
+    if is_refuted_alone(log, slots, hint, most)? {
+        return Ok(Some(hint));
+    }
     let count = log.events.len();
     let first = ReachedStates::first(log.setting.alloc, slots)?;
     let Some(at) = refute(log, first, count, most)? else {
@@ -169,17 +189,74 @@ fn refuted_beginning(
 }
 
 // Checks whether the log has a flight, by a search that goes back over at most `most` states.
-fn has_flight(log: &JudgedLog<'_>, slots: &Slots, most: usize) -> Result<bool, NoMemory>
+fn has_flight(
+    log: &JudgedLog<'_>,
+    slots: &Slots,
+    most: usize,
+    search: &mut Search,
+) -> Result<bool, NoMemory>
     requires { log.now.setting.size ≡ length slots.now.at.items }
     ensures { IfOk result (λ yes. IsTrue yes → (submissions registrations : ℕ) → IsLegalLog
         (ring_of_slots (catalogue_in log.now) slots.now submissions registrations)
         (log_in log.now)) }
 {
-    let mut search = Search::new(log.setting.alloc);
-    if !propose(log, slots, most, &mut search)? {
+    if !propose(log, slots, most, search)? {
         return Ok(false);
     }
     is_flight(log, slots, &search.plan)
+}
+
+// Decides whether the log has a flight, by searches with at most `most` states, if quicker ones
+// didn't: they found none, and that the beginning of `hint` events has none.
+fn decide_wholly(
+    log: &JudgedLog<'_>,
+    slots: &Slots,
+    hint: usize,
+    most: usize,
+) -> Result<Decision, NoMemory>
+    requires { IsTableOf log.now slots.now }
+    ensures flight { IfOk result (λ found. found ≡ Flight → (submissions registrations : ℕ)
+        → IsLegalLog (ring_of_slots (catalogue_in log.now) slots.now submissions registrations)
+        (log_in log.now)) }
+    ensures wrong { IfOk result (λ found. (count : ℕ) → found ≡ Wrong count
+        → HaveNoFlight log.now slots.now (take count (log_in log.now))) }
+{
+    let mut search = Search::new(log.setting.alloc);
+    let yes = has_flight(log, slots, most, &mut search)?;
+    if yes {
+        return Ok(Decision::Flight);
+    }
+    let shortest = refuted_beginning(log, slots, hint, most)?;
+    match shortest {
+        Some(count) => Ok(Decision::Wrong(count)),
+        None => Ok(Decision::Neither),
+    }
+}
+
+// Decides whether the log has a flight, by quick searches first.
+fn decide(log: &JudgedLog<'_>, slots: &Slots, most: usize) -> Result<Decision, NoMemory>
+    requires { IsTableOf log.now slots.now }
+    ensures flight { IfOk result (λ found. found ≡ Flight → (submissions registrations : ℕ)
+        → IsLegalLog (ring_of_slots (catalogue_in log.now) slots.now submissions registrations)
+        (log_in log.now)) }
+    ensures wrong { IfOk result (λ found. (count : ℕ) → found ≡ Wrong count
+        → HaveNoFlight log.now slots.now (take count (log_in log.now))) }
+{
+    let quick = most.min(FIRST_STATES);
+    let mut search = Search::new(log.setting.alloc);
+    let yes = has_flight(log, slots, quick, &mut search)?;
+    if yes {
+        return Ok(Decision::Flight);
+    }
+    let hint = wrong_beginning(log, slots, &search, quick)?;
+    let early = explained_beginning(log, slots, hint)?;
+    match early {
+        Some(count) => Ok(Decision::Wrong(count)),
+        None => {
+            let found = decide_wholly(log, slots, hint, most)?;
+            Ok(found)
+        }
+    }
 }
 
 // Checks whether a request of the log lacked memory (-12).
@@ -235,11 +312,10 @@ pub fn judge_events(
         positions: &positions,
     };
     let most = room_for(slots, limits);
-    if has_flight(&log, slots, most)? {
-        return Ok(FlightVerdict::Legal);
-    }
-    match refuted_beginning(&log, slots, most)? {
-        Some(count) if count > 0 => Ok(FlightVerdict::NotLegal { at: count - 1 }),
+    let found = decide(&log, slots, most)?;
+    match found {
+        Decision::Flight => Ok(FlightVerdict::Legal),
+        Decision::Wrong(count) if count > 0 => Ok(FlightVerdict::NotLegal { at: count - 1 }),
         _ => Ok(FlightVerdict::Undecided),
     }
 }

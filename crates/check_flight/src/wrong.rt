@@ -1,0 +1,154 @@
+//! The first event with which no flight is left, as a search finds it, and whether the beginning up
+//! to it is refuted.
+ghost use Rattle.std.specs.Prelude.{IfOk, IfSome, IsTrue, take};
+ghost use Rattle.check_flight.specs.Judged.{log_in, HaveNoFlight, IsTableOf};
+
+use crate::call::push_call;
+use crate::judged::{ChainCall, JudgedLog};
+use crate::reached::ReachedStates;
+use crate::refute::{beginning_of, refute};
+use crate::search::{SAVED_EVERY, Search};
+use crate::state::{FlightState, first_state};
+use check_reason::explain;
+use fx_base::NoMemory;
+use fx_order::Slots;
+
+// A state from which beginnings of a log are tried, and the number of events before it.
+#[derive(Drop)]
+struct Start {
+    at: usize,
+    state: FlightState,
+}
+
+// Returns the state of a search that is to be tried from: some events before the furthest one that
+// it reached.
+fn start_of(log: &JudgedLog<'_>, slots: &Slots, search: &Search) -> Result<Start, NoMemory> {
+    let alloc = log.setting.alloc;
+    let mut start = Start {
+        at: 0,
+        state: first_state(alloc, slots)?,
+    };
+    for saved in &search.saved {
+        if saved.at.saturating_add(SAVED_EVERY) <= search.furthest {
+            start = Start {
+                at: saved.at,
+                state: saved.state.copy(alloc, saved.state.base, 0)?,
+            };
+        }
+    }
+    Ok(start)
+}
+
+// Checks whether a search finds a flight of the first `count` events.
+fn is_possible(
+    log: &JudgedLog<'_>,
+    calls: &[ChainCall<'_>],
+    start: &Start,
+    count: usize,
+    most: usize,
+) -> Result<bool, NoMemory> {
+    if count > log.events.len() {
+        return Ok(false);
+    }
+    let alloc = log.setting.alloc;
+    let beginning = beginning_of(log, count);
+    let state = start.state.copy(alloc, start.state.base, 0)?;
+    Search::new(alloc).run(&beginning, calls, start.at, state, most)
+}
+
+// Returns the number of events of the shortest beginning without a flight that a search finds, if a
+// search of the log reached `low` events, and no further. It tries numbers near `low` first.
+fn shortest_wrong(
+    log: &JudgedLog<'_>,
+    calls: &[ChainCall<'_>],
+    start: &Start,
+    low: usize,
+    most: usize,
+) -> Result<usize, NoMemory> {
+    let (mut low, mut high, mut ahead) = (low, log.events.len(), 0usize);
+    for _ in 0..128 {
+        let left = high.saturating_sub(low);
+        if left < 2 {
+            break;
+        }
+        let middle = low.saturating_add(ahead.saturating_add(1).min(left / 2));
+        if is_possible(log, calls, start, middle, most)? {
+            low = middle;
+            ahead = ahead.saturating_mul(2).saturating_add(1);
+        } else {
+            high = middle;
+        }
+    }
+    Ok(high)
+}
+
+/// Returns the number of events of the shortest beginning without a flight that searches find.
+/// `search` is one that found no flight of the log.
+pub(crate) fn wrong_beginning(
+    log: &JudgedLog<'_>,
+    slots: &Slots,
+    search: &Search,
+    most: usize,
+) -> Result<usize, NoMemory> {
+    let alloc = log.setting.alloc;
+    let mut calls = Vec::new(alloc);
+    for event in log.events {
+        if !push_call(&mut calls, event)? {
+            return Ok(log.events.len());
+        }
+    }
+    let start = start_of(log, slots, search)?;
+    shortest_wrong(log, &calls, &start, search.furthest, most)
+}
+
+// Checks whether a certificate refutes the first `count` events.
+fn is_explained(log: &JudgedLog<'_>, slots: &Slots, count: usize) -> Result<bool, NoMemory>
+    ensures { IfOk result (λ yes. IsTrue yes
+        → HaveNoFlight log.now slots.now (take count (log_in log.now))) }
+{
+    let setting = &log.setting;
+    let reason = explain(setting.alloc, setting.catalogue, slots, log.events, count)?;
+    let Some(_found) = reason else {
+        return Ok(false);
+    };
+    Ok(true)
+}
+
+/// Returns the number of events of a beginning of the log, if a certificate refutes it.
+pub(crate) fn explained_beginning(
+    log: &JudgedLog<'_>,
+    slots: &Slots,
+    count: usize,
+) -> Result<Option<usize>, NoMemory>
+    ensures { IfOk result (λ early. IfSome early (λ early. HaveNoFlight log.now slots.now
+        (take early (log_in log.now)))) }
+{
+    let yes = is_explained(log, slots, count)?;
+    if yes {
+        return Ok(Some(count));
+    }
+    Ok(None)
+}
+
+/// Checks whether the states that flights of the first `count` events reach refute them, with at
+/// most `most` states at each event.
+pub(crate) fn is_refuted_alone(
+    log: &JudgedLog<'_>,
+    slots: &Slots,
+    count: usize,
+    most: usize,
+) -> Result<bool, NoMemory>
+    requires { IsTableOf log.now slots.now }
+    ensures { IfOk result (λ yes. IsTrue yes
+        → HaveNoFlight log.now slots.now (take count (log_in log.now))) }
+{
+    if count > log.events.len() {
+        return Ok(false);
+    }
+    let first = ReachedStates::first(log.setting.alloc, slots)?;
+    let at = refute(log, first, count, most)?;
+    match at {
+        Some(_) => Ok(true),
+        None => Ok(false),
+    }
+}
