@@ -74,6 +74,36 @@ impl Worker {
         )
     }
 
+    // Removes the file of a key. The pass holds it meanwhile, and its hold ends with the removal.
+    // At a hot slot the second pass holds it.
+    fn remove(&mut self, slot: u32, number: u64, out: &mut Outcome) -> i64 {
+        if let Some(refusal) = self.refuses(None, true) {
+            return refusal;
+        }
+        let Worker { table, pass, .. } = self;
+        let node = match look_key(table, pass, slot, number, out) {
+            Ok(node) => node,
+            Err(refusal) => return refusal,
+        };
+        if !pass.guarded {
+            match table.take_if(pass, slot as usize, node) {
+                // without the pass's own take
+                Ok(word) => return self.retire(word - 1, out),
+                Err(miss) => {
+                    out.released = table.release(pass, node).unwrap_or(0);
+                    return code_of(miss);
+                }
+            }
+        }
+        out.released = table.release(pass, node).unwrap_or(0);
+        if out.freed | out.released != 0 {
+            return AGAIN;
+        }
+        self.by_key(slot, number, out, |table, pass, node| {
+            table.take_if(pass, slot as usize, node)
+        })
+    }
+
     // Makes a change by key while the second pass holds the file of the key.
     fn by_key(
         &mut self,
@@ -310,9 +340,7 @@ pub(crate) unsafe fn yacht_core_remove(
 ) -> i64 {
     let (mut it, out) = unsafe { (worker(handle), &mut *out) };
     *out = Outcome::default();
-    it.by_key(slot, number, out, |table, pass, node| {
-        table.take_if(pass, slot as usize, node)
-    })
+    it.remove(slot, number, out)
 }
 
 pub(crate) unsafe fn yacht_core_find(handle: *mut Core, number: *mut u64) -> i64 {

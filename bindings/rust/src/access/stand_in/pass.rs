@@ -17,7 +17,7 @@ pub(crate) struct Pass {
     pub(crate) stock: Vec<usize>,
     pub(crate) entry: usize,
     keeps: bool,
-    guarded: bool,
+    pub(crate) guarded: bool,
     listed: bool,
     pub(crate) sure: bool,
     pub(crate) emptied: Emptied,

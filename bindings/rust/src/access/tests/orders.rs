@@ -255,9 +255,9 @@ fn no_order_of_steps_is_wrong() {
     Family::steps(0, 1, &[LOOK, REMOVE]).has(343);
     Family::steps(16, 1, &[LOOK, PUT]).has(148);
     Family::steps(1, 1, &[LOOK, REMOVE]).has(311);
-    Family::steps(16, 1, &[REMOVE_KEY; 2]).has(5240);
-    Family::steps(16, 1, &[REMOVE_KEY, REPLACE_KEY]).has(3716);
-    Family::steps(0, 1, &[REMOVE_KEY, REPLACE_KEY]).has(29074);
+    Family::steps(16, 1, &[REMOVE_KEY; 2]).has(3891);
+    Family::steps(16, 1, &[REMOVE_KEY, REPLACE_KEY]).has(3269);
+    Family::steps(0, 1, &[REMOVE_KEY, REPLACE_KEY]).has(24802);
     Family::steps(16, 0, &[INSERT; 2]).has(420);
     Family::steps(16, 1, &[INSERT, REMOVE]).has(285);
 }
@@ -270,7 +270,7 @@ fn no_order_of_the_steps_of_three_is_wrong() {
     Family::steps(0, 1, &[LOOK, PUT, REMOVE]).has(22_518);
     Family::steps(1, 1, &[LOOK, LOOK, REMOVE]).has(28_231);
     Family::steps(16, 1, &[LOOK, PUT, PUT]).has(5_408);
-    Family::steps(16, 1, &[LOOK, PUT, REMOVE_KEY]).has(27_322);
+    Family::steps(16, 1, &[LOOK, PUT, REMOVE_KEY]).has(25_668);
     Family::steps(16, 1, &[INSERT, INSERT, REMOVE]).has(37_345);
 }
 
