@@ -1,7 +1,8 @@
 //! Times the two proved lock-free tables, one of them also by the Rust crate in bindings/, next to
 //! plain, unproved Rust tables of the same words, and all next to arc-swap, crossbeam-epoch,
 //! sharded-slab and a lock of std, in turn in one process. Each line has the times of one round,
-//! for `bench/ratios.py`. With the argument `tails` it prints how long single calls take instead.
+//! for `bench/ratios.py`. With the argument `tails` it prints how long single calls take instead,
+//! and with `searches` how long the crate needs in tables that are nearly full.
 mod access;
 mod bindings;
 mod exports;
@@ -9,6 +10,7 @@ mod lasting_words;
 mod locked;
 mod others;
 mod proved;
+mod searches;
 mod slabs;
 mod table;
 mod tails;
@@ -90,8 +92,10 @@ fn measure(rows: &str, round: Round, threads: usize, rounds: usize, wanted: &str
 fn main() {
     let mut words = std::env::args().skip(1);
     let first = words.next().unwrap_or_default();
-    if first == "tails" {
-        return tails::print_all();
+    match first.as_str() {
+        "tails" => return tails::print_all(),
+        "searches" => return searches::print_all(),
+        _ => {}
     }
     let rounds = first.parse().unwrap_or(7);
     let wanted = words.next().unwrap_or_default();

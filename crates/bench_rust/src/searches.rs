@@ -1,0 +1,62 @@
+//! How long the crate needs to find an empty slot of a table with two of them: the median and the
+//! mean of many pairs of an installation and a removal, by the handle that installs or by another
+//! one.
+use std::time::Instant;
+use yachtbanyan::{Handle, Key, Table};
+
+/// The numbers of slots.
+const SLOTS: [u32; 3] = [4096, 65_536, 1_048_576];
+
+/// The number of slots without a value.
+const FREE: u32 = 2;
+
+/// The number of pairs.
+const PAIRS: usize = 10_000;
+
+/// Returns the key of a value that the handle installs.
+type Install = fn(&Handle<u64>) -> Key;
+
+const CALLS: [(&str, Install); 2] = [
+    ("insert", |handle| handle.insert(1).expect("an empty slot")),
+    ("insert_with", |handle| {
+        let made = handle.insert_with(|key| u64::from(key.slot()));
+        made.expect("an empty slot")
+    }),
+];
+
+/// Returns the nanoseconds of a pair.
+fn pair(by: &Handle<u64>, from: &Handle<u64>, install: Install) -> u128 {
+    let begun = Instant::now();
+    let key = install(by);
+    let removed = from.remove(key);
+    let time = begun.elapsed().as_nanos();
+    assert!(removed.is_ok(), "the value that was installed");
+    time
+}
+
+fn print(name: &str, slots: u32, who: &str, mut times: Vec<u128>) {
+    times.sort_unstable();
+    let half = times[times.len() / 2];
+    let mean = times.iter().sum::<u128>() / times.len() as u128;
+    println!(
+        "searches: {name} and remove by {who}, {FREE} of {slots} slots empty: median {half} mean {mean} \
+         ns"
+    );
+}
+
+/// Prints the times for each number of slots.
+pub fn print_all() {
+    for slots in SLOTS {
+        let table = Table::<u64>::with_slots(slots).expect("memory");
+        let [one, other] = [(); 2].map(|()| table.handle().expect("a handle"));
+        for _ in 0..slots - FREE {
+            one.insert(0).expect("an empty slot");
+        }
+        for (name, install) in CALLS {
+            for (who, from) in [("the same handle", &one), ("another one", &other)] {
+                let times = (0..PAIRS).map(|_| pair(&one, from, install)).collect();
+                print(name, slots, who, times);
+            }
+        }
+    }
+}
