@@ -12,7 +12,7 @@ use Rattle.fx_lasting.specs.Tables.{view_of, meetings}
 use Rattle.fx_lasting.specs.Watches.{ActsAt, HasActed}
 use Rattle.fx_lasting.specs.declared.pass.LastingPass.{LastingPass}
 use Rattle.fx_lasting.specs.declared.view.Start.{Start}
-use Rattle.fx_lasting.specs.Retries.{is_at, others_at, Try, met_in, AllOvertaken, EachIsOvertakenByAnother, LostCallsAreOvertaken}
+use Rattle.fx_lasting.specs.Retries.{is_at, others_at, Try, met_in, AllOvertaken, EachIsOvertakenByAnother, LostCallsAreOvertaken, RemovalsAreOvertaken, ReplacementsAreOvertaken}
 
 acts_is_at : (slot : ℕ) (a : Action) → ActsAt slot a → is_at slot a ≡ true
 acts_is_at slot (Look s found) at = eq-eqb s slot at
@@ -64,3 +64,9 @@ each_by_another k slot number from (try ∷ tries) to all =
 
 pub lost_is_overtaken : LostCallsAreOvertaken
 lost_is_overtaken k p p' slot file back put = record { its_number = refl; seen = put.1.adds.seen; overtaken = put.2 }
+
+pub removal_is_overtaken : RemovalsAreOvertaken
+removal_is_overtaken k p p' slot node missed tries = record { its_number = refl; seen = missed.adds.seen; overtaken = tries }
+
+pub replacement_is_overtaken : ReplacementsAreOvertaken
+replacement_is_overtaken k p p' slot node file back missed tries = record { its_number = refl; seen = missed.1.adds.seen; overtaken = tries }

@@ -6,10 +6,13 @@ use Rattle.fx_plain.specs.History.{IsSeenBy}
 use Rattle.fx_plain.specs.declared.event.Action.{Action}
 use Rattle.fx_plain.specs.declared.event.Action.TheVariants.{Look, Put, Clear, Take, Allocate}
 use Rattle.fx_plain.specs.declared.event.Event.{Event}
-use Rattle.fx_lasting.specs.Keyed.{WasOvertaken}
+use Rattle.fx_lasting.specs.Keyed.{HasPutIf, HasTakenIf, TriesPut, TriesTake, WasOvertaken}
 use Rattle.fx_lasting.specs.Tables.{view_of, meetings}
 use Rattle.fx_lasting.specs.Vacant.{HasPutEmpty}
+use Rattle.fx_lasting.specs.declared.answers.Miss.TheVariants.{Again}
 use Rattle.fx_lasting.specs.declared.answers.PutEmpty.TheVariants.{Lost}
+use Rattle.fx_lasting.specs.declared.answers.PutIf.TheVariants as put
+use Rattle.fx_lasting.specs.declared.answers.TakenIf.TheVariants.{Missed}
 use Rattle.fx_lasting.specs.declared.pass.LastingPass.{LastingPass}
 use Rattle.fx_lasting.specs.declared.view.Start.{Start}
 
@@ -61,4 +64,18 @@ EachIsOvertakenByAnother =
 abbrev pub LostCallsAreOvertaken : Type 0
 LostCallsAreOvertaken = (k : Start) (p p' : LastingPass) (slot : ℕ) (file back : Identity)
     → HasPutEmpty k p slot file (Lost back) p'
+    → IsOvertakenTry k slot (view_of p).number (record { before = p; after = p' })
+
+-- so is a removal by node that returns `Again`
+abbrev pub RemovalsAreOvertaken : Type 0
+RemovalsAreOvertaken = (k : Start) (p p' : LastingPass) (slot node : ℕ)
+    → HasTakenIf k (view_of p) slot node (Missed Again) (view_of p')
+    → TriesTake k slot (Missed Again) p p'
+    → IsOvertakenTry k slot (view_of p).number (record { before = p; after = p' })
+
+-- and a replacement by node
+abbrev pub ReplacementsAreOvertaken : Type 0
+ReplacementsAreOvertaken = (k : Start) (p p' : LastingPass) (slot node : ℕ) (file back : Identity)
+    → HasPutIf k (view_of p) slot node file (put.Missed Again back) (view_of p')
+    → TriesPut k slot (put.Missed Again back) p p'
     → IsOvertakenTry k slot (view_of p).number (record { before = p; after = p' })
