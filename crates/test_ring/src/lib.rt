@@ -11,6 +11,8 @@ mod certificates;
 #[cfg(test)]
 mod gates;
 #[cfg(test)]
+mod keys;
+#[cfg(test)]
 mod setting;
 #[cfg(test)]
 mod tables;

@@ -1,0 +1,170 @@
+//! Removals by a key by one pass. No clause says which of them one pass makes, and which ones it
+//! leaves to two passes: those at a hot slot alone. Nor does a clause say that the file comes out
+//! at its retirement if nobody else uses it.
+ghost use Rattle.std.specs.Prelude.{◌≡◌, All, length};
+ghost use Rattle.fx_table.specs.Pass.{IsIdle};
+ghost use Rattle.fx_lasting.specs.Tables.{IsPassOfTable, opening_of_table, view_of};
+
+use crate::setting::Host;
+use fx_base::{Mark, OpenFile};
+use fx_lasting::{Key, KeyFault, KeyRemoval, KeyTaken, LastingPass, LastingTable, TakenByKey};
+use fx_table::LookUp;
+
+// The takes after which the slot of a table with two passes is hot, and some more.
+const LOOKS: u32 = 40;
+
+// The result of a removal.
+#[derive(Clone, Copy, Debug, PartialEq, Eq)]
+enum Outcome {
+    Removed,
+    Missed(KeyFault),
+    Hot,
+}
+
+// Opens an empty table of one slot for two passes, the first of which installs files.
+fn open_empty<H: Host>(rt: &H) -> (LastingTable, Vec<LastingPass>)
+    ensures passes { (opening_of_table result.0).passes ≡ 2 }
+    ensures count { length result.1.items ≡ 2 }
+    ensures ready { All (λ p. IsPassOfTable result.0 p × IsIdle (view_of p)) result.1.items }
+{
+    match LastingTable::open_sparse(rt.alloc(), 1, (0, 1), 2, 1) {
+        Ok(opened) => opened,
+        Err(_refused) => panic!(rt; "memory for a shared table"),
+    }
+}
+
+// Discards a file that a call returned.
+fn discard(out: Option<OpenFile>) {
+    if let Some(file) = out {
+        file.discard();
+    }
+}
+
+// Installs a file at the empty slot, and returns its key.
+fn put<H: Host>(rt: &H, table: &LastingTable, pass: &mut LastingPass, i: u32) -> Key
+    requires { IsPassOfTable table.now pass.old }
+    ensures { IsPassOfTable table.now pass.new }
+{
+    assert!(rt; table.is_idle(pass) && 0 < table.size() && 0 < table.numbers_left(pass));
+    let file = OpenFile::new(Mark::Registered { k: 1, i }, 0, 0);
+    let (key, replaced) = table.put_key(pass, 0, file);
+    let None = replaced else {
+        panic!(rt; "an empty slot")
+    };
+    key
+}
+
+// Removes the file of a key by one pass. The file comes out at its retirement.
+fn take<H: Host>(rt: &H, table: &LastingTable, pass: &mut LastingPass, key: Key) -> Outcome
+    requires { IsPassOfTable table.now pass.old }
+    ensures { IsPassOfTable table.now pass.new }
+{
+    assert!(rt; table.is_idle(pass));
+    let KeyRemoval {
+        taken,
+        freed,
+        released,
+    } = table.take_key_alone(pass, key);
+    discard(freed);
+    discard(released);
+    match taken {
+        TakenByKey::Removed(retired) => {
+            table.retire(pass, retired).expect(rt, "the file").discard();
+            Outcome::Removed
+        }
+        TakenByKey::Missed(fault) => Outcome::Missed(fault),
+        TakenByKey::Hot => Outcome::Hot,
+    }
+}
+
+// Removes the file of a key by two passes.
+fn take_by_two<H: Host>(
+    rt: &H,
+    table: &LastingTable,
+    holder: &mut LastingPass,
+    pass: &mut LastingPass,
+    key: Key,
+) -> bool
+    requires holder { IsPassOfTable table.now holder.old }
+    requires pass { IsPassOfTable table.now pass.old }
+    ensures holder { IsPassOfTable table.now holder.new }
+    ensures pass { IsPassOfTable table.now pass.new }
+{
+    assert!(rt; table.is_idle(holder) && table.is_idle(pass));
+    let KeyTaken {
+        taken,
+        freed,
+        released,
+    } = table.take_key(holder, pass, key);
+    discard(freed);
+    discard(released);
+    let Ok(retired) = taken else { return false };
+    discard(table.retire(pass, retired));
+    true
+}
+
+// Looks the slot up, and releases its file, so often that the slot is hot.
+fn heat<H: Host>(rt: &H, table: &LastingTable, pass: &mut LastingPass)
+    requires { IsPassOfTable table.now pass.old }
+    ensures { IsPassOfTable table.now pass.new }
+{
+    for _ in 0..LOOKS {
+        assert!(rt; table.is_idle(pass) && 0 < table.size());
+        let LookUp { found, freed } = table.look_up(pass, 0);
+        discard(freed);
+        let hold = found.expect(rt, "a file at the slot");
+        discard(table.release(pass, hold));
+    }
+}
+
+// Removes files by their keys, one after another, of which one is at a hot slot.
+fn remove_some<H: Host>(
+    rt: &H,
+    table: &LastingTable,
+    reader: &mut LastingPass,
+    pass: &mut LastingPass,
+)
+    requires reader { IsPassOfTable table.now reader.old × IsIdle (view_of reader.old) }
+    requires pass { IsPassOfTable table.now pass.old × IsIdle (view_of pass.old) }
+    ensures reader { IsPassOfTable table.now reader.new × IsIdle (view_of reader.new) }
+    ensures pass { IsPassOfTable table.now pass.new × IsIdle (view_of pass.new) }
+{
+    let first = put(rt, table, pass, 1);
+    assert!(rt; take(rt, table, pass, first) == Outcome::Removed);
+    assert!(rt; take(rt, table, pass, first) == Outcome::Missed(KeyFault::Empty));
+    let second = put(rt, table, pass, 2);
+    assert!(rt; take(rt, table, pass, first) == Outcome::Missed(KeyFault::Other));
+    heat(rt, table, reader);
+    assert!(rt; take(rt, table, pass, first) == Outcome::Missed(KeyFault::Other));
+    assert!(rt; take(rt, table, pass, second) == Outcome::Hot);
+    assert!(rt; take_by_two(rt, table, reader, pass, second));
+    let third = put(rt, table, pass, 3);
+    assert!(rt; take(rt, table, pass, third) == Outcome::Removed);
+    assert!(rt; table.is_idle(reader) && table.is_idle(pass));
+}
+
+// Removes files by the two passes of a list.
+fn remove_between<H: Host>(rt: &H, table: &LastingTable, passes: &mut Vec<LastingPass>)
+    requires two { length passes.old.items ≡ 2 }
+    requires ready { All (λ p. IsPassOfTable table.now p × IsIdle (view_of p)) passes.old.items }
+    ensures two { length passes.new.items ≡ 2 }
+    ensures ready { All (λ p. IsPassOfTable table.now p × IsIdle (view_of p)) passes.new.items }
+{
+    let mut reader = passes.pop().unwrap();
+    let mut pass = passes.pop().unwrap();
+    remove_some(rt, table, &mut reader, &mut pass);
+    passes.push_reserved(pass);
+    passes.push_reserved(reader);
+}
+
+// A cold slot is emptied by one pass, and a hot one is left to two.
+#[test]
+fn removals_by_one_pass(rt: HostRuntime) {
+    let (table, mut passes) = open_empty(&rt);
+    remove_between(&rt, &table, &mut passes);
+    let size = table.size() as usize;
+    let room = Vec::with_capacity(rt.alloc(), size).expect(&rt, "room for each file");
+    let left = table.close(passes, room);
+    assert!(rt; left.is_empty());
+    left.destroy_empty();
+}
