@@ -2,7 +2,8 @@
  * let a script print a text, lists the texts that a script may print, and judges logs of calls in
  * flight (docs/inside/FLIGHT.md). The functions are verified. Their contracts say what YACHT_LEGAL,
  * YACHT_NOT_LEGAL, YACHT_BAD_SCRIPT, YACHT_ALL, YACHT_SOME, YACHT_FAULTY, YACHT_MALFORMED and
- * YACHT_TOO_MANY_SLOTS mean (docs/inside/PROOFS.md). The other numbers and the note are tested.
+ * YACHT_TOO_MANY_SLOTS mean (docs/inside/PROOFS.md). The other numbers, the note and the steps of a
+ * reason are tested.
  * C11 or C++17. Link with -lyachtjudge.
  *
  * The caller must ensure the following, which nothing checks:

@@ -1,8 +1,8 @@
-"""The verified judge of io_uring's registered file table: judge(script, text), outcomes(script) and judge_events(log).
+"""The verified judge of io_uring's registered file table: judge(script, text), outcomes(script), judge_events(log) and explain_events(log, line).
 
 A script is what fixfiles plays. A text is what fixfiles, or a kernel, prints for it. Both are str or bytes. A log is one of calls in flight,
-as the module yachtlog reads it. The library libyachtjudge.so.5 is looked for in the folder YACHTBANYAN_LIB_DIR if that is set, else beside this file and in the folders lib above it;
-and at last where the system finds libraries.
+as the module yachtlog reads it. The library libyachtjudge.so.5 is looked for in the folder YACHTBANYAN_LIB_DIR if that is set, else beside
+this file and in the folders lib above it; and at last where the system finds libraries.
 
     >>> import yachtjudge
     >>> script = "file a.txt 68656c6c6f\\nsparse 2\\nopen a.txt at 0\\nsubmit\\n"

@@ -4,8 +4,9 @@
     python3 yachtlog.py [--full-reason] [--states N] [--memory MIB] LOG..
 
 prints for each log `legal`, `not legal` with the line at which no flight is left and the reason, `undecided`, or `not a log` with the first
-line that no log has there. Of a long reason the last sentences are printed, and with --full-reason all of them. A log `-` is read from standard input. `python3 yachtlog.py --shorten LOG` prints a log with fewer calls and the same wrong
-line. Without the library yachtjudge a log is read, and not judged.
+line that no log has there. Of a long reason the last sentences are printed, and with --full-reason all of them. A log `-` is read from
+standard input. `python3 yachtlog.py --shorten LOG` prints a log with fewer calls and the same wrong line. Without the library yachtjudge a
+log is read, and not judged.
 
 The exit status is 1 if a log is not legal, whatever the others are. Else it is 5 if an allocation of the judge failed, 4 if a log can't be
 read or something that the command needs is missing, 3 if a text is not a log, 6 if a log is undecided, and 0 if all are legal. It is 2 if
@@ -96,8 +97,8 @@ class Log(Lines):
         return []
 
     def shortened(self, verdict: Verdict, states: int = STATES, memory: int = MEMORY) -> str:
-        """Returns the log up to the line of its verdict, 'not legal', with fewer calls: a log of which this is the first wrong line, too. It
-        takes at most a minute, of which the last log that is tried may take more than its share."""
+        """Returns the log up to the line of its verdict, 'not legal', with fewer calls: a log of which this is the first wrong line, too. After
+        50 seconds no further log is tried."""
         from yachtshorten import Shortening
 
         def is_wrong(text: str) -> bool:

@@ -1,4 +1,4 @@
-"""The reason why a log of calls in flight is not legal, in words (docs/use/FLIGHT.md): a sentence for each order in time that follows from
+"""The reason why a log of calls in flight is not legal, in words (docs/inside/FLIGHT.md): a sentence for each order in time that follows from
 others, and at last the orders that contradict each other."""
 from __future__ import annotations
 

@@ -1,4 +1,4 @@
-/* Reads the lines of a log (docs/use/FLIGHT.md), without its first call, as the structs of the
+/* Reads the lines of a log (docs/inside/FLIGHT.md), without its first call, as the structs of the
  * library. */
 #ifndef JUDGE_LOG_H
 #define JUDGE_LOG_H

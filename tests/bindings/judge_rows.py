@@ -20,7 +20,7 @@ sys.path.append(str(ROOT / "model"))
 import flight_states
 
 WORDS = ["legal", "not legal", "undecided"]
-# the names of the faults and of the flaws by number, as docs/use/FLIGHT.md and the header have them
+# the names of the faults and flaws by number, as docs/inside/FLIGHT.md and the header have them
 FAULTS = "wrong-number", "not-one-chain", "not-called", "out-of-turn", "answered-twice", "not-held", "still-open"
 FLAWS = "unknown-event", "unknown-request", "unknown-flags", "unknown-file", "past-the-end"
 is_stand_in = "JUDGE_ROWS" in os.environ
