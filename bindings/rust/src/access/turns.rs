@@ -257,18 +257,18 @@ pub(crate) fn explore(
         NEXT.set(1);
         NAMES.take();
         ALONE.set(true);
+        seats::exchange_first_word(0);
         let (jobs, check) = scene();
         let mut it = turns.take().expect("an exploration");
         it.begin(jobs);
         // at its first step it may be another one's turn
         let (main, to) = (&raw mut *it.main, &raw const *it.threads[0].context);
-        let old = seats::exchange_first_word(0);
+        seats::exchange_first_word(0);
         TURNS.set(Some(it));
         // SAFETY: both contexts are there.
         unsafe { swapcontext(main, to) };
         let mut it = TURNS.take().expect("the exploration");
         it.begun = false;
-        seats::exchange_first_word(old);
         runs += 1;
         let is_done = it.threads.iter().all(|it| it.is_done);
         if !is_done {

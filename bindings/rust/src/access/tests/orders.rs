@@ -257,15 +257,15 @@ fn no_order_of_steps_is_wrong() {
     Family::steps(1, 1, &[LOOK, REMOVE]).has(311);
     Family::steps(16, 1, &[REMOVE_KEY; 2]).has(3891);
     Family::steps(16, 1, &[REMOVE_KEY, REPLACE_KEY]).has(3269);
-    Family::steps(0, 1, &[REMOVE_KEY, REPLACE_KEY]).has(24802);
-    Family::steps(16, 0, &[INSERT; 2]).has(420);
+    Family::steps(16, 0, &[INSERT; 2]).has(269);
     Family::steps(16, 1, &[INSERT, REMOVE]).has(285);
 }
 
 /// An optimized build takes ten seconds for it.
 #[test]
 #[ignore = "slow unless it is optimized"]
-fn no_order_of_the_steps_of_three_is_wrong() {
+fn no_order_of_many_steps_is_wrong() {
+    Family::steps(0, 1, &[REMOVE_KEY, REPLACE_KEY]).has(24_802);
     Family::steps(0, 1, &[LOOK, LOOK, PUT]).has(221_651);
     Family::steps(0, 1, &[LOOK, PUT, REMOVE]).has(22_518);
     Family::steps(1, 1, &[LOOK, LOOK, REMOVE]).has(28_231);
