@@ -38,7 +38,7 @@ help:
 	@echo 'Test:'
 	@echo '  make test                     proves and tests everything'
 	@echo 'Measure:'
-	@echo '  make bench                    times scripts and tables against plain Rust'
+	@echo '  make bench                    times scripts and tables against plain Rust, and the judge of logs'
 	@echo '  make help-all                 lists all commands'
 
 help-all: help
@@ -159,6 +159,8 @@ bench:
 	@scripts/build-program
 	@scripts/build-program bench_tables bench_tables
 	@bench/bench bin/fixfiles bin/bench_tables
+	@scripts/build-libraries yachtjudge
+	-@bench/measure-logs --targets
 
 bench-rust:
 	@scripts/build-program bench_tables bench_tables
