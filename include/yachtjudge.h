@@ -36,12 +36,12 @@ const char *yacht_judge_version(void);
 enum {
     YACHT_LEGAL = 0,       /* a judge: the script may print the text, or the log has a flight */
     YACHT_NOT_LEGAL = 1,   /* a judge: the script doesn't print the text, or the log has no flight */
-    YACHT_UNDECIDED = 2,   /* a judge: neither was shown within the limits */
+    YACHT_UNDECIDED = 2,   /* a judge: neither was shown within the limits; or no reason is found */
     YACHT_BAD_SCRIPT = 3,  /* all: the bytes are not a script */
     YACHT_JUDGE_NO_MEMORY = 4, /* all: an allocation failed */
     YACHT_FAULTY = 5,      /* yacht_judge_events: an event can't follow those before it in a log */
-    YACHT_MALFORMED = 6,   /* yacht_judge_events: an event can't be read */
-    YACHT_TOO_MANY_SLOTS = 7, /* yacht_judge_events: the table has more than YACHT_MOST_LOG_SLOTS */
+    YACHT_MALFORMED = 6,   /* of a log: an event can't be read */
+    YACHT_TOO_MANY_SLOTS = 7, /* of a log: the table has more than YACHT_MOST_LOG_SLOTS */
     YACHT_ALL = 0,         /* yacht_outcomes: all texts are listed */
     YACHT_SOME = 1,        /* yacht_outcomes: all listed texts are right, and there may be more */
     YACHT_NO_ROOM = 2      /* yacht_outcomes: there is no room for the texts */
