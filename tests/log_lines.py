@@ -184,6 +184,12 @@ ARGUMENTS = [
     (["none", "right"], NOT_A_LOG, "legal"),
     ([ROOT], MISSING, "can't be read: Is a directory"),
 ]
+# calls of the judge that find no memory, with arguments; the status is 5 then
+LACKING = [
+    ("judge_events", ["right"]),
+    ("explain_events", ["stale"]),
+    ("explain_events", ["--shorten", "stale"]),
+]
 # wrong changes of the modules, of each kind of row
 WRONG = [
     ("yachtlines", '_want(self.chains, "no call registers', '_want(True, "no call registers'),
@@ -216,7 +222,8 @@ WRONG = [
     ("yachtlog", "if it.line < self.lacking", "if True"),
     ("yachtlog", 'return Verdict("undecided", self.lacking)', 'return Verdict("legal")'),
     ("yachtlog", "yachtjudge.judge_events(self, before, states, memory)", "yachtjudge.judge_events(self, before)"),
-    ("yachtlog", "        verdict = Verdict(verdict.word, log.source.count", "        return 0\n        verdict = Verdict(verdict.word, log.source.count"),
+    ("yachtlog", "        verdict = Verdict(verdict.word, log.source.count", "        return log, verdict, []\n        verdict = Verdict(verdict.word, log.source.count"),
+    ("yachtlog", "    except MemoryError:", "    except ZeroDivisionError:"),
     ("yachtshorten", "yield call, [answer.found[0]]", "return"),
     ("yachtshorten", "return calls if self.kept <= calls else None", "return calls | self.kept"),
     ("yachtshorten", "self.lines = text.split(\"\\n\")[:last]", "self.lines = text.split(\"\\n\")[:-1]"),
@@ -225,7 +232,7 @@ WRONG = [
      "return max(status_of(it, options) for it in options.logs)"),
     ("yachtlog", "NO_MEMORY, MISSING, NOT_A_LOG = 5, 4, 3", "NO_MEMORY, MISSING, NOT_A_LOG = 5, 1, 3"),
     ("yachtlog", "except OSError as fault", "except ZeroDivisionError as fault"),
-    ("yachtlog", "print(shown(log.reason(verdict.line), options.full_reason)", "print(shown([], options.full_reason)"),
+    ("yachtlog", "print(shown(reason, options.full_reason)", "print(shown([], options.full_reason)"),
     ("yachtlog", 'nargs="+"', 'nargs="*"'),
     ("yachtlog", "except BadLog as fault:\n        print", "except BadLog as fault:\n        return 0\n        print"),
 ]
@@ -267,11 +274,32 @@ def wrong_rows(yachtlog, room):
         found, written = ran(yachtlog, [os.path.join(room, it) if it in FILES else it for it in words])
         if found != wanted or not re.search(pattern, written, re.DOTALL):
             yield words, found, written
+    for name, words in LACKING:
+        with without_memory(name):
+            found, written = ran(yachtlog, [os.path.join(room, it) if it in FILES else it for it in words])
+        if found != 5 or not re.fullmatch("yachtlog: .*: there is no memory to judge it\n", written):
+            yield name, words, found, written
+
+
+@contextlib.contextmanager
+def without_memory(name):
+    """Lets a call of the judge find no memory."""
+    import yachtjudge
+
+    def fails(*_):
+        raise yachtjudge.NoMemory
+
+    kept = getattr(yachtjudge, name)
+    setattr(yachtjudge, name, fails)
+    try:
+        yield
+    finally:
+        setattr(yachtjudge, name, kept)
 
 
 def count():
     """Returns the number of rows."""
-    return len(ROWS) + len(ARGUMENTS)
+    return len(ROWS) + len(ARGUMENTS) + len(LACKING)
 
 
 def main(folder):

@@ -142,12 +142,22 @@ def content_of(path: str) -> bytes:
         return file.read()
 
 
+def judged(path: str, options: argparse.Namespace) -> tuple[Log, Verdict, list[str]]:
+    """Returns a log, or with --shorten one with fewer calls if it isn't legal; the verdict on it; and its reason."""
+    log = Log(content_of(path))
+    verdict = log.judge(options.states, options.memory)
+    if verdict.word != "not legal":
+        return log, verdict, []
+    if options.shorten:
+        log = Log(log.shortened(verdict, options.states, options.memory))
+        verdict = Verdict(verdict.word, log.source.count("\n"))
+    return log, verdict, log.reason(verdict.line)
+
+
 def status_of(path: str, options: argparse.Namespace) -> int:
     """Prints the verdict on a log. Returns the status that it has by itself."""
     try:
-        content = content_of(path)
-        log = Log(content)
-        verdict = log.judge(options.states, options.memory)
+        log, verdict, reason = judged(path, options)
     except OSError as fault:
         print(f"yachtlog: {path} can't be read: {fault.strerror}", file=sys.stderr)
         return MISSING
@@ -162,13 +172,10 @@ def status_of(path: str, options: argparse.Namespace) -> int:
         print(f"{path}: not a log: {fault}")
         return NOT_A_LOG
     if options.shorten and verdict.word == "not legal":
-        log = Log(log.shortened(verdict, options.states, options.memory))
         print(log.source, end="")
-        verdict = Verdict(verdict.word, log.source.count("\n"))
     line, to = f": line {verdict.line}: {log.line(verdict.line)}" if verdict.line else "", sys.stderr if options.shorten else sys.stdout
     print(f"{path}: {verdict.word}{line}", file=to)
-    if verdict.word == "not legal":
-        print(shown(log.reason(verdict.line), options.full_reason), end="", file=to)
+    print(shown(reason, options.full_reason), end="", file=to)
     return STATUSES[verdict.word]
 
 
