@@ -64,6 +64,8 @@ fn room_for(slots: &Slots, limits: Limits) -> usize {
 
 // The largest number of states that the first search for a flight goes back over.
 const FIRST_STATES: usize = 10_000;
+// The same of the second search.
+const SECOND_STATES: usize = 100_000;
 
 // The number of events from the front that is saved to the one after which no state is left.
 const SAVED_BEFORE: usize = 1_000;
@@ -233,6 +235,34 @@ fn decide_wholly(
     }
 }
 
+// Decides whether the log has a flight, by searches with at most `quick` states and a certificate.
+// If nothing was shown, the hint is the number of events of a beginning of which they found none.
+fn decide_quickly(
+    log: &JudgedLog<'_>,
+    slots: &Slots,
+    quick: usize,
+    hint: &mut usize,
+) -> Result<Decision, NoMemory>
+    requires { IsTableOf log.now slots.now }
+    ensures flight { IfOk result (λ found. found ≡ Flight → (submissions registrations : ℕ)
+        → IsLegalLog (ring_of_slots (catalogue_in log.now) slots.now submissions registrations)
+        (log_in log.now)) }
+    ensures wrong { IfOk result (λ found. (count : ℕ) → found ≡ Wrong count
+        → HaveNoFlight log.now slots.now (take count (log_in log.now))) }
+{
+    let mut search = Search::new(log.setting.alloc);
+    let yes = has_flight(log, slots, quick, &mut search)?;
+    if yes {
+        return Ok(Decision::Flight);
+    }
+    *hint = wrong_beginning(log, slots, &search, quick)?;
+    let early = explained_beginning(log, slots, *hint)?;
+    match early {
+        Some(count) => Ok(Decision::Wrong(count)),
+        None => Ok(Decision::Neither),
+    }
+}
+
 // Decides whether the log has a flight, by quick searches first.
 fn decide(log: &JudgedLog<'_>, slots: &Slots, most: usize) -> Result<Decision, NoMemory>
     requires { IsTableOf log.now slots.now }
@@ -242,21 +272,17 @@ fn decide(log: &JudgedLog<'_>, slots: &Slots, most: usize) -> Result<Decision, N
     ensures wrong { IfOk result (λ found. (count : ℕ) → found ≡ Wrong count
         → HaveNoFlight log.now slots.now (take count (log_in log.now))) }
 {
-    let quick = most.min(FIRST_STATES);
-    let mut search = Search::new(log.setting.alloc);
-    let yes = has_flight(log, slots, quick, &mut search)?;
-    if yes {
-        return Ok(Decision::Flight);
+    let mut hint = 0;
+    let first = decide_quickly(log, slots, most.min(FIRST_STATES), &mut hint)?;
+    if !matches!(first, Decision::Neither) {
+        return Ok(first);
     }
-    let hint = wrong_beginning(log, slots, &search, quick)?;
-    let early = explained_beginning(log, slots, hint)?;
-    match early {
-        Some(count) => Ok(Decision::Wrong(count)),
-        None => {
-            let found = decide_wholly(log, slots, hint, most)?;
-            Ok(found)
-        }
+    let second = decide_quickly(log, slots, most.min(SECOND_STATES), &mut hint)?;
+    if !matches!(second, Decision::Neither) {
+        return Ok(second);
     }
+    let found = decide_wholly(log, slots, hint, most)?;
+    Ok(found)
 }
 
 // Checks whether a request of the log lacked memory (-12).

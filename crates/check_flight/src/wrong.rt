@@ -39,7 +39,8 @@ fn start_of(log: &JudgedLog<'_>, slots: &Slots, search: &Search) -> Result<Start
     Ok(start)
 }
 
-// Checks whether a search finds a flight of the first `count` events.
+// Checks whether a search finds a flight of the first `count` events. It tries a fifth of the moves
+// that the search of the log tried, since it is made for many beginnings.
 fn is_possible(
     log: &JudgedLog<'_>,
     calls: &[ChainCall<'_>],
@@ -53,7 +54,7 @@ fn is_possible(
     let alloc = log.setting.alloc;
     let beginning = beginning_of(log, count);
     let state = start.state.copy(alloc, start.state.base, 0)?;
-    Search::new(alloc).run(&beginning, calls, start.at, state, most)
+    Search::new(alloc).run(&beginning, calls, start.at, state, most / 5)
 }
 
 // Returns the number of events of the shortest beginning without a flight that a search finds, if a

@@ -1,6 +1,6 @@
 use Rattle.check_flight.proofs.Words.{◌≡◌, ℕ, log_in, subst, take}
 use Rattle.check_flight.specs.Judged.{HaveNoFlight}
-use Rattle.check_flight.proofs.verdict.decide.Goals as goal
+use Rattle.check_flight.proofs.verdict.decide_quickly.Goals as goal
 
 pub returns-in-Some-clause-wrong : goal.returns-in-Some-clause-wrong
 returns-in-Some-clause-wrong c = λ count same.
