@@ -55,7 +55,7 @@ static void after_take(struct pass *it) {
 
 void take_for_key(struct state *s, struct pass *it) {
     bool heats = s->takes[it->slot] >= family->cold_takes;
-    s->takes[it->slot]++;
+    s->takes[it->slot] += 1;
     expect(s, it);
     it->changes = 0;
     if (s->is_full[it->slot]) {

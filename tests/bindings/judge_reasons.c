@@ -92,5 +92,5 @@ int main(void) {
     refused();
     refused_allocations();
     WANT(reason.steps > 5);
-    return report("judge_reasons");
+    return report("judge reasons");
 }
