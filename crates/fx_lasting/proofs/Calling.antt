@@ -4,7 +4,7 @@ use Rattle.fx_lasting.proofs.Words.{word_of, hold_word_of, nodes_of, slots_of, H
 use Rattle.fx_lasting.proofs.Words.{Option, Closed, List, Bool, cond, le-ltb, length, pass_in, get_elem?, some, ◌∙◌, sym, mul-le-mul_right, ap}
 use Rattle.fx_lasting.proofs.Words.{groups_in, group_place, range_at_start, IsGroup, tag_place, number_place, tag_word_of, number_word_of, Placement}
 use Rattle.fx_lasting.proofs.Words.{MOST_NODES}
-use Rattle.fx_lasting.proofs.Groups.{few_groups}
+use Rattle.fx_lasting.proofs.range_lemmas.Groups.{few_groups}
 use Rattle.fx_lasting.proofs.Running.{its_inside, stock_is}
 
 -- a slot of the table, as its rule names it

@@ -11,9 +11,9 @@ use Rattle.fx_lasting.proofs.Frames.{busy, owner_stays, owner_same, slot_same, n
 use Rattle.fx_lasting.proofs.Frames.{sees_same}
 use Rattle.fx_lasting.proofs.Keeping.{Turn, After, Keeps, word_at, slot_word, step_kept, w, end, its_log, in_range, its_stock, names_on, asks_alike, few_slots}
 use Rattle.fx_lasting.proofs.Keeping.{LabelSame, labels_same, met_same}
-use Rattle.fx_lasting.proofs.Watching.{watch_same}
-use Rattle.fx_lasting.proofs.Groups.{counts_same}
-use Rattle.fx_lasting.proofs.Lists.{ListGoesOn}
+use Rattle.fx_lasting.proofs.slot_lemmas.Watching.{watch_same}
+use Rattle.fx_lasting.proofs.range_lemmas.Groups.{counts_same}
+use Rattle.fx_lasting.proofs.hold_lemmas.Lists.{ListGoesOn}
 use Rattle.fx_lasting.proofs.Places.{hold_words, hold_here, hold_node, hold_slot, hold_else, hold_alike, hold_list, hold_label}
 
 module _ (turn : Turn) (h' front : List Event) (words' : List ℕ) (d : Work) (g : Glance) (c : Change) (q : Survey) (l : Bool)

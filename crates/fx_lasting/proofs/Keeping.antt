@@ -9,10 +9,10 @@ use Rattle.fx_lasting.proofs.Words.{IsHistory, held_in, held_of, taken_of, logs_
 use Rattle.fx_lasting.proofs.Words.{removed_in, Change, Glance, Log, Start, View, Work, found_sum, found_by, at_index, IsInStock, name_in}
 use Rattle.fx_lasting.proofs.Words.{Whereabouts, in_stock, NamesItsNode, StockAgrees, as_stocked, ◌⊎◌, list_place, IsListedIn, Deed, untouched}
 use Rattle.fx_lasting.proofs.Words.{Watch, WatchAgrees, Survey, as_asked, Labels, Written, tag_word_of, number_word_of, written_in, of_replaced, MOST_SLOTS}
-use Rattle.fx_lasting.proofs.Groups.{AskAlike}
+use Rattle.fx_lasting.proofs.range_lemmas.Groups.{AskAlike}
 use Rattle.fx_lasting.proofs.Histories.{Grows, legal_before}
-use Rattle.fx_lasting.proofs.Lists.{ListGoesOn, stays_listed, was_listed}
-use Rattle.fx_lasting.proofs.Watching.{MovesOn, watch_on}
+use Rattle.fx_lasting.proofs.hold_lemmas.Lists.{ListGoesOn, stays_listed, was_listed}
+use Rattle.fx_lasting.proofs.slot_lemmas.Watching.{MovesOn, watch_on}
 use mathlib.Core.Option as maybe
 
 -- the history that the seat shows begins this one

@@ -3,7 +3,7 @@ use Rattle.fx_lasting.proofs.Words.{ℕ, List, [], refl, Option, none, keeps, st
 use Rattle.fx_lasting.proofs.Histories.{grows_none}
 use Rattle.fx_lasting.proofs.Keeping.{Turn, turn_of, Made, by_turn, its_log, its_work, tells, w}
 use Rattle.fx_lasting.proofs.Calm.{read_after, Reads, read_kept}
-use Rattle.fx_lasting.proofs.GroupSteps.{its_inside}
+use Rattle.fx_lasting.proofs.range_lemmas.GroupSteps.{its_inside}
 
 module _ (turn : Turn) where
   open turn use {st, v, r, id, x, here, one}

@@ -2,7 +2,7 @@
 use Rattle.fx_lasting.proofs.Words.{◌≡◌, ◌≢◌, ℕ, ◌<◌, ◌≤◌, List, set, sym, arith, get_or-set_other, get_or-set_same, list_place, slot_place, word_of}
 use Rattle.fx_lasting.proofs.Words.{hold_word_of, slots_of, nodes_of, slot_of, group_at, group_place, pass_at, Start, PlacesAreInside, PlacesAreApart}
 use Rattle.fx_lasting.proofs.Words.{LabelsAreApart, NodesAreInOneLine, IsNoLabel, tag_word_of, number_word_of}
-use Rattle.fx_lasting.proofs.Groups.{CountAlike}
+use Rattle.fx_lasting.proofs.range_lemmas.Groups.{CountAlike}
 use Rattle.fx_lasting.proofs.Keeping.{Turn, word_at, slot_word, LabelSame}
 
 pub places_inside : (size passes nodes : ℕ) → PlacesAreInside size passes nodes

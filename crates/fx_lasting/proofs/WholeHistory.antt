@@ -11,7 +11,7 @@ use Rattle.fx_plain.proofs.LawHolds.{tally, tally_start, tally_all, placed_one, 
 use Rattle.fx_plain.specs.Laws.{IsStart, closes_of}
 use Rattle.fx_lasting.proofs.Counts.{owed_found}
 use Rattle.fx_lasting.proofs.Histories.{same_shape}
-use Rattle.fx_lasting.proofs.Holds.{holds_at}
+use Rattle.fx_lasting.proofs.hold_lemmas.Holds.{holds_at}
 use Rattle.fx_lasting.proofs.Keeping.{word_at, slot_word, find_pass}
 use Rattle.fx_lasting.specs.WholeHistory.{IsPassAt, IsPartOf, IsOfAllPasses, Uses, HasUser}
 

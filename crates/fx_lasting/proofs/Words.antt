@@ -8,10 +8,10 @@ pub use Rattle.fx_lasting.specs.Agrees.{HoldAgrees, MayBeUnmarked, GuardAgrees, 
 pub use Rattle.fx_lasting.specs.Agrees.{OwnerAgrees, HoldsAt, WorkAgrees, IsAllowed, IsIdleIn, IsToVisit, NamesNode, Nodes, Names, IsSeated}
 pub use Rattle.fx_lasting.specs.Agrees.{SlotAgrees, Home, IsFileOfNode, IsVacant, IsBorn, Labels}
 pub use Rattle.fx_lasting.specs.AtWork.{IsAtWork, IsReleasing, HasPlace, MayPlace}
-pub use Rattle.fx_lasting.specs.Groups.{owing, owing_of, is_in, uncounted, account, GroupCounts, AreFull, HasQuestionOf, HasVisitedFull, RangeCounts}
+pub use Rattle.fx_lasting.specs.range.Groups.{owing, owing_of, is_in, uncounted, account, GroupCounts, AreFull, HasQuestionOf, HasVisitedFull, RangeCounts}
 pub use Rattle.fx_lasting.specs.Counts.{tally, owed}
 pub use Rattle.fx_lasting.specs.Ends.{LetsMarkGo, LetsFileGo, LooksByTake, Parked, TakenOut}
-pub use Rattle.fx_lasting.specs.Cuts.{new_logs, first_view, together, spent, without_first, first_alone, view_with}
+pub use Rattle.fx_lasting.specs.life.Cuts.{new_logs, first_view, together, spent, without_first, first_alone, view_with}
 pub use Rattle.fx_lasting.specs.Laws.{HasToLetGo, IsOffCount, ClearsKeep, TakesOutKeep, ExchangesKeep, HasPass, GlancesKeep, AnnouncesKeep}
 pub use Rattle.fx_lasting.specs.Laws.{ConfirmsKeep, WithdrawsKeep, TakesOnceKeep, HeatsKeep, SplitsKeep, JoinsKeep, LowersKeep, RaisesKeep, AsksKeep}
 pub use Rattle.fx_lasting.specs.Laws.{ChecksKeep, BreaksKeep, BeginsKeep, CountsKeep, DecidesKeep, IsGroup, PeeksKeep, InstallsKeep, StepsDownKeep}
@@ -19,28 +19,28 @@ pub use Rattle.fx_lasting.specs.Laws.{LettingGoKeeps, SeeksKeep, BirthsKeep, Res
 pub use Rattle.fx_lasting.specs.Laws.{HasItsPlace, RecallsTagKeep, TagsKeep, NumbersKeep, ReadsTagKeep, ReadsNumberKeep, RetiresKeep, IsInRange, ListsKeep, SkimsKeep}
 pub use Rattle.fx_lasting.specs.Laws.{IsPassed, SeesKeep, TakesIfKeep, SwapsIfKeep, ReplacesKeep, FinishesKeep, SwapsOutKeep}
 pub use Rattle.fx_lasting.specs.Laws.{SwapsHeldKeep, TakesHeldKeep}
-pub use Rattle.fx_lasting.specs.LabelSteps.{RecallsTag, Tags, Numbers, ReadsTag, ReadsNumber}
-pub use Rattle.fx_lasting.specs.Labels.{number_of_mark, label_of, as_written, HasWritten}
-pub use Rattle.fx_lasting.specs.KeepSteps.{Parks, Resumes, SettlesNode}
-pub use Rattle.fx_lasting.specs.Layout.{question_place, group_place, list_place, slot_place, hold_place, node_place, stock_start, stock_for, stock_of}
-pub use Rattle.fx_lasting.specs.Layout.{stocks_back, tag_place, number_place, group_size, groups_in, group_of, group_start, group_len}
-pub use Rattle.fx_lasting.specs.Layout.{PlacesAreInside, PlacesAreApart, LabelsAreApart, NodesAreInOneLine, IsNoLabel, words_for, nodes_for}
-pub use Rattle.fx_lasting.specs.Opens.{word_for, node_for, home_for, first_file, OpensWith}
-pub use Rattle.fx_lasting.specs.Deeds.{Deed, untouched, over, heated, has_acted, has_heated}
-pub use Rattle.fx_lasting.specs.Parts.{heat_unit, count_in, heat_in, IsHot, cold_takes, birth_word, retirement_amount, announced, mark, bit_of}
-pub use Rattle.fx_lasting.specs.Parts.{IsListedIn, full_name_in, file_node_in, file_word_of, empty_word_of, without_file, name_mask, most_carried}
-pub use Rattle.fx_lasting.specs.Parts.{MayCarry}
+pub use Rattle.fx_lasting.specs.nodes.LabelSteps.{RecallsTag, Tags, Numbers, ReadsTag, ReadsNumber}
+pub use Rattle.fx_lasting.specs.nodes.Labels.{number_of_mark, label_of, as_written, HasWritten}
+pub use Rattle.fx_lasting.specs.nodes.KeepSteps.{Parks, Resumes, SettlesNode}
+pub use Rattle.fx_lasting.specs.life.Layout.{question_place, group_place, list_place, slot_place, hold_place, node_place, stock_start, stock_for, stock_of}
+pub use Rattle.fx_lasting.specs.life.Layout.{stocks_back, tag_place, number_place, group_size, groups_in, group_of, group_start, group_len}
+pub use Rattle.fx_lasting.specs.life.Layout.{PlacesAreInside, PlacesAreApart, LabelsAreApart, NodesAreInOneLine, IsNoLabel, words_for, nodes_for}
+pub use Rattle.fx_lasting.specs.life.Opens.{word_for, node_for, home_for, first_file, OpensWith}
+pub use Rattle.fx_lasting.specs.slots.Deeds.{Deed, untouched, over, heated, has_acted, has_heated}
+pub use Rattle.fx_lasting.specs.Fields.{heat_unit, count_in, heat_in, IsHot, cold_takes, birth_word, retirement_amount, announced, mark, bit_of}
+pub use Rattle.fx_lasting.specs.Fields.{IsListedIn, full_name_in, file_node_in, file_word_of, empty_word_of, without_file, name_mask, most_carried}
+pub use Rattle.fx_lasting.specs.Fields.{MayCarry}
 pub use Rattle.fx_lasting.specs.Passes.{node_of_number, HasNoFile, Shared, Sat, state_at_start, slots_of, range_at_start, nodes_of, first_stock}
 pub use Rattle.fx_lasting.specs.Passes.{word_of, hold_word_of, logs_of, lengths, state_after_all, IsHistory, new_log, first_log, held_in, if_file}
 pub use Rattle.fx_lasting.specs.Passes.{held_of, taking, taken_of, tag_word_of, number_word_of, HoldsOn, contents_of, empty_slots}
-pub use Rattle.fx_lasting.specs.Stocks.{Whereabouts, at_slot, in_stock, IsInStock, NamesItsNode, IsStockOf, StockAgrees}
-pub use Rattle.fx_lasting.proofs.SlotWords.{name_of_file, same_full_name, name_made, full_name_made, file_entry_made, file_takes_made, file_heat_made}
-pub use Rattle.fx_lasting.proofs.SlotWords.{empty_name_made, empty_file_made, empty_takes_made, name_left, no_file_left, no_takes_left}
-pub use Rattle.fx_lasting.proofs.SlotWords.{mask_leaves_name, name_carried, full_name_carried, entry_carried, takes_carried, heat_carried}
-pub use Rattle.fx_lasting.proofs.SlotWords.{takes_are_few, one_less}
+pub use Rattle.fx_lasting.specs.nodes.Stocks.{Whereabouts, at_slot, in_stock, IsInStock, NamesItsNode, IsStockOf, StockAgrees}
+pub use Rattle.fx_lasting.proofs.slot_lemmas.SlotWords.{name_of_file, same_full_name, name_made, full_name_made, file_entry_made, file_takes_made, file_heat_made}
+pub use Rattle.fx_lasting.proofs.slot_lemmas.SlotWords.{empty_name_made, empty_file_made, empty_takes_made, name_left, no_file_left, no_takes_left}
+pub use Rattle.fx_lasting.proofs.slot_lemmas.SlotWords.{mask_leaves_name, name_carried, full_name_carried, entry_carried, takes_carried, heat_carried}
+pub use Rattle.fx_lasting.proofs.slot_lemmas.SlotWords.{takes_are_few, one_less}
 pub use Rattle.std.specs.Prelude.{bit_and, sum_by, Contains, Ok, Err, Result, is_some, not, option_map, ok_or, is_err, ◌==◌, slice_set, vec_len}
-pub use Rattle.fx_lasting.specs.Phases.{Phase, owner, file_in, file_if_numbered, removed_in, written_in, free, placed, seated, leaving, retired}
-pub use Rattle.fx_lasting.specs.Phases.{emptied, kept}
+pub use Rattle.fx_lasting.specs.nodes.Phases.{Phase, owner, file_in, file_if_numbered, removed_in, written_in, free, placed, seated, leaving, retired}
+pub use Rattle.fx_lasting.specs.nodes.Phases.{emptied, kept}
 pub use Rattle.fx_lasting.specs.Runs.{Runs}
 pub use Rattle.fx_lasting.specs.Tables.{hold_at, retired_at, doing_in, numbers_of_pass, pass_of, opening_of, view_of, IsBetweenCalls, Knows, IsSeatOf}
 pub use Rattle.fx_lasting.specs.Tables.{meetings, IsPassOf, opening_of_table, IsPassOfTable, first_passes, as_first}
@@ -51,8 +51,8 @@ pub use Rattle.fx_lasting.specs.Effects.{Withdraws, glance_after, Takes, HeatsSl
 pub use Rattle.fx_lasting.specs.Effects.{IsInside, Stepped, Goes, Glances, Exchanges, LettingGo, Seeks, Births, Rests, Visits, Marks, Retires}
 pub use Rattle.fx_lasting.specs.Effects.{first_visit, retiring_work, Found, Installs, Removes, Turns, Asks, Peeks, as_asked, group_at, as_stocked}
 pub use Rattle.fx_lasting.specs.Effects.{IsWatching, MeetsOne, IsOvertaken, HasGap, as_swapped, NamesANode, Lowers, Checks, Breaks, Raises, Begins, Counts, Decides, Sees, TakesIf, Replaces}
-pub use Rattle.fx_lasting.specs.Visits.{HasVisited, round_to}
-pub use Rattle.fx_lasting.specs.Searches.{next_of}
+pub use Rattle.fx_lasting.specs.holds.Visits.{HasVisited, round_to}
+pub use Rattle.fx_lasting.specs.nodes.Searches.{next_of}
 pub use Rattle.fx_lasting.specs.declared.view.Change.{Change}
 pub use Rattle.fx_lasting.specs.declared.view.Change.TheVariants.{Outside, Lowered, Inside}
 pub use Rattle.fx_lasting.specs.declared.view.Survey.{Survey}
@@ -64,7 +64,7 @@ pub use Rattle.fx_lasting.specs.declared.view.Round.{Round}
 pub use Rattle.fx_lasting.specs.declared.view.Start.{Start}
 pub use Rattle.fx_lasting.specs.declared.view.View.{View}
 pub use Rattle.fx_lasting.specs.declared.view.Watch.{Watch}
-pub use Rattle.fx_lasting.specs.Watches.{ActsAt, HasActed, HasHeated, IsAsSeen, WatchAgrees, without_slot}
+pub use Rattle.fx_lasting.specs.slots.Watches.{ActsAt, HasActed, HasHeated, IsAsSeen, WatchAgrees, without_slot}
 pub use Rattle.fx_lasting.specs.declared.view.Work.{Work}
 pub use Rattle.fx_lasting.specs.declared.view.Work.TheVariants.{Idle, Announced, Counted, Guarded, Owing, Yielding, Searching, Placing, Retiring}
 pub use Rattle.fx_lasting.specs.declared.view.Work.TheVariants.{Emptying, Keeping}
@@ -96,11 +96,11 @@ pub use Rattle.std.proofs.lemmas.List.FromFn.{length-map-range_with_len, get_or-
 pub use Rattle.std.proofs.lemmas.List.Sums.{sum_by-append, sum_by-cons}
 pub use Rattle.std.specs.Int.{bit_at, w64, trailing_zeros}
 pub use Rattle.std.specs.List.{range_with_len, AllWithin}
-pub use Rattle.fx_lasting.specs.Firsts.{AreFirstWords, AreNamed, AreLabelled}
+pub use Rattle.fx_lasting.specs.life.Firsts.{AreFirstWords, AreNamed, AreLabelled}
 pub use Rattle.fx_table.proofs.FullSlots.{full_all, full_else, full_few, full_here}
 pub use Rattle.fx_table.specs.FullSlots.{first_at, full_in, if_full}
 pub use Rattle.fx_table.specs.Shells.{AreFirstHomes, IsShell, file_in_place}
-pub use Rattle.fx_lasting.specs.Lives.{dealt, logs_in, IsNewPass, IsIdleSeatOf, AllAreIdle, Leaves}
+pub use Rattle.fx_lasting.specs.life.Lives.{dealt, logs_in, IsNewPass, IsIdleSeatOf, AllAreIdle, Leaves}
 pub use Rattle.std.specs.Mem.Slots.{slots_items, slots_len, IsFull, slots_filled}
 pub use lib.ListN.{get_elem?}
 pub use mathlib.Core.Logic.{dite}
@@ -116,28 +116,28 @@ pub use Rattle.fx_table.specs.Showing.{Learns}
 pub use Rattle.fx_table.specs.declared.values.Doing.{Doing}
 pub use Rattle.fx_table.specs.declared.values.Doing.TheVariants.{Holding, Idle as DoesNothing}
 pub use Rattle.fx_table.specs.declared.values.Hold.{Hold}
-pub use Rattle.fx_lasting.specs.HeldFiles.{IsOneOnItsNode}
-pub use Rattle.fx_lasting.specs.Keyed.{IsOn, HasMissed, HasTakenIf, HasPutIf, FitsMiss, WasSo, WasIn, SaysIf, SawIf, FailedIf, HasTriedIf, TriesTake, TriesPut, TriedTake}
-pub use Rattle.fx_lasting.specs.Keyed.{TriedReplace, TriedSwap, TriedOut, HasMet, WasOvertaken, WasOvertakenIn}
-pub use Rattle.fx_lasting.specs.Keys.{LookedByKey, HeldByKey, LeftIt, FailsByKey, TakesByKey, PutsOverKey, fault_for, taken_answer, put_answer}
-pub use Rattle.fx_lasting.specs.Keys.{TriesKey, TriesToTake, TriesToPut}
-pub use Rattle.fx_lasting.specs.Keys.{KeysAreOfOneFile, KeysComeBack, HasShortNumber, key_of_bits}
+pub use Rattle.fx_lasting.specs.holds.HeldFiles.{IsOneOnItsNode}
+pub use Rattle.fx_lasting.specs.slots.ByNode.{IsOn, HasMissed, HasTakenIf, HasPutIf, FitsMiss, WasSo, WasIn, SaysIf, SawIf, FailedIf, HasTriedIf, TriesTake, TriesPut, TriedTake}
+pub use Rattle.fx_lasting.specs.slots.ByNode.{TriedReplace, TriedSwap, TriedOut, HasMet, WasOvertaken, WasOvertakenIn}
+pub use Rattle.fx_lasting.specs.slots.ByKey.{LookedByKey, HeldByKey, LeftIt, FailsByKey, TakesByKey, PutsOverKey, fault_for, taken_answer, put_answer}
+pub use Rattle.fx_lasting.specs.slots.ByKey.{TriesKey, TriesToTake, TriesToPut}
+pub use Rattle.fx_lasting.specs.slots.ByKey.{KeysAreOfOneFile, KeysComeBack, HasShortNumber, key_of_bits}
 pub use Rattle.fx_lasting.specs.declared.answers.Miss.{Miss}
 pub use Rattle.fx_lasting.specs.declared.key_answers.KeyFault.{KeyFault}
 pub use Rattle.fx_table.specs.declared.values.Retired.{Retired}
-pub use Rattle.fx_lasting.specs.declared.layout.TheConstants.{MOST_NODES, MOST_SLOTS, MOST_PASSES, MOST_INSTALLING}
+pub use Rattle.fx_lasting.specs.declared.life.layout.TheConstants.{MOST_NODES, MOST_SLOTS, MOST_PASSES, MOST_INSTALLING}
 pub use Rattle.std.proofs.lemmas.Bool.{eqb-true, not-false, not-true}
-pub use Rattle.fx_lasting.specs.Questions.{HasAsked, AsksSo, DecidesIf}
-pub use Rattle.fx_lasting.specs.Vacant.{FitsSight, SeesFile, AnswersFull, HasPutEmpty, HadGap, FellShort, FallsShort, FailsToFill, GivesUpFor, LooksFor, HasSearched}
+pub use Rattle.fx_lasting.specs.range.Questions.{HasAsked, AsksSo, DecidesIf}
+pub use Rattle.fx_lasting.specs.slots.AtEmpty.{FitsSight, SeesFile, AnswersFull, HasPutEmpty, HadGap, FellShort, FallsShort, FailsToFill, GivesUpFor, LooksFor, HasSearched}
 pub use Rattle.fx_plain.proofs.Prepared.{inside_behind, opens_inside, numbered_anew, opening_is_start}
-pub use Rattle.fx_lasting.specs.FinishSteps.{Finishes}
+pub use Rattle.fx_lasting.specs.holds.FinishSteps.{Finishes}
 pub use mathlib.Core.List.{map-append}
 pub use Rattle.atomic_table.specs.declared.shared.Seat.{Seat}
 pub use Rattle.fx_table.specs.Closing.{ClosesTable, times_drawn}
 pub use Rattle.fx_table.proofs.Chains.{in_part, first_left, last_left, IsReady, fits, one_dealt, all_dealt, AreDealt}
 pub use Rattle.fx_table.proofs.Seats.{logs_are as each_log, sum_gathered, each_seat, only_here, AreReseated, split, joined, gathered, last_of}
 pub use Rattle.fx_lasting.specs.Bounds.{slot_word_in, node_word_in, AreBounded}
-pub use Rattle.fx_lasting.specs.Closing.{files_at_slots, with_slot}
+pub use Rattle.fx_lasting.specs.life.Closing.{files_at_slots, with_slot}
 pub use Rattle.fx_table.proofs.Shells.{AreAtHome, AreStored, at_home, file_at, files_are, AreComing, none_came, none_named, some_came, none_there}
 pub use Rattle.fx_table.proofs.Shells.{file_put, Becomes, in_place, none_outside, none_left}
 pub use Rattle.fx_seen.proofs.Views.{of_replaced, of_one, OfEach, of_appended}
@@ -145,7 +145,7 @@ pub use Rattle.std.proofs.Math.ListN.{get_or-eq_default, replicate}
 pub use Rattle.std.proofs.lemmas.Nat.Bits.{bit_at_or, bit_at-lt, bit_at-pow_same, bit_at-pow_other, and_pow, bit_at-zero, bit_at-trailing_zeros}
 pub use Rattle.std.proofs.lemmas.Nat.Bits.{bit_at_above}
 pub use Rattle.std.proofs.lemmas.Nat.{pow_below, div-mul-add, mod-mul-add, shr-shr}
-pub use Rattle.fx_lasting.specs.SwapSteps.{SwapsOut, HasEmptied, SwapsIf, SwapsHeld, TakesHeld}
+pub use Rattle.fx_lasting.specs.slots.SwapSteps.{SwapsOut, HasEmptied, SwapsIf, SwapsHeld, TakesHeld}
 pub use prog.Atomic.{either}
-pub use Rattle.fx_lasting.specs.Tries.{IsPlacing, HasAllocated, StillPlaces, group_steps}
+pub use Rattle.fx_lasting.specs.range.Tries.{IsPlacing, HasAllocated, StillPlaces, group_steps}
 pub use Rattle.std.specs.Mem.Slots.Ownership.{Filled}

@@ -13,24 +13,25 @@ use Rattle.fx_plain.specs.declared.event.Event.{Event}
 use Rattle.fx_plain.specs.declared.event.File.{File}
 use Rattle.fx_table.specs.Numbers.{once}
 use Rattle.fx_words.specs.Words.{entry_in}
-use Rattle.fx_lasting.specs.Groups.{RangeCounts}
+use Rattle.fx_lasting.specs.range.Groups.{RangeCounts}
 use Rattle.fx_lasting.specs.Counts.{tally, owed}
-use Rattle.fx_lasting.specs.Deeds.{Deed, untouched, over, heated, has_acted, has_heated}
-use Rattle.fx_lasting.specs.Labels.{HasWritten}
-use Rattle.fx_lasting.specs.Layout.{list_place, slot_place, words_for}
-use Rattle.fx_lasting.specs.Parts.{full_name_in, IsHot, count_in, heat_in, cold_takes, birth_word}
-use Rattle.fx_lasting.specs.Parts.{closed_word, most_carried}
-use Rattle.fx_lasting.specs.Parts.{announced, mark, bit_of, IsListedIn}
+use Rattle.fx_lasting.specs.slots.Deeds.{Deed, untouched, over, heated, has_acted, has_heated}
+use Rattle.fx_lasting.specs.nodes.Labels.{HasWritten}
+use Rattle.fx_lasting.specs.life.Layout.{list_place, slot_place, words_for}
+use Rattle.fx_lasting.specs.Fields.{full_name_in, IsHot, count_in, heat_in, cold_takes, birth_word}
+use Rattle.fx_lasting.specs.Fields.{closed_word, most_carried}
+use Rattle.fx_lasting.specs.Fields.{announced, mark, bit_of, IsListedIn}
 use Rattle.fx_lasting.specs.Passes.{Shared, slots_of, range_at_start, nodes_of}
 use Rattle.fx_lasting.specs.Passes.{word_of, tag_word_of, number_word_of}
 use Rattle.fx_lasting.specs.Passes.{hold_word_of, state_after_all, IsHistory, held_in, held_of}
 use Rattle.fx_lasting.specs.Passes.{taken_of}
 use Rattle.fx_lasting.specs.Passes.{logs_of, lengths, node_of_number}
-use Rattle.fx_lasting.specs.Phases.{Phase, free, placed, seated, leaving, retired, emptied, kept}
-use Rattle.fx_lasting.specs.Phases.{file_in, removed_in, written_in}
-use Rattle.fx_lasting.specs.Stocks.{Whereabouts, IsInStock, NamesItsNode, StockAgrees}
-use Rattle.fx_lasting.specs.Watches.{WatchAgrees}
-use Rattle.fx_lasting.specs.declared.layout.TheConstants.{MOST_SLOTS}
+use Rattle.fx_lasting.specs.nodes.Phases.{Phase, free, placed, seated, leaving, retired, emptied}
+use Rattle.fx_lasting.specs.nodes.Phases.{kept}
+use Rattle.fx_lasting.specs.nodes.Phases.{file_in, removed_in, written_in}
+use Rattle.fx_lasting.specs.nodes.Stocks.{Whereabouts, IsInStock, NamesItsNode, StockAgrees}
+use Rattle.fx_lasting.specs.slots.Watches.{WatchAgrees}
+use Rattle.fx_lasting.specs.declared.life.layout.TheConstants.{MOST_SLOTS}
 use Rattle.fx_lasting.specs.declared.view.Change.TheVariants.{Outside}
 use Rattle.fx_lasting.specs.declared.view.Glance.{Glance}
 use Rattle.fx_lasting.specs.declared.view.Glance.TheVariants.{None as Nothing, Hot, Cold, Heating}

@@ -6,7 +6,7 @@ use Rattle.fx_base.specs.Identity.{Identity}
 use Rattle.fx_plain.specs.declared.event.File.{File}
 use Rattle.fx_lasting.specs.Laws.{HasPass, HasItsPlace}
 use Rattle.fx_lasting.specs.Passes.{Sat, HasNoFile, IsHistory}
-use Rattle.fx_lasting.specs.Stocks.{IsStockOf}
+use Rattle.fx_lasting.specs.nodes.Stocks.{IsStockOf}
 use Rattle.fx_lasting.specs.Effects.{IsInside}
 use Rattle.fx_lasting.specs.declared.view.Log.{Log}
 use Rattle.fx_lasting.specs.declared.view.Start.{Start}

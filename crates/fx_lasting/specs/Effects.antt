@@ -16,14 +16,14 @@ use Rattle.fx_plain.specs.declared.event.Action.TheVariants.{Look, Release, Put,
 use Rattle.fx_plain.specs.declared.event.Action.TheVariants.{Close, Take}
 use Rattle.fx_words.specs.Words.{entry_in, name_in}
 use Rattle.fx_lasting.specs.Agrees.{Names}
-use Rattle.fx_lasting.specs.HeldFiles.{IsOneOnItsNode}
-use Rattle.fx_lasting.specs.Labels.{label_of, as_written}
-use Rattle.fx_lasting.specs.Layout.{slot_lines, list_place, group_of, group_len}
-use Rattle.fx_lasting.specs.Parts.{full_name_in, heat_in, IsHot, count_in, cold_takes, announced}
-use Rattle.fx_lasting.specs.Parts.{IsListedIn}
-use Rattle.fx_lasting.specs.Groups.{account, HasQuestionOf}
-use Rattle.fx_lasting.specs.Stocks.{IsInStock}
-use Rattle.fx_lasting.specs.Watches.{HasActed}
+use Rattle.fx_lasting.specs.holds.HeldFiles.{IsOneOnItsNode}
+use Rattle.fx_lasting.specs.nodes.Labels.{label_of, as_written}
+use Rattle.fx_lasting.specs.life.Layout.{slot_lines, list_place, group_of, group_len}
+use Rattle.fx_lasting.specs.Fields.{full_name_in, heat_in, IsHot, count_in, cold_takes, announced}
+use Rattle.fx_lasting.specs.Fields.{IsListedIn}
+use Rattle.fx_lasting.specs.range.Groups.{account, HasQuestionOf}
+use Rattle.fx_lasting.specs.nodes.Stocks.{IsInStock}
+use Rattle.fx_lasting.specs.slots.Watches.{HasActed}
 use Rattle.fx_lasting.specs.Passes.{Sat, slots_of, nodes_of, range_at_start, word_of}
 use Rattle.fx_lasting.specs.Passes.{IsHistory, node_of_number, first_log, state_after_all}
 use Rattle.fx_lasting.specs.declared.view.Survey.{Survey}

@@ -8,18 +8,18 @@ use Rattle.atomic_table.specs.Table.{step, Splits, Joins, Allows}
 use Rattle.fx_base.specs.Identity.{Identity}
 use Rattle.fx_plain.specs.declared.event.File.{File}
 use Rattle.fx_lasting.specs.Agrees.{Agrees, IsIdleIn}
-use Rattle.fx_lasting.specs.Groups.{is_in, uncounted}
-use Rattle.fx_lasting.specs.Labels.{label_of, as_written}
-use Rattle.fx_lasting.specs.Layout.{question_place, group_place, list_place}
-use Rattle.fx_lasting.specs.Layout.{slot_place, groups_in, group_of}
-use Rattle.fx_lasting.specs.Parts.{heat_unit, birth_word, announced, mark, retirement_amount}
-use Rattle.fx_lasting.specs.Parts.{bit_of, full_name_in, file_word_of, without_file, name_mask}
-use Rattle.fx_lasting.specs.Parts.{empty_word_of}
+use Rattle.fx_lasting.specs.range.Groups.{is_in, uncounted}
+use Rattle.fx_lasting.specs.nodes.Labels.{label_of, as_written}
+use Rattle.fx_lasting.specs.life.Layout.{question_place, group_place, list_place}
+use Rattle.fx_lasting.specs.life.Layout.{slot_place, groups_in, group_of}
+use Rattle.fx_lasting.specs.Fields.{heat_unit, birth_word, announced, mark, retirement_amount}
+use Rattle.fx_lasting.specs.Fields.{bit_of, full_name_in, file_word_of, without_file, name_mask}
+use Rattle.fx_lasting.specs.Fields.{empty_word_of}
 use Rattle.fx_lasting.specs.Passes.{Sat, HasNoFile, slots_of, range_at_start, word_of}
 use Rattle.fx_lasting.specs.Passes.{hold_word_of, HoldsOn, tag_word_of, number_word_of}
-use Rattle.fx_lasting.specs.Stocks.{IsInStock}
+use Rattle.fx_lasting.specs.nodes.Stocks.{IsInStock}
 use Rattle.fx_lasting.specs.Effects.{At}
-use Rattle.fx_lasting.specs.declared.layout.TheConstants.{MOST_INSTALLING}
+use Rattle.fx_lasting.specs.declared.life.layout.TheConstants.{MOST_INSTALLING}
 use Rattle.fx_lasting.specs.declared.view.Survey.TheVariants.{None as NotAsked, Covered}
 use Rattle.fx_lasting.specs.declared.view.Change.{Change}
 use Rattle.fx_lasting.specs.declared.view.Change.TheVariants.{Outside, Lowered, Inside}

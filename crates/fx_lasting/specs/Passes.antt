@@ -10,14 +10,14 @@ use Rattle.fx_plain.specs.History.{state_after, action_of, IsLegal}
 use Rattle.fx_plain.specs.State.{State, opening}
 use Rattle.fx_plain.specs.declared.event.Event.{Event}
 use Rattle.fx_plain.specs.declared.event.File.{File}
-use Rattle.fx_lasting.specs.Layout.{stock_for, stock_of, nodes_for, hold_place, node_place}
-use Rattle.fx_lasting.specs.Layout.{tag_place, number_place}
+use Rattle.fx_lasting.specs.life.Layout.{stock_for, stock_of, nodes_for, hold_place, node_place}
+use Rattle.fx_lasting.specs.life.Layout.{tag_place, number_place}
 use Rattle.fx_lasting.specs.declared.view.Survey.TheVariants.{None as NotAsked}
 use Rattle.fx_lasting.specs.declared.view.Log.{Log}
 use Rattle.fx_lasting.specs.declared.view.Start.{Start}
 use Rattle.fx_lasting.specs.declared.view.View.{View}
 use Rattle.fx_lasting.specs.declared.view.Watch.{Watch}
-use Rattle.fx_lasting.specs.declared.layout.TheConstants.{MOST_SLOTS}
+use Rattle.fx_lasting.specs.declared.life.layout.TheConstants.{MOST_SLOTS}
 use Rattle.fx_lasting.specs.declared.view.Work.{Work}
 use Rattle.fx_lasting.specs.declared.view.Work.TheVariants.{Idle, Counted, Guarded, Yielding}
 use Rattle.fx_lasting.specs.declared.view.Work.TheVariants.{Searching}

@@ -6,9 +6,9 @@ use Rattle.fx_plain.specs.History.{IsSeenBy}
 use Rattle.fx_plain.specs.declared.event.Action.{Action}
 use Rattle.fx_plain.specs.declared.event.Action.TheVariants.{Look, Put, Clear, Take, Allocate}
 use Rattle.fx_plain.specs.declared.event.Event.{Event}
-use Rattle.fx_lasting.specs.Keyed.{HasPutIf, HasTakenIf, TriesPut, TriesTake, WasOvertaken}
+use Rattle.fx_lasting.specs.slots.ByNode.{HasPutIf, HasTakenIf, TriesPut, TriesTake, WasOvertaken}
 use Rattle.fx_lasting.specs.Tables.{view_of, meetings}
-use Rattle.fx_lasting.specs.Vacant.{HasPutEmpty}
+use Rattle.fx_lasting.specs.slots.AtEmpty.{HasPutEmpty}
 use Rattle.fx_lasting.specs.declared.answers.Miss.TheVariants.{Again}
 use Rattle.fx_lasting.specs.declared.answers.PutEmpty.TheVariants.{Lost}
 use Rattle.fx_lasting.specs.declared.answers.PutIf.TheVariants as put

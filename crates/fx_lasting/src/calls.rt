@@ -9,18 +9,18 @@ ghost use Rattle.fx_table.specs.Calls.{Looked, LookedUp, Released, Placed, Clear
 ghost use Rattle.fx_table.specs.Opening.{size_of};
 ghost use Rattle.fx_table.specs.Pass.{IsIdle, IsHoldOf, IsRetiredOf};
 ghost use Rattle.fx_table.specs.declared.values.LookFault.TheVariants.{Spent};
-ghost use Rattle.fx_lasting.specs.Parts.{count_in, full_name_in};
+ghost use Rattle.fx_lasting.specs.Fields.{count_in, full_name_in};
 ghost use Rattle.fx_lasting.specs.Tables.{view_of, meetings, steps_taken, retired_at};
 ghost use Rattle.fx_lasting.specs.Tables.{opening_of_table, IsPassOfTable, IsSeatOfTable};
 ghost use Rattle.fx_lasting.specs.Effects.{Found, first_visit, IsOnList};
 ghost use Rattle.fx_lasting.specs.declared.view.Glance.TheVariants.{Hot, Cold};
 ghost use Rattle.fx_lasting.specs.declared.view.Work.TheVariants.{Idle};
 
-use crate::kinds::{Finishing, Glancing, Installing, Listing, Retire};
-use crate::layout::{list_place, slot_place};
-use crate::parts::{
+use crate::fields::{
     count_of, file_node_of, file_word, is_hot, list_bit, node_named, retire_amount,
 };
+use crate::kinds::{Finishing, Glancing, Installing, Listing, Retire};
+use crate::life::layout::{list_place, slot_place};
 use crate::pass::LastingPass;
 use crate::table::LastingTable;
 use fx_base::OpenFile;

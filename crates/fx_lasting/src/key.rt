@@ -1,9 +1,9 @@
 //! Keys: the name of a file by its slot and its number.
 ghost use Rattle.std.specs.Prelude.{◌≡◌};
-ghost use Rattle.fx_lasting.specs.Keys.{bits_of_key, key_at, key_of_bits};
+ghost use Rattle.fx_lasting.specs.slots.ByKey.{bits_of_key, key_at, key_of_bits};
 
-use crate::labels::number_of_mark;
-use crate::layout::MOST_SLOTS;
+use crate::life::layout::MOST_SLOTS;
+use crate::nodes::labels::number_of_mark;
 use fx_base::Mark;
 
 /// The name of a file of a table: its slot, and the number of its mark (`LastingTable::number_of`).

@@ -9,7 +9,7 @@ pub struct OneHistory;
 
 impl TableRule<Option<OpenFile>, View, Start> for OneHistory {
     ghost use Rattle.fx_lasting.specs.Agrees.{Agrees};
-    ghost use Rattle.fx_lasting.specs.Cuts.{first_view};
+    ghost use Rattle.fx_lasting.specs.life.Cuts.{first_view};
 
     ghost holds = { Agrees };
 
@@ -20,7 +20,7 @@ impl TableRule<Option<OpenFile>, View, Start> for OneHistory {
 pub struct Deal;
 
 impl Split<View> for Deal {
-    ghost use Rattle.fx_lasting.specs.Cuts.{without_first, first_alone};
+    ghost use Rattle.fx_lasting.specs.life.Cuts.{without_first, first_alone};
 
     ghost left = { without_first };
 
@@ -31,7 +31,7 @@ impl Split<View> for Deal {
 pub struct Gather;
 
 impl Join<View> for Gather {
-    ghost use Rattle.fx_lasting.specs.Cuts.{together, spent};
+    ghost use Rattle.fx_lasting.specs.life.Cuts.{together, spent};
 
     ghost both = { together };
 
@@ -145,7 +145,7 @@ impl Play<Option<OpenFile>, View> for Birth {
 pub struct RecallingTag;
 
 impl Play<Option<OpenFile>, View> for RecallingTag {
-    ghost use Rattle.fx_lasting.specs.LabelSteps.{RecallsTag};
+    ghost use Rattle.fx_lasting.specs.nodes.LabelSteps.{RecallsTag};
 
     ghost then = { RecallsTag };
 }
@@ -154,7 +154,7 @@ impl Play<Option<OpenFile>, View> for RecallingTag {
 pub struct Tagging;
 
 impl Play<Option<OpenFile>, View> for Tagging {
-    ghost use Rattle.fx_lasting.specs.LabelSteps.{Tags};
+    ghost use Rattle.fx_lasting.specs.nodes.LabelSteps.{Tags};
 
     ghost then = { Tags };
 }
@@ -163,7 +163,7 @@ impl Play<Option<OpenFile>, View> for Tagging {
 pub struct Numbering;
 
 impl Play<Option<OpenFile>, View> for Numbering {
-    ghost use Rattle.fx_lasting.specs.LabelSteps.{Numbers};
+    ghost use Rattle.fx_lasting.specs.nodes.LabelSteps.{Numbers};
 
     ghost then = { Numbers };
 }
@@ -172,7 +172,7 @@ impl Play<Option<OpenFile>, View> for Numbering {
 pub struct ReadingTag;
 
 impl Play<Option<OpenFile>, View> for ReadingTag {
-    ghost use Rattle.fx_lasting.specs.LabelSteps.{ReadsTag};
+    ghost use Rattle.fx_lasting.specs.nodes.LabelSteps.{ReadsTag};
 
     ghost then = { ReadsTag };
 }
@@ -181,7 +181,7 @@ impl Play<Option<OpenFile>, View> for ReadingTag {
 pub struct ReadingNumber;
 
 impl Play<Option<OpenFile>, View> for ReadingNumber {
-    ghost use Rattle.fx_lasting.specs.LabelSteps.{ReadsNumber};
+    ghost use Rattle.fx_lasting.specs.nodes.LabelSteps.{ReadsNumber};
 
     ghost then = { ReadsNumber };
 }
@@ -200,7 +200,7 @@ impl Play<Option<OpenFile>, View> for Resting {
 pub struct Parking;
 
 impl Play<Option<OpenFile>, View> for Parking {
-    ghost use Rattle.fx_lasting.specs.KeepSteps.{Parks};
+    ghost use Rattle.fx_lasting.specs.nodes.KeepSteps.{Parks};
 
     ghost then = { Parks };
 }
@@ -210,7 +210,7 @@ impl Play<Option<OpenFile>, View> for Parking {
 pub struct Resuming;
 
 impl Play<Option<OpenFile>, View> for Resuming {
-    ghost use Rattle.fx_lasting.specs.KeepSteps.{Resumes};
+    ghost use Rattle.fx_lasting.specs.nodes.KeepSteps.{Resumes};
 
     ghost then = { Resumes };
 }
@@ -219,7 +219,7 @@ impl Play<Option<OpenFile>, View> for Resuming {
 pub struct Settling;
 
 impl Play<Option<OpenFile>, View> for Settling {
-    ghost use Rattle.fx_lasting.specs.KeepSteps.{SettlesNode};
+    ghost use Rattle.fx_lasting.specs.nodes.KeepSteps.{SettlesNode};
 
     ghost then = { SettlesNode };
 }
@@ -257,7 +257,7 @@ impl Play<Option<OpenFile>, View> for Marking {
 pub struct Finishing;
 
 impl Play<Option<OpenFile>, View> for Finishing {
-    ghost use Rattle.fx_lasting.specs.FinishSteps.{Finishes};
+    ghost use Rattle.fx_lasting.specs.holds.FinishSteps.{Finishes};
 
     ghost then = { Finishes };
 }
@@ -325,7 +325,7 @@ impl Play<Option<OpenFile>, View> for TakingIf {
 pub struct SwappingIf;
 
 impl Play<Option<OpenFile>, View> for SwappingIf {
-    ghost use Rattle.fx_lasting.specs.SwapSteps.{SwapsIf};
+    ghost use Rattle.fx_lasting.specs.slots.SwapSteps.{SwapsIf};
 
     ghost then = { SwapsIf };
 }
@@ -335,7 +335,7 @@ impl Play<Option<OpenFile>, View> for SwappingIf {
 pub struct SwappingHeld;
 
 impl Play<Option<OpenFile>, View> for SwappingHeld {
-    ghost use Rattle.fx_lasting.specs.SwapSteps.{SwapsHeld};
+    ghost use Rattle.fx_lasting.specs.slots.SwapSteps.{SwapsHeld};
 
     ghost then = { SwapsHeld };
 }
@@ -346,7 +346,7 @@ impl Play<Option<OpenFile>, View> for SwappingHeld {
 pub struct TakingHeld;
 
 impl Play<Option<OpenFile>, View> for TakingHeld {
-    ghost use Rattle.fx_lasting.specs.SwapSteps.{TakesHeld};
+    ghost use Rattle.fx_lasting.specs.slots.SwapSteps.{TakesHeld};
 
     ghost then = { TakesHeld };
 }
@@ -387,7 +387,7 @@ pub struct SwappingClear;
 
 impl Play<Option<OpenFile>, View> for SwappingClear {
     ghost use Rattle.fx_plain.specs.declared.event.Action.TheVariants.{Clear};
-    ghost use Rattle.fx_lasting.specs.SwapSteps.{SwapsOut};
+    ghost use Rattle.fx_lasting.specs.slots.SwapSteps.{SwapsOut};
 
     ghost then = { SwapsOut Clear };
 }
@@ -398,7 +398,7 @@ pub struct SwappingTake;
 
 impl Play<Option<OpenFile>, View> for SwappingTake {
     ghost use Rattle.fx_plain.specs.declared.event.Action.TheVariants.{Take};
-    ghost use Rattle.fx_lasting.specs.SwapSteps.{SwapsOut};
+    ghost use Rattle.fx_lasting.specs.slots.SwapSteps.{SwapsOut};
 
     ghost then = { SwapsOut Take };
 }
@@ -481,7 +481,7 @@ impl Play<Option<OpenFile>, View> for Deciding {
 pub struct Show;
 
 impl Split<View> for Show {
-    ghost use Rattle.fx_lasting.specs.Showing.{shown_view};
+    ghost use Rattle.fx_lasting.specs.life.Showing.{shown_view};
 
     ghost left = { λ v. v };
 
@@ -492,7 +492,7 @@ impl Split<View> for Show {
 pub struct Learn;
 
 impl Learning<View> for Learn {
-    ghost use Rattle.fx_lasting.specs.Showing.{HasLearned};
+    ghost use Rattle.fx_lasting.specs.life.Showing.{HasLearned};
 
     ghost then = { HasLearned };
 }

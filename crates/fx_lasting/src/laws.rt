@@ -3,12 +3,12 @@
 ghost use Rattle.std.specs.Prelude.{◌≡◌, ◌≤◌, ℕ};
 ghost use Rattle.fx_words.specs.Words.{last_node};
 ghost use Rattle.fx_lasting.specs.Bounds.{WordsAreBounded};
-ghost use Rattle.fx_lasting.specs.Holds.{NodesAreOfOneFile, HeldNodesNameFiles};
-ghost use Rattle.fx_lasting.specs.Keys.{KeysAreOfOneFile, KeysComeBack};
-ghost use Rattle.fx_lasting.specs.Layout.{PlacesAreInside, PlacesAreApart, LabelsAreApart, NodesAreInOneLine};
-ghost use Rattle.fx_lasting.specs.Opens.{OpeningKeeps};
+ghost use Rattle.fx_lasting.specs.holds.Holds.{NodesAreOfOneFile, HeldNodesNameFiles};
+ghost use Rattle.fx_lasting.specs.slots.ByKey.{KeysAreOfOneFile, KeysComeBack};
+ghost use Rattle.fx_lasting.specs.life.Layout.{PlacesAreInside, PlacesAreApart, LabelsAreApart, NodesAreInOneLine};
+ghost use Rattle.fx_lasting.specs.life.Opens.{OpeningKeeps};
 ghost use Rattle.fx_lasting.specs.WholeHistory.{HasOneHistory, RemovedFilesHaveUsers};
-ghost use Rattle.fx_lasting.specs.declared.layout.TheConstants.{MOST_SLOTS, MOST_NODES, MOST_PASSES, MOST_INSTALLING};
+ghost use Rattle.fx_lasting.specs.declared.life.layout.TheConstants.{MOST_SLOTS, MOST_NODES, MOST_PASSES, MOST_INSTALLING};
 ghost use Rattle.fx_lasting.specs.Laws.{GlancesKeep, ListsKeep, AnnouncesKeep, ConfirmsKeep};
 ghost use Rattle.fx_lasting.specs.Laws.{WithdrawsKeep, TakesOnceKeep, HeatsKeep, StepsDownKeep};
 ghost use Rattle.fx_lasting.specs.Laws.{LettingGoKeeps, SeeksKeep, BirthsKeep, RecallsTagKeep, TagsKeep};

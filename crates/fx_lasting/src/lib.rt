@@ -3,50 +3,34 @@
 //! any slot may wait.
 //!
 //! Begin reading at `calls.rt`, then `specs/Agrees.antt` (the rule that every step keeps) and
-//! `layout.rt` (the places of the words).
+//! `life/layout.rt` (the places of the words).
 #![tactic(auto)]
 
-mod alone;
 mod answers;
 mod calls;
-mod change;
-mod close;
-mod emptied;
-mod emptying;
-mod finding;
-mod kept;
+mod fields;
+mod holds;
 mod key;
 mod key_answers;
-mod keyed;
-mod keys;
 mod kinds;
-mod labels;
 pub mod laws;
-mod layout;
-mod letting;
-mod look;
-mod moves;
-mod open;
-mod parts;
+mod life;
+mod nodes;
 mod pass;
-mod put_any;
 mod queries;
-mod question;
+mod range;
 pub mod retries;
-mod seek;
 mod shared_table;
-mod shown;
+mod slots;
 mod table;
 mod tried;
-mod vacant;
 mod view;
-mod visit;
 
 pub use answers::{FoundSlot, Miss, PutEmpty, PutIf, TakenIf};
 pub use key::Key;
 pub use key_answers::{KeyFault, KeyLook, KeyPut, KeyRemoval, KeyTaken, PutOverKey, TakenByKey};
-pub use layout::{MOST_INSTALLING, MOST_PASSES, MOST_SLOTS};
+pub use life::layout::{MOST_INSTALLING, MOST_PASSES, MOST_SLOTS};
+pub use life::shown::LastingSeen;
 pub use pass::LastingPass;
-pub use shown::LastingSeen;
 pub use table::LastingTable;
 pub use tried::TriedPut;

@@ -1,8 +1,8 @@
 //! The passes of the table.
 ghost use Rattle.std.specs.Prelude.{◌≡◌};
-ghost use Rattle.fx_lasting.specs.Lives.{IsNewPass};
+ghost use Rattle.fx_lasting.specs.life.Lives.{IsNewPass};
 
-use crate::emptied::Emptied;
+use crate::range::recent::Emptied;
 use crate::view::View;
 use atomic_table::Seat;
 use fx_base::OpenFile;

@@ -4,7 +4,7 @@ ghost use Rattle.fx_table.specs.Opening.{size_of, range_of};
 ghost use Rattle.fx_table.specs.Pass.{IsIdle};
 ghost use Rattle.fx_lasting.specs.Tables.{view_of, opening_of_table, IsPassOfTable};
 
-use crate::layout::MOST_SLOTS;
+use crate::life::layout::MOST_SLOTS;
 use crate::pass::LastingPass;
 use crate::table::LastingTable;
 use fx_table::{CHAIN_NUMBERS, PASS_LOOKS};

@@ -4,18 +4,18 @@ use Rattle.std.specs.Prelude.{is_some, not}
 use Rattle.fx_base.specs.Identity.{Identity}
 use Rattle.fx_table.specs.Pass.{PassView}
 use Rattle.fx_table.specs.declared.values.Hold.{Hold}
-use Rattle.fx_lasting.specs.Keys.{LookedByKey}
+use Rattle.fx_lasting.specs.slots.ByKey.{LookedByKey}
 use Rattle.fx_lasting.specs.declared.key.Key.{Key}
 use Rattle.fx_lasting.specs.declared.key_answers.KeyFault.{KeyFault}
 use Rattle.fx_lasting.specs.declared.key_answers.KeyFault.TheVariants.{NoSlot, Empty, Other, Again}
-use Rattle.fx_lasting.specs.Alone.{TakesAlone}
-use Rattle.fx_lasting.specs.Keys.{HeldByKey}
+use Rattle.fx_lasting.specs.slots.Alone.{TakesAlone}
+use Rattle.fx_lasting.specs.slots.ByKey.{HeldByKey}
 use Rattle.fx_lasting.specs.Tables.{opening_of, view_of}
 use Rattle.fx_lasting.specs.declared.key_answers.TakenByKey.{TakenByKey}
 use Rattle.fx_lasting.specs.declared.key_answers.TakenByKey.TheVariants.{Removed, Hot, Missed as Failed}
 use Rattle.fx_lasting.specs.declared.pass.LastingPass.{LastingPass}
 use Rattle.fx_lasting.specs.declared.view.Start.{Start}
-use Rattle.fx_lasting.proofs.ByKey.{idle_after}
+use Rattle.fx_lasting.proofs.slot_lemmas.ByKey.{idle_after}
 use Rattle.fx_table.specs.Calls.{ReleasesFile}
 use Rattle.fx_table.specs.Opening.{Opening}
 use Rattle.fx_table.specs.Pass.{IsIdle}

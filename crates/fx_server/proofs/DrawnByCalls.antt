@@ -14,13 +14,13 @@ use Rattle.fx_table.specs.declared.values.Hold.{Hold}
 use Rattle.fx_table.specs.declared.values.LookFault.{LookFault}
 use Rattle.fx_table.specs.declared.values.LookFault.TheVariants.{Empty as EmptySlot, Spent}
 use Rattle.fx_table.specs.declared.values.Retired.{Retired}
-use Rattle.fx_lasting.specs.Keys.{FailsByKey, HeldByKey, LookedByKey}
-use Rattle.fx_lasting.specs.Labels.{number_of_mark}
+use Rattle.fx_lasting.specs.slots.ByKey.{FailsByKey, HeldByKey, LookedByKey}
+use Rattle.fx_lasting.specs.nodes.Labels.{number_of_mark}
 use Rattle.fx_lasting.specs.Tables.{opening_of, view_of}
 use Rattle.fx_lasting.specs.declared.key.Key.{Key}
 use Rattle.fx_lasting.specs.declared.key_answers.KeyFault.{KeyFault}
 use Rattle.fx_lasting.specs.declared.key_answers.KeyFault.TheVariants as fault
-use Rattle.fx_lasting.specs.declared.layout.TheConstants.{MOST_INSTALLING}
+use Rattle.fx_lasting.specs.declared.life.layout.TheConstants.{MOST_INSTALLING}
 use Rattle.fx_lasting.specs.declared.pass.LastingPass.{LastingPass}
 use Rattle.fx_lasting.specs.declared.view.Start.{Start}
 use Rattle.fx_server.specs.FileNumbers.{after_draw, after_draws, after_keep, first_numbers, number_drawn, without_kept}

@@ -15,7 +15,7 @@ use Rattle.fx_lasting.specs.declared.pass.LastingPass.{LastingPass}
 use Rattle.fx_table.proofs.Words.{append_assoc}
 use Rattle.fx_table.specs.Pass.{PassView, event_of}
 use Rattle.fx_table.specs.declared.values.Retired.{Retired}
-use Rattle.fx_lasting.specs.Keys.{IsKeyOf}
+use Rattle.fx_lasting.specs.slots.ByKey.{IsKeyOf}
 use Rattle.fx_lasting.specs.declared.key.Key.{Key}
 use Rattle.fx_server.specs.Answers.{RemovesAs, ReplacesAs}
 use Rattle.fx_server.specs.ByKey.{RemovesByKey, ReplacesByKeyNext, ReplacesFileOf, TakesKeyAlone}

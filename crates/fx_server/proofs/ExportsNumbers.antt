@@ -16,7 +16,7 @@ use Rattle.fx_lasting.specs.Tables.{opening_of, view_of}
 use Rattle.fx_lasting.specs.declared.key.Key.{Key}
 use Rattle.fx_lasting.specs.declared.key_answers.KeyFault.{KeyFault}
 use Rattle.fx_lasting.specs.declared.key_answers.KeyFault.TheVariants as fault
-use Rattle.fx_lasting.specs.Alone.{TakesAlone}
+use Rattle.fx_lasting.specs.slots.Alone.{TakesAlone}
 use Rattle.fx_lasting.specs.declared.key_answers.TakenByKey.{TakenByKey}
 use Rattle.fx_lasting.specs.declared.key_answers.TakenByKey.TheVariants.{Hot, Missed as Failed}
 use Rattle.fx_lasting.specs.declared.pass.LastingPass.{LastingPass}

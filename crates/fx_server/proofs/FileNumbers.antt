@@ -5,7 +5,7 @@ use Rattle.std.proofs.Math.Nat.{zero-mul}
 use Rattle.std.proofs.Math.Decide.{dec_le}
 use Rattle.std.proofs.Math.Logic.{dite}
 use Rattle.std.proofs.lemmas.Nat.{div-mul-add}
-use Rattle.fx_lasting.specs.declared.layout.TheConstants.{MOST_INSTALLING}
+use Rattle.fx_lasting.specs.declared.life.layout.TheConstants.{MOST_INSTALLING}
 use Rattle.fx_server.specs.FileNumbers.{number_after, after_draws, first_numbers, number_drawn, NumbersAreDrawnOnce, NumbersLast}
 use Rattle.fx_server.specs.declared.file_numbers.FileNumbers.{FileNumbers}
 

@@ -7,7 +7,7 @@ use Rattle.fx_plain.specs.declared.event.Action.{Action}
 use Rattle.fx_plain.specs.declared.event.Event.{Event}
 use Rattle.fx_plain.specs.declared.event.File.{File}
 use Rattle.fx_table.specs.Pass.{PassView, event_of}
-use Rattle.fx_lasting.specs.declared.layout.TheConstants.{MOST_INSTALLING}
+use Rattle.fx_lasting.specs.declared.life.layout.TheConstants.{MOST_INSTALLING}
 use Rattle.fx_lasting.specs.declared.pass.LastingPass.{LastingPass}
 use Rattle.fx_server.specs.EndsOfKeys.{HaveTheirOwnKeys}
 use Rattle.fx_server.specs.FileNumbers.{after_draw, after_draws, after_keep, first_numbers, number_drawn, without_kept}

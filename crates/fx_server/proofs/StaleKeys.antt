@@ -16,8 +16,8 @@ use Rattle.fx_table.specs.Pass.{IsFront, PassView, event_of}
 use Rattle.fx_table.specs.declared.values.Doing.{Doing}
 use Rattle.fx_table.specs.declared.values.Doing.TheVariants.{Holding}
 use Rattle.fx_table.specs.declared.values.Hold.{Hold}
-use Rattle.fx_lasting.specs.Keyed.{FitsMiss, IsOn, WasSo}
-use Rattle.fx_lasting.specs.Keys.{FailsByKey, HeldByKey, HoldsAtKey, IsKeyOf, LeftIt, LookedByKey, fault_for}
+use Rattle.fx_lasting.specs.slots.ByNode.{FitsMiss, IsOn, WasSo}
+use Rattle.fx_lasting.specs.slots.ByKey.{FailsByKey, HeldByKey, HoldsAtKey, IsKeyOf, LeftIt, LookedByKey, fault_for}
 use Rattle.fx_lasting.specs.Passes.{state_at_start}
 use Rattle.fx_lasting.specs.Tables.{IsPassOfTable, opening_of, view_of}
 use Rattle.fx_lasting.specs.declared.answers.Miss.{Miss}
@@ -26,7 +26,7 @@ use Rattle.fx_lasting.specs.declared.key.Key.{Key}
 use Rattle.fx_lasting.specs.declared.key_answers.KeyFault.TheVariants.{Other}
 use Rattle.fx_lasting.specs.declared.pass.LastingPass.{LastingPass}
 use Rattle.fx_lasting.specs.declared.view.Start.{Start}
-use Rattle.fx_lasting.specs.Alone.{TakesAlone}
+use Rattle.fx_lasting.specs.slots.Alone.{TakesAlone}
 use Rattle.fx_lasting.specs.declared.key_answers.TakenByKey.TheVariants.{Missed as Failed}
 use Rattle.fx_server.specs.ByKey.{FindsByKey, HasHolder, RemovesByKey, RemovesNone, ReplacesByKeyNext}
 use Rattle.fx_server.specs.StaleKeys.{HadAnother, HasSeen, IsAnother, StaleKeysHadAnother}

@@ -6,8 +6,8 @@ use Rattle.fx_base.specs.Identity.{Identity}
 use Rattle.fx_table.specs.Pass.{PassView}
 use Rattle.fx_table.specs.declared.values.Hold.{Hold}
 use Rattle.fx_table.specs.declared.values.Retired.{Retired}
-use Rattle.fx_lasting.specs.Alone.{TakesAlone}
-use Rattle.fx_lasting.specs.Keys.{LookedByKey, PutsOverKey, TakesByKey, TriesKey}
+use Rattle.fx_lasting.specs.slots.Alone.{TakesAlone}
+use Rattle.fx_lasting.specs.slots.ByKey.{LookedByKey, PutsOverKey, TakesByKey, TriesKey}
 use Rattle.fx_lasting.specs.Tables.{view_of}
 use Rattle.fx_lasting.specs.declared.key.Key.{Key}
 use Rattle.fx_lasting.specs.declared.key_answers.KeyFault.{KeyFault}

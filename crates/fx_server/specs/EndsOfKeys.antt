@@ -7,8 +7,8 @@ use Rattle.fx_plain.specs.declared.event.Action.{Action}
 use Rattle.fx_plain.specs.declared.event.Action.TheVariants.{Put, Clear, Take}
 use Rattle.fx_plain.specs.declared.event.Event.{Event}
 use Rattle.fx_plain.specs.declared.event.File.{File}
-use Rattle.fx_lasting.specs.Keys.{IsKeyOf}
-use Rattle.fx_lasting.specs.Labels.{number_of_mark}
+use Rattle.fx_lasting.specs.slots.ByKey.{IsKeyOf}
+use Rattle.fx_lasting.specs.nodes.Labels.{number_of_mark}
 use Rattle.fx_lasting.specs.declared.key.Key.{Key}
 use Rattle.fx_server.specs.Answers.{RemovesAs, ReplacesAs}
 use Rattle.fx_server.specs.Workers.{its_pass}

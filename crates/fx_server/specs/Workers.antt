@@ -17,15 +17,16 @@ use Rattle.fx_table.specs.declared.values.LookFault.{LookFault as TableFault}
 use Rattle.fx_table.specs.declared.values.LookFault.TheVariants as fault
 use Rattle.fx_table.specs.declared.values.Retired.{Retired}
 use Rattle.fx_lasting.specs.Laws.{IsInRange as IsAllocated}
-use Rattle.fx_lasting.specs.Labels.{number_of_mark}
-use Rattle.fx_lasting.specs.declared.layout.TheConstants.{MOST_SLOTS, MOST_PASSES, MOST_INSTALLING}
+use Rattle.fx_lasting.specs.nodes.Labels.{number_of_mark}
+use Rattle.fx_lasting.specs.declared.life.layout.TheConstants.{MOST_SLOTS, MOST_PASSES}
+use Rattle.fx_lasting.specs.declared.life.layout.TheConstants.{MOST_INSTALLING}
 use Rattle.fx_lasting.specs.Tables.{view_of, opening_of_table, IsPassOfTable}
 use Rattle.fx_lasting.specs.declared.answers.FoundSlot.TheVariants as found
 use Rattle.fx_lasting.specs.declared.answers.PutEmpty.{PutEmpty}
 use Rattle.fx_lasting.specs.declared.answers.PutEmpty.TheVariants as empty
 use Rattle.fx_lasting.specs.declared.pass.LastingPass.{LastingPass}
 use Rattle.fx_lasting.specs.declared.table.LastingTable.{LastingTable}
-use Rattle.fx_lasting.specs.Vacant.{FellShort, HasPutEmpty, HasSearched}
+use Rattle.fx_lasting.specs.slots.AtEmpty.{FellShort, HasPutEmpty, HasSearched}
 use Rattle.fx_lasting.specs.declared.view.Start.{Start}
 use Rattle.fx_server.specs.Files.{file_with}
 use Rattle.fx_server.specs.declared.answers.FoundFile.{FoundFile}

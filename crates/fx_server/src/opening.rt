@@ -4,7 +4,7 @@ ghost use Rattle.std.specs.Prelude.{drop, length, take};
 ghost use Rattle.std.specs.Arc.{arc_value};
 ghost use Rattle.fx_server.specs.Opened.{AreDealt, AreOpened, workers_in};
 ghost use Rattle.fx_server.specs.Workers.{IsGood, IsInRange};
-ghost use Rattle.fx_lasting.specs.declared.layout.TheConstants.{MOST_PASSES};
+ghost use Rattle.fx_lasting.specs.declared.life.layout.TheConstants.{MOST_PASSES};
 ghost use Rattle.fx_server.specs.declared.answers.ServerRefusal.TheVariants.{BadArgument, NoMemory as RanOut};
 
 use crate::answers::ServerRefusal;

@@ -1,7 +1,7 @@
 //! Knowledge of a worker: shown to other workers, and learned from them.
 ghost use Rattle.std.specs.Prelude.{◌≡◌};
 ghost use Rattle.fx_table.specs.Showing.{Learns};
-ghost use Rattle.fx_lasting.specs.Showing.{IsSeenOf, shown_of};
+ghost use Rattle.fx_lasting.specs.life.Showing.{IsSeenOf, shown_of};
 ghost use Rattle.fx_server.specs.Workers.{IsGood, its_opening, its_pass, its_table};
 
 use crate::worker::TableWorker;

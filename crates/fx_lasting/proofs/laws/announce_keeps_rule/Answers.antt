@@ -1,4 +1,4 @@
-use Rattle.fx_lasting.proofs.HoldWords.{announces_keep}
+use Rattle.fx_lasting.proofs.hold_lemmas.HoldWords.{announces_keep}
 use Rattle.fx_lasting.proofs.laws.announce_keeps_rule.Goals as goal
 
 pub returns : goal.returns

@@ -1,4 +1,4 @@
-use Rattle.fx_lasting.proofs.QuestionSteps.{begins_keep}
+use Rattle.fx_lasting.proofs.range_lemmas.QuestionSteps.{begins_keep}
 use Rattle.fx_lasting.proofs.laws.begin_keeps_rule.Goals as goal
 
 pub returns : goal.returns

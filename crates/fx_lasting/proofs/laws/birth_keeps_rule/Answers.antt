@@ -1,4 +1,4 @@
-use Rattle.fx_lasting.proofs.Births.{births_keep}
+use Rattle.fx_lasting.proofs.node_lemmas.Births.{births_keep}
 use Rattle.fx_lasting.proofs.laws.birth_keeps_rule.Goals as goal
 
 pub returns : goal.returns

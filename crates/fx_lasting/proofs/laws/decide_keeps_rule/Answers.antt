@@ -1,4 +1,4 @@
-use Rattle.fx_lasting.proofs.QuestionSteps.{decides_keep}
+use Rattle.fx_lasting.proofs.range_lemmas.QuestionSteps.{decides_keep}
 use Rattle.fx_lasting.proofs.laws.decide_keeps_rule.Goals as goal
 
 pub returns : goal.returns

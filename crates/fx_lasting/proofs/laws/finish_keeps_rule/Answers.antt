@@ -1,4 +1,4 @@
-use Rattle.fx_lasting.proofs.Finishing.{finishes_keep}
+use Rattle.fx_lasting.proofs.hold_lemmas.Finishing.{finishes_keep}
 use Rattle.fx_lasting.proofs.laws.finish_keeps_rule.Goals as goal
 
 pub returns : goal.returns

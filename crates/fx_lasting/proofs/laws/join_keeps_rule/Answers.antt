@@ -1,4 +1,4 @@
-use Rattle.fx_lasting.proofs.Seats.{joins_keep}
+use Rattle.fx_lasting.proofs.life_lemmas.Seats.{joins_keep}
 use Rattle.fx_lasting.proofs.laws.join_keeps_rule.Goals as goal
 
 pub returns : goal.returns

@@ -1,4 +1,4 @@
-use Rattle.fx_lasting.proofs.Seeing.{replaces_keep}
+use Rattle.fx_lasting.proofs.slot_lemmas.Seeing.{replaces_keep}
 use Rattle.fx_lasting.proofs.laws.replace_keeps_rule.Goals as goal
 
 pub returns : goal.returns

@@ -1,4 +1,4 @@
-use Rattle.fx_lasting.proofs.KeptNodes.{settles_keep}
+use Rattle.fx_lasting.proofs.node_lemmas.KeptNodes.{settles_keep}
 use Rattle.fx_lasting.proofs.laws.settle_keeps_rule.Goals as goal
 
 pub returns : goal.returns

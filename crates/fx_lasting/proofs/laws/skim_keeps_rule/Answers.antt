@@ -1,4 +1,4 @@
-use Rattle.fx_lasting.proofs.Skimming.{skims_keep}
+use Rattle.fx_lasting.proofs.hold_lemmas.Skimming.{skims_keep}
 use Rattle.fx_lasting.proofs.laws.skim_keeps_rule.Goals as goal
 
 pub returns : goal.returns

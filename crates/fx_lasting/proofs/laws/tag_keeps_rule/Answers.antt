@@ -1,4 +1,4 @@
-use Rattle.fx_lasting.proofs.Labelling.{tags_keep}
+use Rattle.fx_lasting.proofs.node_lemmas.Labelling.{tags_keep}
 use Rattle.fx_lasting.proofs.laws.tag_keeps_rule.Goals as goal
 
 pub returns : goal.returns

@@ -1,4 +1,4 @@
-use Rattle.fx_lasting.proofs.HoldWords.{withdraws_keep}
+use Rattle.fx_lasting.proofs.hold_lemmas.HoldWords.{withdraws_keep}
 use Rattle.fx_lasting.proofs.laws.withdraw_keeps_rule.Goals as goal
 
 pub returns : goal.returns

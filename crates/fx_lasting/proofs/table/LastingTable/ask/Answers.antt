@@ -1,6 +1,6 @@
 use Rattle.fx_lasting.proofs.Words.{◌≡◌, ℕ, ◌+◌, ◌<◌, [], refl, ◌∙◌, subst, arith, inr, Start, Covered, groups_in, DecidesIf}
-use Rattle.fx_lasting.proofs.Overtaking.{short_in}
-use Rattle.fx_lasting.proofs.Questions.{learns_none, learns_at_work, learns_then, tells_then}
+use Rattle.fx_lasting.proofs.slot_lemmas.Overtaking.{short_in}
+use Rattle.fx_lasting.proofs.range_lemmas.Questions.{learns_none, learns_at_work, learns_then, tells_then}
 use Rattle.fx_lasting.proofs.Running.{runs_within}
 use Rattle.fx_lasting.proofs.table.LastingTable.ask.Goals as goal
 

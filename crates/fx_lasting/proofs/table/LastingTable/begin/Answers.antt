@@ -1,6 +1,6 @@
 use Rattle.fx_lasting.proofs.Words.{◌≡◌, ℕ, ◌^◌, refl, ap, ◌∙◌, sym, arith, Log, List, first_log, bit_of, NotAsked}
-use Rattle.fx_lasting.proofs.QuestionSteps.{begins_keep, asks_keep}
-use Rattle.fx_lasting.proofs.Questions.{is_gone, learns_at_work, learns_then}
+use Rattle.fx_lasting.proofs.range_lemmas.QuestionSteps.{begins_keep, asks_keep}
+use Rattle.fx_lasting.proofs.range_lemmas.Questions.{is_gone, learns_at_work, learns_then}
 use Rattle.fx_lasting.proofs.Running.{runs_goes}
 use Rattle.fx_lasting.proofs.table.LastingTable.begin.Goals as goal
 

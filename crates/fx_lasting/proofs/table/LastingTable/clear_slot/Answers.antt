@@ -1,10 +1,10 @@
 use Rattle.fx_lasting.proofs.Words.{◌≡◌, ◌<◌, ◌≤◌, ℕ, List, ap, sym, ◌∙◌, arith, length, get_elem?, some, nodes_of, Clear, last_node, get_or_default}
 use Rattle.fx_lasting.proofs.Calling.{slot_inside, slot_low, few_nodes, stock_inside}
-use Rattle.fx_lasting.proofs.Removals.{by_swap}
-use Rattle.fx_lasting.proofs.FreeNodes.{entry_is}
+use Rattle.fx_lasting.proofs.slot_lemmas.Removals.{by_swap}
+use Rattle.fx_lasting.proofs.node_lemmas.FreeNodes.{entry_is}
 use Rattle.fx_lasting.proofs.Running.{stock_is}
-use Rattle.fx_lasting.proofs.SlotLaws.{clears_keep}
-use Rattle.fx_lasting.proofs.SwapsOut.{swap_clears_keep}
+use Rattle.fx_lasting.proofs.slot_lemmas.SlotLaws.{clears_keep}
+use Rattle.fx_lasting.proofs.slot_lemmas.SwapsOut.{swap_clears_keep}
 use Rattle.fx_lasting.proofs.table.LastingTable.clear_slot.Goals.{After-index}
 use Rattle.fx_lasting.proofs.table.LastingTable.clear_slot.Goals as goal
 

@@ -1,8 +1,8 @@
 use Rattle.fx_lasting.proofs.Words.{◌≡◌, ◌≤◌, ◌+◌, ◌-◌, suc, [], ◌∙◌, ℕ, List, length, length-map, ap, arith, Sat, View, stocks_back, without_first}
 use Rattle.fx_lasting.proofs.Words.{first_alone, one_dealt, all_dealt}
-use Rattle.fx_lasting.proofs.FirstStocks.{stock_taken, its_first, length_back}
-use Rattle.fx_lasting.proofs.Gathered.{rest_is_dealt, last_is_dealt, is_new_pass, shown_so}
-use Rattle.fx_lasting.proofs.Seats.{splits_keep}
+use Rattle.fx_lasting.proofs.node_lemmas.FirstStocks.{stock_taken, its_first, length_back}
+use Rattle.fx_lasting.proofs.life_lemmas.Gathered.{rest_is_dealt, last_is_dealt, is_new_pass, shown_so}
+use Rattle.fx_lasting.proofs.life_lemmas.Seats.{splits_keep}
 use Rattle.fx_lasting.proofs.table.LastingTable.deal.Goals as goal
 
 pub split_seat-one-requires : goal.split_seat-one-requires

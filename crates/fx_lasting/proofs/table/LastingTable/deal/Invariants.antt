@@ -1,5 +1,5 @@
 use Rattle.fx_lasting.proofs.Words.{◌≡◌, ◌≤◌, ◌-◌, ◌+◌, map, vec_capacity, stocks_back, [], dealt, IsPassOf, AreDealt}
-use Rattle.fx_lasting.proofs.Gathered.{shown}
+use Rattle.fx_lasting.proofs.life_lemmas.Gathered.{shown}
 use Rattle.fx_lasting.proofs.table.LastingTable.deal.Given as goal
 
 abbrev pub invariant-loop-number : goal.invariant-loop-number

@@ -1,6 +1,6 @@
 use Rattle.fx_lasting.proofs.Words.{refl, ap, ◌∙◌, sym, arith, List, Log, first_log, Covered}
 use Rattle.fx_lasting.proofs.Calling.{same_groups}
-use Rattle.fx_lasting.proofs.QuestionSteps.{decides_keep}
+use Rattle.fx_lasting.proofs.range_lemmas.QuestionSteps.{decides_keep}
 use Rattle.fx_lasting.proofs.table.LastingTable.decide.Goals as goal
 
 pub load-question-requires : goal.load-question-requires

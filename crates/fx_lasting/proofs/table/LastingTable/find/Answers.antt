@@ -1,8 +1,8 @@
 use Rattle.fx_lasting.proofs.Words.{refl, arith, [], ◌∙◌, true, false, HasAsked, opening_of, view_of, adds_then, no_use, DoesNothing, LastingPass}
-use Rattle.fx_lasting.proofs.ByNode.{adds_none, was_before}
-use Rattle.fx_lasting.proofs.EmptySlots.{tells_so}
+use Rattle.fx_lasting.proofs.slot_lemmas.ByNode.{adds_none, was_before}
+use Rattle.fx_lasting.proofs.slot_lemmas.EmptySlots.{tells_so}
 use Rattle.fx_lasting.proofs.Passing.{at_rest, still_pass}
-use Rattle.fx_lasting.proofs.Questions.{asked_nothing}
+use Rattle.fx_lasting.proofs.range_lemmas.Questions.{asked_nothing}
 use Rattle.fx_lasting.proofs.table.LastingTable.find.Goals as goal
 
 pub returns-in-Some-clause-fits : goal.returns-in-Some-clause-fits

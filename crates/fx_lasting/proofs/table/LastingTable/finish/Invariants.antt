@@ -1,6 +1,6 @@
 use Rattle.fx_lasting.proofs.Words.{◌≡◌, ◌<◌, ℕ, false, get_or, slots_items, slots_len, IsFull, slots_filled, ◌≤◌, vec_capacity, vec_len, Filled}
-use Rattle.fx_lasting.proofs.Listed.{AreListed}
-use Rattle.fx_lasting.proofs.HomeComing.{node_at}
+use Rattle.fx_lasting.proofs.life_lemmas.Listed.{AreListed}
+use Rattle.fx_lasting.proofs.life_lemmas.HomeComing.{node_at}
 use Rattle.fx_lasting.proofs.table.LastingTable.finish.Given as goal
 
 -- the files of the slots so far are in the list, and their places are empty

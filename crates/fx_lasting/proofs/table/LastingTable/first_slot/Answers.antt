@@ -1,5 +1,5 @@
 use Rattle.fx_lasting.proofs.Words.{arith}
-use Rattle.fx_lasting.proofs.Trying.{in_range}
+use Rattle.fx_lasting.proofs.range_lemmas.Trying.{in_range}
 use Rattle.fx_lasting.proofs.table.LastingTable.first_slot.Goals as goal
 
 pub returns-then-from-self : goal.returns-then-from-self

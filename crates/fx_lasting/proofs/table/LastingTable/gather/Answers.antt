@@ -1,5 +1,5 @@
 use Rattle.fx_lasting.proofs.Words.{sym, subst, arith, IsIdleSeatOf, LastingPass, last_of}
-use Rattle.fx_lasting.proofs.Seats.{joins_keep}
+use Rattle.fx_lasting.proofs.life_lemmas.Seats.{joins_keep}
 use Rattle.fx_lasting.proofs.table.LastingTable.gather.Goals as goal
 
 pub join_seat-requires : goal.join_seat-requires

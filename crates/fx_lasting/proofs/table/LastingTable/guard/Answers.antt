@@ -1,7 +1,7 @@
 use Rattle.fx_lasting.proofs.Words.{rules, ◌≡◌, ◌+◌, ◌∙◌, full_name_in, IsHot, sym, ap, List, Log, first_log, true}
 use Rattle.fx_lasting.proofs.Calling.{hold_inside, hold_word, slot_inside}
-use Rattle.fx_lasting.proofs.HoldWords.{announces_keep}
-use Rattle.fx_lasting.proofs.Looking.{confirms_keep}
+use Rattle.fx_lasting.proofs.hold_lemmas.HoldWords.{announces_keep}
+use Rattle.fx_lasting.proofs.hold_lemmas.Looking.{confirms_keep}
 use Rattle.fx_lasting.proofs.Running.{still_at_work, runs_goes, looks_then}
 use Rattle.fx_lasting.proofs.table.LastingTable.guard.Goals as goal
 

@@ -1,5 +1,5 @@
 use Rattle.fx_lasting.proofs.Words.{ap, sym, subst, List, Event, Start, View, IsInside, pass_of, opening_of, view_of, Learns}
-use Rattle.fx_lasting.proofs.Showing.{may_show, may_learn, learned_pass}
+use Rattle.fx_lasting.proofs.life_lemmas.Showing.{may_show, may_learn, learned_pass}
 use Rattle.fx_lasting.proofs.table.LastingTable.hear.Goals as goal
 
 pub show-seen-requires-clause-may : goal.show-seen-requires-clause-may

@@ -1,7 +1,7 @@
 use Rattle.fx_lasting.proofs.Words.{◌≡◌, true, sym, List, Log, first_log, cold_takes, ap, ◌∙◌, arith, cond, Bool, Nothing, Heating, le-ltb, count_in}
 use Rattle.fx_lasting.proofs.Words.{◌≤◌}
 use Rattle.fx_lasting.proofs.Calling.{slot_inside}
-use Rattle.fx_lasting.proofs.Taking.{heats_keep}
+use Rattle.fx_lasting.proofs.hold_lemmas.Taking.{heats_keep}
 use Rattle.fx_lasting.proofs.table.LastingTable.heat.Goals as goal
 
 pub fetch_add-requires : goal.fetch_add-requires

@@ -1,6 +1,6 @@
 use Rattle.fx_lasting.proofs.Words.{arith, true, false, HasAsked}
-use Rattle.fx_lasting.proofs.Questions.{asked_full, asked_nothing}
-use Rattle.fx_lasting.proofs.EmptySlots.{tells_so}
+use Rattle.fx_lasting.proofs.range_lemmas.Questions.{asked_full, asked_nothing}
+use Rattle.fx_lasting.proofs.slot_lemmas.EmptySlots.{tells_so}
 use Rattle.fx_lasting.proofs.table.LastingTable.is_range_full.Goals as goal
 
 pub returns-then-is_still_full : goal.returns-then-is_still_full

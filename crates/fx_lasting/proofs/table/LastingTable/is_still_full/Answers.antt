@@ -1,7 +1,7 @@
 use Rattle.fx_lasting.proofs.Words.{arith, ap, ◌∙◌, sym, Covered}
 use Rattle.fx_lasting.proofs.Calling.{same_groups}
 use Rattle.fx_lasting.proofs.Passing.{may_install}
-use Rattle.fx_lasting.proofs.Questions.{has_asked, has_not_asked}
+use Rattle.fx_lasting.proofs.range_lemmas.Questions.{has_asked, has_not_asked}
 use Rattle.fx_lasting.proofs.table.LastingTable.is_still_full.Goals as goal
 
 pub decide-pass-requires-clause-number : goal.decide-pass-requires-clause-number

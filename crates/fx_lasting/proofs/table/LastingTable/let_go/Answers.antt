@@ -1,6 +1,6 @@
 use Rattle.fx_lasting.proofs.Words.{arith, ◌≡◌}
 use Rattle.fx_lasting.proofs.Calling.{node_inside, node_word}
-use Rattle.fx_lasting.proofs.LetGoLaws.{letting_go_keeps}
+use Rattle.fx_lasting.proofs.hold_lemmas.LetGoLaws.{letting_go_keeps}
 use Rattle.fx_lasting.proofs.Running.{let_go_inside, still_at_work, runs_one, out_place, out_and_home, goes_out, releases_out}
 use Rattle.fx_lasting.proofs.table.LastingTable.let_go.Goals as goal
 

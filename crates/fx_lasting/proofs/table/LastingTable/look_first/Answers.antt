@@ -1,7 +1,7 @@
 use Rattle.fx_lasting.proofs.Words.{◌≡◌, false, List, Log, first_log, ℕ, ◌^◌, ◌∙◌, ap, sym, refl, subst, arith, bit_of, list_place, view_of, pass_of}
 use Rattle.fx_lasting.proofs.Words.{as_listed, Runs, Change, []}
 use Rattle.fx_lasting.proofs.Calling.{list_inside}
-use Rattle.fx_lasting.proofs.Listing.{lists_keep}
+use Rattle.fx_lasting.proofs.hold_lemmas.Listing.{lists_keep}
 use Rattle.fx_lasting.proofs.Passing.{adds_listed, listed_seat, after_then}
 use Rattle.fx_lasting.proofs.Running.{runs_goes}
 use Rattle.fx_lasting.proofs.table.LastingTable.look_first.Goals as goal

@@ -1,5 +1,5 @@
 use Rattle.fx_lasting.proofs.Words.{arith, ◌*◌, true, SeesFile, groups_in, group_steps}
-use Rattle.fx_lasting.proofs.GapSearches.{looks_then, looks_within}
+use Rattle.fx_lasting.proofs.range_lemmas.GapSearches.{looks_then, looks_within}
 use Rattle.fx_lasting.proofs.table.LastingTable.look_for.Goals as goal
 
 pub returns-clause-looks : goal.returns-clause-looks

@@ -1,11 +1,11 @@
 use Rattle.fx_lasting.proofs.Words.{◌∙◌, arith, refl, subst, ◌+◌, ◌*◌, ◌<◌, ◌≤◌, ℕ, true, false, SeesFile, Some, group_start, group_len}
 use Rattle.fx_lasting.proofs.Calling.{group_word}
-use Rattle.fx_lasting.proofs.GapSearches.{looks_then, looks_within, looks_at}
-use Rattle.fx_lasting.proofs.Groups.{group_short, of_group}
+use Rattle.fx_lasting.proofs.range_lemmas.GapSearches.{looks_then, looks_within, looks_at}
+use Rattle.fx_lasting.proofs.range_lemmas.Groups.{group_short, of_group}
 use Rattle.fx_lasting.proofs.Peeking.{peeks_keep}
-use Rattle.fx_lasting.proofs.ByNode.{stands_then}
+use Rattle.fx_lasting.proofs.slot_lemmas.ByNode.{stands_then}
 use Rattle.fx_lasting.proofs.Running.{still_at_work, runs_goes, runs_none, runs_within}
-use Rattle.fx_lasting.proofs.Trying.{in_range}
+use Rattle.fx_lasting.proofs.range_lemmas.Trying.{in_range}
 use Rattle.fx_lasting.proofs.table.LastingTable.look_in_group.Goals as goal
 
 pub load-word-requires : goal.load-word-requires

@@ -1,7 +1,7 @@
 use Rattle.fx_lasting.proofs.Words.{◌∙◌, arith, ◌+◌, Some, groups_in, group_steps}
-use Rattle.fx_lasting.proofs.ByNode.{stands_then}
-use Rattle.fx_lasting.proofs.GapSearches.{looks_then, looks_within}
-use Rattle.fx_lasting.proofs.Trying.{group_more, groups_most}
+use Rattle.fx_lasting.proofs.slot_lemmas.ByNode.{stands_then}
+use Rattle.fx_lasting.proofs.range_lemmas.GapSearches.{looks_then, looks_within}
+use Rattle.fx_lasting.proofs.range_lemmas.Trying.{group_more, groups_most}
 use Rattle.fx_lasting.proofs.table.LastingTable.look_in_groups.Goals as goal
 
 pub returns-in-Some-clause-looks : goal.returns-in-Some-clause-looks

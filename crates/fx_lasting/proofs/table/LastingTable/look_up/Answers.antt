@@ -2,11 +2,11 @@ use Rattle.fx_lasting.proofs.Words.{IsOnList, TableId, Start, LastingPass, IsPas
 use Rattle.fx_lasting.proofs.Words.{IsHot, Look, ◌▷◌, [], None, Hot, Cold, slot_of, opening_of, view_of, pass_of, Adds, LookedAfter, LookedUp, no_use}
 use Rattle.fx_lasting.proofs.Words.{one_look, PassView, DoesNothing}
 use Rattle.fx_lasting.proofs.Calling.{slot_inside, slot_low}
-use Rattle.fx_lasting.proofs.Looking.{glances_keep}
+use Rattle.fx_lasting.proofs.hold_lemmas.Looking.{glances_keep}
 use Rattle.fx_lasting.proofs.Places.{slot_back}
 use Rattle.fx_lasting.proofs.Running.{runs_goes, no_name, its_name}
 use Rattle.fx_lasting.proofs.Passing.{adds_so, at_ease, still_pass, still_seat, after_then, up_then, its_idle, its_flag}
-use Rattle.fx_lasting.proofs.Settled.{still_idle}
+use Rattle.fx_lasting.proofs.node_lemmas.Settled.{still_idle}
 use Rattle.fx_lasting.proofs.table.LastingTable.look_up.Goals as goal
 
 pub load-word-requires : goal.load-word-requires

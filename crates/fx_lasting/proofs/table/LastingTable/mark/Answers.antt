@@ -1,10 +1,10 @@
 use Rattle.fx_lasting.proofs.Words.{Round, round_at, ◌≡◌, ◌≢◌, ℕ, ◌+◌, ◌≤◌, sym, refl, ap, ◌∙◌, subst, arith, rules, Bool, cond, nat_eq, dite}
 use Rattle.fx_lasting.proofs.Words.{ℕ_discrete, eq-eqb, ne_eqb, [], Sat, Start, pass_at, Retiring, Runs, File, announced}
-use Rattle.fx_lasting.proofs.Rounds.{passed_by}
+use Rattle.fx_lasting.proofs.hold_lemmas.Rounds.{passed_by}
 use Rattle.fx_lasting.proofs.Calling.{hold_inside, hold_word}
 use Rattle.fx_lasting.proofs.Places.{pass_back}
 use Rattle.fx_lasting.proofs.Running.{still_at_work, runs_goes, does_then}
-use Rattle.fx_lasting.proofs.Visiting.{visits_keep, marks_keep}
+use Rattle.fx_lasting.proofs.hold_lemmas.Visiting.{visits_keep, marks_keep}
 use Rattle.fx_lasting.proofs.table.LastingTable.mark.Goals.{After-hold_place-place}
 use Rattle.fx_lasting.proofs.table.LastingTable.mark.Goals as goal
 

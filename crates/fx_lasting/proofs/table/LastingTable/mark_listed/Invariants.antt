@@ -1,5 +1,5 @@
 use Rattle.fx_lasting.proofs.Words.{◌≡◌, ℕ, ◌+◌, ◌-◌, ◌/◌, ◌^◌, ◌≤◌, File, HasVisited, Sat}
-use Rattle.fx_lasting.proofs.Rounds.{words_at}
+use Rattle.fx_lasting.proofs.hold_lemmas.Rounds.{words_at}
 use Rattle.fx_lasting.proofs.table.LastingTable.mark_listed.Given as goal
 
 -- the listed passes so far were visited, and the bits of the others are left

@@ -1,6 +1,6 @@
 use Rattle.fx_lasting.proofs.Words.{⊎_elim, ◌≡◌, subst, Start, node_of_number}
 use Rattle.fx_lasting.proofs.Calling.{number_inside, number_word}
-use Rattle.fx_lasting.proofs.Labelling.{reads_number_keep}
+use Rattle.fx_lasting.proofs.node_lemmas.Labelling.{reads_number_keep}
 use Rattle.fx_lasting.proofs.Passing.{holds_on}
 use Rattle.fx_lasting.proofs.Running.{its_inside}
 use Rattle.fx_lasting.proofs.table.LastingTable.number_of.Goals as goal

@@ -1,9 +1,9 @@
 use Rattle.fx_lasting.proofs.Words.{◌≡◌, ◌<◌, ◌∙◌, ℕ, List, ap, sym, arith, length, get_elem?, get_or, some}
 use Rattle.fx_lasting.proofs.Calling.{node_inside, node_word}
-use Rattle.fx_lasting.proofs.FreeNodes.{entry_is}
-use Rattle.fx_lasting.proofs.KeptNodes.{parks_keep}
+use Rattle.fx_lasting.proofs.node_lemmas.FreeNodes.{entry_is}
+use Rattle.fx_lasting.proofs.node_lemmas.KeptNodes.{parks_keep}
 use Rattle.fx_lasting.proofs.Running.{its_inside, stock_is}
-use Rattle.fx_lasting.proofs.Settled.{parked_so}
+use Rattle.fx_lasting.proofs.node_lemmas.Settled.{parked_so}
 use Rattle.fx_lasting.proofs.table.LastingTable.park.Goals as goal
 
 -- the node is at the entry

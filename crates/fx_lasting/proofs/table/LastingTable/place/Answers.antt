@@ -1,10 +1,10 @@
 use Rattle.fx_lasting.proofs.Words.{◌≡◌, ◌∙◌, ◌∷◌, ℕ, List, ap, sym, subst, arith, Bool, true, None, Option, Closed, some, get_or, Keeping, MayPlace, Unlabelled, Tag, tag_place}
 use Rattle.fx_lasting.proofs.Words.{Placing, as_written, label_of, ◌-◌, ◌+◌, [], read_at}
 use Rattle.fx_lasting.specs.Ends.{Does}
-use Rattle.fx_lasting.proofs.Births.{births_keep}
+use Rattle.fx_lasting.proofs.node_lemmas.Births.{births_keep}
 use Rattle.fx_lasting.proofs.Calling.{node_inside, node_word, few_nodes, tag_inside, tag_word}
-use Rattle.fx_lasting.proofs.KeptNodes.{resumes_keep}
-use Rattle.fx_lasting.proofs.Labelling.{tags_keep}
+use Rattle.fx_lasting.proofs.node_lemmas.KeptNodes.{resumes_keep}
+use Rattle.fx_lasting.proofs.node_lemmas.Labelling.{tags_keep}
 use Rattle.fx_lasting.proofs.Running.{its_inside, still_at_work, does_then, runs_one, runs_goes, runs_within}
 use Rattle.fx_lasting.proofs.table.LastingTable.place.Goals.{Then-keeps}
 use Rattle.fx_lasting.proofs.table.LastingTable.place.Goals as goal

@@ -4,8 +4,8 @@ use Rattle.fx_lasting.proofs.Words.{Outside, file_word_of, IsAtWork, Adds, one_n
 use Rattle.fx_lasting.proofs.Calling.{slot_inside, slot_low, begins_at, few_nodes}
 use Rattle.fx_lasting.proofs.Places.{slot_back}
 use Rattle.fx_lasting.proofs.Running.{still_at_work, runs_one, turns_then, swapped_then, at_swapped}
-use Rattle.fx_lasting.proofs.Trying.{stocked_at}
-use Rattle.fx_lasting.proofs.SlotLaws.{installs_keep}
+use Rattle.fx_lasting.proofs.range_lemmas.Trying.{stocked_at}
+use Rattle.fx_lasting.proofs.slot_lemmas.SlotLaws.{installs_keep}
 use Rattle.fx_lasting.proofs.Passing.{adds_swapped, swapped_pass, swapped_looking, its_place, may_install, account_so, knows_removed, placed_so, first_by}
 use Rattle.fx_lasting.proofs.table.LastingTable.put.Goals.{After-place-entry}
 use Rattle.fx_lasting.proofs.table.LastingTable.put.Goals as goal

@@ -1,11 +1,11 @@
 use Rattle.fx_lasting.proofs.Words.{◌<◌, nodes_of, ◌∷◌, inr, refl, sym, ap, ◌∙◌, subst, arith, [], Some, Closed, HasPlace, numbered, Start, Work}
 use Rattle.fx_lasting.proofs.Words.{Runs, rested, pass_in, true, false, no_use, one_number, SeesFile, Placing, label_of, as_written}
 use Rattle.fx_lasting.proofs.Calling.{begins_at}
-use Rattle.fx_lasting.proofs.ByNode.{adds_none, was_further}
+use Rattle.fx_lasting.proofs.slot_lemmas.ByNode.{adds_none, was_further}
 use Rattle.fx_lasting.proofs.Passing.{adds_swapped, swapped_pass, swapped_rest, adds_so, at_rest, still_pass, its_place, its_flag, may_install}
 use Rattle.fx_lasting.proofs.Running.{still_at_work, does_then}
-use Rattle.fx_lasting.proofs.Trying.{in_size, stocked_at, swapped_does}
-use Rattle.fx_lasting.proofs.Overtaking.{was_lost}
+use Rattle.fx_lasting.proofs.range_lemmas.Trying.{in_size, stocked_at, swapped_does}
+use Rattle.fx_lasting.proofs.slot_lemmas.Overtaking.{was_lost}
 use Rattle.fx_lasting.proofs.table.LastingTable.put_empty.Goals as goal
 
 pub sees_file-requires-clause-slot : goal.sees_file-requires-clause-slot

@@ -2,10 +2,10 @@ use Rattle.fx_lasting.proofs.Words.{◌-◌, ◌∷◌, inr, refl, sym, ap, ◌�
 use Rattle.fx_lasting.proofs.Words.{Work, Runs, rested, full_name_in, count_in, retired_at, opening_of, view_of, pass_of, Adds, no_use, one_number}
 use Rattle.fx_lasting.proofs.Words.{Retired, Placing, label_of, as_written, set}
 use Rattle.fx_table.specs.declared.values.Doing.TheVariants.{Retiring as Retires}
-use Rattle.fx_lasting.proofs.ByNode.{swapped_acts, stands_then, missed_so, tried_none, tried_so, value_so, removal_so, is_on, adds_none}
+use Rattle.fx_lasting.proofs.slot_lemmas.ByNode.{swapped_acts, stands_then, missed_so, tried_none, tried_so, value_so, removal_so, is_on, adds_none}
 use Rattle.fx_lasting.proofs.Passing.{adds_swapped, swapped_pass, swapped_looking, adds_so, at_rest, still_pass, its_place, its_flag, may_install, knows_removed, first_by}
 use Rattle.fx_lasting.proofs.Running.{still_at_work, does_then}
-use Rattle.fx_lasting.proofs.Trying.{stocked_at}
+use Rattle.fx_lasting.proofs.range_lemmas.Trying.{stocked_at}
 use Rattle.fx_lasting.proofs.Calling.{begins_at}
 use Rattle.fx_lasting.proofs.table.LastingTable.put_if.Goals as goal
 

@@ -1,7 +1,7 @@
 use Rattle.fx_lasting.proofs.Words.{◌≡◌, ℕ, ap, ◌∙◌, sym, ◌+◌, ◌∷◌, subst, arith, [], None, rest, Placing, Label, as_written, Runs, number_of_mark}
 use Rattle.fx_lasting.proofs.Words.{number_place}
 use Rattle.fx_lasting.proofs.Calling.{number_inside, number_word, few_nodes}
-use Rattle.fx_lasting.proofs.Labelling.{numbers_keep}
+use Rattle.fx_lasting.proofs.node_lemmas.Labelling.{numbers_keep}
 use Rattle.fx_lasting.proofs.Running.{its_inside, runs_goes, runs_carried}
 use Rattle.fx_lasting.proofs.table.LastingTable.put_in.Goals as goal
 

@@ -1,6 +1,6 @@
 use Rattle.fx_lasting.proofs.Words.{sym, subst, Start, opening_of, view_of, Result, PassView, Learns, Hold, LookedByKey, PutsOverKey, KeyFault, TriesToPut}
 use Rattle.fx_lasting.specs.declared.key_answers.PutOverKey.{PutOverKey}
-use Rattle.fx_lasting.proofs.ByKey.{puts_so, puts_tried, not_tried}
+use Rattle.fx_lasting.proofs.slot_lemmas.ByKey.{puts_so, puts_tried, not_tried}
 use Rattle.fx_lasting.proofs.table.LastingTable.put_over_key.Goals as goal
 
 pub put_if-put-requires-clause-slot : goal.put_if-put-requires-clause-slot

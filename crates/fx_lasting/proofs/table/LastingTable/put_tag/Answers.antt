@@ -1,6 +1,6 @@
 use Rattle.fx_lasting.proofs.Words.{◌≡◌, ℕ, ap, ◌∙◌, ◌+◌, arith, Tag, tag_place}
 use Rattle.fx_lasting.proofs.Calling.{tag_inside, tag_word, few_nodes}
-use Rattle.fx_lasting.proofs.Labelling.{tags_keep, recalls_tag_keep}
+use Rattle.fx_lasting.proofs.node_lemmas.Labelling.{tags_keep, recalls_tag_keep}
 use Rattle.fx_lasting.proofs.Running.{its_inside, still_at_work, runs_goes, does_then}
 use Rattle.fx_lasting.proofs.table.LastingTable.put_tag.Goals as goal
 

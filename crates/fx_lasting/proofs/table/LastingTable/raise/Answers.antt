@@ -1,7 +1,7 @@
 use Rattle.fx_lasting.proofs.Words.{◌∙◌, sym, uncounted, range_at_start}
 use Rattle.fx_lasting.proofs.Calling.{group_word, its_group}
-use Rattle.fx_lasting.proofs.Groups.{was_in}
-use Rattle.fx_lasting.proofs.GroupSteps.{raises_keep}
+use Rattle.fx_lasting.proofs.range_lemmas.Groups.{was_in}
+use Rattle.fx_lasting.proofs.range_lemmas.GroupSteps.{raises_keep}
 use Rattle.fx_lasting.proofs.table.LastingTable.raise.Goals as goal
 
 pub group_of-requires : goal.group_of-requires

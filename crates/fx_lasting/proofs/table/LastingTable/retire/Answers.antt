@@ -2,13 +2,13 @@ use Rattle.fx_lasting.proofs.Words.{Round, new_round, IsPassed, ◌/◌, ◌≡�
 use Rattle.fx_lasting.proofs.Words.{[], Some, File, Start, IsAtWork, Runs, Retiring, Sat, state_after_all, pass_in, TakesOut, HasPlace, At, Retires}
 use Rattle.fx_lasting.proofs.Words.{retirement_amount, Work, Goes, ap, Finishes, List, ◌▷◌, Close, TakenOut, opening_of, view_of, pass_of, Adds}
 use Rattle.fx_lasting.proofs.Words.{no_use, Doing}
-use Rattle.fx_lasting.proofs.Rounds.{passed_by}
+use Rattle.fx_lasting.proofs.hold_lemmas.Rounds.{passed_by}
 use Rattle.fx_lasting.proofs.Calling.{node_inside, node_word}
-use Rattle.fx_lasting.proofs.Finishing.{finishes_keep}
-use Rattle.fx_lasting.proofs.Retiring.{retires_keep}
+use Rattle.fx_lasting.proofs.hold_lemmas.Finishing.{finishes_keep}
+use Rattle.fx_lasting.proofs.hold_lemmas.Retiring.{retires_keep}
 use Rattle.fx_lasting.proofs.Running.{still_at_work, does_then, runs_goes, runs_one, its_inside, out_place, out_and_home}
 use Rattle.fx_lasting.proofs.Passing.{adds_so, at_rest, still_pass, its_retiring, its_unkept}
-use Rattle.fx_lasting.proofs.Settled.{out_so}
+use Rattle.fx_lasting.proofs.node_lemmas.Settled.{out_so}
 use Rattle.fx_lasting.proofs.table.LastingTable.retire.Goals.{After-mark_all-marks}
 use Rattle.fx_lasting.proofs.table.LastingTable.retire.Goals as goal
 

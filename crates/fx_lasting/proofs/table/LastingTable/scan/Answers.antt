@@ -1,5 +1,5 @@
 use Rattle.fx_lasting.proofs.Words.{arith}
-use Rattle.fx_lasting.proofs.Trying.{still_then, still_within, found_then}
+use Rattle.fx_lasting.proofs.range_lemmas.Trying.{still_then, still_within, found_then}
 use Rattle.fx_lasting.proofs.table.LastingTable.scan.Goals as goal
 
 pub returns-clause-found : goal.returns-clause-found

@@ -1,5 +1,5 @@
 use Rattle.fx_lasting.proofs.Words.{◌∙◌, arith, ◌+◌, groups_in, group_steps}
-use Rattle.fx_lasting.proofs.Trying.{still_then, allocated_then, allocated_within, group_more, groups_most}
+use Rattle.fx_lasting.proofs.range_lemmas.Trying.{still_then, allocated_then, allocated_within, group_more, groups_most}
 use Rattle.fx_lasting.proofs.table.LastingTable.scan_groups.Goals as goal
 
 pub returns-in-Some-clause-found : goal.returns-in-Some-clause-found

@@ -1,8 +1,8 @@
 use Rattle.fx_lasting.proofs.Words.{ap, ◌∙◌, slot_of}
 use Rattle.fx_lasting.proofs.Calling.{slot_inside, slot_low}
-use Rattle.fx_lasting.proofs.ByNode.{saw_if}
+use Rattle.fx_lasting.proofs.slot_lemmas.ByNode.{saw_if}
 use Rattle.fx_lasting.proofs.Places.{slot_back}
-use Rattle.fx_lasting.proofs.Seeing.{sees_keep}
+use Rattle.fx_lasting.proofs.slot_lemmas.Seeing.{sees_keep}
 use Rattle.fx_lasting.proofs.table.LastingTable.see.Goals as goal
 
 pub load-word-requires : goal.load-word-requires

@@ -1,10 +1,10 @@
 use Rattle.fx_lasting.proofs.Words.{◌≡◌, ◌≢◌, ◌≤◌, ◌<◌, ◌∙◌, ℕ, List, ap, sym, arith, get_elem?, get_or, some, pass_in, Sat, nodes_of, LastingTable}
 use Rattle.fx_lasting.proofs.Words.{IsAtWork}
-use Rattle.fx_lasting.proofs.Births.{seeks_keep}
-use Rattle.fx_lasting.proofs.FreeNodes.{entry_is}
+use Rattle.fx_lasting.proofs.node_lemmas.Births.{seeks_keep}
+use Rattle.fx_lasting.proofs.node_lemmas.FreeNodes.{entry_is}
 use Rattle.fx_lasting.proofs.Calling.{node_inside, node_word, as_long, stock_inside, few_nodes}
 use Rattle.fx_lasting.proofs.Running.{runs_within, stock_is}
-use Rattle.fx_lasting.proofs.Sought.{sought_at, sought_work, sought_stock, sought_here, sought_more}
+use Rattle.fx_lasting.proofs.node_lemmas.Sought.{sought_at, sought_work, sought_stock, sought_here, sought_more}
 use Rattle.fx_lasting.proofs.table.LastingTable.seek.Goals as goal
 
 -- the node of an entry

@@ -1,5 +1,5 @@
 use Rattle.fx_lasting.proofs.Words.{◌≡◌}
-use Rattle.fx_lasting.proofs.Sought.{Sought}
+use Rattle.fx_lasting.proofs.node_lemmas.Sought.{Sought}
 use Rattle.fx_lasting.proofs.table.LastingTable.seek.Given as goal
 
 -- some node is free that wasn't read yet

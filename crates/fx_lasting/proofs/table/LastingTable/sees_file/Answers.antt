@@ -1,8 +1,8 @@
 use Rattle.fx_lasting.proofs.Words.{ap, ◌∙◌, slot_of}
 use Rattle.fx_lasting.proofs.Calling.{slot_inside, slot_low}
 use Rattle.fx_lasting.proofs.Places.{slot_back}
-use Rattle.fx_lasting.proofs.Seeing.{sees_keep}
-use Rattle.fx_lasting.proofs.EmptySlots.{sees_so}
+use Rattle.fx_lasting.proofs.slot_lemmas.Seeing.{sees_keep}
+use Rattle.fx_lasting.proofs.slot_lemmas.EmptySlots.{sees_so}
 use Rattle.fx_lasting.proofs.table.LastingTable.sees_file.Goals as goal
 
 pub load-word-requires : goal.load-word-requires

@@ -1,9 +1,9 @@
 use Rattle.fx_lasting.proofs.Words.{◌≡◌, ◌<◌, ◌∙◌, ℕ, sym, ap, refl, arith, nodes_of, Keeping, stands_at, read_at}
 use Rattle.fx_lasting.proofs.Calling.{node_inside, node_word, few_nodes}
-use Rattle.fx_lasting.proofs.KeptNodes.{settles_keep}
+use Rattle.fx_lasting.proofs.node_lemmas.KeptNodes.{settles_keep}
 use Rattle.fx_lasting.proofs.Passing.{at_rest, still_pass, its_kept}
 use Rattle.fx_lasting.proofs.Running.{its_inside, runs_goes}
-use Rattle.fx_lasting.proofs.Settled.{settled_view}
+use Rattle.fx_lasting.proofs.node_lemmas.Settled.{settled_view}
 use Rattle.fx_lasting.proofs.table.LastingTable.settle.Goals.{After-index-node}
 use Rattle.fx_lasting.proofs.table.LastingTable.settle.Goals as goal
 

@@ -1,7 +1,7 @@
 use Rattle.fx_lasting.proofs.Words.{◌≡◌, ◌<◌, ◌∙◌, ap, sym, subst, refl, arith, false, length, length-set, view_of, IsPassOfTable, LastingPass}
 use Rattle.fx_lasting.proofs.Words.{All-set, AllWithin-more_set, IsIdle}
 use Rattle.std.proofs.Math.Seq.{map-set_same}
-use Rattle.fx_lasting.proofs.Settled.{still_idle}
+use Rattle.fx_lasting.proofs.node_lemmas.Settled.{still_idle}
 use Rattle.fx_lasting.proofs.table.LastingTable.settle_all.Goals.{After-index_mut}
 use Rattle.fx_lasting.proofs.table.LastingTable.settle_all.Goals as goal
 

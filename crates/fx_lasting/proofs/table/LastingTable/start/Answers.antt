@@ -1,6 +1,6 @@
 use Rattle.fx_lasting.proofs.Words.{◌≡◌, ℕ, ap, ◌∙◌, subst, arith, Some, Start, state_of, AreFirstWords, AreFirstHomes, AreLabelled, nodes_for}
-use Rattle.fx_lasting.proofs.Openings.{opening_keeps}
-use Rattle.fx_lasting.proofs.Starting.{opens_with, no_files, labelled_first, labels_so}
+use Rattle.fx_lasting.proofs.life_lemmas.Openings.{opening_keeps}
+use Rattle.fx_lasting.proofs.life_lemmas.Starting.{opens_with, no_files, labelled_first, labels_so}
 use Rattle.fx_lasting.proofs.table.LastingTable.start.Goals as goal
 
 pub new-requires : goal.new-requires

@@ -1,8 +1,8 @@
 use Rattle.fx_lasting.proofs.Words.{◌≡◌, ℕ, List, sym, ap, ◌∙◌, subst, arith, None, Some, Start, state_of, slots_of, nodes_of, AreFirstWords}
 use Rattle.fx_lasting.proofs.Words.{AreFirstHomes, replicate, nodes_for, words_for, contents_of}
-use Rattle.fx_lasting.proofs.Openings.{opening_keeps}
-use Rattle.fx_lasting.proofs.Sparse.{same_size, none_first, first_words, first_homes}
-use Rattle.fx_lasting.proofs.Starting.{opens_with}
+use Rattle.fx_lasting.proofs.life_lemmas.Openings.{opening_keeps}
+use Rattle.fx_lasting.proofs.life_lemmas.Sparse.{same_size, none_first, first_words, first_homes}
+use Rattle.fx_lasting.proofs.life_lemmas.Starting.{opens_with}
 use Rattle.fx_lasting.proofs.table.LastingTable.start_sparse.Goals as goal
 
 pub vacant-requires : goal.vacant-requires

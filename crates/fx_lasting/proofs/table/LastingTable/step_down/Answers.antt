@@ -1,6 +1,6 @@
 use Rattle.fx_lasting.proofs.Words.{◌≢◌, rules, inl, announced}
 use Rattle.fx_lasting.proofs.Calling.{hold_inside, hold_word}
-use Rattle.fx_lasting.proofs.HoldWords.{steps_down_keep}
+use Rattle.fx_lasting.proofs.hold_lemmas.HoldWords.{steps_down_keep}
 use Rattle.fx_lasting.proofs.Running.{still_at_work, runs_goes, file_then}
 use Rattle.fx_lasting.proofs.table.LastingTable.step_down.Goals as goal
 

@@ -1,6 +1,6 @@
 use Rattle.fx_lasting.proofs.Words.{⊎_elim}
 use Rattle.fx_lasting.proofs.Calling.{tag_inside, tag_word}
-use Rattle.fx_lasting.proofs.Labelling.{reads_tag_keep}
+use Rattle.fx_lasting.proofs.node_lemmas.Labelling.{reads_tag_keep}
 use Rattle.fx_lasting.proofs.Passing.{holds_on}
 use Rattle.fx_lasting.proofs.Running.{its_inside}
 use Rattle.fx_lasting.proofs.table.LastingTable.tag_of.Goals as goal

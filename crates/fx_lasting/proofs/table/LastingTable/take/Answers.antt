@@ -1,10 +1,10 @@
 use Rattle.fx_lasting.proofs.Words.{◌∙◌, ap, arith, Start, Bool, true, uncounted, group_of, range_at_start, IsAtWork, opening_of, view_of, pass_of}
 use Rattle.fx_lasting.proofs.Words.{Runs, Glance, Outside, as_stocked, retiring_work, ◌▷◌, [], Take, subst, sym, refl, Taken, no_use, PassView}
-use Rattle.fx_lasting.proofs.Removals.{adds_stocked, emptied_around, emptied_at_work, emptied_stock, stocked_pass}
+use Rattle.fx_lasting.proofs.slot_lemmas.Removals.{adds_stocked, emptied_around, emptied_at_work, emptied_stock, stocked_pass}
 use Rattle.fx_lasting.proofs.Running.{still_at_work}
 use Rattle.fx_lasting.proofs.Passing.{its_idle, account_so, knows_removed, taken_so, first_by}
 use Rattle.fx_lasting.proofs.table.LastingTable.take.Goals.{After-lower}
-use Rattle.fx_lasting.proofs.Settled.{still_idle}
+use Rattle.fx_lasting.proofs.node_lemmas.Settled.{still_idle}
 use Rattle.fx_lasting.proofs.table.LastingTable.take.Goals as goal
 
 -- the pass, before the slot is emptied

@@ -1,7 +1,7 @@
 use Rattle.fx_lasting.proofs.Words.{◌≡◌, ℕ, ap, sym, Start, glance_after, ◌∙◌, List, Log, first_log, true}
 use Rattle.fx_lasting.proofs.Calling.{slot_inside}
 use Rattle.fx_lasting.proofs.Running.{still_at_work, runs_goes, stays_then, took, no_name, its_name}
-use Rattle.fx_lasting.proofs.Taking.{takes_once_keep}
+use Rattle.fx_lasting.proofs.hold_lemmas.Taking.{takes_once_keep}
 use Rattle.fx_lasting.proofs.table.LastingTable.take_at.Goals as goal
 
 pub fetch_add-word-requires : goal.fetch_add-word-requires

@@ -2,10 +2,10 @@ use Rattle.fx_lasting.proofs.Words.{ℕ, List, sym, IsStockOf, IsBetweenCalls, a
 use Rattle.fx_lasting.proofs.Words.{Release, Take, Some, Bool, true, uncounted, group_of, range_at_start, Start, Glance, Outside, Runs, full_name_in}
 use Rattle.fx_lasting.proofs.Words.{count_in, retired_at, opening_of, view_of, pass_of, Adds, no_use, Retired, File, Names, node_of_number, not, ◌≡◌}
 use Rattle.fx_table.specs.declared.values.Doing.TheVariants.{Retiring as Retires}
-use Rattle.fx_lasting.proofs.ByNode.{stands_then, missed_so, tried_none, tried_so, value_so, removal_so}
-use Rattle.fx_lasting.proofs.HeldTries.{adds_held, held_flags}
+use Rattle.fx_lasting.proofs.slot_lemmas.ByNode.{stands_then, missed_so, tried_none, tried_so, value_so, removal_so}
+use Rattle.fx_lasting.proofs.slot_lemmas.HeldTries.{adds_held, held_flags}
 use Rattle.fx_lasting.proofs.Passing.{at_rest, still_pass, its_counted, knows_removed, first_by}
-use Rattle.fx_lasting.proofs.Removals.{adds_stocked, stocked_pass, stocked_then}
+use Rattle.fx_lasting.proofs.slot_lemmas.Removals.{adds_stocked, stocked_pass, stocked_then}
 use Rattle.fx_lasting.proofs.Running.{still_at_work, turns_then, number_is}
 use Rattle.fx_lasting.proofs.table.LastingTable.take_held.Goals as goal
 

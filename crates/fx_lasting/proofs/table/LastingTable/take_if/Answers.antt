@@ -2,11 +2,11 @@ use Rattle.fx_lasting.proofs.Words.{ℕ, List, sym, IsStockOf, IsBetweenCalls, a
 use Rattle.fx_lasting.proofs.Words.{Take, Some, Bool, true, false, uncounted, group_of, range_at_start, Start, Glance, Outside, Runs, full_name_in}
 use Rattle.fx_lasting.proofs.Words.{IsSeenBy, pass_in, count_in, retired_at, opening_of, view_of, pass_of, Adds, no_use, PassView, Retired, HasTakenIf}
 use Rattle.fx_table.specs.declared.values.Doing.TheVariants.{Retiring as Retires}
-use Rattle.fx_lasting.proofs.ByNode.{stands_then, missed_so, tried_none, tried_so, value_so, removal_so, is_on, adds_none}
+use Rattle.fx_lasting.proofs.slot_lemmas.ByNode.{stands_then, missed_so, tried_none, tried_so, value_so, removal_so, is_on, adds_none}
 use Rattle.fx_lasting.proofs.Passing.{at_rest, still_pass, its_idle, knows_removed, first_by}
-use Rattle.fx_lasting.proofs.Removals.{adds_stocked, stocked_pass, stocked_then}
+use Rattle.fx_lasting.proofs.slot_lemmas.Removals.{adds_stocked, stocked_pass, stocked_then}
 use Rattle.fx_lasting.proofs.Running.{still_at_work, turns_then, number_is}
-use Rattle.fx_lasting.proofs.Settled.{still_idle}
+use Rattle.fx_lasting.proofs.node_lemmas.Settled.{still_idle}
 use Rattle.fx_lasting.specs.declared.answers.TakenIf.TheVariants.{Removed, Missed}
 use Rattle.fx_lasting.proofs.table.LastingTable.take_if.Goals as goal
 

@@ -1,6 +1,6 @@
 use Rattle.fx_lasting.proofs.Words.{sym, subst, Start, opening_of, view_of, Result, PassView, Learns, Hold, Retired, LookedByKey, TakesByKey, TriesToTake}
 use Rattle.fx_lasting.proofs.Words.{KeyFault}
-use Rattle.fx_lasting.proofs.ByKey.{takes_so, takes_tried, not_tried}
+use Rattle.fx_lasting.proofs.slot_lemmas.ByKey.{takes_so, takes_tried, not_tried}
 use Rattle.fx_lasting.proofs.table.LastingTable.take_key.Goals as goal
 
 pub take_if-taken-requires-clause-slot : goal.take_if-taken-requires-clause-slot

@@ -1,5 +1,5 @@
 use Rattle.fx_lasting.proofs.Words.{subst, inr, Start, Result, Hold, KeyFault, LookedByKey, view_of}
-use Rattle.fx_lasting.proofs.HeldTries.{left_alone}
+use Rattle.fx_lasting.proofs.slot_lemmas.HeldTries.{left_alone}
 use Rattle.fx_lasting.proofs.table.LastingTable.take_key_alone.Goals as goal
 
 pub returns-clause-taken : goal.returns-clause-taken

@@ -1,5 +1,5 @@
 use Rattle.fx_lasting.proofs.Words.{sym, ap, ◌∙◌, ◌∷◌, Some, None, rest, Sat}
-use Rattle.fx_lasting.proofs.Births.{rests_keep}
+use Rattle.fx_lasting.proofs.node_lemmas.Births.{rests_keep}
 use Rattle.fx_lasting.proofs.Calling.{node_inside, node_word, place_inside}
 use Rattle.fx_lasting.proofs.table.LastingTable.take_out.Goals as goal
 

@@ -1,5 +1,5 @@
 use Rattle.fx_lasting.proofs.Words.{◌≡◌, ◌∙◌, ◌∷◌, ap, sym, subst, false, inl, Some, None, rest, Sat, Work, Runs, rested, Idle, Parked, IsAtWork, []}
-use Rattle.fx_lasting.proofs.Births.{rests_keep}
+use Rattle.fx_lasting.proofs.node_lemmas.Births.{rests_keep}
 use Rattle.fx_lasting.proofs.Calling.{node_inside, node_word}
 use Rattle.fx_lasting.proofs.Running.{its_inside, still_at_work, does_then, runs_one}
 use Rattle.fx_lasting.proofs.table.LastingTable.take_out_or_keep.Goals.{After-park}

@@ -1,6 +1,6 @@
 use Rattle.fx_lasting.proofs.Words.{◌≡◌, ◌<◌, ◌∙◌, ℕ, List, ap, sym, arith, length, get_elem?, some, get_or_default}
-use Rattle.fx_lasting.proofs.HeldTries.{moved_held}
-use Rattle.fx_lasting.proofs.FreeNodes.{entry_is}
+use Rattle.fx_lasting.proofs.slot_lemmas.HeldTries.{moved_held}
+use Rattle.fx_lasting.proofs.node_lemmas.FreeNodes.{entry_is}
 use Rattle.fx_lasting.proofs.table.LastingTable.try_out_held.Goals.{After-index}
 use Rattle.fx_lasting.proofs.table.LastingTable.try_out_held.Goals as goal
 

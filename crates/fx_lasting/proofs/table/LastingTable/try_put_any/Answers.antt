@@ -1,8 +1,8 @@
 use Rattle.fx_lasting.proofs.Words.{refl, arith, [], ◌▷◌, Allocate, Full, opening_of, view_of, true, false, HasAsked, adds_then, no_use, one_number}
 use Rattle.fx_lasting.proofs.Words.{DoesNothing}
 use Rattle.fx_lasting.proofs.Passing.{new_file_so}
-use Rattle.fx_lasting.proofs.Questions.{asked_full, asked_nothing}
-use Rattle.fx_lasting.proofs.Overtaking.{short_by}
+use Rattle.fx_lasting.proofs.range_lemmas.Questions.{asked_full, asked_nothing}
+use Rattle.fx_lasting.proofs.slot_lemmas.Overtaking.{short_by}
 use Rattle.fx_lasting.proofs.table.LastingTable.try_put_any.Goals as goal
 
 pub returns-then-is_still_full : goal.returns-then-is_still_full

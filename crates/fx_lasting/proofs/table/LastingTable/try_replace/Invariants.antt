@@ -1,6 +1,6 @@
 use Rattle.fx_lasting.proofs.Words.{◌≡◌, [], ◌+◌, full_name_in}
 use Rattle.fx_lasting.specs.Ends.{Does}
-use Rattle.fx_lasting.proofs.Overtaking.{Tried}
+use Rattle.fx_lasting.proofs.slot_lemmas.Overtaking.{Tried}
 use Rattle.fx_lasting.proofs.table.LastingTable.try_replace.Given as goal
 
 -- the pass has done nothing yet, and expects a word that names the node

@@ -1,14 +1,14 @@
 use Rattle.fx_lasting.proofs.Words.{◌≡◌, ◌≢◌, ◌+◌, ◌<◌, ◌^◌, ap, ◌∙◌, sym, arith, rules, None, file_node_in, name_in, ℕ, ◌-◌, subst, slot_of, refl}
 use Rattle.fx_lasting.proofs.Words.{Inside, group_of, range_at_start, inl, inr, [], IsWatching}
-use Rattle.fx_lasting.proofs.Groups.{in_range_so}
+use Rattle.fx_lasting.proofs.range_lemmas.Groups.{in_range_so}
 use Rattle.fx_lasting.proofs.Calling.{slot_inside, slot_low}
-use Rattle.fx_lasting.proofs.Seeing.{sees_keep}
-use Rattle.fx_lasting.proofs.EmptySlots.{full_so}
-use Rattle.fx_lasting.proofs.Overtaking.{overtaken_in, overtaken_now}
+use Rattle.fx_lasting.proofs.slot_lemmas.Seeing.{sees_keep}
+use Rattle.fx_lasting.proofs.slot_lemmas.EmptySlots.{full_so}
+use Rattle.fx_lasting.proofs.slot_lemmas.Overtaking.{overtaken_in, overtaken_now}
 use Rattle.fx_lasting.proofs.Places.{slot_back}
 use Rattle.fx_lasting.proofs.Running.{still_at_work, no_name}
-use Rattle.fx_lasting.proofs.SlotLaws.{exchanges_keep}
-use Rattle.fx_lasting.proofs.Trying.{in_size, peeked, lost_still, won_run, won_named, won_at_work, won_so}
+use Rattle.fx_lasting.proofs.slot_lemmas.SlotLaws.{exchanges_keep}
+use Rattle.fx_lasting.proofs.range_lemmas.Trying.{in_size, peeked, lost_still, won_run, won_named, won_at_work, won_so}
 use Rattle.fx_lasting.proofs.table.LastingTable.try_slot.Goals as goal
 
 pub load-old-requires : goal.load-old-requires

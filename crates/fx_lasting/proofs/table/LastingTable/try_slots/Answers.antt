@@ -2,7 +2,7 @@ use Rattle.fx_lasting.proofs.Words.{◌∷◌, Closed, inr, refl, ap, ◌∙◌,
 use Rattle.fx_lasting.proofs.Words.{one_number, Placing, label_of, as_written, ◌<◌, Start, nodes_of}
 use Rattle.fx_lasting.proofs.Running.{still_at_work, does_then}
 use Rattle.fx_lasting.proofs.Passing.{adds_swapped, swapped_pass, swapped_rest, adds_so, at_rest, still_pass, its_place, its_flag, may_install}
-use Rattle.fx_lasting.proofs.Trying.{stocked_at, swapped_does}
+use Rattle.fx_lasting.proofs.range_lemmas.Trying.{stocked_at, swapped_does}
 use Rattle.fx_lasting.proofs.Calling.{begins_at}
 use Rattle.fx_lasting.proofs.table.LastingTable.try_slots.Goals as goal
 

@@ -1,11 +1,11 @@
 use Rattle.fx_lasting.proofs.Words.{◌≡◌, ◌≤◌, ◌+◌, ℕ, List, get_elem?, some, pass_in, refl, ap, ◌∙◌, sym, arith, slot_of, full_name_in, subst}
 use Rattle.fx_lasting.proofs.Calling.{slot_inside, slot_low, few_nodes, stock_inside}
-use Rattle.fx_lasting.proofs.HeldTries.{won_swap_held}
-use Rattle.fx_lasting.proofs.ByNode.{lost_run, lost_so, stands_then}
-use Rattle.fx_lasting.proofs.Overtaking.{Tried, tried_nothing, tried_more}
+use Rattle.fx_lasting.proofs.slot_lemmas.HeldTries.{won_swap_held}
+use Rattle.fx_lasting.proofs.slot_lemmas.ByNode.{lost_run, lost_so, stands_then}
+use Rattle.fx_lasting.proofs.slot_lemmas.Overtaking.{Tried, tried_nothing, tried_more}
 use Rattle.fx_lasting.proofs.Places.{slot_back}
 use Rattle.fx_lasting.proofs.Running.{placed_none, still_at_work, runs_goes, runs_within, stock_is}
-use Rattle.fx_lasting.proofs.SwapsHeld.{swaps_held_keep}
+use Rattle.fx_lasting.proofs.slot_lemmas.SwapsHeld.{swaps_held_keep}
 use Rattle.fx_lasting.proofs.table.LastingTable.try_swap_held.Goals as goal
 
 pub empty_word-new-requires : goal.empty_word-new-requires

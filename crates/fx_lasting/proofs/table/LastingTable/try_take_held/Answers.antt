@@ -1,11 +1,11 @@
 use Rattle.fx_lasting.proofs.Words.{◌≤◌, ◌+◌, ℕ, refl, ap, ◌∙◌, arith, slot_of, full_name_in, subst, sym}
 use Rattle.fx_lasting.proofs.Calling.{slot_inside, slot_low}
-use Rattle.fx_lasting.proofs.HeldTries.{won_take_held}
-use Rattle.fx_lasting.proofs.ByNode.{lost_run, lost_so, stands_then}
-use Rattle.fx_lasting.proofs.Overtaking.{Tried, tried_nothing, tried_more}
+use Rattle.fx_lasting.proofs.slot_lemmas.HeldTries.{won_take_held}
+use Rattle.fx_lasting.proofs.slot_lemmas.ByNode.{lost_run, lost_so, stands_then}
+use Rattle.fx_lasting.proofs.slot_lemmas.Overtaking.{Tried, tried_nothing, tried_more}
 use Rattle.fx_lasting.proofs.Places.{slot_back}
 use Rattle.fx_lasting.proofs.Running.{placed_none, still_at_work, runs_goes, runs_within}
-use Rattle.fx_lasting.proofs.SwapsHeld.{takes_held_keep}
+use Rattle.fx_lasting.proofs.slot_lemmas.SwapsHeld.{takes_held_keep}
 use Rattle.fx_lasting.proofs.table.LastingTable.try_take_held.Goals as goal
 
 pub loop-init : goal.loop-init

@@ -1,5 +1,5 @@
 use Rattle.fx_lasting.proofs.Words.{◌≡◌, ℕ, ◌+◌, ◌∙◌, subst, arith, inl, dite, ℕ_discrete, Retiring, Runs, [], round_to}
-use Rattle.fx_lasting.proofs.Rounds.{visited_more}
+use Rattle.fx_lasting.proofs.hold_lemmas.Rounds.{visited_more}
 use Rattle.fx_lasting.proofs.table.LastingTable.visit.Goals as goal
 
 pub returns-then-pass-number-clause-visited : goal.returns-then-pass-number-clause-visited

@@ -1,6 +1,6 @@
 use Rattle.fx_lasting.proofs.Words.{◌≢◌, rules, announced}
 use Rattle.fx_lasting.proofs.Calling.{hold_inside, hold_word}
-use Rattle.fx_lasting.proofs.HoldWords.{withdraws_keep}
+use Rattle.fx_lasting.proofs.hold_lemmas.HoldWords.{withdraws_keep}
 use Rattle.fx_lasting.proofs.Running.{still_at_work, runs_goes, mark_then}
 use Rattle.fx_lasting.proofs.table.LastingTable.withdraw.Goals as goal
 

@@ -1,6 +1,6 @@
 use Rattle.std.proofs.Common.{Result, subst}
 use Rattle.fx_table.specs.declared.values.Hold.{Hold}
-use Rattle.fx_lasting.specs.Keys.{LookedByKey}
+use Rattle.fx_lasting.specs.slots.ByKey.{LookedByKey}
 use Rattle.fx_lasting.specs.Tables.{view_of}
 use Rattle.fx_lasting.specs.declared.key_answers.KeyFault.{KeyFault}
 use Rattle.fx_server.specs.ByKey.{key_of}

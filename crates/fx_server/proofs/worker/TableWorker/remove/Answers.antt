@@ -1,5 +1,5 @@
 use Rattle.std.proofs.Common.{◌≡◌, None, inl, refl, sym, subst, ◌∙◌}
-use Rattle.fx_lasting.specs.Alone.{TakesAlone}
+use Rattle.fx_lasting.specs.slots.Alone.{TakesAlone}
 use Rattle.fx_lasting.specs.declared.key_answers.TakenByKey.{TakenByKey}
 use Rattle.fx_server.specs.ByKey.{key_of}
 use Rattle.fx_server.specs.Workers.{its_start}

@@ -1,6 +1,6 @@
 use Rattle.std.proofs.Common.{Result, Some, refl, subst}
 use Rattle.fx_table.specs.declared.values.Retired.{Retired}
-use Rattle.fx_lasting.specs.Keys.{TakesByKey, TriesToTake}
+use Rattle.fx_lasting.specs.slots.ByKey.{TakesByKey, TriesToTake}
 use Rattle.fx_lasting.specs.Tables.{view_of}
 use Rattle.fx_lasting.specs.declared.key_answers.KeyFault.{KeyFault}
 use Rattle.fx_server.specs.ByKey.{key_of}

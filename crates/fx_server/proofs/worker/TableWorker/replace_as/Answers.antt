@@ -1,6 +1,6 @@
 use Rattle.std.proofs.Common.{Some, refl, subst}
 use Rattle.fx_base.specs.Identity.{Identity}
-use Rattle.fx_lasting.specs.Keys.{PutsOverKey, TriesToPut}
+use Rattle.fx_lasting.specs.slots.ByKey.{PutsOverKey, TriesToPut}
 use Rattle.fx_lasting.specs.Tables.{view_of}
 use Rattle.fx_lasting.specs.declared.key_answers.PutOverKey.{PutOverKey}
 use Rattle.fx_lasting.specs.declared.key_answers.PutOverKey.TheVariants.{Replaced}

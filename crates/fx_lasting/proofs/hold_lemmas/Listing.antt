@@ -1,0 +1,125 @@
+-- A step that sets a pass's bit in the list keeps the rule.
+use Rattle.fx_lasting.proofs.Words.{ℕ, ◌≤◌, ◌^◌, List, Option, Closed, refl, inl, inr, arith, none, keeps, Idle, Announced, Counted, Guarded, Owing}
+use Rattle.fx_lasting.proofs.Words.{Yielding, Searching, Placing, Retiring, Emptying, Keeping, true, bit_or, bit_of, list_place, step, length-set}
+use Rattle.fx_lasting.proofs.Words.{dite, ℕ_discrete, Work, IsAllowed, Lists, ListsKeep, [], Bool, ◌≡◌, ◌+◌, ◌%◌, ◌<◌, ◌∙◌, sym, false, Agrees}
+use Rattle.fx_lasting.proofs.Histories.{grows_none}
+use Rattle.fx_lasting.proofs.Frames.{guards_same, covers_same, sees_same}
+use Rattle.fx_lasting.proofs.Keeping.{Turn, turn_of, After, word_at, Made, by_turn, its_log, its_work, in_range, logged, w, end, asks_alike, few_slots, met_same}
+use Rattle.fx_lasting.proofs.slot_lemmas.Watching.{watch_same}
+use Rattle.fx_lasting.proofs.Calm.{calm_after, calm_kept}
+use Rattle.fx_lasting.proofs.hold_lemmas.Lists.{ListGoesOn, now_listed, bit_added}
+use Rattle.fx_lasting.proofs.range_lemmas.GroupSteps.{its_inside}
+use Rattle.fx_lasting.proofs.Places.{list_words, list_here, list_apart, list_node, list_hold, list_slot, list_alike, list_label}
+use Rattle.fx_lasting.proofs.range_lemmas.Groups.{counts_same}
+
+-- a pass that is listed may do what it did
+allowed_more : (stock : List ℕ) (l : Bool) (d : Work) → IsAllowed stock l d → IsAllowed stock true d
+allowed_more stock l (Searching n) ok = ok
+allowed_more stock l (Placing n w) ok = ok
+allowed_more stock l (Announced n) ok = refl
+allowed_more stock l (Guarded f n) ok = refl
+allowed_more stock l Idle ok = tt
+allowed_more stock l (Counted f n) ok = tt
+allowed_more stock l (Owing n) ok = tt
+allowed_more stock l (Yielding f n) ok = tt
+allowed_more stock l (Retiring f n t nx m) ok = tt
+allowed_more stock l (Emptying n) ok = tt
+allowed_more stock l (Keeping n lost) ok = ok
+
+module _ (turn : Turn) (not_yet : turn.x.listed ≡ false) (fits : word_at turn.st.words (list_place turn.x.number) < 18446744073709551616) where
+  open turn use {st, v, r, id, x, here, one}
+
+  few : x.number ≤ 1024
+  few = omega (arith, (in_range turn).1, r.shape.passes)
+
+  abbrev new : ℕ
+  new = (word_at st.words (list_place x.number) + 2 ^ bit_of x.number) % 2 ^ 64
+
+  -- the bit was clear
+  is_set : new ≡ bit_or (word_at st.words (list_place x.number)) (2 ^ bit_of x.number)
+  is_set = bit_added (word_at st.words (list_place x.number)) (bit_of x.number) fits (omega arith)
+      (λ has. let bad : true ≡ false = sym ((its_log turn).unlisted has) ∙ not_yet in cc bad)
+
+  abbrev words' : List ℕ
+  words' = list_words turn x.number few new
+
+  abbrev listed_after : After turn
+  listed_after = calm_after turn r.history r.history words' v.work v.glance v.change x.asked true (λ l. refl) x.watch (met_same x.watch.met)
+
+  -- each word of the list
+  goes_on : (p : ℕ) → ListGoesOn x.number true p (word_at st.words (list_place p)) (word_at words' (list_place p))
+  goes_on p = dite (ℕ_discrete (list_place p) (list_place x.number))
+      (λ same. inr (same, rw same (list_here turn x.number few new ∙ is_set), refl))
+      (λ other. inl (list_apart turn x.number few new other))
+
+  kept : Agrees v.start (end turn listed_after)
+  kept = let o = its_log turn in let same = list_slot turn x.number few new in
+      let own = guards_same turn listed_after x.number v.work (list_hold turn x.number few new x.number (in_range turn).0) refl
+      (covers_same turn words' same x.number) o.hold o.guarded in
+      calm_kept turn r.history r.history words' v.work v.glance v.change x.asked true (λ l. refl) x.watch (met_same x.watch.met) record {
+        words = length-set st.words (list_place x.number) new;
+        grows = grows_none x.number r.history;
+        legal = r.legal;
+        seen = ([], refl);
+        own = refl;
+        at = refl;
+        fresh = refl;
+        removed = refl;
+        slot_words = same;
+        node_words = list_node turn x.number few new;
+        label_words = list_label turn x.number few new;
+        hold_words = λ p other low. list_hold turn x.number few new p low;
+        counts = counts_same id (w turn listed_after) here r.counts (few_slots turn) refl (list_alike turn x.number few new) refl
+            (asks_alike turn listed_after refl);
+        taken = λ n. refl;
+        owners = inl refl;
+        held = o.held;
+        allowed = allowed_more x.stock x.listed v.work o.allowed;
+        lists = λ p few. goes_on p;
+        its_bit = λ l. inr (rw (list_here turn x.number few new ∙ is_set) (now_listed x.number (word_at st.words (list_place x.number))));
+        watches = watch_same v.start x.number ([], refl) same (list_alike turn x.number few new).0 x.watch o.watch;
+        its = record {
+          hold = own.0;
+          guarded = own.1;
+          sees = sees_same v.start (λ s. r.deed s x.number) same v.glance o.sees;
+          heats = o.heats;
+          work = its_work turn;
+        };
+        holds = λ n. refl;
+      }
+
+  lists : (slots : ℕ) (carried : List (ℕ × Option Closed)) → Made turn carried (list_place x.number) (λ word. (word + 2 ^ bit_of x.number) % 2 ^ 64)
+      (Lists (step slots (list_place x.number) (2 ^ bit_of x.number) 0 none) (v, carried))
+  lists slots carried = (
+    w turn listed_after,
+    keeps,
+    tt,
+    kept,
+    record {
+      goes = record {
+        stepped = let o = its_log turn in let grows = grows_none x.number r.history in rw one record {
+          one = (logged x true x.asked x.stock x.watch r.history, refl);
+          number = refl;
+          seen = grows.seen x.front o.seen;
+          legal = r.legal;
+          own = o.own;
+          steps = refl;
+          listed = refl;
+          asked = refl;
+          stock = refl;
+          met = met_same x.watch.met;
+          work = refl;
+          inside = its_inside turn;
+          glance = refl;
+          change = refl;
+          start = refl;
+        };
+        carried = refl;
+      };
+    },
+  )
+
+pub lists_keep : ListsKeep Lists
+lists_keep k slots id i m x has not_yet place = by_turn slots (λ _. Unit {0}) (λ _. list_place x.number) (λ word. (word + 2 ^ bit_of x.number) % 2 ^ 64)
+    (λ i. Lists (step slots i (2 ^ bit_of x.number) 0 none) m) has tt place
+    (λ st r here _ fits. lists (turn_of m x has.1 id st r here) not_yet fits slots m.1)

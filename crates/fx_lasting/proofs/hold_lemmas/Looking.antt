@@ -1,0 +1,290 @@
+-- A look-up loads the slot's word: at first, and again when it has announced a node.
+use Rattle.fx_lasting.proofs.Words.{IsOnList, Log, first_log, ◌≡◌, ◌≢◌, ℕ, ◌+◌, ◌-◌, ◌<◌, List, [], ◌∷◌, sym, refl, ap, ◌∙◌, subst, arith, Option}
+use Rattle.fx_lasting.proofs.Words.{Some, None, none, keeps, Closed, File, Event, Look, ◌▷◌, WorkAgrees, GuardAgrees, GlanceAgrees, Heats, NamesNode}
+use Rattle.fx_lasting.proofs.Words.{Names, IsSeated, state_after_all, slots_of, nodes_of, held_in, if_file, taking, pass_event, seated, file_in, Work}
+use Rattle.fx_lasting.proofs.Words.{Glance, Idle, Announced, Guarded, Hot, Cold, Heating, Nothing, Glances, Confirms, GlancesKeep, ConfirmsKeep, Goes}
+use Rattle.fx_lasting.proofs.Words.{Shows, IsHot, heat_in, Deed, untouched, over, heated, has_heated, full_name_in, slot_place, step, inl, inr}
+use Rattle.fx_lasting.proofs.Words.{⊎_elim, ◌⊎◌, dite, ℕ_discrete, one_more_at, Bool, true, false, hold_word_of, IsHistory, Start, IsInside}
+use Rattle.fx_lasting.proofs.Words.{HasNoFile}
+use Rattle.fx_lasting.proofs.Histories.{grows_none, grows_one, legal_more, part_mine, held_mine, same_shape}
+use Rattle.fx_lasting.proofs.Frames.{busy}
+use Rattle.fx_lasting.proofs.Counts.{tally_at}
+use Rattle.fx_lasting.proofs.Keeping.{Turn, turn_of, After, word_at, slot_word, Made, by_turn, its_log, its_work, in_range, tells, w}
+use Rattle.fx_lasting.proofs.Calm.{read_after, Reads, read_kept}
+use Rattle.fx_lasting.proofs.node_lemmas.Choosing.{no_file, no_take, not_busy, holds_none}
+use Rattle.fx_lasting.proofs.Places.{slot_back}
+
+module _ (turn : Turn) (s : ℕ) (inside : s < slots_of turn.v.start) where
+  open turn use {st, v, r, id, x, here, one}
+
+  abbrev pub word : ℕ
+  word = slot_word st.words s
+
+  abbrev pub there : Option File
+  there = (state_after_all v.start r.history).at s
+
+  pub size_so : s < (state_after_all v.start r.history).size
+  size_so = let z = (same_shape v.start r.history).0 in omega arith
+
+  -- the file that the word names is at the slot, on its node
+  pub named : {n : ℕ} → full_name_in word ≡ n + 1
+      → (f : File) × (there ≡ Some f) × Shows word f × (n < nodes_of v.start) × (r.phase n ≡ seated s f)
+  named {n} is = let o = r.each_slot s inside in go there refl o.names o.seat
+    where
+      go : (found : Option File) → there ≡ found → Names r.node_of word found → IsSeated v.start r.node_of r.phase s found
+          → (f : File) × (there ≡ Some f) × Shows word f × (n < nodes_of v.start) × (r.phase n ≡ seated s f)
+      go None at names seat = absurd (omega arith)
+      go (Some f) at names seat = let a = names.0 in let same : r.node_of f.number ≡ n = omega arith in
+          (f, at, names.1, rw same at seat.0, rw same at seat.1)
+
+  pub unnamed : full_name_in word ≡ 0 → there ≡ None
+  unnamed is = let o = r.each_slot s inside in go there refl o.names
+    where
+      go : (found : Option File) → there ≡ found → Names r.node_of word found → there ≡ None
+      go None at names = at
+      go (Some f) at names = let a = names.0 in absurd (omega arith)
+
+  -- a name is 0 or that of a node
+  pub name_cases : (full_name_in word ≡ 0) ⊎ ((n : ℕ) × (full_name_in word ≡ n + 1))
+  name_cases = dite (ℕ_discrete (full_name_in word) 0) (λ e. inl e) (λ some. inr (full_name_in word - 1, omega (arith, some)))
+
+  -- a slot that isn't hot: the pass has done nothing there
+  not_over : (IsHot word → ⊥) → ((t : ℕ) → v.glance ≢ Heating t) → r.deed s x.number ≡ untouched
+  not_over cold calm = go (r.deed s x.number) refl
+    where
+      go : (e : Deed) → r.deed s x.number ≡ e → r.deed s x.number ≡ untouched
+      go untouched is = is
+      go over is = absurd (calm s ((its_log turn).heats s inside is))
+      go heated is = absurd (cold (let a = (r.each_slot s inside).heat in
+          let b = tally_at (λ p. has_heated (r.deed s p)) v.start.passes x.number (in_range turn).0 (in_range turn).1 (ap has_heated is) in omega arith))
+
+  -- a pass that isn't listed took nothing
+  not_over_yet : (x.listed ≡ true → ⊥) → r.deed s x.number ≡ untouched
+  not_over_yet unlisted = go (r.deed s x.number) refl
+    where
+      go : (e : Deed) → r.deed s x.number ≡ e → r.deed s x.number ≡ untouched
+      go untouched is = is
+      go over is = absurd (unlisted ((its_log turn).takes_listed s inside (λ e. let bad : over ≡ untouched = sym is ∙ e in cc bad)))
+      go heated is = absurd (unlisted ((its_log turn).takes_listed s inside (λ e. let bad : heated ≡ untouched = sym is ∙ e in cc bad)))
+
+  listed_cases : (x.listed ≡ true → ⊥) ⊎ (x.listed ≡ true)
+  listed_cases = go x.listed refl
+    where
+      go : (b : Bool) → x.listed ≡ b → (x.listed ≡ true → ⊥) ⊎ (x.listed ≡ true)
+      go true is = inr is
+      go false is = inl (λ l. let bad : false ≡ true = sym is ∙ l in cc bad)
+
+  hot_cases : (IsHot word → ⊥) ⊎ IsHot word
+  hot_cases = dite (ℕ_discrete (heat_in word) 0) (λ c. inl (λ h. omega (arith, c, h))) (λ h. inr (omega (arith, h)))
+
+  -- the pass has nothing to heat, whatever it does next
+  pub heats_all : ((t : ℕ) → v.glance ≢ Heating t) → (e : Glance) → Heats v.start (λ i. r.deed i x.number) e
+  heats_all calm e = λ i l is. absurd (calm i ((its_log turn).heats i l is))
+
+  -- a load that adds nothing to the history
+  module _ (d : Work) (works : (v.work ≡ d) ⊎ (HasNoFile v.work × (d ≡ Idle))) (g : Glance) (calm : (t : ℕ) → v.glance ≢ Heating t)
+      (sees : GlanceAgrees v.start (slot_word st.words) (λ i. r.deed i x.number) g) (knows : IsInside v.start d) where
+    abbrev pub quiet_after : After turn
+    quiet_after = read_after turn d g r.history
+
+    same_held : held_in v.work ≡ held_in d
+    same_held = ⊎_elim (λ e. ap held_in e) (λ z. no_file z.0 ∙ sym (ap held_in z.1)) works
+
+    pub quiet : Reads turn d g r.history
+    quiet = let o = its_log turn in record {
+      grows = grows_none x.number r.history;
+      legal = r.legal;
+      at = refl;
+      fresh = refl;
+      removed = refl;
+      taken = λ n. ⊎_elim (λ e. sym (ap (taking n) e)) (λ z. ap (taking n) z.1 ∙ sym (no_take z.0 n)) works;
+      owners = ⊎_elim (λ e. inl (sym e)) (λ z. inr (not_busy z.0)) works;
+      held = o.held ∙ same_held;
+      allowed = ⊎_elim (λ (e : v.work ≡ d). rw e at o.allowed) (λ z. rw z.1 tt) works;
+      its = record {
+        hold = ⊎_elim (λ (e : v.work ≡ d). rw e at o.hold) (λ z. rw z.1 (holds_none z.0 o.hold)) works;
+        guarded = ⊎_elim (λ (e : v.work ≡ d). rw e at o.guarded) (λ z. rw z.1 tt) works;
+        sees = sees;
+        heats = heats_all calm g;
+        work = ⊎_elim (λ (e : v.work ≡ d). subst (WorkAgrees v.start r.phase id) e (its_work turn)) (λ z. rw z.1 tt) works;
+      };
+      holds = λ n. let a = ap (if_file n) same_held in omega arith;
+    }
+
+    pub goes_quiet : (carried : List (ℕ × Option Closed)) → Goes (v, carried) [] d g (w turn quiet_after, carried)
+    goes_quiet carried = record {
+      stepped = tells turn quiet_after refl carried carried [] (grows_none x.number r.history) r.legal refl knows;
+      carried = refl;
+    }
+
+  -- an empty slot
+  abbrev pub h₀ : List Event
+  h₀ = pass_event x (Look s None) ∷ r.history
+
+  legal₀ : there ≡ None → IsHistory v.start h₀
+  legal₀ is = legal_more v.start r.legal (size_so, sym is) tt
+
+  found_empty : HasNoFile v.work → v.glance ≡ Nothing → there ≡ None → Reads turn Idle Nothing h₀
+  found_empty works nothing is = let o = its_log turn in record {
+    grows = grows_one x.number r.history _ refl;
+    legal = legal₀ is;
+    at = refl;
+    fresh = refl;
+    removed = refl;
+    taken = λ n. sym (no_take works n);
+    owners = inr (not_busy works);
+    held = held_mine (pass_event x (Look s None)) r.history refl;
+    allowed = tt;
+    its = record {
+      hold = holds_none works o.hold;
+      guarded = tt;
+      sees = tt;
+      heats = heats_all (λ t e. cc (sym nothing ∙ e)) Nothing;
+      work = tt;
+    };
+    holds = λ n. let a = ap (if_file n) (no_file works) in omega arith;
+  }
+
+  pub glance : (slots : ℕ) (carried : List (ℕ × Option Closed)) → HasNoFile v.work → v.glance ≡ Nothing
+      → Made turn carried (slot_place s) (λ word. word) (Glances (step slots (slot_place s) 0 0 none) (v, carried))
+  glance slots carried works nothing = let calm : (t : ℕ) → v.glance ≢ Heating t = λ t e. cc (sym nothing ∙ e) in ⊎_elim
+      (λ (none_named : full_name_in word ≡ 0). let e = found_empty works nothing (unnamed none_named) in (
+        w turn (read_after turn Idle Nothing h₀),
+        keeps,
+        tt,
+        read_kept turn Idle Nothing (slot_place s) e,
+        record {
+          empty = λ _. rw (slot_back s) record {
+            stepped = tells turn (read_after turn Idle Nothing h₀) refl carried carried ([] ▷ Look s None) e.grows e.legal (part_mine r.history refl) tt;
+            carried = refl;
+          };
+          cold = λ n is _. absurd (omega arith);
+          hot = λ n is _. absurd (omega arith);
+        },
+      ))
+      (λ (z : (n : ℕ) × (full_name_in word ≡ n + 1)). let o = named z.1 in ⊎_elim
+      (λ (cold : (IsHot word × (x.listed ≡ true) → ⊥) × (r.deed s x.number ≡ untouched)).
+      let sees : GlanceAgrees v.start (slot_word st.words) (λ i. r.deed i x.number) (Cold s) = (inside, cold.1) in (
+        w turn (quiet_after Idle (inr (works, refl)) (Cold s) calm sees tt),
+        keeps,
+        tt,
+        read_kept turn Idle (Cold s) (slot_place s) (quiet Idle (inr (works, refl)) (Cold s) calm sees tt),
+        record {
+          empty = λ is. absurd (let a = z.1 in omega arith);
+          cold = λ n is _. rw (slot_back s) (goes_quiet Idle (inr (works, refl)) (Cold s) calm sees tt carried);
+          hot = λ n is hot has. absurd (cold.0 (hot, mine has));
+        },
+      ))
+      (λ (hot : IsHot word × (x.listed ≡ true)).
+      let sees : GlanceAgrees v.start (slot_word st.words) (λ i. r.deed i x.number) (Hot s z.0) = (inside, o.3, inl (z.1, hot.0)) in (
+        w turn (quiet_after Idle (inr (works, refl)) (Hot s z.0) calm sees tt),
+        keeps,
+        tt,
+        read_kept turn Idle (Hot s z.0) (slot_place s) (quiet Idle (inr (works, refl)) (Hot s z.0) calm sees tt),
+        record {
+          empty = λ is. absurd (let a = z.1 in omega arith);
+          cold = λ n is cold. absurd (cold (hot.0, theirs hot.1));
+          hot = λ n is _ _. let same : z.0 ≡ n = (let a = z.1 in omega arith) in
+              rw (← same, slot_back s) (goes_quiet Idle (inr (works, refl)) (Hot s z.0) calm sees tt carried, o.3);
+        },
+      )) way)
+      name_cases
+    where
+      mine : IsOnList (v, carried) → x.listed ≡ true
+      mine has = sym (ap (λ (l : List Log). (first_log l).listed) one) ∙ has
+
+      theirs : x.listed ≡ true → IsOnList (v, carried)
+      theirs has = ap (λ (l : List Log). (first_log l).listed) one ∙ has
+
+      calm_now : (t : ℕ) → v.glance ≢ Heating t
+      calm_now t e = cc (sym nothing ∙ e)
+
+      -- the pass is to take what the slot names, or to announce the node
+      way : ((IsHot word × (x.listed ≡ true) → ⊥) × (r.deed s x.number ≡ untouched)) ⊎ (IsHot word × (x.listed ≡ true))
+      way = ⊎_elim (λ cold. inl (λ z. cold z.0, not_over cold calm_now))
+          (λ hot. ⊎_elim (λ none. inl (λ z. none z.1, not_over_yet none)) (λ has. inr (hot, has)) listed_cases) hot_cases
+
+  -- a file that is there still, and hot
+  module _ (n : ℕ) (works : v.work ≡ Announced n) (saw : v.glance ≡ Hot s n) where
+    calm_hot : (t : ℕ) → v.glance ≢ Heating t
+    calm_hot t e = cc (sym saw ∙ e)
+
+    module _ (f : File) (is : there ≡ Some f) (l : n < nodes_of v.start) (at : r.phase n ≡ seated s f) (hot : IsHot word) where
+      abbrev h₁ : List Event
+      h₁ = pass_event x (Look s (Some f)) ∷ r.history
+
+      -- the announcement isn't marked
+      unmarked : NamesNode (word_at st.words (hold_word_of v.start x.number)) (r.debt x.number) n
+      unmarked = rw works at (its_log turn).hold
+
+      its_allowed : x.listed ≡ true
+      its_allowed = rw works at (its_log turn).allowed
+
+      found_file : Reads turn (Guarded f n) Nothing h₁
+      found_file = let guarded : GuardAgrees (slot_word st.words) r.phase x.number (r.debt x.number) (Guarded f n) = λ _. rw at hot in record {
+        grows = grows_one x.number r.history _ refl;
+        legal = legal_more v.start r.legal (size_so, sym is) tt;
+        at = refl;
+        fresh = refl;
+        removed = refl;
+        taken = λ k. sym (ap (taking k) works);
+        owners = inr (ap busy works);
+        held = held_mine (pass_event x (Look s (Some f))) r.history refl;
+        allowed = its_allowed;
+        its = record { hold = unmarked; guarded = guarded; sees = tt; heats = heats_all calm_hot Nothing; work = (l, ap file_in at) };
+        holds = λ m. let a = one_more_at (state_after_all v.start r.history).holds f.number m in
+            let b = ap (λ (e : Work). if_file m (held_in e)) works in omega arith;
+      }
+
+    moved_on : ((full_name_in word ≡ n + 1) × IsHot word → ⊥) → r.deed s x.number ≡ untouched
+    moved_on not_so = let o = rw saw at (its_log turn).sees in ⊎_elim (λ z. absurd (not_so z)) (λ out. out) o.2
+
+    pub confirm : (slots : ℕ) (carried : List (ℕ × Option Closed))
+        → Made turn carried (slot_place s) (λ word. word) (Confirms (step slots (slot_place s) 0 0 none) (v, carried))
+    confirm slots carried = ⊎_elim
+        (λ (so : (full_name_in word ≡ n + 1) × IsHot word). let o = named so.0 in let e = found_file o.0 o.1 o.3 o.4 so.1 in (
+          w turn (read_after turn (Guarded o.0 n) Nothing (h₁ o.0 o.1 o.3 o.4 so.1)),
+          keeps,
+          tt,
+          read_kept turn (Guarded o.0 n) Nothing (slot_place s) e,
+          record {
+            holds = λ i k saw' works' names is_hot. let at : s ≡ i = cc (sym saw ∙ saw') in let same : n ≡ k = cc (sym saw ∙ saw') in
+                rw (← at, ← same) (
+                  o.0,
+                  o.2,
+                  record {
+                    stepped = tells turn (read_after turn (Guarded o.0 n) Nothing (h₁ o.0 o.1 o.3 o.4 so.1)) refl carried carried
+                        ([] ▷ Look s (Some o.0)) e.grows e.legal (part_mine r.history refl) o.3;
+                    carried = refl;
+                  },
+                );
+            moved = λ i k saw' works' not_so. let same : n ≡ k = cc (sym saw ∙ saw') in absurd (not_so (rw (← same) so));
+          },
+        ))
+        (λ not_so. let sees : GlanceAgrees v.start (slot_word st.words) (λ i. r.deed i x.number) (Cold s) = (inside, moved_on not_so) in let l = subst (WorkAgrees v.start r.phase id) works (its_work turn) in (
+          w turn (quiet_after (Announced n) (inl works) (Cold s) calm_hot sees l),
+          keeps,
+          tt,
+          read_kept turn (Announced n) (Cold s) (slot_place s) (quiet (Announced n) (inl works) (Cold s) calm_hot sees l),
+          record {
+            holds = λ i k saw' works' names is_hot. let same : n ≡ k = cc (sym saw ∙ saw') in absurd (not_so (rw same (names, is_hot)));
+            moved = λ i k saw' works' _. let at : s ≡ i = cc (sym saw ∙ saw') in let same : n ≡ k = cc (sym saw ∙ saw') in
+                rw (← at, ← same) (goes_quiet (Announced n) (inl works) (Cold s) calm_hot sees l carried);
+          },
+        ))
+        still_so
+      where
+        still_so : ((full_name_in word ≡ n + 1) × IsHot word) ⊎ ((full_name_in word ≡ n + 1) × IsHot word → ⊥)
+        still_so = dite (ℕ_discrete (full_name_in word) (n + 1)) (λ a. ⊎_elim (λ c. inr (λ z. c z.1)) (λ h. inl (a, h)) hot_cases)
+            (λ a. inr (λ z. a z.0))
+
+pub glances_keep : GlancesKeep Glances
+glances_keep k slots id i s m x has nothing inside place = by_turn slots (λ (k : Start). s < slots_of k) (λ _. slot_place s) (λ word. word)
+    (λ i. Glances (step slots i 0 0 none) m) has inside place
+    (λ st r here inside fits. glance (turn_of m x has.1 id st r here) s inside slots m.1 nothing.0 nothing.1)
+
+pub confirms_keep : ConfirmsKeep Confirms
+confirms_keep k slots id i s n m x has works saw place = by_turn slots (λ _. Unit {0}) (λ _. slot_place s) (λ word. word)
+    (λ i. Confirms (step slots i 0 0 none) m) has tt place
+    (λ st r here _ fits. let turn = turn_of m x has.1 id st r here in let o = rw saw at (its_log turn).sees in
+    confirm turn s o.0 n works saw slots m.1)

@@ -1,0 +1,106 @@
+-- A pass that removed a hot file loads a word of the list: the passes without their bits hold
+-- nothing of the node that isn't marked.
+use Rattle.fx_lasting.proofs.Words.{◌≡◌, ◌≢◌, ℕ, ◌+◌, ◌*◌, ◌<◌, ◌≤◌, List, [], sym, refl, ap, ◌∙◌, subst, arith, Option, none, keeps, Closed, File}
+use Rattle.fx_lasting.proofs.Words.{HoldAgrees, GuardAgrees, MayBeUnmarked, hold_word_of, leaving, Work, Idle, Announced, Counted, Guarded, Owing}
+use Rattle.fx_lasting.proofs.Words.{Yielding, Searching, Placing, Retiring, Emptying, Keeping, step, dite, dec_le, ⊎_elim, set-get_or, Round}
+use Rattle.fx_lasting.proofs.Words.{round_from, IsToVisit, IsPassed, IsListedIn, list_place, Skims, SkimsKeep, Goes, changed_at, true, Bool}
+use Rattle.fx_lasting.proofs.Words.{IsAllowed}
+use Rattle.fx_lasting.proofs.Histories.{each_changed}
+use Rattle.fx_lasting.proofs.Keeping.{Turn, turn_of, word_at, slot_word, Made, by_turn, w, find_pass}
+use Rattle.fx_lasting.proofs.hold_lemmas.Visiting.{its, node, retiring_same, seen_after, Visited, visited, goes}
+
+-- a pass whose hold word isn't 0 is listed
+speaks : (stock : List ℕ) (l : Bool) {word : ℕ} (debt : ℕ) (e : Work) → word ≢ 0 → HoldAgrees word debt e → IsAllowed stock l e → l ≡ true
+speaks stock l debt (Announced n) some hold allowed = allowed
+speaks stock l debt (Guarded f n) some hold allowed = allowed
+speaks stock l debt Idle some hold allowed = absurd (some hold.0)
+speaks stock l debt (Counted f n) some hold allowed = absurd (some hold.0)
+speaks stock l debt (Owing n) some hold allowed = absurd (some hold.0)
+speaks stock l debt (Yielding f n) some hold allowed = absurd (some hold.0)
+speaks stock l debt (Searching n) some hold allowed = absurd (some hold.0)
+speaks stock l debt (Placing n w) some hold allowed = absurd (some hold.0)
+speaks stock l debt (Retiring f n t nx m) some hold allowed = absurd (some hold.0)
+speaks stock l debt (Emptying n) some hold allowed = absurd (some hold.0)
+speaks stock l debt (Keeping n lost) some hold allowed = absurd (some hold.0)
+
+module _ (turn : Turn) (f : File) (n t : ℕ) (nx : Round) (m : ℕ) (works : turn.v.work ≡ Retiring f n t nx m) (index : ℕ) (inside : index < 16)
+    (low : nx.next ≤ 64 * index + 1) (between : (p : ℕ) → nx.next ≤ p → p ≤ 64 * index → IsPassed turn.x.number nx p) where
+  open turn use {st, v, r, id, x, here, one}
+
+  abbrev found : ℕ
+  found = word_at st.words (6 + index)
+
+  abbrev nx' : Round
+  nx' = round_from (6 + index) found
+
+  -- the list has its bit
+  its_bit : (p : ℕ) → 0 < p → p ≤ v.start.passes → word_at st.words (hold_word_of v.start p) ≢ 0 → IsListedIn (word_at st.words (list_place p)) p
+  its_bit p more high some = let a = find_pass r more high in let o = (r.each_view a.0 a.1 a.3).logs a.2 a.4 in
+      let said : word_at st.words (hold_word_of v.start a.2.number) ≢ 0 = λ none. some (ap (λ (q : ℕ). word_at st.words (hold_word_of v.start q)) (sym a.5) ∙ none) in
+      subst (λ (q : ℕ). IsListedIn (word_at st.words (list_place q)) q) a.5 (o.list (speaks a.2.stock a.2.listed (r.debt a.2.number) a.1.work said o.hold o.allowed))
+
+  -- who had still to be visited has still to be, if it holds a file by its hold word
+  still : (p : ℕ) → p ≢ x.number → (0 < p) × (p ≤ v.start.passes) → word_at st.words (hold_word_of v.start p) ≢ 0 → IsToVisit nx p → IsToVisit nx' p
+  still p ne range some may = (
+    dite (dec_le (64 * index + 1) p) (λ g. omega (arith, g)) (λ l. absurd (⊎_elim ne may.1 (between p may.0 (omega (arith, l))))),
+    λ idle. let bit = its_bit p range.0 range.1 some in let at : list_place p ≡ 6 + index = (let a = idle.0 in omega arith) in
+        let clear = idle.1 in let set = subst (λ (i : ℕ). IsListedIn (word_at st.words i) p) at bit in omega (arith, clear, set),
+  )
+
+  guard_on : (p : ℕ) (e : Work) → p ≢ x.number → (0 < p) × (p ≤ v.start.passes) → HoldAgrees (word_at st.words (hold_word_of v.start p)) (r.debt p) e
+      → GuardAgrees (slot_word st.words) r.phase p (r.debt p) e
+      → GuardAgrees (slot_word st.words) (changed_at r.phase n (leaving id t nx' m f)) p (r.debt p) e
+  guard_on p (Guarded h k) ne range hold guard = λ clean. each_changed (λ i z. MayBeUnmarked (slot_word st.words) p z) r.phase
+      (λ is. still p ne range
+      (⊎_elim (λ (c : (word_at st.words (hold_word_of v.start p) ≡ k + 1) × (r.debt p ≡ 0)). λ none. let a = c.0 in omega (arith, none))
+      (λ (c : (word_at st.words (hold_word_of v.start p) ≡ k + 1 + 4294967296) × (r.debt p ≡ k + 1)). λ none. let a = c.0 in omega (arith, none)) hold)
+      (subst (MayBeUnmarked (slot_word st.words) p) (ap r.phase is ∙ (its turn f n t nx m works).1) (guard clean)))
+      (λ _. guard clean)
+  guard_on p Idle ne range hold guard = tt
+  guard_on p (Announced k) ne range hold guard = tt
+  guard_on p (Counted h k) ne range hold guard = tt
+  guard_on p (Owing k) ne range hold guard = tt
+  guard_on p (Yielding h k) ne range hold guard = tt
+  guard_on p (Searching k) ne range hold guard = tt
+  guard_on p (Placing k w) ne range hold guard = tt
+  guard_on p (Retiring h k a b c) ne range hold guard = tt
+  guard_on p (Emptying k) ne range hold guard = tt
+  guard_on p (Keeping k lost) ne range hold guard = tt
+
+  skimmed : Visited turn f n t nx m works st.words r.debt nx' m
+  skimmed = let a = (node turn f n t nx m works).few_marks in record {
+    words = refl;
+    slots = λ s l. refl;
+    alike = (refl, λ g l. refl);
+    lists = λ p few. refl;
+    nodes = λ k. refl;
+    own = refl;
+    own_debt = refl;
+    owed_else = λ k ne. refl;
+    owed_more = refl;
+    labels = λ k. (refl, refl);
+    few_marks = omega arith;
+    few_visits = omega arith;
+    guards = λ p e ne range hold guard. (hold, guard_on p e ne range hold guard);
+  }
+
+  skims : (slots : ℕ) (carried : List (ℕ × Option Closed))
+      → Made turn carried (6 + index) (λ word. word) (Skims (step slots (6 + index) 0 0 none) (v, carried))
+  skims slots carried = (
+    w turn (seen_after turn f n t nx m works st.words r.debt nx' m),
+    keeps,
+    tt,
+    rw (set-get_or st.words (6 + index) 0) (visited turn f n t nx m works st.words r.debt nx' m skimmed),
+    record {
+      goes = λ g i a b c its'. let e = retiring_same turn f n t nx m works its' in
+          let same : Retiring f n t nx' m ≡ Retiring g i a nx' c = cc e in
+          subst (λ (d : Work). Goes (v, carried) [] d v.glance (w turn (seen_after turn f n t nx m works st.words r.debt nx' m), carried)) same
+          (goes turn f n t nx m works st.words r.debt nx' m carried);
+      inside = λ p low few at is. r.listed p low few (subst (λ (i : ℕ). IsListedIn (word_at st.words i) p) (sym at) is);
+    },
+  )
+
+pub skims_keep : SkimsKeep Skims
+skims_keep k slots id i n t m index nx f s x has works inside low between place = by_turn slots (λ _. Unit {0}) (λ _. 6 + index) (λ word. word)
+    (λ i. Skims (step slots i 0 0 none) s) has tt place
+    (λ st r here _ fits. skims (turn_of s x has.1 id st r here) f n t nx m works index inside low between slots s.1)

@@ -1,0 +1,387 @@
+-- A pass that removed a hot file visits the hold words of the others: where one names the node, the
+-- pass marks it.
+use Rattle.fx_lasting.proofs.Words.{Round, round_at, IsToVisit, IsPassed, list_place, ◌≡◌, ◌≢◌, ℕ, ◌+◌, ◌^◌, ◌<◌, ◌≤◌, List, [], set, length, sym}
+use Rattle.fx_lasting.proofs.Words.{refl, ap, ◌∙◌, subst, arith, Option, none, keeps, Closed, File, WorkAgrees, HoldAgrees, GuardAgrees}
+use Rattle.fx_lasting.proofs.Words.{MayBeUnmarked, slots_of, nodes_of, word_of, hold_word_of, held_in, if_file, taken_of, taking, owed, Phase}
+use Rattle.fx_lasting.proofs.Words.{leaving, owner, file_in, removed_in, changed_at, changed_here, changed_else, Work, Idle, Announced, Counted}
+use Rattle.fx_lasting.proofs.Words.{Guarded, Owing, Yielding, Searching, Placing, Retiring, Emptying, Keeping, Visits, Marks, VisitsKeep, MarksKeep}
+use Rattle.fx_lasting.proofs.Words.{step, inr, ⊎_elim, dite, ℕ_discrete, eqb, one_if, announced, mark, set-get_or, exchanged, bit_here, bit_else}
+use Rattle.fx_lasting.proofs.Words.{Goes, length-set, sum_set, Start, dec_le, Agrees, either, Labels, label_of, written_in}
+use Rattle.fx_lasting.proofs.Counts.{owed_changed}
+use Rattle.fx_lasting.proofs.Histories.{grows_none, each_changed}
+use Rattle.fx_lasting.proofs.Frames.{busy, does_now, covers_same}
+use Rattle.fx_lasting.proofs.Keeping.{Turn, turn_of, After, word_at, slot_word, Made, by_turn, its_log, its_work, tells, w, end, find_pass}
+use Rattle.fx_lasting.proofs.node_lemmas.NodeSteps.{after, node_kept, own_keeps, guards_else}
+use Rattle.fx_lasting.proofs.Keeping.{LabelSame, labels_same}
+use Rattle.fx_lasting.proofs.range_lemmas.Groups.{CountAlike}
+use Rattle.fx_lasting.proofs.Places.{hold_words, hold_here, hold_node, hold_slot, hold_else, hold_alike, hold_list, hold_label, pass_back}
+use Rattle.fx_lasting.proofs.hold_lemmas.Unheld.{NodeNow, in_phase}
+
+module _ (turn : Turn) (f : File) (n t : ℕ) (nx : Round) (m : ℕ) (works : turn.v.work ≡ Retiring f n t nx m) where
+  open turn use {st, v, r, id, x, here, one}
+
+  pub its : (n < nodes_of v.start) × (r.phase n ≡ leaving id t nx m f)
+  its = subst (WorkAgrees v.start r.phase id) works (its_work turn)
+
+  pub node : NodeNow turn n (leaving id t nx m f)
+  node = in_phase turn its.0 its.1
+
+  pub retiring_same : {g : File} {i a : ℕ} {b : Round} {c : ℕ} → v.work ≡ Retiring g i a b c → Retiring f n t nx m ≡ Retiring g i a b c
+  retiring_same its' = sym works ∙ its'
+
+  -- the round is at nx' now, with m' marks
+  module _ (words' : List ℕ) (debt' : ℕ → ℕ) (nx' : Round) (m' : ℕ) where
+    abbrev ph : Phase
+    ph = leaving id t nx' m' f
+
+    abbrev pub seen_after : After turn
+    seen_after = after turn n its.0 ph r.history words' st.homes debt' (Retiring f n t nx' m') v.glance
+
+    pub record Visited : Type 0 where
+      pub words : length words' ≡ length st.words
+      pub slots : (s : ℕ) → s < slots_of v.start → slot_word words' s ≡ slot_word st.words s
+      pub alike : CountAlike words' st.words
+      pub lists : (p : ℕ) → p ≤ 1024 → word_at words' (list_place p) ≡ word_at st.words (list_place p)
+      pub nodes : (k : ℕ) → word_at words' (word_of v.start k) ≡ word_at st.words (word_of v.start k)
+      pub labels : (k : ℕ) → LabelSame v.start words' st.words k
+      pub own : word_at words' (hold_word_of v.start x.number) ≡ word_at st.words (hold_word_of v.start x.number)
+      pub own_debt : debt' x.number ≡ r.debt x.number
+      pub owed_else : (k : ℕ) → k ≢ n → owed debt' v.start.passes k ≡ owed r.debt v.start.passes k
+      pub owed_more : owed debt' v.start.passes n + m ≡ owed r.debt v.start.passes n + m'
+      pub few_marks : m' < nx'.next
+      pub few_visits : nx'.next ≤ 2 ^ 16
+      pub guards : (p : ℕ) (e : Work) → p ≢ x.number → (0 < p) × (p ≤ v.start.passes)
+          → HoldAgrees (word_at st.words (hold_word_of v.start p)) (r.debt p) e → GuardAgrees (slot_word st.words) r.phase p (r.debt p) e
+          → HoldAgrees (word_at words' (hold_word_of v.start p)) (debt' p) e × GuardAgrees (slot_word words') (changed_at r.phase n ph) p (debt' p) e
+
+    pub visited : Visited → Agrees v.start (end turn seen_after)
+    visited s = let o = rw works at (its_log turn).hold in
+        node_kept turn n its.0 ph r.history words' st.homes debt' (Retiring f n t nx' m') v.glance record {
+          words = s.words;
+          homes = refl;
+          grows = grows_none x.number r.history;
+          legal = r.legal;
+          at = refl;
+          fresh = refl;
+          removed = λ k. r.removed k ∙ sym (each_changed (λ i z. removed_in k z ≡ removed_in k (r.phase i)) r.phase
+              (λ is. sym (ap (λ (i : ℕ). removed_in k (r.phase i)) is ∙ ap (removed_in k) its.1)) (λ _. refl));
+          slot_words = s.slots;
+          alike = s.alike;
+          lists = s.lists;
+          node_words = λ k l other. s.nodes k;
+          label_else = λ k other. s.labels k;
+          label = labels_same v.start _ _ _ (label_of f.identity) (s.labels n)
+              (subst (λ (z : Phase). Labels v.start st.words n (written_in z)) its.1 (r.each_label n its.0));
+          home_else = λ k l other. refl;
+          owed_else = s.owed_else;
+          taken_else = λ k other. sym (ap (taking k) works);
+          free_else = λ k other bad. let a = ap busy works in other (omega arith);
+          may = inr (inr (ap owner its.1));
+          its_stock = λ is. cc (sym its.1 ∙ is);
+          at_slot = λ i h is. cc (sym its.1 ∙ is);
+          open_file = λ j u h other there holds is. sym (ap file_in its.1) ∙ is;
+          guards = s.guards;
+          node = let a = node.counts in let b = s.owed_more in let c = s.nodes n in
+              let k = sum_set (taken_of n) st.views id v (w turn seen_after) here in let e = ap (taking n) works in record {
+                file = node.file;
+                counts = omega arith;
+                few_takes = node.few_takes;
+                few_marks = s.few_marks;
+                few_visits = s.few_visits;
+              };
+          known = does_now st.views id v (w turn seen_after) (Retiring f n t nx' m') here refl;
+          held = (its_log turn).held ∙ ap held_in works;
+          allowed = tt;
+          its_own = own_keeps turn n its.0 ph r.history words' st.homes debt' (Retiring f n t nx' m') v.glance s.slots refl
+              (s.own ∙ o.0, s.own_debt ∙ o.1) tt (its.0, changed_here r.phase n ph n refl);
+          holds = λ k. let a = ap (λ (d : Work). if_file k (held_in d)) works in omega arith;
+        }
+
+    pub goes : (carried : List (ℕ × Option Closed)) → Goes (v, carried) [] (Retiring f n t nx' m') v.glance (w turn seen_after, carried)
+    goes carried = record { stepped = tells turn seen_after refl carried carried [] (grows_none x.number r.history) r.legal refl its.0; carried = refl }
+
+  -- a hold word that names nothing new
+  module _ (pass : ℕ) (low : nx.next ≤ pass) (high : pass ≤ v.start.passes) (other : pass ≢ x.number)
+      (between : (p : ℕ) → nx.next ≤ p → p < pass → IsPassed x.number nx p) where
+    abbrev word : ℕ
+    word = word_at st.words (hold_word_of v.start pass)
+
+    -- who was not visited before isn't now, but this pass
+    past : (p : ℕ) → IsToVisit nx p → p ≢ x.number → p ≢ pass → IsToVisit (round_at nx pass) p
+    past p may ne not_pass = dite (dec_le (pass + 1) p) (λ g. (omega (arith, g), may.1))
+        (λ l. absurd (⊎_elim ne may.1 (between p may.0 (omega (arith, l, not_pass)))))
+
+    cover : (words' : List ℕ) (m' : ℕ) → ((s : ℕ) → s < slots_of v.start → slot_word words' s ≡ slot_word st.words s) → (p : ℕ)
+        → p ≢ x.number → p ≢ pass → (k : ℕ) → MayBeUnmarked (slot_word st.words) p (r.phase k)
+        → MayBeUnmarked (slot_word words') p (changed_at r.phase n (leaving id t (round_at nx pass) m' f) k)
+    cover words' m' same p ne not_pass k may = each_changed (λ i z. MayBeUnmarked (slot_word words') p z) r.phase
+        (λ is. past p (subst (MayBeUnmarked (slot_word st.words) p) (ap r.phase is ∙ its.1) may) ne not_pass)
+        (λ _. covers_same turn words' same p k may)
+
+    -- what a file held by a hold word needs, of a pass that isn't this one
+    guard_else : (words' : List ℕ) (m' : ℕ) → ((s : ℕ) → s < slots_of v.start → slot_word words' s ≡ slot_word st.words s) → (p : ℕ) (e : Work)
+        → p ≢ x.number → p ≢ pass → GuardAgrees (slot_word st.words) r.phase p (r.debt p) e
+        → GuardAgrees (slot_word words') (changed_at r.phase n (leaving id t (round_at nx pass) m' f)) p (r.debt p) e
+    guard_else words' m' same p (Guarded h k) ne not_pass guard = λ none. cover words' m' same p ne not_pass k (guard none)
+    guard_else words' m' same p Idle ne not_pass guard = tt
+    guard_else words' m' same p (Announced k) ne not_pass guard = tt
+    guard_else words' m' same p (Counted h k) ne not_pass guard = tt
+    guard_else words' m' same p (Owing k) ne not_pass guard = tt
+    guard_else words' m' same p (Yielding h k) ne not_pass guard = tt
+    guard_else words' m' same p (Searching k) ne not_pass guard = tt
+    guard_else words' m' same p (Placing k w) ne not_pass guard = tt
+    guard_else words' m' same p (Retiring h k a b c) ne not_pass guard = tt
+    guard_else words' m' same p (Emptying k) ne not_pass guard = tt
+    guard_else words' m' same p (Keeping k lost) ne not_pass guard = tt
+
+    -- this pass holds nothing of the node that isn't marked, if its word doesn't name it
+    guard_here : word ≢ announced n → (e : Work) → HoldAgrees word (r.debt pass) e → GuardAgrees (slot_word st.words) r.phase pass (r.debt pass) e
+        → GuardAgrees (slot_word st.words) (changed_at r.phase n (leaving id t (round_at nx pass) m f)) pass (r.debt pass) e
+    guard_here not_so (Guarded h k) hold guard = λ none. each_changed (λ i z. MayBeUnmarked (slot_word st.words) pass z) r.phase
+        (λ is. absurd (⊎_elim (λ (clean : (word ≡ k + 1) × (r.debt pass ≡ 0)). not_so (clean.0 ∙ ap (λ (i : ℕ). i + 1) is))
+        (λ (full : (word ≡ k + 1 + 4294967296) × (r.debt pass ≡ k + 1)). let a = full.1 in omega arith) hold))
+        (λ _. guard none)
+    guard_here not_so Idle hold guard = tt
+    guard_here not_so (Announced k) hold guard = tt
+    guard_here not_so (Counted h k) hold guard = tt
+    guard_here not_so (Owing k) hold guard = tt
+    guard_here not_so (Yielding h k) hold guard = tt
+    guard_here not_so (Searching k) hold guard = tt
+    guard_here not_so (Placing k w) hold guard = tt
+    guard_here not_so (Retiring h k a b c) hold guard = tt
+    guard_here not_so (Emptying k) hold guard = tt
+    guard_here not_so (Keeping k lost) hold guard = tt
+
+    unnamed : word ≢ announced n → Visited st.words r.debt (round_at nx pass) m
+    unnamed not_so = let guards : (p : ℕ) (e : Work) → p ≢ x.number → (0 < p) × (p ≤ v.start.passes)
+        → HoldAgrees (word_at st.words (hold_word_of v.start p)) (r.debt p) e → GuardAgrees (slot_word st.words) r.phase p (r.debt p) e
+        → HoldAgrees (word_at st.words (hold_word_of v.start p)) (r.debt p) e
+        × GuardAgrees (slot_word st.words) (changed_at r.phase n (leaving id t (round_at nx pass) m f)) p (r.debt p) e =
+        λ p e ne range hold guard. (
+          hold,
+          dite (ℕ_discrete p pass)
+              (λ same. subst (λ (p : ℕ). HoldAgrees (word_at st.words (hold_word_of v.start p)) (r.debt p) e
+              → GuardAgrees (slot_word st.words) r.phase p (r.debt p) e
+              → GuardAgrees (slot_word st.words) (changed_at r.phase n (leaving id t (round_at nx pass) m f)) p (r.debt p) e) (sym same) (guard_here not_so e) hold guard)
+              (λ apart. guard_else st.words m (λ s l. refl) p e ne apart guard),
+        ) in
+        let a = node.few_marks in let b = r.shape.passes in record {
+          words = refl;
+          slots = λ s l. refl;
+          alike = (refl, λ g l. refl);
+          lists = λ p few. refl;
+          nodes = λ k. refl;
+          labels = λ k. (refl, refl);
+          own = refl;
+          own_debt = refl;
+          owed_else = λ k ne. refl;
+          owed_more = refl;
+          few_marks = omega arith;
+          few_visits = omega arith;
+          guards = guards;
+        }
+
+    -- a hold word that names the node isn't marked, and its pass owes nothing
+    clean_debt : (e : Work) → HoldAgrees word (r.debt pass) e → word ≡ announced n → r.debt pass ≡ 0
+    clean_debt (Announced k) hold is = let small = r.shape.nodes in let l = its.0 in ⊎_elim (λ (c : (word ≡ k + 1) × (r.debt pass ≡ 0)). c.1)
+        (λ (c : (word ≡ k + 1 + 4294967296) × (r.debt pass ≡ k + 1)). absurd (let a = c.0 in omega arith)) hold
+    clean_debt (Guarded h k) hold is = let small = r.shape.nodes in let l = its.0 in ⊎_elim (λ (c : (word ≡ k + 1) × (r.debt pass ≡ 0)). c.1)
+        (λ (c : (word ≡ k + 1 + 4294967296) × (r.debt pass ≡ k + 1)). absurd (let a = c.0 in omega arith)) hold
+    clean_debt Idle hold is = hold.1
+    clean_debt (Counted h k) hold is = hold.1
+    clean_debt (Owing k) hold is = absurd (let a = hold.0 in omega arith)
+    clean_debt (Yielding h k) hold is = absurd (let a = hold.0 in omega arith)
+    clean_debt (Searching k) hold is = hold.1
+    clean_debt (Placing k w) hold is = hold.1
+    clean_debt (Retiring h k a b c) hold is = hold.1
+    clean_debt (Emptying k) hold is = hold.1
+    clean_debt (Keeping k lost) hold is = hold.1
+
+    -- the marked word, and the debt
+    now_marked : (e : Work) → HoldAgrees word (r.debt pass) e → word ≡ announced n → HoldAgrees (announced n + mark) (n + 1) e
+    now_marked (Announced k) hold is = let small = r.shape.nodes in let l = its.0 in ⊎_elim
+        (λ (c : (word ≡ k + 1) × (r.debt pass ≡ 0)). inr (let a = c.0 in (omega arith, omega arith)))
+        (λ (c : (word ≡ k + 1 + 4294967296) × (r.debt pass ≡ k + 1)). absurd (let a = c.0 in omega arith)) hold
+    now_marked (Guarded h k) hold is = let small = r.shape.nodes in let l = its.0 in ⊎_elim
+        (λ (c : (word ≡ k + 1) × (r.debt pass ≡ 0)). inr (let a = c.0 in (omega arith, omega arith)))
+        (λ (c : (word ≡ k + 1 + 4294967296) × (r.debt pass ≡ k + 1)). absurd (let a = c.0 in omega arith)) hold
+    now_marked Idle hold is = absurd (let a = hold.0 in omega arith)
+    now_marked (Counted h k) hold is = absurd (let a = hold.0 in omega arith)
+    now_marked (Owing k) hold is = absurd (let a = hold.0 in omega arith)
+    now_marked (Yielding h k) hold is = absurd (let a = hold.0 in omega arith)
+    now_marked (Searching k) hold is = absurd (let a = hold.0 in omega arith)
+    now_marked (Placing k w) hold is = absurd (let a = hold.0 in omega arith)
+    now_marked (Retiring h k a b c) hold is = absurd (let a = hold.0 in omega arith)
+    now_marked (Emptying k) hold is = absurd (let a = hold.0 in omega arith)
+    now_marked (Keeping k lost) hold is = absurd (let a = hold.0 in omega arith)
+
+    -- a pass that owes is excused
+    excused : (slot_word' : ℕ → ℕ) (phase' : ℕ → Phase) (e : Work) → GuardAgrees slot_word' phase' pass (n + 1) e
+    excused sw phase' (Guarded h k) = λ none. absurd (omega arith)
+    excused sw phase' Idle = tt
+    excused sw phase' (Announced k) = tt
+    excused sw phase' (Counted h k) = tt
+    excused sw phase' (Owing k) = tt
+    excused sw phase' (Yielding h k) = tt
+    excused sw phase' (Searching k) = tt
+    excused sw phase' (Placing k w) = tt
+    excused sw phase' (Retiring h k a b c) = tt
+    excused sw phase' (Emptying k) = tt
+    excused sw phase' (Keeping k lost) = tt
+
+    abbrev debt₁ : ℕ → ℕ
+    debt₁ = changed_at r.debt pass (n + 1)
+
+    module _ (more : 0 < pass) (is : word ≡ announced n) where
+      abbrev words₁ : List ℕ
+      words₁ = hold_words turn pass more high (announced n + mark)
+
+      no_debt : r.debt pass ≡ 0
+      no_debt = let a = find_pass r more high in
+          let o = subst (λ (q : ℕ). HoldAgrees (word_at st.words (hold_word_of v.start q)) (r.debt q) a.1.work) a.5 ((r.each_view a.0 a.1 a.3).logs a.2 a.4).hold in
+          clean_debt a.1.work o is
+
+      owes : (k : ℕ) → owed debt₁ v.start.passes k ≡ owed r.debt v.start.passes k + one_if (eqb (n + 1) (k + 1))
+      owes k = let a = owed_changed r.debt v.start.passes pass (n + 1) more high k in
+          let b = ap (λ (d : ℕ). one_if (eqb d (k + 1))) no_debt in let c : one_if (eqb 0 (k + 1)) ≡ 0 = bit_else (k + 1) 0 (λ e. omega arith) in omega arith
+
+      made : Visited words₁ debt₁ (round_at nx pass) (m + 1)
+      made = let same = hold_slot turn pass more high (announced n + mark) in
+          let guards : (p : ℕ) (e : Work) → p ≢ x.number → (0 < p) × (p ≤ v.start.passes)
+          → HoldAgrees (word_at st.words (hold_word_of v.start p)) (r.debt p) e → GuardAgrees (slot_word st.words) r.phase p (r.debt p) e
+          → HoldAgrees (word_at words₁ (hold_word_of v.start p)) (debt₁ p) e
+          × GuardAgrees (slot_word words₁) (changed_at r.phase n (leaving id t (round_at nx pass) (m + 1) f)) p (debt₁ p) e =
+          λ p e ne range hold guard. dite (ℕ_discrete p pass)
+          (λ at. subst (λ (p : ℕ). HoldAgrees (word_at st.words (hold_word_of v.start p)) (r.debt p) e
+          → HoldAgrees (word_at words₁ (hold_word_of v.start p)) (debt₁ p) e
+          × GuardAgrees (slot_word words₁) (changed_at r.phase n (leaving id t (round_at nx pass) (m + 1) f)) p (debt₁ p) e) (sym at)
+          (λ h. rw (hold_here turn pass more high (announced n + mark), changed_here r.debt pass (n + 1) pass refl)
+          (now_marked e h is, excused (slot_word words₁) (changed_at r.phase n (leaving id t (round_at nx pass) (m + 1) f)) e)) hold)
+          (λ apart. rw (hold_else turn pass more high (announced n + mark) p apart, changed_else r.debt pass (n + 1) p apart)
+          (hold, guard_else words₁ (m + 1) same p e ne apart guard)) in
+          let a = node.few_marks in let b = r.shape.passes in let c = owes n in let d = bit_here (n + 1) (n + 1) refl in record {
+            words = length-set st.words (hold_word_of v.start pass) (announced n + mark);
+            slots = same;
+            alike = hold_alike turn pass more high (announced n + mark);
+            lists = hold_list turn pass more high (announced n + mark);
+            nodes = hold_node turn pass more high (announced n + mark);
+            labels = hold_label turn pass more high (announced n + mark);
+            own = hold_else turn pass more high (announced n + mark) x.number (λ e. other (sym e));
+            own_debt = changed_else r.debt pass (n + 1) x.number (λ e. other (sym e));
+            owed_else = λ k ne. let o = owes k in let z = bit_else (k + 1) (n + 1) (λ e. ne (omega arith)) in omega arith;
+            owed_more = omega arith;
+            few_marks = omega arith;
+            few_visits = omega arith;
+            guards = guards;
+          }
+
+    -- a step that writes what it read
+    read_so : (d : ℕ → ℕ) (nx' : Round) (m' : ℕ) → Visited st.words d nx' m'
+        → Agrees v.start record { words = set st.words (hold_word_of v.start pass) word; homes = st.homes; views = set st.views id (w turn (seen_after st.words d nx' m')) }
+    read_so d nx' m' s = rw (set-get_or st.words (hold_word_of v.start pass) 0) (visited st.words d nx' m' s)
+
+    pub visits_either : (slots : ℕ) (carried : List (ℕ × Option Closed))
+        → Made turn carried (hold_word_of v.start pass) (λ word. word) (Visits (step slots (hold_word_of v.start pass) 0 0 none) (v, carried))
+    visits_either slots carried = dite (ℕ_discrete word (announced n))
+        (λ is. (
+          w turn (seen_after st.words r.debt nx m),
+          keeps,
+          tt,
+          read_so r.debt nx m still,
+          record {
+            other = λ g i a b c its' not_so. absurd (not_so (is ∙ names its'));
+            names = λ g i a b c its' _. subst (λ (d : Work). Goes (v, carried) [] d v.glance (w turn (seen_after st.words r.debt nx m), carried))
+                (retiring_same its') (goes st.words r.debt nx m carried);
+          },
+        ))
+        (λ not_so. (
+          w turn (seen_after st.words r.debt (round_at nx pass) m),
+          keeps,
+          tt,
+          read_so r.debt (round_at nx pass) m (unnamed not_so),
+          record {
+            other = λ g i a b c its' _. let e = retiring_same its' in
+                let same : Retiring f n t (round_at nx pass) m ≡ Retiring g i a (round_at b pass) c = cc e in
+                rw (pass_back v.start pass) (subst (λ (d : Work). Goes (v, carried) [] d v.glance (w turn (seen_after st.words r.debt (round_at nx pass) m), carried))
+                same (goes st.words r.debt (round_at nx pass) m carried));
+            names = λ g i a b c its' is. absurd (not_so (is ∙ sym (names its')));
+          },
+        ))
+      where
+        names : {g : File} {i a : ℕ} {b : Round} {c : ℕ} → v.work ≡ Retiring g i a b c → announced n ≡ announced i
+        names {i = i} its' = let same : n ≡ i = cc (retiring_same its') in ap announced same
+
+        still : Visited st.words r.debt nx m
+        still = let a = node.few_marks in let b = node.few_visits in let guards : (p : ℕ) (e : Work) → p ≢ x.number → (0 < p) × (p ≤ v.start.passes)
+            → HoldAgrees (word_at st.words (hold_word_of v.start p)) (r.debt p) e → GuardAgrees (slot_word st.words) r.phase p (r.debt p) e
+            → HoldAgrees (word_at st.words (hold_word_of v.start p)) (r.debt p) e
+            × GuardAgrees (slot_word st.words) (changed_at r.phase n (leaving id t nx m f)) p (r.debt p) e =
+            λ p e ne range hold guard. guards_else turn n its.0 (leaving id t nx m f) r.history st.words st.homes r.debt (Retiring f n t nx m) v.glance
+            (λ s l. refl) p e refl refl (λ may. subst (MayBeUnmarked (slot_word st.words) p) its.1 may) hold guard in record {
+              words = refl;
+              slots = λ s l. refl;
+              alike = (refl, λ g l. refl);
+              lists = λ p few. refl;
+              nodes = λ k. refl;
+              labels = λ k. (refl, refl);
+              own = refl;
+              own_debt = refl;
+              owed_else = λ k ne. refl;
+              owed_more = refl;
+              few_marks = node.few_marks;
+              few_visits = node.few_visits;
+              guards = guards;
+            }
+
+    abbrev Goal : ℕ → ℕ → Type 0
+    Goal slots y = (carried : List (ℕ × Option Closed)) → Made turn carried (hold_word_of v.start pass) (λ _. y)
+        (Marks (step slots (hold_word_of v.start pass) (announced n) (announced n + mark) none) (v, carried))
+
+    marks_won : (slots : ℕ) → 0 < pass → word ≡ announced n → Goal slots (announced n + mark)
+    marks_won slots more is carried = (
+      w turn (seen_after (words₁ more is) debt₁ (round_at nx pass) (m + 1)),
+      keeps,
+      tt,
+      visited (words₁ more is) debt₁ (round_at nx pass) (m + 1) (made more is),
+      record {
+        made = λ g i a b c its' _. let e = retiring_same its' in
+            let same : Retiring f n t (round_at nx pass) (m + 1) ≡ Retiring g i a (round_at b pass) (c + 1) = cc e in
+            rw (pass_back v.start pass) (subst (λ (d : Work). Goes (v, carried) [] d v.glance (w turn (seen_after (words₁ more is) debt₁ (round_at nx pass) (m + 1)), carried))
+            same (goes (words₁ more is) debt₁ (round_at nx pass) (m + 1) carried));
+        missed = λ g i a b c its' not_so. absurd (not_so (is ∙ (let same : n ≡ i = cc (retiring_same its') in ap announced same)));
+      },
+    )
+
+    marks_lost : (slots : ℕ) → word ≢ announced n → Goal slots word
+    marks_lost slots not_so carried = (
+      w turn (seen_after st.words r.debt (round_at nx pass) m),
+      keeps,
+      tt,
+      read_so r.debt (round_at nx pass) m (unnamed not_so),
+      record {
+        made = λ g i a b c its' is. absurd (not_so (is ∙ sym (let same : n ≡ i = cc (retiring_same its') in ap announced same)));
+        missed = λ g i a b c its' _. let e = retiring_same its' in
+            let same : Retiring f n t (round_at nx pass) m ≡ Retiring g i a (round_at b pass) c = cc e in
+            rw (pass_back v.start pass) (subst (λ (d : Work). Goes (v, carried) [] d v.glance (w turn (seen_after st.words r.debt (round_at nx pass) m), carried))
+            same (goes st.words r.debt (round_at nx pass) m carried));
+      },
+    )
+
+-- the number of a pass that is visited isn't 0, since marks were counted before it
+more_than_none : (turn : Turn) (f : File) (n t : ℕ) (nx : Round) (m : ℕ) → turn.v.work ≡ Retiring f n t nx m → {pass : ℕ} → nx.next ≤ pass → 0 < pass
+more_than_none turn f n t nx m works low = let a = (node turn f n t nx m works).few_marks in omega arith
+
+pub visits_keep : VisitsKeep Visits
+visits_keep k slots id i n t m pass nx f s x has works low high other between place = by_turn slots (λ (k : Start). pass ≤ k.passes)
+    (λ k. hold_word_of k pass) (λ word. word) (λ i. Visits (step slots i 0 0 none) s) has high place
+    (λ st r here high fits. visits_either (turn_of s x has.1 id st r here) f n t nx m works pass low high other between slots s.1)
+
+pub marks_keep : MarksKeep Marks
+marks_keep k slots id i n t m pass nx f s x has works low high other between place = by_turn slots (λ (k : Start). pass ≤ k.passes)
+    (λ k. hold_word_of k pass) (λ word. either (eqb word (announced n)) (announced n + mark) word)
+    (λ i. Marks (step slots i (announced n) (announced n + mark) none) s) has high place
+    (λ st r here high fits. let turn = turn_of s x has.1 id st r here in
+    exchanged (word_at st.words (hold_word_of s.0.start pass)) (announced n) (announced n + mark)
+    (λ y. Goal turn f n t nx m works pass low high other between slots y)
+    (λ is. marks_won turn f n t nx m works pass low high other between slots (more_than_none turn f n t nx m works low) is)
+    (λ not_so. marks_lost turn f n t nx m works pass low high other between slots not_so) s.1)

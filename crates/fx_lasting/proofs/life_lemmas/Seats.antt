@@ -1,0 +1,189 @@
+-- A seat is split off, and one is joined back.
+use Rattle.fx_lasting.proofs.Words.{◌≡◌, ℕ, List, length, sym, refl, ap, ◌∙◌, subst, arith, ⊎_elim, length-append, sum_by, sum_by-append, eqb}
+use Rattle.fx_lasting.proofs.Words.{count_in, WorkAgrees, LogAgrees, NodeAgrees, Agrees, owing, Shared, Outside, Inside, Log, Start, AreFull}
+use Rattle.fx_lasting.proofs.Words.{range_at_start, View, Work, Idle, Nothing, Glance, Change, SplitsKeep, JoinsKeep, together, spent, one_if}
+use Rattle.fx_lasting.proofs.Words.{held_in, if_file, taking, owed, get_elem?, state_after_all, slots_of, word_of, some, set, set_here, set_else}
+use Rattle.fx_lasting.proofs.Words.{at_set, stands_at, sum_set, Contains, HasNoFile, ViewAgrees, taken_of, held_of, logs_of, lengths, zero, suc, []}
+use Rattle.fx_lasting.proofs.Words.{◌∷◌, ◌≢◌, set-set, OfEach, of_replaced, of_appended, seen_from_start, without_first, first_alone, AreReseated}
+use Rattle.fx_lasting.proofs.Words.{split, joined}
+use Rattle.fx_lasting.proofs.node_lemmas.Choosing.{no_file, no_take, not_busy, holds_none}
+use Rattle.fx_lasting.proofs.Frames.{busy, owner_map, owner_stays}
+use Rattle.fx_lasting.proofs.range_lemmas.Groups.{counts_same, visited_map}
+use Rattle.fx_lasting.proofs.Keeping.{IsKnown, word_at, slot_word, few_in_range}
+
+-- a seat that does nothing, and on whose account no slot is uncounted
+abbrev IsIdle : View → Type 0
+IsIdle v = (v.work ≡ Idle) × (v.glance ≡ Nothing) × (v.change ≡ Outside)
+
+abbrev logs : View → List Log
+logs v = v.logs
+
+abbrev start : View → Start
+start v = v.start
+
+-- the rule holds where passes are in other seats that do nothing
+module _ (k : Start) (s : Shared) (r : Agrees k s) (views : List View) (a : AreReseated logs start k IsIdle s.views views)
+    (known : OfEach (IsKnown r.history) views) where
+  by_log : (f : Log → ℕ) → sum_by (λ (u : View). sum_by f u.logs) views ≡ sum_by (λ (u : View). sum_by f u.logs) s.views
+  by_log f = a.by_logs (sum_by f) refl (λ xs ys. sum_by-append f xs ys)
+
+  by_change : (f : Change → ℕ) → f Outside ≡ 0 → sum_by (λ (u : View). f u.change) views ≡ sum_by (λ (u : View). f u.change) s.views
+  by_change f still = a.by_work (λ u. f u.change) (λ u idle. ap f idle.2 ∙ still)
+
+  by_work : (f : Work → ℕ) → f Idle ≡ 0 → sum_by (λ (u : View). f u.work) views ≡ sum_by (λ (u : View). f u.work) s.views
+  by_work f still = a.by_work (λ u. f u.work) (λ u idle. ap f idle.0 ∙ still)
+
+  reseated : Agrees k record { words = s.words; homes = s.homes; views = views }
+  reseated = record {
+    shape = let h = r.shape in assumption (h.words, h.homes);
+    history = r.history;
+    phase = r.phase;
+    node_of = r.node_of;
+    numbering = r.numbering;
+    next_number = r.next_number;
+    debt = r.debt;
+    deed = r.deed;
+    legal = r.legal;
+    each_slot = r.each_slot;
+    each_node = λ n l. subst (λ (t : ℕ). NodeAgrees (state_after_all k r.history).at (slots_of k) (λ i. count_in (slot_word s.words i)) r.node_of
+        r.next_number n (word_at s.words (word_of k n)) t (owed r.debt k.passes n) (get_elem? s.homes n) (r.phase n))
+        (sym (by_work (taking n) refl)) (r.each_node n l);
+    each_label = r.each_label;
+    each_owner = λ n l. owner_map s.views views n (λ j d is o.
+        (o.0, a.others j o.0 o.1 (λ idle. let e : busy d ≡ 0 = ap busy (sym o.2 ∙ idle.0) in omega arith), o.2)) (r.phase n) (r.each_owner n l);
+    removed = r.removed;
+    unborn = r.unborn;
+    fresh = r.fresh;
+    each_view = λ j u e. ⊎_elim (λ new. record {
+      logs = λ x h. let w = new.its x h in
+          subst (λ (d : Work × Glance). LogAgrees k r.history s.words r.phase r.debt r.deed d.0 d.1 x)
+          (λ i. ((w.3.0 ∙ sym new.idle.0) i, (w.3.1 ∙ sym new.idle.1) i)) ((r.each_view w.0 w.1 w.2).logs x w.4);
+      work = subst (WorkAgrees k r.phase j) (sym new.idle.0) tt;
+      empty = λ _. new.idle;
+      start = new.begun;
+    }) (λ old. r.each_view j u old) (a.each j u e);
+    where_is = r.where_is;
+    named = r.named;
+    stocks = λ j u x e has. ⊎_elim (λ new. let w = new.its x has in r.stocks w.0 w.1 x w.2 w.4) (λ old. r.stocks j u x old has) (a.each j u e);
+    known = known;
+    holds = λ n. r.holds n ∙ sym (by_work (λ d. if_file n (held_in d)) refl);
+    passes = λ p. by_log (λ y. one_if (eqb y.number p)) ∙ r.passes p;
+    whole = a.by_logs (length {A = Log}) refl (λ xs ys. length-append xs ys) ∙ r.whole;
+    authors = r.authors;
+    listed = r.listed;
+    counts = record {
+      groups = λ g l. let u = (r.counts.groups g l).counts in let b = by_change (owing g) refl in record { counts = omega (arith, u, b) };
+      questions = λ j u x e has few asked. visited_map x.asked still_full (⊎_elim
+          (λ new. let w = new.its x has in r.counts.questions w.0 w.1 x w.2 w.4 few asked) (λ old. r.counts.questions j u x old has few asked) (a.each j u e));
+    };
+  }
+    where
+      still_full : (n : ℕ) → AreFull (state_after_all k r.history).at (range_at_start k) s.views n
+          → AreFull (state_after_all k r.history).at (range_at_start k) views n
+      still_full n o = record {
+        full = o.full;
+        calm = λ j u g e is. ⊎_elim (λ new. let bad : Inside g ≡ Outside = sym is ∙ new.idle.2 in absurd (cc bad)) (λ old. o.calm j u g old is) (a.each j u e);
+      }
+
+pub splits_keep : SplitsKeep without_first first_alone
+splits_keep k id v idle still out s r at = reseated k s r _ (split logs start k IsIdle s.views id v at (idle, still, out)
+    (λ l. record v { logs = l }) (λ l. refl) (λ l. (idle, still, out)) (λ l. refl) (r.each_view id v at).start)
+    (let mine = r.known id v at in of_appended (IsKnown r.history) (set s.views id (without_first v)) (of_replaced (IsKnown r.history) s.views r.known id (without_first v) mine) (first_alone v) mine)
+
+-- a pass that has chosen a node may forget it
+module _ (k : Start) (s : Shared) (r : Agrees k s) (id : ℕ) (v : View) (here : get_elem? s.views id ≡ some v) (free_of : HasNoFile v.work) where
+  abbrev forgot : View
+  forgot = record v { work = Idle }
+
+  abbrev views' : List View
+  views' = set s.views id forgot
+
+  its_log : (x : Log) → LogAgrees k r.history s.words r.phase r.debt r.deed v.work v.glance x
+      → LogAgrees k r.history s.words r.phase r.debt r.deed Idle v.glance x
+  its_log x o = record {
+    seen = o.seen;
+    own = o.own;
+    held = o.held ∙ no_file free_of;
+    allowed = tt;
+    list = o.list;
+    unlisted = o.unlisted;
+    hold = holds_none free_of o.hold;
+    guarded = tt;
+    sees = o.sees;
+    heats = o.heats;
+    takes_listed = o.takes_listed;
+    watch = o.watch;
+  }
+
+  forgotten : Agrees k record { words = s.words; homes = s.homes; views = views' }
+  forgotten = record {
+    shape = let h = r.shape in assumption (h.words, h.homes);
+    history = r.history;
+    phase = r.phase;
+    node_of = r.node_of;
+    numbering = r.numbering;
+    next_number = r.next_number;
+    debt = r.debt;
+    deed = r.deed;
+    legal = r.legal;
+    each_slot = r.each_slot;
+    each_node = λ n l. subst (λ (t : ℕ). NodeAgrees (state_after_all k r.history).at (slots_of k) (λ i. count_in (slot_word s.words i)) r.node_of
+        r.next_number n (word_at s.words (word_of k n)) t (owed r.debt k.passes n) (get_elem? s.homes n) (r.phase n))
+        (let t = sum_set (taken_of n) s.views id v forgot here in let e = no_take free_of n in omega arith) (r.each_node n l);
+    each_label = r.each_label;
+    each_owner = λ n l. owner_stays s.views id v forgot here n (λ bad. let e = not_busy free_of in omega arith) (r.phase n) (r.each_owner n l);
+    removed = r.removed;
+    unborn = r.unborn;
+    fresh = r.fresh;
+    each_view = λ j u e. ⊎_elim (λ (t : (j ≡ id) × (forgot ≡ u)).
+        subst (λ (z : ℕ × View). ViewAgrees k r.history s.words r.phase r.debt r.deed z.0 z.1) (λ i. (sym t.0 i, t.1 i)) record {
+          logs = λ x h. its_log x ((r.each_view id v here).logs x h);
+          work = tt;
+          empty = λ none. let e = (r.each_view id v here).empty none in (refl, e.1, e.2);
+          start = (r.each_view id v here).start;
+        }) (λ t. r.each_view j u t.1) (at_set s.views id j forgot u e);
+    where_is = r.where_is;
+    named = r.named;
+    stocks = λ j u x e has. ⊎_elim (λ (t : (j ≡ id) × (forgot ≡ u)). r.stocks id v x here (subst (λ (z : View). Contains z.logs x) (sym t.1) has))
+        (λ t. r.stocks j u x t.1 has) (at_set s.views id j forgot u e);
+    known = of_replaced (IsKnown r.history) s.views r.known id forgot (r.known id v here);
+    holds = λ n. let t = sum_set (held_of n) s.views id v forgot here in let e = ap (if_file n) (no_file free_of) in let h = r.holds n in omega arith;
+    passes = λ p. let t = sum_set (logs_of p) s.views id v forgot here in let h = r.passes p in omega arith;
+    whole = let t = sum_set lengths s.views id v forgot here in let h = r.whole in omega arith;
+    authors = r.authors;
+    listed = r.listed;
+    counts = counts_same id forgot here r.counts (few_in_range r) refl (refl, λ g l. refl) refl (λ y has. (y, has, refl, refl));
+  }
+
+-- writes at two places, in the other order
+module _ {A : Type 0} where
+  set_apart : (l : List A) (i j : ℕ) (a b : A) → i ≢ j → set (set l i a) j b ≡ set (set l j b) i a
+  set_apart [] i j a b other = refl
+  set_apart (x ∷ l) zero zero a b other = absurd (other refl)
+  set_apart (x ∷ l) zero (suc j) a b other = refl
+  set_apart (x ∷ l) (suc i) zero a b other = refl
+  set_apart (x ∷ l) (suc i) (suc j) a b other = ap (λ (m : List A). x ∷ m) (set_apart l i j a b (λ e. other (ap suc e)))
+
+pub joins_keep : JoinsKeep together spent
+unfolding forgotten
+joins_keep k id v begun free_of still out other w w_free w_still w_out s r at apart there =
+    let both = together v w in
+    let w_at : get_elem? s.views other ≡ some w = sym (set_else s.views id other both apart) ∙ there in
+    let v₁ = forgot k s r id v at free_of in
+    let views₁ = set s.views id v₁ in
+    let r₁ = forgotten k s r id v at free_of in
+    let w_at₁ : get_elem? views₁ other ≡ some w = set_else s.views id other v₁ apart ∙ w_at in
+    let w₁ = forgot k _ r₁ other w w_at₁ w_free in
+    let views₂ = set views₁ other w₁ in
+    let r₂ = forgotten k _ r₁ other w w_at₁ w_free in
+    let ne : id ≢ other = λ same. apart (sym same) in
+    let at₂ : get_elem? views₂ id ≡ some v₁ = set_else views₁ other id w₁ ne ∙ set_here s.views id v₁ (stands_at s.views id v at).0 in
+    let there₂ : get_elem? (set views₂ id both) other ≡ some w₁ =
+    set_else views₂ id other both apart ∙ set_here views₁ other w₁ (stands_at views₁ other w w_at₁).0 in
+    let same : set (set views₂ id both) other spent ≡ set (set s.views id both) other spent =
+    ap (λ (l : List View). set l other spent) (set_apart views₁ other id w₁ both apart)
+    ∙ (set-set (set views₁ id both) other w₁ spent ∙ ap (λ (l : List View). set l other spent) (set-set s.views id v₁ both)) in
+    subst (λ (l : List View). Agrees k record { words = s.words; homes = s.homes; views = l }) same (reseated k _ r₂ _
+    (joined logs start k IsIdle views₂ id v₁ at₂ (refl, still, out) other w₁ both spent apart there₂ (refl, w_still, w_out) (refl, still, out) refl
+    begun (refl, refl, refl) refl)
+    (of_replaced (IsKnown r.history) (set views₂ id both) (of_replaced (IsKnown r.history) views₂ r₂.known id both (r.known id v at)) other spent (seen_from_start r.history)))

@@ -1,0 +1,317 @@
+-- A pass finds a free node of its stock, takes its place, and lays a node to rest.
+use Rattle.fx_lasting.proofs.Words.{◌≡◌, ◌≢◌, ℕ, ◌+◌, ◌<◌, ◌≤◌, List, [], ◌∷◌, set, sym, refl, ap, ◌∙◌, subst, arith, Option, Some, None, none, some}
+use Rattle.fx_lasting.proofs.Words.{keeps, takes, gives, rest, set_here, set_else, Closed, WorkAgrees, MayBeUnmarked, nodes_of, word_of, hold_word_of}
+use Rattle.fx_lasting.proofs.Words.{held_in, if_file, taken_of, taking, owed, Phase, free, placed, seated, leaving, retired, emptied, kept, owner}
+use Rattle.fx_lasting.proofs.Words.{file_in, removed_in, changed_here, Log, Work, Idle, Searching, Placing, Emptying, Seeks, Births, Rests, SeeksKeep}
+use Rattle.fx_lasting.proofs.Words.{BirthsKeep, RestsKeep, birth_word, step, inl, inr, ⊎_elim, dite, ℕ_discrete, sum_by, sum_set, length-set, Start}
+use Rattle.fx_lasting.proofs.Words.{Agrees, first_log, HasNoFile, HoldAgrees, IsAllowed, GuardAgrees, rested, IsInside, changed_at, IsInStock, Bool}
+use Rattle.fx_lasting.proofs.Words.{cond, le-ltb, get_or, HasItsPlace, Placement, as_written, Unlabelled}
+use Rattle.fx_lasting.proofs.Histories.{grows_none, each_changed}
+use Rattle.fx_lasting.proofs.Frames.{busy, does_now}
+use Rattle.fx_lasting.proofs.Keeping.{Turn, turn_of, After, Homes, word_at, slot_word, Made, by_turn, its_log, its_work, its_stock, in_its_stock, in_range, tells, tells_less, w, end}
+use Rattle.fx_lasting.proofs.node_lemmas.NodeSteps.{after, node_kept, own_keeps, guards_else}
+use Rattle.fx_lasting.proofs.Places.{node_words, node_here, node_else, node_slot, node_hold, node_alike, node_list, node_label}
+use Rattle.fx_lasting.proofs.Calm.{read_before, read_before_kept, Reads}
+use Rattle.fx_lasting.proofs.node_lemmas.Choosing.{no_file, no_take, not_busy, holds_none}
+use Rattle.fx_lasting.proofs.node_lemmas.FreeNodes.{some_free, entry_is, named_by}
+use Rattle.fx_lasting.proofs.hold_lemmas.Unheld.{NodeNow, in_phase}
+
+-- a pass that looks for a node works with none
+names_nothing : {d : Work} → HasNoFile d → named_by d ≡ 0
+names_nothing to = ⊎_elim (λ e. ap named_by e) (λ z. ap named_by z.1) to
+
+module _ (turn : Turn) where
+  open turn use {st, v, r, id, x, here, one}
+
+  -- a node whose word is 0 is free
+  zero_free : {n : ℕ} → n < nodes_of v.start → word_at st.words (word_of v.start n) ≡ 0 → r.phase n ≡ free
+  zero_free {n} l is = go (r.phase n) refl (r.each_node n l)
+    where
+      go : (ph : Phase) → r.phase n ≡ ph → NodeNow turn n ph → r.phase n ≡ free
+      go free at o = at
+      go (placed j l) at o = let a = o.counts in absurd (omega arith)
+      go (seated s f) at o = let a = o.counts in absurd (omega arith)
+      go (leaving j t nx m f) at o = let a = o.counts in let b = o.few_takes in let c = o.few_marks in let d = o.few_visits in absurd (omega arith)
+      go (retired f) at o = let a = o.counts in absurd (omega arith)
+      go (emptied j) at o = let a = o.counts in absurd (omega arith)
+      go (kept j lost) at o = let a = o.counts in absurd (omega arith)
+
+  free_zero : {n : ℕ} → n < nodes_of v.start → r.phase n ≡ free → word_at st.words (word_of v.start n) ≡ 0
+  free_zero l is = (in_phase turn l is).counts
+
+  -- a pass that looks for a node
+  module _ (searches : HasNoFile v.work) (installs : x.number ≤ v.start.installing) where
+    -- some node of its stock is free
+    one_free : (e : ℕ) × (e < nodes_of v.start) × (r.phase e ≡ free) × IsInStock x.stock e
+    one_free = let long = (its_stock turn).its.count ∙ ap (λ (b : Bool). cond b 0 v.start.passes) (le-ltb v.start.installing x.number installs) in
+        let z = some_free r id v x here one (names_nothing searches) (omega arith) in
+        let at = entry_is x.stock z.0 z.1 in (get_or x.stock z.0 0, (its_stock turn).its.inside z.0 (get_or x.stock z.0 0) at, z.2, (z.0, at))
+
+    searching : (e : ℕ) → e < nodes_of v.start → r.phase e ≡ free → IsInStock x.stock e → Reads turn (Searching e) v.glance r.history
+    searching e l is stocked = let o = its_log turn in record {
+      grows = grows_none x.number r.history;
+      legal = r.legal;
+      at = refl;
+      fresh = refl;
+      removed = refl;
+      taken = λ n. sym (no_take searches n);
+      owners = inr (not_busy searches);
+      held = o.held ∙ no_file searches;
+      allowed = stocked;
+      its = record {
+        hold = holds_none searches o.hold;
+        guarded = tt;
+        sees = o.sees;
+        heats = o.heats;
+        work = (l, is);
+      };
+      holds = λ n. let a = ap (if_file n) (no_file searches) in omega arith;
+    }
+
+    -- the node that the pass settles on, after a load of this one
+    module _ (n : ℕ) (stocked : IsInStock x.stock n) where
+      abbrev found : ℕ
+      found = word_at st.words (word_of v.start n)
+
+      abbrev Choice : ℕ → Type 0
+      Choice e = (e < nodes_of v.start) × (r.phase e ≡ free) × IsInStock x.stock e × (found ≡ 0 → e ≡ n) × (found ≢ 0 → e ≢ n)
+          × ((k : ℕ) → v.work ≡ Searching k → found ≢ 0 → e ≡ k)
+
+      inside : n < nodes_of v.start
+      inside = (in_its_stock turn stocked).0
+
+      choice : (e : ℕ) × Choice e
+      choice = dite (ℕ_discrete found 0)
+          (λ is. (n, (inside, zero_free inside is, stocked, λ _. refl, λ not_so. absurd (not_so is), λ k w not_so. absurd (not_so is))))
+          (λ not_so. let apart : (e : ℕ) → e < nodes_of v.start → r.phase e ≡ free → e ≢ n =
+          λ e l is same. not_so (ap (λ (i : ℕ). word_at st.words (word_of v.start i)) (sym same) ∙ free_zero l is) in ⊎_elim
+          (λ idle. let z = one_free in (
+            z.0,
+            (
+              z.1,
+              z.2,
+              z.3,
+              λ is. absurd (not_so is),
+              λ _. apart z.0 z.1 z.2,
+              λ k w _. let bad : Idle ≡ Searching k = sym idle ∙ w in cc bad,
+            ),
+          ))
+          (λ s. let o = subst (WorkAgrees v.start r.phase id) s.1 (its_work turn) in
+          let b : IsInStock x.stock s.0 = rw s.1 at (its_log turn).allowed in (
+            s.0,
+            (
+              o.0,
+              o.1,
+              b,
+              λ is. absurd (not_so is),
+              λ _. apart s.0 o.0 o.1,
+              λ k w _. let same : Searching s.0 ≡ Searching k = sym s.1 ∙ w in cc same,
+            ),
+          )) searches)
+
+      pub seek : (slots : ℕ) (carried : List (ℕ × Option Closed))
+          → Made turn carried (word_of v.start n) (λ word. word) (Seeks (step slots (word_of v.start n) 0 0 none) (v, carried))
+      seek slots carried = let e = choice in (
+        w turn (read_before turn (Searching e.0) v.glance r.history x.front),
+        keeps,
+        tt,
+        read_before_kept turn (Searching e.0) v.glance x.front (word_of v.start n) (its_log turn).seen (its_log turn).own
+            (searching e.0 e.1.0 e.1.1 e.1.2),
+        record {
+          node = e.0;
+          goes = record {
+            stepped = tells_less turn (read_before turn (Searching e.0) v.glance r.history x.front) refl carried carried refl e.1.0;
+            carried = refl;
+          };
+          stock = subst (λ (l : List ℕ). IsInStock l e.0) (sym (ap (λ (l : List Log). (first_log l).stock) one)) e.1.2;
+          here = λ is. ap (word_of v.start) (sym (e.1.3 is));
+          other = λ not_so same. e.1.4 not_so (omega arith);
+          stays = λ k w not_so. e.1.5 k w not_so;
+        },
+      )
+
+  -- a birth
+  module _ (n : ℕ) (works : v.work ≡ Searching n) where
+    its : (n < nodes_of v.start) × (r.phase n ≡ free)
+    its = subst (WorkAgrees v.start r.phase id) works (its_work turn)
+
+    abbrev homes₁ : Homes
+    homes₁ = set st.homes n none
+
+    abbrev words₁ : List ℕ
+    words₁ = node_words turn n its.0 birth_word
+
+    abbrev new : Placement
+    new = as_written 0 Unlabelled
+
+    abbrev born_after : After turn
+    born_after = after turn n its.0 (placed id new) r.history words₁ homes₁ r.debt (Placing n new) v.glance
+
+    birth : Agrees v.start (end turn born_after)
+    birth = let o = its_log turn in let h = rw works at o.hold in let node = in_phase turn its.0 its.1 in let same = node_slot turn n its.0 birth_word in
+        node_kept turn n its.0 (placed id new) r.history words₁ homes₁ r.debt (Placing n new) v.glance record {
+          words = length-set st.words (word_of v.start n) birth_word;
+          homes = length-set st.homes n none;
+          grows = grows_none x.number r.history;
+          legal = r.legal;
+          at = refl;
+          fresh = refl;
+          removed = λ m. r.removed m ∙ sym (each_changed (λ i z. removed_in m z ≡ removed_in m (r.phase i)) r.phase
+              (λ is. sym (ap (λ (i : ℕ). removed_in m (r.phase i)) is ∙ ap (removed_in m) its.1)) (λ _. refl));
+          slot_words = same;
+          alike = node_alike turn n its.0 birth_word;
+          lists = node_list turn n its.0 birth_word;
+          node_words = λ m l other. node_else turn n its.0 birth_word m other;
+          label_else = λ m other. node_label turn n its.0 birth_word m;
+          label = tt;
+          home_else = λ m l other. set_else st.homes n m none other;
+          owed_else = λ m other. refl;
+          taken_else = λ m other. sym (ap (taking m) works);
+          free_else = λ m other bad. let a = ap busy works in omega arith;
+          may = inr (inl (ap owner its.1));
+          its_stock = λ _. rw works at o.allowed;
+          at_slot = λ s f is. cc (sym its.1 ∙ is);
+          open_file = λ j u f other there holds is. let bad : None ≡ Some f = sym (ap file_in its.1) ∙ is in cc bad;
+          guards = λ p e other range. guards_else turn n its.0 (placed id new) r.history words₁ homes₁ r.debt (Placing n new) v.glance same p e
+              (node_hold turn n its.0 birth_word p range.1) refl (λ may. rw its.1 at may);
+          node = let t = sum_set (taken_of n) st.views id v (w turn born_after) here in let a = ap (taking n) works in let b = node.untaken in
+              rw (node_here turn n its.0 birth_word) record {
+                counts = refl;
+                few_lost = omega arith;
+                at_home = set_here st.homes n none (let a = r.shape.homes in let b = its.0 in omega arith);
+                untaken = omega arith;
+                unowed = node.unowed;
+              };
+          known = does_now st.views id v (w turn born_after) (Placing n new) here refl;
+          held = o.held ∙ ap held_in works;
+          allowed = rw works at o.allowed;
+          its_own = own_keeps turn n its.0 (placed id new) r.history words₁ homes₁ r.debt (Placing n new) v.glance same refl
+              (node_hold turn n its.0 birth_word x.number (in_range turn).1 ∙ h.0, h.1) tt (its.0, changed_here r.phase n (placed id new) n refl);
+          holds = λ m. let a = ap (λ (d : Work). if_file m (held_in d)) works in omega arith;
+        }
+
+    pub births : (slots : ℕ) (carried : List (ℕ × Option Closed))
+        → Made turn carried (word_of v.start n) (λ _. birth_word) (λ _. Births (step slots (word_of v.start n) birth_word 0 none) (v, carried) birth_word)
+    births slots carried = (
+      w turn born_after,
+      takes n None,
+      (in_phase turn its.0 its.1).at_home,
+      birth,
+      record {
+        goes = λ m works'. let same : n ≡ m = cc (sym works ∙ works') in rw (← same)
+            (tells turn born_after refl carried ((n, None) ∷ carried) [] (grows_none x.number r.history) r.legal refl its.0, refl);
+      },
+    )
+
+  -- a rest, of a node whose file is closed, or which was placed in vain
+  module _ (n : ℕ) (works : HasItsPlace v.work n) where
+    its_node : (n < nodes_of v.start) × (owner (r.phase n) ≡ id + 1) × (file_in (r.phase n) ≡ None) × ((m : ℕ) → removed_in m (r.phase n) ≡ None)
+        × ((p : ℕ) → MayBeUnmarked (slot_word st.words) p (r.phase n) → ⊥) × (sum_by (taken_of n) st.views ≡ 0) × (owed r.debt v.start.passes n ≡ 0)
+        × (r.phase n ≢ free)
+    its_node = ⊎_elim
+        (λ e. let o = subst (WorkAgrees v.start r.phase id) e (its_work turn) in let z = in_phase turn o.0 o.1 in
+        (o.0, ap owner o.1, ap file_in o.1, λ m. ap (removed_in m) o.1, λ p may. rw o.1 at may, z.untaken, z.unowed, λ bad. cc (sym o.1 ∙ bad)))
+        (λ e. let o = subst (WorkAgrees v.start r.phase id) e.1 (its_work turn) in let z = in_phase turn o.0 o.1 in
+        (o.0, ap owner o.1, ap file_in o.1, λ m. ap (removed_in m) o.1, λ p may. rw o.1 at may, z.untaken, z.unowed, λ bad. cc (sym o.1 ∙ bad))) works
+
+    -- what the pass does has nothing to do with files
+    its_calm : (held_in v.work ≡ None) × (busy v.work ≡ n + 1) × ((m : ℕ) → taking m v.work ≡ 0)
+        × (word_at st.words (hold_word_of v.start x.number) ≡ 0) × (r.debt x.number ≡ 0)
+    its_calm = let o = its_log turn in ⊎_elim
+        (λ (e : v.work ≡ Emptying n). let h = rw e at o.hold in (ap held_in e, ap busy e, λ m. ap (taking m) e, h.0, h.1))
+        (λ (e : (l : Placement) × (v.work ≡ Placing n l)). let h = rw e.1 at o.hold in
+        (ap held_in e.1, ap busy e.1, λ m. ap (taking m) e.1, h.0, h.1)) works
+
+    abbrev homes₀ : Homes
+    homes₀ = set st.homes n (some None)
+
+    abbrev words₀ : List ℕ
+    words₀ = node_words turn n its_node.0 0
+
+    -- what the pass does afterwards: nothing, or it may place this node again
+    module _ (d : Work) (to : HasNoFile d) (allowed : IsAllowed x.stock x.listed d) (again : (m : ℕ) → d ≡ Searching m → m ≡ n) where
+      abbrev rest_after : After turn
+      rest_after = after turn n its_node.0 free r.history words₀ homes₀ r.debt d v.glance
+
+      knows : WorkAgrees v.start (changed_at r.phase n free) id d × IsInside v.start d × GuardAgrees (slot_word words₀)
+          (changed_at r.phase n free) x.number (r.debt x.number) d × HoldAgrees 0 0 d
+      knows = ⊎_elim (λ (i : d ≡ Idle). rw i (tt, tt, tt, (refl, refl)))
+          (λ (z : (m : ℕ) × (d ≡ Searching m)). let same = again z.0 z.1 in let l : z.0 < nodes_of v.start = rw same its_node.0 in
+          rw z.1 ((l, changed_here r.phase n free z.0 same), l, tt, (refl, refl))) to
+
+      resting : Agrees v.start (end turn rest_after)
+      resting = let o = its_log turn in let q = its_node in let c = its_calm in let same = node_slot turn n q.0 0 in
+          node_kept turn n q.0 free r.history words₀ homes₀ r.debt d v.glance record {
+            words = length-set st.words (word_of v.start n) 0;
+            homes = length-set st.homes n (some None);
+            grows = grows_none x.number r.history;
+            legal = r.legal;
+            at = refl;
+            fresh = refl;
+            removed = λ m. r.removed m ∙ sym (each_changed (λ i z. removed_in m z ≡ removed_in m (r.phase i)) r.phase
+                (λ is. sym (ap (λ (i : ℕ). removed_in m (r.phase i)) is ∙ q.3 m)) (λ _. refl));
+            slot_words = same;
+            alike = node_alike turn n q.0 0;
+            lists = node_list turn n q.0 0;
+            node_words = λ m l other. node_else turn n q.0 0 m other;
+            label_else = λ m other. node_label turn n q.0 0 m;
+            label = tt;
+            home_else = λ m l other. set_else st.homes n m (some None) other;
+            owed_else = λ m other. refl;
+            taken_else = λ m other. no_take to m ∙ sym (c.2 m);
+            free_else = λ m other bad. let a = c.1 in other (omega arith);
+            may = inr (inr q.1);
+            its_stock = λ bad. absurd (q.7 bad);
+            at_slot = λ s f is. let bad : None ≡ Some f = sym q.2 ∙ ap file_in is in absurd (cc bad);
+            open_file = λ j u f other there holds is. let bad : None ≡ Some f = sym q.2 ∙ is in cc bad;
+            guards = λ p e other range. guards_else turn n q.0 free r.history words₀ homes₀ r.debt d v.glance same p e
+                (node_hold turn n q.0 0 p range.1) refl (λ may. q.4 p may);
+            node = let t = sum_set (taken_of n) st.views id v (w turn rest_after) here in let a = c.2 n in let b = q.5 in
+                let e = no_take to n in rw (node_here turn n q.0 0) record {
+                  counts = refl;
+                  at_home = set_here st.homes n (some None) (let a = r.shape.homes in let b = q.0 in omega arith);
+                  untaken = omega arith;
+                  unowed = q.6;
+                };
+            known = tt;
+            held = o.held ∙ (c.0 ∙ sym (no_file to));
+            allowed = allowed;
+            its_own = own_keeps turn n q.0 free r.history words₀ homes₀ r.debt d v.glance same refl
+                (rw (node_hold turn n q.0 0 x.number (in_range turn).1 ∙ c.3, c.4) knows.3) knows.2 knows.0;
+            holds = λ m. let a = ap (if_file m) c.0 in let b = ap (if_file m) (no_file to) in omega arith;
+          }
+
+    after_rest : HasNoFile (rested v.work) × IsAllowed x.stock x.listed (rested v.work) × ((m : ℕ) → rested v.work ≡ Searching m → m ≡ n)
+    after_rest = ⊎_elim (λ (e : v.work ≡ Emptying n). rw e (inl refl, tt, λ m bad. cc bad))
+        (λ (e : (l : Placement) × (v.work ≡ Placing n l)). let block = rw e.1 at (its_log turn).allowed in
+        rw e.1 (inr (n, refl), block, λ m is. let same : n ≡ m = cc is in sym same))
+        works
+
+    pub rests : (slots : ℕ) (carried : List (ℕ × Option Closed)) → carried ≡ (n, None) ∷ []
+        → Made turn carried (word_of v.start n) (λ _. 0) (λ _. Rests (step slots (word_of v.start n) 0 0 none) (v, carried) 0)
+    rests slots carried has = let d = rested v.work in let to = after_rest in (
+      w turn (rest_after d to.0 to.1 to.2),
+      gives,
+      tt,
+      rw has (resting d to.0 to.1 to.2),
+      record {
+        stepped = tells turn (rest_after d to.0 to.1 to.2) refl carried (rest carried) [] (grows_none x.number r.history) r.legal refl
+            (knows d to.0 to.1 to.2).1;
+        carried = refl;
+      },
+    )
+
+pub seeks_keep : SeeksKeep Seeks
+seeks_keep k slots id i n m x has searches installs stocked place = by_turn slots (λ (k : Start). (x.number ≤ k.installing) × IsInStock x.stock n)
+    (λ k. word_of k n) (λ word. word) (λ i. Seeks (step slots i 0 0 none) m) has (installs, stocked) place
+    (λ st r here so fits. seek (turn_of m x has.1 id st r here) searches so.0 n so.1 slots m.1)
+
+pub births_keep : BirthsKeep Births
+births_keep k slots id i n m x has works place = by_turn slots (λ _. Unit {0}) (λ k. word_of k n) (λ _. birth_word)
+    (λ i _. Births (step slots i birth_word 0 none) m birth_word) has tt place
+    (λ st r here _ fits. births (turn_of m x has.1 id st r here) n works slots m.1)
+
+pub rests_keep : RestsKeep Rests
+rests_keep k slots id i n m x has works carries place = by_turn slots (λ _. Unit {0}) (λ k. word_of k n) (λ _. 0)
+    (λ i _. Rests (step slots i 0 0 none) m 0) has tt place
+    (λ st r here _ fits. rests (turn_of m x has.1 id st r here) n works slots m.1 carries)

@@ -1,0 +1,7 @@
+-- Lemmas of the allocation range: counts, questions and searches.
+pub mod Groups
+pub mod GroupSteps
+pub mod QuestionSteps
+pub mod Questions
+pub mod Trying
+pub mod GapSearches

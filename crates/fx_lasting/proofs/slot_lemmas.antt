@@ -1,0 +1,19 @@
+-- Lemmas of the words of slots: what empties, fills or replaces a slot.
+pub mod SlotWords
+pub mod Watching
+pub mod SlotSteps
+pub mod Sights
+pub mod Swaps
+pub mod SlotLaws
+pub mod SwapsOut
+pub mod Seeing
+pub mod SwapsIf
+pub mod SwapsHeld
+pub mod Removals
+pub mod Overtaking
+pub mod OvertakenCalls
+pub mod ByNode
+pub mod HeldTries
+pub mod EmptySlots
+pub mod ByKey
+pub mod KeyLemmas

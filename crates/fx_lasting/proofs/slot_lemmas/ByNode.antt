@@ -1,0 +1,262 @@
+-- The calls that name a node: what their steps leave, one after another.
+use Rattle.fx_lasting.proofs.Words.{◌-◌, ◌<◌, List, get_elem?, some, rest, as_swapped, IsInStock, NamesANode, name_in, name_of_file, nodes_of}
+use Rattle.fx_lasting.proofs.Words.{IsAtWork, IsStockOf, as_stocked, set, ◌≡◌, ◌≢◌, ℕ, ◌+◌, ◌≤◌, [], sym, refl, ap, ◌∙◌, subst, arith, Option, Some}
+use Rattle.fx_lasting.proofs.Words.{None, Bool, true, false, File, Event, IsSeenBy, Closed, Action, ◌▷◌, ◌▷▷◌, Take, Put, numbered, full_name_in}
+use Rattle.fx_lasting.proofs.Words.{entry_in, count_in, Names, Start, Sat, At, Work, Glance, Change, Outside, Runs, Stepped, Sees, retiring_work}
+use Rattle.fx_lasting.proofs.Words.{retired_at, slot_of, pass_in, state_after_all, node_of_number, account, uncounted, range_at_start, is_in}
+use Rattle.fx_lasting.proofs.Words.{group_of, TableId, LastingPass, IsPassOf, opening_of, view_of, pass_of, Result, Ok, Err, seen_further, Adds}
+use Rattle.fx_lasting.proofs.Words.{no_use, IsIdle, IsFileRemoval, Doing, DoesNothing, Retired, IsOneOnItsNode, IsOn, FitsMiss, WasSo, WasIn, SaysIf}
+use Rattle.fx_lasting.proofs.Words.{SawIf, FailedIf, HasTriedIf, TriedTake, TriedReplace, TriedSwap, TriedOut, Miss}
+use Rattle.fx_lasting.proofs.Words.{meetings}
+use Rattle.fx_lasting.proofs.slot_lemmas.Overtaking.{overtaken_by}
+use Rattle.fx_lasting.proofs.Running.{swapped_then, at_swapped, number_is, stock_is}
+use Rattle.fx_lasting.specs.Ends.{Does}
+use Rattle.fx_lasting.specs.declared.answers.Miss.TheVariants.{Empty, Other, Again}
+use Rattle.fx_lasting.proofs.Passing.{adds_so}
+use Rattle.fx_lasting.proofs.Running.{runs_one, runs_then, runs_goes, runs_within, does_then}
+
+same_node : (a b : ℕ) → a + 1 ≡ b + 1 → a ≡ b
+same_node a b e = omega (arith, e)
+
+not_named : (a b : ℕ) → a ≡ b + 1 → a ≡ 0 → ⊥
+not_named a b e zero = omega (arith, e, zero)
+
+-- the file at a slot, by the name in the slot's word
+module _ (k : Start) (node word : ℕ) where
+  fits_on : (there : Option File) → Names (node_of_number k) word there → full_name_in word ≡ node + 1 → FitsMiss k node Again there
+  fits_on None names is = absurd (not_named _ _ is names)
+  fits_on (Some f) names is = (f, refl, same_node _ _ (sym names.0 ∙ is))
+
+  fits_not : (there : Option File) → Names (node_of_number k) word there → (miss : Miss) → SaysIf word node (Err miss) → FitsMiss k node miss there
+  fits_not None names Empty says = refl
+  fits_not (Some f) names Empty says = absurd (not_named _ _ names.0 says)
+  fits_not None names Other says = absurd (says.0 names)
+  fits_not (Some f) names Other says = (f, refl, λ on. says.1 (names.0 ∙ ap (λ (n : ℕ). n + 1) on))
+  fits_not there names Again says = absurd says
+
+-- what was so before more was seen, or after more was seen
+pub was_further : {k : Start} {slot : ℕ} {is : Option File → Type 0} {a b : List Event} (c : List Event) → WasSo k slot is a b → IsSeenBy b c
+    → WasSo k slot is a c
+was_further {b = b} c was more =
+    record { history = was.history; later = was.later; seen = seen_further was.history b c was.seen more; there = was.there }
+
+pub was_before : {k : Start} {slot : ℕ} {is : Option File → Type 0} (a : List Event) {b c : List Event} → IsSeenBy a b → WasSo k slot is b c
+    → WasSo k slot is a c
+was_before a {b} more was =
+    record { history = was.history; later = seen_further a b was.history more was.later; seen = was.seen; there = was.there }
+
+-- what a word says of a call isn't that it tries no more
+not_again : (word node : ℕ) (miss : Miss) → SaysIf word node (Err miss) → miss ≢ Again
+not_again word node Again says is = absurd says
+not_again word node Empty says is = cc is
+not_again word node Other says is = cc is
+
+-- A pass that has seen what is at a slot
+module _ {k : Start} {slot : ℕ} (node : ℕ) {st : At} {m m' : Sat} {found : ℕ} (start : m.0.start ≡ k) (here : slot_of st.word ≡ slot)
+    (saw : Sees st m found m') where
+  names_there : Names (node_of_number k) found ((state_after_all k (pass_in m').front).at slot)
+  names_there = subst (λ (z : Start × ℕ). Names (node_of_number z.0) found ((state_after_all z.0 (pass_in m').front).at z.1))
+      (λ i. (start i, here i)) saw.names
+
+  pub was_on : full_name_in found ≡ node + 1 → WasIn k slot node Again m m'
+  was_on is = record {
+    history = (pass_in m').front;
+    later = saw.goes.stepped.seen;
+    seen = ([], refl);
+    there = fits_on k node found ((state_after_all k (pass_in m').front).at slot) names_there is;
+  }
+
+  pub was_not : (miss : Miss) → SaysIf found node (Err miss) → WasIn k slot node miss m m'
+  was_not miss says = record {
+    history = (pass_in m').front;
+    later = saw.goes.stepped.seen;
+    seen = ([], refl);
+    there = fits_not k node found ((state_after_all k (pass_in m').front).at slot) names_there miss says;
+  }
+
+  pub saw_if : (r : Result ℕ Miss) → SaysIf found node r → SawIf k slot node m r m'
+  saw_if (Ok word) says = (ap full_name_in says.0 ∙ says.1, was_on says.1, runs_goes saw.goes)
+  saw_if (Err miss) says = (was_not miss says, runs_goes saw.goes, not_again found node miss says)
+
+-- a pass goes on with the same work
+pub stands_then : {m m' m'' : Sat} {xs ys : List Action} {w : Work} {g : Glance} {c : Change} {n n' : ℕ} → Runs m xs w g c n m'
+    → Runs m' ys m'.0.work m'.0.glance m'.0.change n' m'' → Runs m (xs ▷▷ ys) w g c (n + n') m''
+stands_then {m' = m'} {m'' = m''} {ys = ys} {n' = n'} a b =
+    does_then a (subst (λ (z : Work). Runs m' ys z m'.0.glance m'.0.change n' m'') a.work b)
+
+-- it acts, and ends its change
+pub acts_then : {m m' m'' : Sat} {xs ys : List Action} {w w' : Work} {g : Glance} {c c' : Change} {n n' : ℕ} → Runs m xs w g c n m'
+    → Runs m' ys w' m'.0.glance c' n' m'' → Runs m (xs ▷▷ ys) w' g c' (n + n') m''
+acts_then {m' = m'} {m'' = m''} {ys = ys} {w' = w'} {c' = c'} {n' = n'} a b =
+    runs_then a (subst (λ (z : Glance). Runs m' ys w' z c' n' m'') a.glance b)
+
+pub swapped_acts : {m m' m'' : Sat} {xs ys : List Action} {w w' : Work} {g : Glance} {c c' : Change} {n n' : ℕ} (entry node : ℕ) → Runs m xs w g c n m'
+    → Runs (as_swapped entry node m') ys w' m'.0.glance c' n' m'' → Runs (as_swapped entry node m) (xs ▷▷ ys) w' g c' (n + n') m''
+swapped_acts {m' = m'} {m'' = m''} {ys = ys} {w' = w'} {c' = c'} {n' = n'} entry node a b =
+    swapped_then entry node a (subst (λ (z : Glance). Runs (as_swapped entry node m') ys w' z c' n' m'') a.glance b)
+
+-- a slot that had a file leaves the groups' words as they were
+off_none : (b : Bool) (g : ℕ) → uncounted b false g ≡ Outside
+off_none true g = refl
+off_none false g = refl
+
+pub at_once : {m m' : Sat} (range : ℕ × ℕ) (slot : ℕ) (f : File) {xs : List Action} {w : Work} {g : Glance}
+    → Stepped m xs w g (account range slot (Some f)) m' → Runs m xs w g Outside 1 m'
+at_once {m} {m'} range slot f {xs} {w} {g} s =
+    subst (λ (z : Change). Runs m xs w g z 1 m') (off_none (is_in range slot) (group_of range slot)) (runs_one s)
+
+failed_so : (k : Start) (slot node word : ℕ) (m m' : Sat) (miss : Miss) → SaysIf word node (Err miss) → WasIn k slot node miss m m'
+    → FailedIf k slot node miss m m'
+failed_so k slot node word m m' Again says was = absurd says
+failed_so k slot node word m m' Empty says was = was
+failed_so k slot node word m m' Other says was = was
+
+pub tried_none : (k : Start) (slot : ℕ) (miss : Miss) (p p' : LastingPass) → miss ≢ Again → HasTriedIf k slot miss p p'
+tried_none k slot Again p p' not = absurd (not refl)
+tried_none k slot Empty p p' not = tt
+tried_none k slot Other p p' not = tt
+
+pub tried_so : (k : Start) (slot node : ℕ) (p p' : LastingPass) (m₁ m₂ : Sat) → (pass_in m₁).number ≡ (view_of p).number → m₁.0.start ≡ k
+    → IsSeenBy (view_of p).front (pass_in m₁).front → meetings p ≤ (pass_in m₁).watch.met → IsSeenBy (pass_in m₂).front (view_of p').front
+    → (pass_in m₂).watch.met ≤ meetings p' → (miss : Miss) → FailedIf k slot node miss m₁ m₂ → HasTriedIf k slot miss p p'
+tried_so k slot node p p' m₁ m₂ number start before few after more Again failed = overtaken_by k slot p p' m₁ m₂ number start before few after more failed
+tried_so k slot node p p' m₁ m₂ number start before few after more Empty failed = tt
+tried_so k slot node p p' m₁ m₂ number start before few after more Other failed = tt
+
+-- what a pass did that put its file there, from this entry of its stock
+abbrev Replaced : (m₁ m₂ : Sat) (at found own : ℕ) → Closed → ℕ → Type 0
+Replaced m₁ m₂ at found own file e = (old : Option File) × (number : ℕ) × Names (node_of_number m₁.0.start) found old
+    × (node_of_number m₁.0.start number ≡ own) × NamesANode m₁.0.start found
+    × Stepped (as_swapped e (name_in found - 1) m₁) ([] ▷ Put at (numbered number file) old) (retiring_work m₁.0.start found old) m₁.0.glance
+    (account (range_at_start m₁.0.start) at old) m₂ × (m₂.1 ≡ rest m₁.1) × IsOneOnItsNode m₁.0.start old (pass_in m₂).front
+
+-- what a pass did that emptied the slot by an exchange of names, from this entry of its stock
+abbrev Swapped : (m₁ m₂ : Sat) (at found : ℕ) → ℕ → Type 0
+Swapped m₁ m₂ at found e = (file : Option File) × Names (node_of_number m₁.0.start) found file × NamesANode m₁.0.start found
+    × Stepped (as_swapped e (name_in found - 1) m₁) ([] ▷ Take at file) (retiring_work m₁.0.start found file) m₁.0.glance
+    (account (range_at_start m₁.0.start) at file) m₂ × (m₂.1 ≡ m₁.1) × IsOneOnItsNode m₁.0.start file (pass_in m₂).front
+
+pub its_own : (found node : ℕ) → full_name_in found ≡ node + 1 → name_in found - 1 ≡ node
+its_own found node is = let a = name_of_file found node is in omega arith
+
+-- The last of some tries
+module _ {k : Start} {slot at : ℕ} (node found : ℕ) {m m₁ m₂ : Sat} {n : ℕ} (start : m₁.0.start ≡ k) (here : at ≡ slot)
+    (still : Does m [] m.0.work n m₁) (few : n + 1 ≤ 4) where
+  module _ (is : full_name_in found ≡ node + 1) where
+    pub won_take : (file : Option File) → Names (node_of_number m₁.0.start) found file
+        → Stepped m₁ ([] ▷ Take at file) (retiring_work m₁.0.start found file) m₁.0.glance (account (range_at_start m₁.0.start) at file) m₂
+        → IsOneOnItsNode m₁.0.start file (pass_in m₂).front → TriedTake k slot node m (Ok found) m₂
+    won_take None names s one = absurd (not_named _ _ is names)
+    won_take (Some f) names s one = (
+      f,
+      is,
+      subst (λ (z : Start). Names (node_of_number z) found (Some f)) start names,
+      runs_within few (acts_then still (subst (λ (z : Start × ℕ). Runs m₁ ([] ▷ Take z.1 (Some f)) (retiring_work z.0 found (Some f))
+          m₁.0.glance Outside 1 m₂) (λ i. (start i, here i)) (at_once (range_at_start m₁.0.start) at f s))),
+      subst (λ (z : Start). IsOneOnItsNode z (Some f) (pass_in m₂).front) start one,
+    )
+
+    replaced_so : (own : ℕ) (file : Closed) (e : ℕ) → Replaced m₁ m₂ at found own file e → (number : ℕ) × (f : File) × (node_of_number k number ≡ own)
+        × Names (node_of_number k) found (Some f)
+        × Runs (as_swapped e node m) ([] ▷ Put slot (numbered number file) (Some f)) (retiring_work k found (Some f)) m.0.glance Outside 4 m₂
+        × IsOneOnItsNode k (Some f) (pass_in m₂).front
+    replaced_so own file e (None, number, names, on, a_node, s, home, one) = absurd (not_named _ _ is names)
+    replaced_so own file e (Some f, number, names, on, a_node, s, home, one) = (
+      number,
+      f,
+      subst (λ (z : Start). node_of_number z number ≡ own) start on,
+      subst (λ (z : Start). Names (node_of_number z) found (Some f)) start names,
+      runs_within few (swapped_then e node still (subst (λ (z : Start × ℕ × Glance × ℕ). Runs (as_swapped e z.3 m₁) ([] ▷ Put z.1 (numbered number file) (Some f))
+          (retiring_work z.0 found (Some f)) z.2 Outside 1 m₂) (λ i. (start i, here i, still.glance i, its_own found node is i)) (at_once (range_at_start m₁.0.start) at f s))),
+      subst (λ (z : Start). IsOneOnItsNode z (Some f) (pass_in m₂).front) start one,
+    )
+
+    pub won_replace : (own : ℕ) (file : Closed) → IsInStock (pass_in m).stock own → ((e : ℕ) → get_elem? (pass_in m₁).stock e ≡ some own → Replaced m₁ m₂ at found own file e)
+        → rest m₁.1 ≡ [] → TriedReplace k slot node own file m (Ok found) m₂
+    won_replace own file stocked wins empty = let z = wins stocked.0 (there stocked.0 stocked.1) in (
+      is,
+      z.6 ∙ empty,
+      subst (λ (y : ℕ). y < nodes_of k) (its_own found node is) (subst (λ (y : Start). name_in found - 1 < nodes_of y) start z.4.1),
+      λ e its. replaced_so own file e (wins e (there e its)),
+    )
+      where
+        there : (e : ℕ) → get_elem? (pass_in m).stock e ≡ some own → get_elem? (pass_in m₁).stock e ≡ some own
+        there e its = ap (λ (l : List ℕ). get_elem? l e) still.stock ∙ its
+
+    swapped_so : (e : ℕ) → Swapped m₁ m₂ at found e → (f : File) × Names (node_of_number k) found (Some f)
+        × Runs (as_swapped e node m) ([] ▷ Take slot (Some f)) (retiring_work k found (Some f)) m.0.glance Outside 4 m₂
+        × IsOneOnItsNode k (Some f) (pass_in m₂).front
+    swapped_so e (None, names, a_node, s, home, one) = absurd (not_named _ _ is names)
+    swapped_so e (Some f, names, a_node, s, home, one) = (
+      f,
+      subst (λ (z : Start). Names (node_of_number z) found (Some f)) start names,
+      runs_within few (swapped_then e node still (subst (λ (z : Start × ℕ × Glance × ℕ). Runs (as_swapped e z.3 m₁) ([] ▷ Take z.1 (Some f))
+          (retiring_work z.0 found (Some f)) z.2 Outside 1 m₂) (λ i. (start i, here i, still.glance i, its_own found node is i)) (at_once (range_at_start m₁.0.start) at f s))),
+      subst (λ (z : Start). IsOneOnItsNode z (Some f) (pass_in m₂).front) start one,
+    )
+
+    pub won_swap : (own : ℕ) → IsInStock (pass_in m).stock own → ((e : ℕ) → get_elem? (pass_in m₁).stock e ≡ some own → Swapped m₁ m₂ at found e)
+        → TriedSwap k slot node own m (Ok found) m₂
+    won_swap own stocked wins = let z = wins stocked.0 (there stocked.0 stocked.1) in (
+      is,
+      subst (λ (y : ℕ). y < nodes_of k) (its_own found node is) (subst (λ (y : Start). name_in found - 1 < nodes_of y) start z.2.1),
+      λ e its. swapped_so e (wins e (there e its)),
+    )
+      where
+        there : (e : ℕ) → get_elem? (pass_in m).stock e ≡ some own → get_elem? (pass_in m₁).stock e ≡ some own
+        there e its = ap (λ (l : List ℕ). get_elem? l e) still.stock ∙ its
+
+module _ {st : At} {m m₁ m₂ : Sat} {found n : ℕ} (still : Does m [] m.0.work n m₁) (few : n + 1 ≤ 4) (saw : Sees st m₁ found m₂) where
+  pub lost_run : Does m [] m.0.work 4 m₂
+  lost_run = runs_within few (stands_then still (runs_goes saw.goes))
+
+  pub lost_so : {k : Start} {slot : ℕ} (node : ℕ) → m₁.0.start ≡ k → slot_of st.word ≡ slot → (miss : Miss) → SaysIf found node (Err miss)
+      → FailedIf k slot node miss m m₂
+  lost_so {k} {slot} node start here miss says =
+      failed_so k slot node found m m₂ miss says (was_before (pass_in m).front still.seen (was_not node start here saw miss says))
+
+-- why a call did nothing: the word was seen to name the node first
+pub missed_so : (k : Start) (slot node : ℕ) (m m₁ m₂ m₃ m₄ : Sat) (miss : Miss) → WasIn k slot node Again m m₁ → FailedIf k slot node miss m₂ m₃
+    → IsSeenBy (pass_in m).front (pass_in m₂).front → IsSeenBy (pass_in m₁).front (pass_in m₄).front
+    → IsSeenBy (pass_in m₃).front (pass_in m₄).front → WasIn k slot node miss m m₄
+missed_so k slot node m m₁ m₂ m₃ m₄ Again first failed before all after = was_further (pass_in m₄).front first all
+missed_so k slot node m m₁ m₂ m₃ m₄ Empty first failed before all after =
+    was_before (pass_in m).front before (was_further (pass_in m₄).front failed after)
+missed_so k slot node m m₁ m₂ m₃ m₄ Other first failed before all after =
+    was_before (pass_in m).front before (was_further (pass_in m₄).front failed after)
+
+-- The value of a removed file
+module _ {node : ℕ} (found : ℕ) (x : Retired) (at : x.node ≡ node) (entry : x.entry ≡ entry_in found) (takes : x.takes ≡ count_in found)
+    (is : full_name_in found ≡ node + 1) (f : File) where
+  pub value_so : entry_in found ≡ f.identity.entry → retired_at f (full_name_in found - 1) (count_in found) ≡ x
+  value_so same = let n : full_name_in found - 1 ≡ x.node = omega arith in
+      λ i. record { node = n i; entry = (sym same ∙ sym entry) i; takes = sym takes i }
+
+  pub removal_so : (k : Start) → entry_in found ≡ f.identity.entry → IsFileRemoval (opening_of k) f x
+  removal_so k same = record { entry = entry ∙ same; same = λ e. absurd (cc e) }
+
+  pub is_on : (k : Start) → full_name_in found ≡ node_of_number k f.number + 1 → IsOn k node f
+  is_on k names = same_node _ _ (sym names ∙ is)
+
+-- an idle pass that has done nothing but look
+pub adds_none : {id : TableId} {k : Start} {p : LastingPass} → IsPassOf id k p → IsIdle (view_of p) → {m' : Sat} {g : Glance} {c : Change} {n : ℕ}
+    → Runs p.seat.me [] p.seat.me.0.work g c n m' → Adds (opening_of k) (view_of p) [] DoesNothing no_use (pass_of m'.0)
+adds_none {k = k} {p = p} fits idle {m'} r =
+    subst (λ (d : Doing). Adds (opening_of k) (view_of p) [] d no_use (pass_of m'.0)) idle (adds_so fits.seated r no_use)
+
+-- A pass with this stock that tried to empty a slot
+module _ {k : Start} {p : ℕ} {m : Sat} (m' : Sat) (at : IsAtWork k p m) (stock : List ℕ) (its : stock ≡ (pass_in m).stock) (slot node : ℕ) where
+  -- it exchanged names
+  pub moved_name : (word own entry : ℕ) → get_elem? stock entry ≡ some own → TriedSwap k slot node own m (Ok word) m'
+      → TriedOut k slot node (set stock entry node) m (Ok word) m'
+  moved_name word own entry there (is, inside, did) = let z = did entry (ap (λ (l : List ℕ). get_elem? l entry) (sym its) ∙ there) in
+      let after = at_swapped at entry node inside in
+      let same : set (pass_in m).stock entry node ≡ set stock entry node = λ i. set (sym its i) entry node in (
+        z.0,
+        is,
+        z.1,
+        subst (λ (n : ℕ). IsStockOf k n (set stock entry node)) (sym (number_is at))
+            (subst (IsStockOf k p) (sym (stock_is after) ∙ same) after.stock),
+        subst (λ (l : List ℕ). Runs (as_stocked l m) ([] ▷ Take slot (Some z.0)) (retiring_work k word (Some z.0)) m.0.glance Outside 4 m') same z.2,
+        z.3,
+      )

@@ -1,0 +1,85 @@
+-- A load of a slot's word: the pass sees what is at the slot, and watches the slot.
+use Rattle.fx_lasting.proofs.Words.{◌≡◌, ◌≢◌, ℕ, ◌+◌, ◌<◌, ◌≤◌, ◌⊎◌, List, [], set, sym, refl, ap, ◌∙◌, subst, arith, Option, Some, None, none, step}
+use Rattle.fx_lasting.proofs.Words.{⊎_elim, inl, inr, dite, ℕ_discrete, Closed, File, Names, slots_of, slot_place, state_after_all}
+use Rattle.fx_lasting.proofs.Words.{node_of_number, Sees, Agrees, Watch, HasActed, IsOvertaken, first_log, Log}
+use Rattle.fx_lasting.proofs.Histories.{grows_none}
+use Rattle.fx_lasting.proofs.Keeping.{Turn, word_at, slot_word, w, After, its_log, tells}
+use Rattle.fx_lasting.proofs.Calm.{read_watching, read_watching_kept}
+use Rattle.fx_lasting.proofs.range_lemmas.GroupSteps.{its_inside}
+use Rattle.fx_lasting.proofs.Peeking.{still}
+use Rattle.fx_lasting.proofs.Places.{slot_back}
+use Rattle.fx_lasting.proofs.node_lemmas.StockMoves.{names_a_node}
+
+module _ (turn : Turn) (s : ℕ) where
+  open turn use {st, v, r, id, x, here, one}
+
+  abbrev pub found : ℕ
+  found = slot_word st.words s
+
+  -- another pass acted since the pass saw the slot's word, or was met in the middle of its look-up
+  abbrev pub Changed : ℕ → Type 0
+  Changed met = x.watch.slot ≡ s → found ≢ x.watch.word
+      → HasActed s x.number x.watch.front r.history ⊎ ((x.watch.met < met) × (1 < v.start.passes))
+
+  pub record Sight : Type 0 where
+    pub met : ℕ
+    pub more : x.watch.met ≤ met
+    pub changed : Changed met
+
+  pub sight : s < slots_of v.start → Sight
+  sight inside = dite (ℕ_discrete x.watch.slot s)
+      (λ same. ⊎_elim (λ still. record { met = x.watch.met; more = omega arith; changed = λ _ other. absurd (other (sym (ap (slot_word st.words) same) ∙ still)) })
+      (λ changed. ⊎_elim
+      (λ did. record {
+        met = x.watch.met;
+        more = omega arith;
+        changed = λ _ _. inl (subst (λ (i : ℕ). HasActed i x.number x.watch.front r.history) same did);
+      })
+      (λ hot. record { met = x.watch.met + 1; more = omega arith; changed = λ _ _. inr (omega arith, hot.1) }) changed)
+      ((its_log turn).watch.saw (subst (λ (i : ℕ). i < slots_of v.start) (sym same) inside)))
+      (λ other. record { met = x.watch.met; more = omega arith; changed = λ same _. absurd (other same) })
+
+  module _ (inside : s < slots_of v.start) where
+    abbrev pub seen_now : Watch
+    seen_now = record { slot = s; word = found; front = r.history; asks = x.watch.asks; met = (sight inside).met }
+
+    abbrev pub sees_after : After turn
+    sees_after = read_watching turn v.work v.glance seen_now (sight inside).more r.history r.history
+
+    pub sees_kept : Agrees v.start record {
+      words = set st.words (slot_place s) (word_at st.words (slot_place s));
+      homes = st.homes;
+      views = set st.views id (w turn sees_after);
+    }
+    sees_kept = read_watching_kept turn v.work v.glance seen_now (sight inside).more r.history (slot_place s) ([], refl) refl
+        record { seen = ([], refl); saw = λ l. inl refl; asks = (its_log turn).watch.asks } (still turn)
+
+    module _ (carried : List (ℕ × Option Closed)) where
+      abbrev pub there : Option File
+      there = (state_after_all v.start r.history).at s
+
+      -- a name of a node is one of a file whose number says the node
+      by_number : (o : Option File) → Names r.node_of found o → Names (node_of_number v.start) found o
+      by_number None names = names
+      by_number (Some f) names = (names.0 ∙ ap (λ (n : ℕ). n + 1) (r.numbering f.number), names.1)
+
+      pub named : Names (node_of_number v.start) found there
+      named = by_number there (r.each_slot s inside).names
+
+      changed_now : (first_log v.logs).watch.slot ≡ s → found ≢ (first_log v.logs).watch.word → IsOvertaken s (v, carried) (w turn sees_after, carried)
+      changed_now = subst (λ (l : List Log). (first_log l).watch.slot ≡ s → found ≢ (first_log l).watch.word
+          → HasActed s (first_log l).number (first_log l).watch.front r.history ⊎ (((first_log l).watch.met < (sight inside).met) × (1 < v.start.passes)))
+          (sym one) (sight inside).changed
+
+      pub sees_slot : (slots first second : ℕ) → Sees (step slots (slot_place s) first second none) (v, carried) found (w turn sees_after, carried)
+      sees_slot slots first second = record {
+        goes = record {
+          stepped = tells turn sees_after refl carried carried [] (grows_none x.number r.history) r.legal refl (its_inside turn);
+          carried = refl;
+        };
+        names = rw (slot_back s) named;
+        named = names_a_node turn inside;
+        watches = record { its_slot = sym (slot_back s); word = refl; front = refl };
+        overtaken = λ same lost. subst (λ (i : ℕ). IsOvertaken i (v, carried) (w turn sees_after, carried)) (sym (slot_back s))
+            (changed_now (same ∙ slot_back s) lost);
+      }

@@ -1,0 +1,210 @@
+-- A step on the word of a slot, whose file stays there.
+use Rattle.fx_lasting.proofs.Words.{inl, true, Deed, untouched, has_acted, has_heated, heat_in, ◌≡◌, ◌≢◌, ℕ, ◌+◌, ◌<◌, ◌≤◌, List, [], set, sym, refl}
+use Rattle.fx_lasting.proofs.Words.{ap, ◌∙◌, subst, arith, Option, Some, None, Bool, held_by, File, Event, NodeAgrees, IsAllowed, SlotAgrees, Names}
+use Rattle.fx_lasting.proofs.Words.{Agrees, slots_of, nodes_of, IsHistory, state_after_all, held_in, held_of, taken_of, taking, Phase, free, placed}
+use Rattle.fx_lasting.proofs.Words.{seated, leaving, retired, emptied, kept, Work, Glance, ⊎_elim, ◌⊎◌, inr, dite, ℕ_discrete, slot_place, word_of}
+use Rattle.fx_lasting.proofs.Words.{count_in, name_in, full_name_in, entry_in, IsHot, cold_takes, tally, birth_word, owed, sum_set, sum_by, get_elem?}
+use Rattle.fx_lasting.proofs.Words.{length-set, MayBeUnmarked, dec_le, suc, written_in, MOST_SLOTS, without_slot}
+use Rattle.fx_lasting.proofs.Histories.{Grows}
+use Rattle.fx_lasting.proofs.Frames.{busy, owner_stays, owner_same, slot_same, node_same, Leaves, keeps_other, guards_same}
+use Rattle.fx_lasting.proofs.Keeping.{Turn, After, Keeps, word_at, slot_word, step_kept, w, end, its_stock, names_on, asks_alike, few_slots}
+use Rattle.fx_lasting.proofs.range_lemmas.Groups.{counts_same}
+use Rattle.fx_lasting.proofs.Places.{slot_words, slot_here, slot_node, slot_else, slot_hold, slot_alike, slot_list, slot_label}
+use Rattle.fx_lasting.proofs.Keeping.{labels_same, met_same, its_log}
+use Rattle.fx_lasting.proofs.slot_lemmas.Watching.{MovesOn, ActsThere, watch_none}
+
+module _ (turn : Turn) (s : ℕ) (inside : s < slots_of turn.v.start) (new : ℕ) (h' : List Event) (d : Work) (g : Glance) (deed' : ℕ → ℕ → Deed) where
+  open turn use {st, v, r, id, x, here, one}
+
+  abbrev pub words' : List ℕ
+  words' = slot_words turn s inside new
+
+  abbrev pub slot_after : After turn
+  slot_after = record {
+    h = h';
+    front = h';
+    words = words';
+    homes = st.homes;
+    phase = r.phase;
+    next_number = r.next_number;
+    debt = r.debt;
+    deed = deed';
+    work = d;
+    glance = g;
+    change = v.change;
+    asked = x.asked;
+    listed = x.listed;
+    still_listed = λ l. l;
+    where_is = r.where_is;
+    stock = x.stock;
+    watch = without_slot MOST_SLOTS x.watch;
+    more_met = met_same x.watch.met;
+  }
+
+  abbrev old : ℕ
+  old = slot_word st.words s
+
+  pub record SlotStep : Type 0 where
+    pub grows : Grows x.number r.history h'
+    pub legal : IsHistory v.start h'
+    pub at : (state_after_all v.start h').at ≡ (state_after_all v.start r.history).at
+    pub fresh : (state_after_all v.start h').fresh ≡ (state_after_all v.start r.history).fresh
+    pub removed : (state_after_all v.start h').removed ≡ (state_after_all v.start r.history).removed
+    -- the word names the same file, and stays hot
+    pub own_name : name_in new ≡ name_in old
+    pub name : full_name_in new ≡ full_name_in old
+    pub entry : entry_in new ≡ entry_in old
+    pub hot : IsHot old → IsHot new
+    -- the pass acted there, or heated it
+    pub moved : ActsThere x.number s r.history h' ⊎ (heat_in old < heat_in new)
+    pub takes : count_in new ≤ cold_takes v.start.passes + tally (λ p. has_acted (deed' s p)) v.start.passes
+    pub heat : heat_in new ≡ tally (λ p. has_heated (deed' s p)) v.start.passes
+    pub deed_else : (i q : ℕ) → i ≢ s → deed' i q ≡ r.deed i q
+    pub deed_other : (q : ℕ) → q ≢ x.number → deed' s q ≡ r.deed s q
+    pub deed_own : deed' s x.number ≢ untouched → (r.deed s x.number ≢ untouched) ⊎ (x.listed ≡ true)
+    -- the takes of the file's node, and those of others
+    pub counts : (n : ℕ) (f : File) → n < nodes_of v.start → r.phase n ≡ seated s f
+        → word_at st.words (word_of v.start n) + count_in new ≡ birth_word + sum_by (taken_of n) (set st.views id (w turn slot_after))
+    pub taken : (n : ℕ) → n < nodes_of v.start → ((f : File) → r.phase n ≢ seated s f) → taking n d ≡ taking n v.work
+    -- the pass
+    pub owners : (d ≡ v.work) ⊎ (busy v.work ≡ 0)
+    pub held : held_by h' x.number ≡ held_in d
+    pub allowed : IsAllowed x.stock x.listed d
+    pub its : Keeps turn slot_after id x.number d g
+    pub holds : (n : ℕ) → (state_after_all v.start h').holds n + held_of n v ≡ (state_after_all v.start r.history).holds n + held_of n (w turn slot_after)
+
+  -- a guard of a file at a hot slot
+  pub covers_slot : (IsHot old → IsHot new) → (p n : ℕ) → MayBeUnmarked (slot_word st.words) p (r.phase n) → MayBeUnmarked (slot_word words') p (r.phase n)
+  covers_slot hot p n = dite (dec_le (suc n) (nodes_of v.start)) (λ l. go (r.phase n) (r.each_node n (omega (arith, l))))
+      (λ z m. let e = r.unborn n (omega (arith, z)) in absurd (rw e at m))
+    where
+      go : (ph : Phase) → NodeAgrees (state_after_all v.start r.history).at (slots_of v.start) (λ s. count_in (slot_word st.words s)) r.node_of
+          r.next_number n (word_at st.words (word_of v.start n)) (sum_by (taken_of n) st.views) (owed r.debt v.start.passes n)
+          (get_elem? st.homes n) ph → MayBeUnmarked (slot_word st.words) p ph → MayBeUnmarked (slot_word words') p ph
+      go (seated i f) o is_hot = dite (ℕ_discrete i s)
+          (λ same. subst (λ (j : ℕ). IsHot (slot_word st.words j) → IsHot (slot_word words' j)) (sym same)
+          (λ h. rw (slot_here turn s inside new) (hot h)) is_hot)
+          (λ other. rw (slot_else turn s inside new i other) is_hot)
+      go (leaving j t nx m f) o l = l
+      go free o m = absurd m
+      go (placed j l) o m = absurd m
+      go (retired f) o m = absurd m
+      go (emptied j) o m = absurd m
+      go (kept j lost) o m = absurd m
+
+  module _ (p : SlotStep) where
+    at_is : (i : ℕ) → (state_after_all v.start h').at i ≡ (state_after_all v.start r.history).at i
+    at_is i = ap (λ (f : ℕ → Option File). f i) p.at
+
+    same_name : (i : ℕ) → full_name_in (slot_word words' i) ≡ full_name_in (slot_word st.words i)
+    same_name i = dite (ℕ_discrete i s)
+        (λ same. subst (λ (j : ℕ). full_name_in (slot_word words' j) ≡ full_name_in (slot_word st.words j)) (sym same)
+        (ap full_name_in (slot_here turn s inside new) ∙ p.name))
+        (λ other. ap full_name_in (slot_else turn s inside new i other))
+
+    same_own_name : (i : ℕ) → i < slots_of v.start → name_in (slot_word words' i) ≡ name_in (slot_word st.words i)
+    same_own_name i l = dite (ℕ_discrete i s)
+        (λ same. subst (λ (j : ℕ). name_in (slot_word words' j) ≡ name_in (slot_word st.words j)) (sym same)
+        (ap name_in (slot_here turn s inside new) ∙ p.own_name))
+        (λ other. ap name_in (slot_else turn s inside new i other))
+
+    slot_now : SlotAgrees v.start r.node_of r.phase (deed' s) s ((state_after_all v.start h').at s) (slot_word words' s)
+    slot_now = let o = r.each_slot s inside in rw (slot_here turn s inside new, at_is s)
+        record { names = names ((state_after_all v.start r.history).at s) o.names; seat = o.seat; takes = p.takes; heat = p.heat }
+      where
+        names : (found : Option File) → Names r.node_of old found → Names r.node_of new found
+        names None o = p.name ∙ o
+        names (Some f) o = (p.name ∙ o.0, p.entry ∙ o.1)
+
+    leaves : Leaves turn slot_after
+    leaves = record {
+      guards = λ q e other range. guards_same turn slot_after q e (slot_hold turn s inside new q range.0) refl (covers_slot p.hot q);
+      owned = λ n some not_mine. refl;
+      spare = λ n q e is at other. is;
+      open_file = λ j u f n other there holds at. at;
+      slots = λ i q l other. dite (ℕ_discrete i s)
+          (λ same. inr (
+            ap (λ (j : ℕ). deed' j q) same ∙ (p.deed_other q other ∙ sym (ap (λ (j : ℕ). r.deed j q) same)),
+            same_name i,
+            subst (λ (j : ℕ). IsHot (slot_word st.words j) → IsHot (slot_word words' j)) (sym same) (λ h. rw (slot_here turn s inside new) (p.hot h)),
+          ))
+          (λ ne. inr (p.deed_else i q ne, same_name i, λ h. rw (slot_else turn s inside new i ne) h));
+    }
+
+    abbrev Node : ℕ → Phase → Type 0
+    Node n = NodeAgrees (state_after_all v.start h').at (slots_of v.start) (λ i. count_in (slot_word words' i)) r.node_of r.next_number n
+        (word_at words' (word_of v.start n)) (sum_by (taken_of n) (set st.views id (w turn slot_after))) (owed r.debt v.start.passes n)
+        (get_elem? st.homes n)
+
+    same_else : (n : ℕ) → n < nodes_of v.start → (ph : Phase) → r.phase n ≡ ph → ((f : File) → ph ≢ seated s f) → Node n ph
+    same_else n l ph is else = node_same (slots_of v.start) r.node_of n (omega arith) (slot_node turn s inside new n)
+        (let t = sum_set (taken_of n) st.views id v (w turn slot_after) here in let e = p.taken n l (λ f at. else f (sym is ∙ at)) in omega arith)
+        refl refl ph (λ i f at there. (at_is i, ap count_in (slot_else turn s inside new i (λ same. else f (at ∙ ap (λ (j : ℕ). seated j f) same)))))
+        (subst (NodeAgrees (state_after_all v.start r.history).at (slots_of v.start) (λ s. count_in (slot_word st.words s)) r.node_of
+        r.next_number n (word_at st.words (word_of v.start n)) (sum_by (taken_of n) st.views) (owed r.debt v.start.passes n)
+        (get_elem? st.homes n)) is (r.each_node n l))
+
+    node_now : (n : ℕ) → n < nodes_of v.start → (ph : Phase) → r.phase n ≡ ph → Node n ph
+    node_now n l (seated i f) is = dite (ℕ_discrete i s)
+        (λ same. let o = subst (NodeAgrees (state_after_all v.start r.history).at (slots_of v.start) (λ s. count_in (slot_word st.words s)) r.node_of
+        r.next_number n (word_at st.words (word_of v.start n)) (sum_by (taken_of n) st.views) (owed r.debt v.start.passes n)
+        (get_elem? st.homes n)) is (r.each_node n l) in
+        let c = p.counts n f l (is ∙ ap (λ (j : ℕ). seated j f) same) in
+        let e = ap (λ (j : ℕ). count_in (slot_word words' j)) same in let h = ap count_in (slot_here turn s inside new) in
+        let k = slot_node turn s inside new n in record {
+          file = o.file;
+          counts = omega arith;
+          few = let b = o.few in omega arith;
+          unowed = o.unowed;
+          inside = o.inside;
+          there = at_is i ∙ o.there;
+        })
+        (λ other. same_else n l (seated i f) is (λ h bad. other (cc bad)))
+    node_now n l free is = same_else n l free is (λ h bad. cc bad)
+    node_now n l (placed j z) is = same_else n l (placed j z) is (λ h bad. cc bad)
+    node_now n l (leaving j t nx m f) is = same_else n l (leaving j t nx m f) is (λ h bad. cc bad)
+    node_now n l (retired f) is = same_else n l (retired f) is (λ h bad. cc bad)
+    node_now n l (emptied j) is = same_else n l (emptied j) is (λ h bad. cc bad)
+    node_now n l (kept j lost) is = same_else n l (kept j lost) is (λ h bad. cc bad)
+
+    pub slot_kept : Agrees v.start (end turn slot_after)
+    slot_kept = step_kept turn slot_after record {
+      words = length-set st.words (slot_place s) new;
+      homes = refl;
+      grows = p.grows;
+      legal = p.legal;
+      seen = ([], refl);
+      own = refl;
+      slots = λ i l. dite (ℕ_discrete i s) (λ same. rw same slot_now)
+          (λ other. slot_same (slot_else turn s inside new i other) (at_is i)
+          (λ q low high. p.deed_else i q other) (λ f there seat. refl) (r.each_slot i l));
+      nodes = λ n l. node_now n l (r.phase n) refl;
+      owners = λ n l. ⊎_elim (λ same. owner_same st.views id v (w turn slot_after) here same n (r.phase n) (r.each_owner n l))
+          (λ none. owner_stays st.views id v (w turn slot_after) here n (λ bad. omega arith) (r.phase n) (r.each_owner n l)) p.owners;
+      labels = λ n l. labels_same v.start _ _ _ (written_in (r.phase n)) (slot_label turn s inside new n) (r.each_label n l);
+      removed = λ number. ap (λ (f : ℕ → Option File). f number) p.removed ∙ r.removed number;
+      unborn = r.unborn;
+      fresh = λ number l. ap (λ (f : ℕ → Bool). f number) p.fresh ∙ r.fresh number l;
+      named = names_on turn _ same_own_name;
+      stock = its_stock turn;
+      stocks = λ n p e other at. at;
+      others = λ j u z other there at n range o work. keeps_other turn slot_after leaves j u z other there at n range o work;
+      held = p.held;
+      allowed = p.allowed;
+      lists = λ i few. inl (slot_list turn s inside new i few);
+      deed_on = λ i q l is. dite (ℕ_discrete i s)
+          (λ same. let here : deed' s q ≢ untouched = λ e. is (ap (λ (j : ℕ). deed' j q) same ∙ e) in dite (ℕ_discrete q x.number)
+          (λ own. ⊎_elim (λ before. inl (λ e. before (sym (λ k. r.deed (same k) (own k)) ∙ e))) (λ has. inr (own, has)) (p.deed_own (λ e. here (ap (deed' s) own ∙ e))))
+          (λ other. inl (λ e. here (p.deed_other q other ∙ (sym (ap (λ (j : ℕ). r.deed j q) same) ∙ e)))))
+          (λ ne. inl (λ e. is (p.deed_else i q ne ∙ e)));
+      its_bit = λ l. inl l;
+      its = p.its;
+      holds = p.holds;
+      counts = rw p.at (counts_same id (w turn slot_after) here r.counts (few_slots turn) refl (slot_alike turn s inside new) refl
+          (asks_alike turn slot_after refl));
+      moves = λ i l. dite (ℕ_discrete i s)
+          (λ same. subst (λ (j : ℕ). MovesOn x.number j r.history h' (slot_word st.words j) (slot_word words' j)) (sym same)
+          (rw (slot_here turn s inside new) (inr p.moved)))
+          (λ other. inl (slot_else turn s inside new i other));
+      watches = watch_none v.start x.number r.shape.slots (p.grows.seen r.history ([], refl)) (slot_alike turn s inside new).0 x.watch (its_log turn).watch;
+    }

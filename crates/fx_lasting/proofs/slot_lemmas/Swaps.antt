@@ -1,0 +1,360 @@
+-- A swap of a slot's word: a file leaves the slot, if there was one, and the slot gets another or
+-- none.
+use Rattle.fx_lasting.proofs.Words.{IsToVisit, new_round, inl, true, Whereabouts, at_slot, in_stock, NamesItsNode, StockAgrees, name_in, ◌≡◌, ◌≢◌, ℕ}
+use Rattle.fx_lasting.proofs.Words.{suc, ◌+◌, ◌-◌, ◌^◌, ◌<◌, ◌≤◌, List, [], set, length, sym, refl, ap, ◌∙◌, subst, arith, Option, Some, None, get_elem?}
+use Rattle.fx_lasting.proofs.Words.{Bool, false, inr, ⊎_elim, ◌⊎◌, dite, ℕ_discrete, dec_le, eq-eqb, ne_eqb, File, Event, State, held_by}
+use Rattle.fx_lasting.proofs.Words.{with_removed, changed_at, changed_here, changed_else, Agrees, NodeAgrees, OwnerAgrees, WorkAgrees, SlotAgrees}
+use Rattle.fx_lasting.proofs.Words.{Names, IsSeated, HoldAgrees, GuardAgrees, MayBeUnmarked, IsAllowed, RangeCounts, Nodes, IsHistory}
+use Rattle.fx_lasting.proofs.Words.{state_after_all, slots_of, nodes_of, range_at_start, slot_place, word_of, hold_word_of, count_in, full_name_in}
+use Rattle.fx_lasting.proofs.Words.{heat_in, IsHot, cold_takes, Deed, untouched, has_heated, owed, taken_of, taking, held_in, held_of, if_file, sum_by}
+use Rattle.fx_lasting.proofs.Words.{sum_set, Phase, free, placed, seated, leaving, retired, emptied, kept, owner, file_in, removed_in, first_visit}
+use Rattle.fx_lasting.proofs.Words.{retiring_work, Found, Work, Change, Idle, Retiring, length-set, Labels, Placement, written_in, label_of}
+use Rattle.fx_lasting.proofs.Counts.{tally_same, tally_none}
+use Rattle.fx_lasting.proofs.Histories.{Grows, each_changed}
+use Rattle.fx_lasting.proofs.Frames.{does_now, slot_same, file_same, Leaves, keeps_other, guards_same, SlotGoesOn, sees_on, heats_on}
+use Rattle.fx_lasting.proofs.Keeping.{Turn, After, Homes, word_at, slot_word, step_kept, w, end, its_log, in_range}
+use Rattle.fx_lasting.proofs.Places.{slot_words, slot_here, slot_node, slot_else, slot_hold, slot_list, slot_label, slot_alike}
+use Rattle.fx_lasting.proofs.Keeping.{labels_same, met_same}
+use Rattle.fx_lasting.proofs.slot_lemmas.Watching.{ActsThere, watch_none}
+use Rattle.fx_lasting.proofs.Words.{MOST_SLOTS, without_slot}
+use Rattle.fx_lasting.proofs.hold_lemmas.Unheld.{in_phase}
+
+-- the node isn't that of the file
+abbrev pub NotOf : Nodes → ℕ → Option File → Type 0
+NotOf node_of n old = (f : File) → old ≡ Some f → n ≢ node_of f.number
+
+by_old : (node_of : Nodes) (old : Option File) {n : ℕ} (P : Type 0) → ((f : File) → old ≡ Some f → n ≡ node_of f.number → P) → (NotOf node_of n old → P) → P
+by_old node_of None P is else = else (λ f bad. absurd (cc bad))
+by_old node_of (Some f) {n} P is else = dite (ℕ_discrete n (node_of f.number)) (λ same. is f refl same)
+    (λ other. else (λ g e same. other (let z : f ≡ g = cc e in same ∙ ap (λ (h : File). node_of h.number) (sym z))))
+
+module _ (turn : Turn) (s : ℕ) (inside : s < slots_of turn.v.start) where
+  open turn use {st, v, r, id, x, here, one}
+
+  abbrev pub found : ℕ
+  found = slot_word st.words s
+
+  abbrev pub state : State
+  state = state_after_all v.start r.history
+
+  -- a word that names the same file, and is as hot
+  abbrev pub IsAlike : ℕ → Type 0
+  IsAlike word = (full_name_in word ≡ full_name_in found) × (heat_in word ≡ heat_in found)
+
+  module _ (old : Option File) (was : state.at s ≡ old) where
+    pub names_old : Names r.node_of found old
+    names_old = subst (Names r.node_of found) was (r.each_slot s inside).names
+
+    seat_old : IsSeated v.start r.node_of r.phase s old
+    seat_old = subst (IsSeated v.start r.node_of r.phase s) was (r.each_slot s inside).seat
+
+    -- the file that was there
+    pub old_at : {f : File} → old ≡ Some f → (r.node_of f.number < nodes_of v.start) × (r.phase (r.node_of f.number) ≡ seated s f)
+    old_at is = subst (IsSeated v.start r.node_of r.phase s) is seat_old
+
+    pub old_named : {f : File} → old ≡ Some f → full_name_in found - 1 ≡ r.node_of f.number
+    old_named {f} is = let n = subst (Names r.node_of found) is names_old in let a = n.0 in omega arith
+
+    pub found_so : Found found old
+    found_so = go old names_old
+      where
+        go : (o : Option File) → Names r.node_of found o → Found found o
+        go None n = n
+        go (Some f) n = ((λ bad. let a = n.0 in omega arith), n.1)
+
+    -- a node whose phase isn't that of a file at the slot isn't that of the old file
+    pub not_old : {n : ℕ} {ph : Phase} → r.phase n ≡ ph → ((f : File) → ph ≢ seated s f) → NotOf r.node_of n old
+    not_old is else f o same = else f (sym is ∙ (ap r.phase same ∙ (old_at o).1))
+
+  -- The removal has this word from the slot: the one that was there, or that one without the take
+  -- of the pass itself
+  module _ (old : Option File) (was : state.at s ≡ old) (counted : ℕ) (alike : IsAlike counted) where
+    abbrev pub d : Work
+    d = retiring_work v.start counted old
+
+    d_is : (f : File) → old ≡ Some f → d ≡ Retiring f (r.node_of f.number) (count_in counted) (new_round (first_visit v.start.passes counted)) 0
+    d_is f is = let e : full_name_in counted - 1 ≡ r.node_of f.number = ap (λ (n : ℕ). n - 1) alike.0 ∙ old_named old was is in ap (retiring_work v.start counted) is
+        ∙ ap (λ (n : ℕ). Retiring f n (count_in counted) (new_round (first_visit v.start.passes counted)) 0) e
+
+    -- what a pass does that has a file to retire, or none
+    by_retiring : (P : Work → Type 0) → P Idle
+        → ((f : File) → old ≡ Some f → P (Retiring f (r.node_of f.number) (count_in counted) (new_round (first_visit v.start.passes counted)) 0)) → P d
+    by_retiring P idle retires = go old refl
+      where
+        go : (o : Option File) → old ≡ o → P d
+        go None is = subst P (sym (ap (retiring_work v.start counted) is)) idle
+        go (Some f) is = subst P (sym (d_is f is)) (retires f is)
+
+    -- the old file's node, after the swap
+    abbrev gone_as : File → Phase
+    gone_as f = leaving id (count_in counted) (new_round (first_visit v.start.passes counted)) 0 f
+
+    module _ (h' : List Event) (new_word : ℕ) (new : Option File) (homes' : Homes) (phase₁ : ℕ → Phase) (next' : ℕ) (c : Change)
+        (where_is' : ℕ → Whereabouts) (stock' : List ℕ) where
+      abbrev deed' : ℕ → ℕ → Deed
+      deed' = changed_at r.deed s (λ p. untouched)
+
+      -- phases are changed by the old file, if there was one
+      abbrev gone : Option File → (ℕ → Phase) → ℕ → Phase
+      gone None phase = phase
+      gone (Some f) phase = changed_at phase (r.node_of f.number) (gone_as f)
+
+      abbrev phase' : ℕ → Phase
+      phase' = gone old phase₁
+
+      abbrev pub swap_after : After turn
+      swap_after = record {
+        h = h';
+        front = h';
+        words = slot_words turn s inside new_word;
+        homes = homes';
+        phase = phase';
+        next_number = next';
+        debt = r.debt;
+        deed = deed';
+        work = d;
+        glance = v.glance;
+        change = c;
+        asked = x.asked;
+        listed = x.listed;
+        still_listed = λ l. l;
+        where_is = where_is';
+        stock = stock';
+        watch = without_slot MOST_SLOTS x.watch;
+        more_met = met_same x.watch.met;
+      }
+
+      abbrev after : State
+      after = state_after_all v.start h'
+
+      abbrev Node : ℕ → Phase → Type 0
+      Node n = NodeAgrees after.at (slots_of v.start) (λ i. count_in (slot_word (slot_words turn s inside new_word) i)) r.node_of next' n
+          (word_at st.words (word_of v.start n)) (sum_by (taken_of n) (set st.views id (w turn swap_after))) (owed r.debt v.start.passes n)
+          (get_elem? homes' n)
+
+      pub record Swap : Type 0 where
+        pub grows : Grows x.number r.history h'
+        pub legal : IsHistory v.start h'
+        -- the pass acted at the slot
+        pub acted : ActsThere x.number s r.history h'
+        pub fresh : ℕ → Bool
+        pub holds : ℕ → ℕ
+        pub leads : after ≡ record state { at = changed_at state.at s new; removed = with_removed state.removed old; fresh = fresh; holds = holds }
+        pub fresh_on : (number : ℕ) → next' ≤ number → fresh number ≡ true
+        -- the pass holds nothing any more, and the removal doesn't count the take by which it held
+        -- the file, if it held one
+        pub held : held_by h' x.number ≡ None
+        pub let_go : (n : ℕ) → holds n + held_of n v ≡ state.holds n
+        pub taken : (f : File) → old ≡ Some f → count_in counted + taking (r.node_of f.number) v.work ≡ count_in found
+        pub homes : length homes' ≡ length st.homes
+        pub later : r.next_number ≤ next'
+        pub removed_else : (m : ℕ) → removed_in m (phase₁ (r.node_of m)) ≡ removed_in m (r.phase (r.node_of m))
+        -- the nodes that slots name, and those of stocks
+        pub named_new : NamesItsNode v.start where_is' s new_word
+        pub named_else : (i n : ℕ) → i ≢ s → r.where_is n ≡ at_slot i → where_is' n ≡ at_slot i
+        pub stock : StockAgrees v.start where_is' x.number stock'
+        pub stocks : (n q e : ℕ) → q ≢ x.number → r.where_is n ≡ in_stock q e → where_is' n ≡ in_stock q e
+        -- the new file of the slot
+        pub names : Names r.node_of new_word new
+        pub few_takes : count_in new_word ≤ cold_takes v.start.passes
+        pub no_heat : heat_in new_word ≡ 0
+        pub seat : IsSeated v.start r.node_of phase₁ s new
+        pub seat_apart : (f : File) → new ≡ Some f → NotOf r.node_of (r.node_of f.number) old
+        -- the phases change at most where the pass was placing
+        pub kept : (n : ℕ) → (phase₁ n ≡ r.phase n) ⊎ ((l : Placement) × (r.phase n ≡ placed id l))
+        pub nodes : (n : ℕ) → n < nodes_of v.start → NotOf r.node_of n old → Node n (phase₁ n)
+        pub old_home : (f : File) → old ≡ Some f → get_elem? homes' (r.node_of f.number) ≡ get_elem? st.homes (r.node_of f.number)
+        pub owners : (n : ℕ) → n < nodes_of v.start → NotOf r.node_of n old → OwnerAgrees (set st.views id (w turn swap_after)) n (phase₁ n)
+        pub labels : (n : ℕ) → n < nodes_of v.start → NotOf r.node_of n old → Labels v.start st.words n (written_in (phase₁ n))
+        -- the pass
+        pub no_hold : (word_at st.words (hold_word_of v.start x.number) ≡ 0) × (r.debt x.number ≡ 0)
+        pub counts : RangeCounts (changed_at state.at s new) (range_at_start v.start) (set st.views id (w turn swap_after)) (slot_words turn s inside new_word)
+
+      module _ (p : Swap) where
+        out_here : {f : File} → old ≡ Some f → phase' (r.node_of f.number) ≡ gone_as f
+        out_here {f} is = ap (λ (o : Option File). gone o phase₁ (r.node_of f.number)) is
+            ∙ changed_here phase₁ (r.node_of f.number) (gone_as f) (r.node_of f.number) refl
+
+        else_phase : {n : ℕ} → NotOf r.node_of n old → phase' n ≡ phase₁ n
+        else_phase {n} apart = go old refl
+          where
+            go : (o : Option File) → old ≡ o → gone o phase₁ n ≡ phase₁ n
+            go None is = refl
+            go (Some f) is = changed_else phase₁ (r.node_of f.number) (gone_as f) n (apart f is)
+
+        -- a node that is neither the old file's nor placed
+        same_phase : {n : ℕ} {ph : Phase} → r.phase n ≡ ph → NotOf r.node_of n old → ((l : Placement) → ph ≢ placed id l) → phase' n ≡ ph
+        same_phase {n} is apart other = else_phase apart ∙ ⊎_elim (λ same. same ∙ is) (λ mine. absurd (other mine.0 (sym is ∙ mine.1))) (p.kept n)
+
+        at_else : (i : ℕ) → i ≢ s → after.at i ≡ state.at i
+        at_else i other = ap (λ (z : State). z.at i) p.leads ∙ changed_else state.at s new i other
+
+        at_here : after.at s ≡ new
+        at_here = ap (λ (z : State). z.at s) p.leads ∙ changed_here state.at s new s refl
+
+        -- the old file's node
+        old_node : {f : File} → old ≡ Some f → Node (r.node_of f.number) (gone_as f)
+        old_node {f} is = let its = old_at old was is in let o = in_phase turn its.0 its.1 in let a = o.counts in let b = o.unowed in
+            let t = sum_set (taken_of (r.node_of f.number)) st.views id v (w turn swap_after) here in
+            let e = p.taken f is in
+            let z = by_retiring (λ q. taking (r.node_of f.number) q ≡ 0) refl (λ g at. refl) in
+            let many = r.shape.passes in record {
+              file = file_same p.later (p.old_home f is) o.file;
+              counts = omega arith;
+              few_takes = omega arith;
+              few_marks = first_some;
+              few_visits = first_few;
+            }
+          where
+            first_some : 0 < first_visit v.start.passes counted
+            first_some = dite (ℕ_discrete (heat_in counted) 0) (λ c. rw (eq-eqb (heat_in counted) 0 c) (omega arith))
+                (λ h. rw (ne_eqb (heat_in counted) 0 h) (omega arith))
+
+            first_few : first_visit v.start.passes counted ≤ 2 ^ 16
+            first_few = let a = r.shape.passes in dite (ℕ_discrete (heat_in counted) 0) (λ c. rw (eq-eqb (heat_in counted) 0 c) (omega arith))
+                (λ h. rw (ne_eqb (heat_in counted) 0 h) (omega arith))
+
+        -- its label is still that of the file
+        old_label : {f : File} → old ≡ Some f → Labels v.start (slot_words turn s inside new_word) (r.node_of f.number) (label_of f.identity)
+        old_label {f} is = let its = old_at old was is in labels_same v.start _ _ _ (label_of f.identity) (slot_label turn s inside new_word (r.node_of f.number))
+            (subst (λ (ph : Phase). Labels v.start st.words (r.node_of f.number) (written_in ph)) its.1 (r.each_label (r.node_of f.number) its.0))
+
+        -- who guards the old file is still to be visited
+        guard_old : {f : File} (q : ℕ) → 0 < q → q ≤ v.start.passes → old ≡ Some f → IsHot found → IsToVisit (new_round (first_visit v.start.passes counted)) q
+        guard_old q low high is hot = (rw (ne_eqb (heat_in counted) 0 (λ none. omega (arith, hot, none, alike.1))) (omega arith), λ idle. let a = idle.0 in omega arith)
+
+        covers : (q : ℕ) → (0 < q) × (q ≤ v.start.passes) → (n : ℕ) → MayBeUnmarked (slot_word st.words) q (r.phase n)
+            → MayBeUnmarked (slot_word (slot_words turn s inside new_word)) q (phase' n)
+        covers q range n may = by_old r.node_of old {n = n} (MayBeUnmarked (slot_word (slot_words turn s inside new_word)) q (phase' n))
+            (λ f is same. let hot = subst (MayBeUnmarked (slot_word st.words) q) (ap r.phase same ∙ (old_at old was is).1) may in
+            subst (MayBeUnmarked (slot_word (slot_words turn s inside new_word)) q) (sym (ap phase' same ∙ out_here is))
+            (guard_old {f = f} q range.0 range.1 is hot))
+            (λ apart. go apart (r.phase n) refl may)
+          where
+            -- a seated file is elsewhere, if it isn't the old one
+            at_slot : NotOf r.node_of n old → (i : ℕ) (f : File) → r.phase n ≡ seated i f → i ≢ s
+            at_slot apart i f is same = dite (dec_le (suc n) (nodes_of v.start))
+                (λ l. let o = in_phase turn (omega (arith, l)) is in
+                apart f (sym was ∙ (ap state.at (sym same) ∙ o.there)) (sym o.file.its_node))
+                (λ g. let e = r.unborn n (omega (arith, g)) in let bad : free ≡ seated i f = sym e ∙ is in cc bad)
+
+            go : NotOf r.node_of n old → (ph : Phase) → r.phase n ≡ ph → MayBeUnmarked (slot_word st.words) q ph
+                → MayBeUnmarked (slot_word (slot_words turn s inside new_word)) q (phase' n)
+            go apart (seated i f) is hot = subst (MayBeUnmarked (slot_word (slot_words turn s inside new_word)) q)
+                (sym (same_phase is apart (λ l bad. cc bad))) (rw (slot_else turn s inside new_word i (λ same. at_slot apart i f is same)) hot)
+            go apart (leaving j t nx m f) is l = subst (MayBeUnmarked (slot_word (slot_words turn s inside new_word)) q)
+                (sym (same_phase is apart (λ l bad. cc bad))) l
+            go apart free is m = absurd m
+            go apart (placed j l) is m = absurd m
+            go apart (retired f) is m = absurd m
+            go apart (emptied j) is m = absurd m
+            go apart (kept j lost) is m = absurd m
+
+        slots_on : (q i : ℕ) → SlotGoesOn (slot_word st.words i) (slot_word (slot_words turn s inside new_word) i) (r.deed i q) (deed' i q)
+        slots_on q i = dite (ℕ_discrete i s)
+            (λ same. inl (ap (λ (f : ℕ → Deed). f q) (changed_here r.deed s (λ p. untouched) i same)))
+            (λ other. inr (
+              ap (λ (f : ℕ → Deed). f q) (changed_else r.deed s (λ p. untouched) i other),
+              ap full_name_in (slot_else turn s inside new_word i other),
+              λ h. rw (slot_else turn s inside new_word i other) h,
+            ))
+
+        leaves : Leaves turn swap_after
+        leaves = record {
+          guards = λ q e other range. guards_same turn swap_after q e (slot_hold turn s inside new_word q range.0) refl (covers q range);
+          owned = λ n some not_mine. same_phase refl (not_old old was refl (λ f bad. some (ap owner bad))) (λ l bad. not_mine (ap owner bad));
+          spare = λ n q e is at other. same_phase is (not_old old was is (λ f bad. cc bad)) (λ l bad. cc bad);
+          open_file = λ j u f n other there holds at. (
+            at.0,
+            by_old r.node_of old {n = n} (file_in (phase' n) ≡ Some f)
+                (λ g is same. ap file_in (ap phase' same ∙ out_here is) ∙ (sym (ap file_in (ap r.phase same ∙ (old_at old was is).1)) ∙ at.1))
+                (λ apart. ap file_in (same_phase refl apart (λ l bad. let z : None ≡ Some f = sym (ap file_in bad) ∙ at.1 in cc z)) ∙ at.1),
+          );
+          slots = λ i q l other. slots_on q i;
+        }
+
+        -- what was removed
+        removed_now : (m : ℕ) → after.removed m ≡ removed_in m (phase' (r.node_of m))
+        removed_now m = ap (λ (z : State). z.removed m) p.leads ∙ go old refl
+          where
+            go : (o : Option File) → old ≡ o → with_removed state.removed o m ≡ removed_in m (gone o phase₁ (r.node_of m))
+            go None is = r.removed m ∙ sym (p.removed_else m)
+            go (Some f) is = dite (ℕ_discrete m f.number)
+                (λ same. changed_here state.removed f.number (Some f) m same ∙ sym (ap (removed_in m) (changed_here phase₁ (r.node_of f.number) (gone_as f) (r.node_of m)
+                (ap r.node_of same)) ∙ rw (eq-eqb f.number m (sym same)) refl))
+                (λ other. changed_else state.removed f.number (Some f) m other ∙ (r.removed m ∙ (sym (p.removed_else m)
+                ∙ sym (each_changed (λ k z. removed_in m z ≡ removed_in m (phase₁ k)) phase₁
+                (λ at. rw (ne_eqb f.number m (λ e. other (sym e))) (sym (ap (λ (k : ℕ). removed_in m (phase₁ k)) at
+                ∙ ap (removed_in m) (⊎_elim (λ e. e ∙ (old_at old was is).1) (λ bad. let z : placed id bad.0 ≡ seated s f = sym bad.1 ∙ (old_at old was is).1 in absurd (cc z))
+                (p.kept (r.node_of f.number)))))) (λ _. refl)))))
+
+        seat_now : (o : Option File) → new ≡ o → IsSeated v.start r.node_of phase₁ s o → IsSeated v.start r.node_of phase' s o
+        seat_now None is z = tt
+        seat_now (Some f) is z = (z.0, else_phase (p.seat_apart f is) ∙ z.1)
+
+        slot_other : (i : ℕ) → i < slots_of v.start → i ≢ s
+            → SlotAgrees v.start r.node_of phase' (deed' i) i (after.at i) (slot_word (slot_words turn s inside new_word) i)
+        slot_other i l other = slot_same (slot_else turn s inside new_word i other) (at_else i other)
+            (λ q low high. ap (λ (f : ℕ → Deed). f q) (changed_else r.deed s (λ p. untouched) i other))
+            (λ f there seat. let its = subst (IsSeated v.start r.node_of r.phase i) there (r.each_slot i l).seat in
+            same_phase its.1 (not_old old was its.1 (λ g bad. other (cc bad))) (λ l bad. cc bad) ∙ sym its.1)
+            (r.each_slot i l)
+
+        pub swap_kept : Agrees v.start (end turn swap_after)
+        swap_kept = let o = its_log turn in let hands = p.no_hold in step_kept turn swap_after record {
+          words = length-set st.words (slot_place s) new_word;
+          homes = p.homes;
+          grows = p.grows;
+          legal = p.legal;
+          seen = ([], refl);
+          own = refl;
+          slots = λ i l. dite (ℕ_discrete i s) (λ same. rw (same, slot_here turn s inside new_word, at_here) record {
+            names = p.names;
+            seat = seat_now new refl p.seat;
+            takes = let a = p.few_takes in omega arith;
+            heat = p.no_heat ∙ sym (tally_same (λ q. has_heated (deed' s q)) (λ q. false) v.start.passes
+                (λ q low high. ap (λ (f : ℕ → Deed). has_heated (f q)) (changed_here r.deed s (λ p. untouched) s refl)) ∙ tally_none v.start.passes);
+          }) (λ other. slot_other i l other);
+          nodes = λ n l. rw (slot_node turn s inside new_word n) (by_old r.node_of old {n = n} (Node n (phase' n))
+              (λ f is same. rw (same, out_here is) (old_node is)) (λ apart. rw (else_phase apart) (p.nodes n l apart)));
+          owners = λ n l. by_old r.node_of old {n = n} (OwnerAgrees (set st.views id (w turn swap_after)) n (phase' n))
+              (λ f is same. rw (same, out_here is) (does_now st.views id v (w turn swap_after)
+              (Retiring f (r.node_of f.number) (count_in counted) (new_round (first_visit v.start.passes counted)) 0) here (d_is f is)))
+              (λ apart. rw (else_phase apart) (p.owners n l apart));
+          labels = λ n l. by_old r.node_of old {n = n} (Labels v.start (slot_words turn s inside new_word) n (written_in (phase' n)))
+              (λ f is same. rw (same, out_here is) (old_label is))
+              (λ apart. rw (else_phase apart) (labels_same v.start _ _ _ (written_in (phase₁ n)) (slot_label turn s inside new_word n) (p.labels n l apart)));
+          removed = removed_now;
+          unborn = λ n l. same_phase (r.unborn n l) (not_old old was (r.unborn n l) (λ f bad. cc bad)) (λ z bad. cc bad);
+          fresh = λ number l. ap (λ (z : State). z.fresh number) p.leads ∙ p.fresh_on number l;
+          named = λ i l. dite (ℕ_discrete i s) (λ same. rw (same, slot_here turn s inside new_word) p.named_new)
+              (λ other. let o = r.named i l in record {
+                node = o.node;
+                named = ap name_in (slot_else turn s inside new_word i other) ∙ o.named;
+                inside = o.inside;
+                here = p.named_else i o.node other o.here;
+              });
+          stock = p.stock;
+          stocks = p.stocks;
+          others = λ j u z other there at n range o work. keeps_other turn swap_after leaves j u z other there at n range o work;
+          held = p.held ∙ by_retiring (λ q. None ≡ held_in q) refl (λ f is. refl);
+          allowed = by_retiring (IsAllowed stock' x.listed) tt (λ f is. tt);
+          lists = λ i few. inl (slot_list turn s inside new_word i few);
+          deed_on = λ i q l is. ⊎_elim (λ new. absurd (is new)) (λ same. inl (λ e. is (same.0 ∙ e))) (slots_on q i);
+          its_bit = λ l. inl l;
+          its = record {
+            hold = rw (slot_hold turn s inside new_word x.number (in_range turn).0)
+                (by_retiring (HoldAgrees (word_at st.words (hold_word_of v.start x.number)) (r.debt x.number)) hands (λ f is. hands));
+            guarded = by_retiring (GuardAgrees (slot_word (slot_words turn s inside new_word)) phase' x.number (r.debt x.number)) tt (λ f is. tt);
+            sees = sees_on v.start (slot_word st.words) (slot_word (slot_words turn s inside new_word)) (λ i. r.deed i x.number) (λ i. deed' i x.number)
+                (λ i l. slots_on x.number i) v.glance o.sees;
+            heats = heats_on v.start (slot_word st.words) (slot_word (slot_words turn s inside new_word)) (λ i. r.deed i x.number) (λ i. deed' i x.number)
+                (λ i l. slots_on x.number i) v.glance o.heats;
+            work = by_retiring (WorkAgrees v.start phase' id) tt (λ f is. ((old_at old was is).0, out_here is));
+          };
+          holds = λ n. let a = p.let_go n in let b = by_retiring (λ q. if_file n (held_in q) ≡ 0) refl (λ f is. refl) in
+              let g = ap (λ (z : State). z.holds n) p.leads in omega arith;
+          counts = rw p.leads p.counts;
+          moves = λ i l. dite (ℕ_discrete i s) (λ same. inr (inl (subst (λ (j : ℕ). ActsThere x.number j r.history h') (sym same) p.acted))) (λ other. inl (slot_else turn s inside new_word i other));
+          watches = watch_none v.start x.number r.shape.slots (p.grows.seen r.history ([], refl)) (slot_alike turn s inside new_word).0 x.watch o.watch;
+        }

@@ -1,0 +1,277 @@
+-- A removal by a pass that holds the slot's file by a take keeps the rule: the hold ends with the
+-- step, and the removal counts the takes without the pass's own.
+use Rattle.fx_lasting.proofs.Words.{◌≡◌, ◌≢◌, ℕ, ◌+◌, ◌-◌, ◌<◌, List, [], ◌∷◌, set, sym, refl, ap, ◌∙◌, subst, arith, Option, Some, None, none, some}
+use Rattle.fx_lasting.proofs.Words.{keeps, get_elem?, inl, eqb, either, Closed, File, Event, Release, Take, ◌▷◌, State, changed_else, pass_event, Log}
+use Rattle.fx_lasting.proofs.Words.{Agrees, WorkAgrees, HoldsAt, IsHistory, part_of_pass, node_of_number, map, ◌++◌, state_after_all, slots_of, slot_place, count_in, heat_in}
+use Rattle.fx_lasting.proofs.Words.{full_name_in, name_in, entry_in, Names, seated, file_in, taken_of, taking, held_of, if_file, held_in, sum_at, sum_set, bit_here}
+use Rattle.fx_lasting.proofs.Words.{bit_else, one_less_at, Change, Counted, Stepped, IsOffCount, account, range_at_start, step, exchanged, IsInside}
+use Rattle.fx_lasting.proofs.Words.{retiring_work, Whereabouts, IsInStock, NamesItsNode, StockAgrees, at_slot, in_stock, as_stocked, as_swapped, first_log}
+use Rattle.fx_lasting.proofs.Words.{empty_word_of, empty_name_made, empty_file_made, empty_takes_made, without_file, name_left, no_file_left, no_takes_left}
+use Rattle.fx_lasting.proofs.Words.{SwapsHeld, TakesHeld, SwapsHeldKeep, TakesHeldKeep, one_less}
+use Rattle.fx_lasting.proofs.node_lemmas.StockMoves.{names_a_node, where_moved, stock_moved, moved_names, moved_slot, moved_stock, moved_stocks, one_entry}
+use Rattle.fx_lasting.proofs.Histories.{Grows, grows_one, grows_more, legal_more, part_mine, held_mine, same_shape}
+use Rattle.fx_lasting.proofs.Frames.{busy, owner_stays, node_same}
+use Rattle.fx_lasting.proofs.Keeping.{Turn, turn_of, After, Made, by_turn, its_log, its_work, its_stock, tells, tells_stocked, word_at, slot_word, w, end, asks_alike, few_slots}
+use Rattle.fx_lasting.proofs.range_lemmas.Groups.{counts_swap, removal_balances, removal_keeps}
+use Rattle.fx_lasting.proofs.Places.{slot_else, slot_back, slot_alike}
+use Rattle.fx_lasting.proofs.slot_lemmas.Sights.{sees_after, sees_kept, sees_slot}
+use Rattle.fx_lasting.proofs.slot_lemmas.Swaps.{found, old_at, old_named, names_old, swap_after, Swap, swap_kept}
+use Rattle.fx_lasting.proofs.hold_lemmas.Unheld.{in_phase, on_node}
+
+module _ (turn : Turn) (s : ℕ) (inside : s < slots_of turn.v.start) (f : File) (n : ℕ) (works : turn.v.work ≡ Counted f n)
+    (names_it : full_name_in (found turn s inside) ≡ n + 1) (off : IsOffCount turn.v.start s turn.v.change) where
+  open turn use {st, v, r, id, x, here, one}
+
+  abbrev before : State
+  before = state_after_all v.start r.history
+
+  abbrev pub word : ℕ
+  word = found turn s inside
+
+  its : HoldsAt v.start r.phase f n
+  its = subst (WorkAgrees v.start r.phase id) works (its_work turn)
+
+  -- the file at the slot is the one that the pass holds
+  pub there : before.at s ≡ Some f
+  there = go (before.at s) refl
+    where
+      go : (o : Option File) → before.at s ≡ o → o ≡ Some f
+      go None is = let e = names_old turn s inside None is in absurd (omega arith)
+      go (Some g) is = let at = old_at turn s inside (Some g) is refl in let e = old_named turn s inside (Some g) is refl in
+          let same : n ≡ r.node_of g.number = omega arith in sym (ap file_in (ap r.phase same ∙ at.1)) ∙ its.1
+
+  on_n : r.node_of f.number ≡ n
+  on_n = on_node turn its.0 its.1
+
+  sits : r.phase n ≡ seated s f
+  sits = ap r.phase (sym on_n) ∙ (old_at turn s inside (Some f) there refl).1
+
+  pub some_takes : 0 < count_in word
+  some_takes = let o = in_phase turn its.0 sits in let a = o.counts in let b = o.few in let c = sum_at (taken_of n) st.views id v here in
+      let e = ap (taking n) works ∙ bit_here n n refl in omega arith
+
+  pub less : (full_name_in (word - 1) ≡ full_name_in word) × (heat_in (word - 1) ≡ heat_in word) × (count_in (word - 1) + 1 ≡ count_in word)
+      × (entry_in (word - 1) ≡ entry_in word)
+  less = one_less word some_takes
+
+  -- the pass releases the file, and empties the slot
+  abbrev pub h₀ : List Event
+  h₀ = pass_event x (Release f) ∷ r.history
+
+  abbrev pub h₁ : List Event
+  h₁ = pass_event x (Take s (Some f)) ∷ h₀
+
+  held_now : 0 < before.holds f.number
+  held_now = let a = ap (if_file f.number) (ap held_in works) in let b = bit_here f.number f.number refl in
+      omega (arith, r.holds f.number, sum_at (held_of f.number) st.views id v here, a, b)
+
+  legal₀ : IsHistory v.start h₀
+  legal₀ = legal_more v.start r.legal held_now ((its_log turn).held ∙ ap held_in works)
+
+  pub legal₁ : IsHistory v.start h₁
+  legal₁ = legal_more v.start legal₀ (let z = (same_shape v.start r.history).0 in (omega arith, sym there)) tt
+
+  pub grows : Grows x.number r.history h₁
+  grows = grows_more refl (grows_one x.number r.history (pass_event x (Release f)) refl)
+
+  abbrev pub c₁ : Change
+  c₁ = account (range_at_start v.start) s (Some f)
+
+  -- The slot's word becomes this one
+  module _ (left : ℕ) (where₁ : ℕ → Whereabouts) (stock₁ : List ℕ) where
+    -- it is that of an empty slot, and each node is named by one slot, or in one stock
+    pub record Leaves : Type 0 where
+      pub named_new : NamesItsNode v.start where₁ s left
+      pub named_else : (i m : ℕ) → i ≢ s → r.where_is m ≡ at_slot i → where₁ m ≡ at_slot i
+      pub stock : StockAgrees v.start where₁ x.number stock₁
+      pub stocks : (m q e : ℕ) → q ≢ x.number → r.where_is m ≡ in_stock q e → where₁ m ≡ in_stock q e
+      pub names : full_name_in left ≡ 0
+      pub takes : (count_in left ≡ 0) × (heat_in left ≡ 0)
+
+    abbrev pub removal : After turn
+    removal = swap_after turn s inside (Some f) there (word - 1) (less.0, less.1) h₁ left None st.homes r.phase r.next_number c₁ where₁ stock₁
+
+    module _ (l : Leaves) where
+      removes : Swap turn s inside (Some f) there (word - 1) (less.0, less.1) h₁ left None st.homes r.phase r.next_number c₁ where₁ stock₁
+      removes = let o = its_log turn in let h = rw works at o.hold in record {
+        grows = grows;
+        legal = legal₁;
+        acted = (h₀, pass_event x (Take s (Some f)), (pass_event x (Release f) ∷ [], refl), ([], refl), refl, refl);
+        fresh = before.fresh;
+        holds = (state_after_all v.start h₀).holds;
+        leads = refl;
+        fresh_on = r.fresh;
+        let_go = λ m. let a = one_less_at before.holds f.number m held_now in let b = ap (if_file m) (ap held_in works) in omega arith;
+        held = held_mine (pass_event x (Take s (Some f))) h₀ refl ∙ held_mine (pass_event x (Release f)) r.history refl;
+        homes = refl;
+        later = omega arith;
+        removed_else = λ m. refl;
+        named_new = l.named_new;
+        named_else = l.named_else;
+        stock = l.stock;
+        stocks = l.stocks;
+        names = l.names;
+        few_takes = let a = l.takes.0 in omega arith;
+        no_heat = l.takes.1;
+        seat = tt;
+        seat_apart = λ g is. absurd (cc is);
+        kept = λ m. inl refl;
+        nodes = λ m low apart. let other : m ≢ n = λ same. apart f refl (same ∙ sym on_n) in
+            node_same (slots_of v.start) r.node_of m (omega arith) refl
+            (let t = sum_set (taken_of m) st.views id v (w turn removal) here in
+            let a = ap (taking m) works ∙ bit_else m n (λ e. other (sym e)) in omega arith)
+            refl refl (r.phase m) (λ i g is seen. let away : i ≢ s = λ same. apart f refl (sym (in_phase turn low is).file.its_node
+            ∙ (let e : g ≡ f = cc (sym seen ∙ (ap before.at same ∙ there)) in ap (λ (z : File). r.node_of z.number) e)) in
+            (changed_else before.at s None i away, ap count_in (slot_else turn s inside left i away)))
+            (r.each_node m low);
+        old_home = λ g is. refl;
+        owners = λ m low apart. owner_stays st.views id v (w turn removal) here m (λ bad. let a = ap busy works in omega arith) (r.phase m) (r.each_owner m low);
+        labels = λ m low apart. r.each_label m low;
+        no_hold = (h.0, h.1);
+        taken = λ g is. let e : f ≡ g = cc is in subst (λ (z : File). count_in (word - 1) + taking (r.node_of z.number) v.work ≡ count_in word) e
+            (let a = ap (taking (r.node_of f.number)) works in let b = bit_here (r.node_of f.number) n (sym on_n) in let c = less.2 in omega arith);
+        counts = counts_swap id (w turn removal) here r.counts s (Some f) None (few_slots turn) there (slot_alike turn s inside left)
+            (asks_alike turn removal refl) refl (removal_balances (range_at_start v.start) s (Some f) off)
+            (removal_keeps id (w turn removal) here s (Some f) off refl);
+      }
+
+      pub removal_agrees : Agrees v.start (end turn removal)
+      removal_agrees = swap_kept turn s inside (Some f) there (word - 1) (less.0, less.1) h₁ left None st.homes r.phase r.next_number c₁ where₁ stock₁ removes
+
+  pub knows : IsInside v.start (retiring_work v.start (word - 1) (Some f))
+  knows = let a = less.0 in let b = its.0 in omega arith
+
+  pub named_there : Names r.node_of word (Some f)
+  named_there = names_old turn s inside (Some f) there
+
+  by_number : Names (node_of_number v.start) word (Some f)
+  by_number = (named_there.0 ∙ ap (λ (i : ℕ). i + 1) (r.numbering f.number), named_there.1)
+
+  own : part_of_pass x.number h₁ ≡ map (pass_event x) ([] ▷ Release f ▷ Take s (Some f)) ++ part_of_pass x.number r.history
+  own = part_mine h₀ refl ∙ ap (λ (l : List Event). pass_event x (Take s (Some f)) ∷ l) (part_mine r.history refl)
+
+  -- The slot keeps its name alone
+  module _ (slots : ℕ) (carried : List (ℕ × Option Closed)) where
+    leaves_name : Leaves (without_file word) r.where_is x.stock
+    leaves_name = record {
+      named_new = let o = r.named s inside in record { node = o.node; named = name_left word ∙ o.named; inside = o.inside; here = o.here };
+      named_else = λ i m other at. at;
+      stock = its_stock turn;
+      stocks = λ m q e other at. at;
+      names = no_file_left word;
+      takes = no_takes_left word;
+    }
+
+    abbrev left : After turn
+    left = removal (without_file word) r.where_is x.stock
+
+    abbrev Takes : (old_word : ℕ) → ℕ → Type 0
+    Takes old_word y = Made turn carried (slot_place s) (λ _. y) (TakesHeld (step slots (slot_place s) old_word (without_file old_word) none) (v, carried))
+
+    pub takes_held : (old_word : ℕ) → word ≡ old_word → Takes old_word (without_file old_word)
+    takes_held old_word is = subst (λ (z : ℕ). Takes z (without_file z)) is (
+      w turn left,
+      keeps,
+      tt,
+      removal_agrees (without_file word) r.where_is x.stock leaves_name,
+      record {
+        wins = λ g node works' _. let same : f ≡ g = cc (sym works ∙ works') in rw (← same, slot_back s) (
+          some_takes,
+          by_number,
+          tells turn left refl carried carried ([] ▷ Release f ▷ Take s (Some f)) grows legal₁ own knows,
+          refl,
+        );
+        loses = λ other. absurd (other refl);
+      },
+    )
+
+  -- The slot names a node of the stock
+  module _ (slots : ℕ) (carried : List (ℕ × Option Closed)) (m : ℕ) (stocked : IsInStock x.stock m) where
+    abbrev where₂ : ℕ → Whereabouts
+    where₂ = where_moved turn s inside m stocked
+
+    abbrev stock₂ : List ℕ
+    stock₂ = stock_moved turn s inside m stocked
+
+    leaves_node : Leaves (empty_word_of m) where₂ stock₂
+    leaves_node = record {
+      named_new = moved_names turn s inside m stocked (empty_word_of m) (empty_name_made m);
+      named_else = moved_slot turn s inside m stocked;
+      stock = moved_stock turn s inside m stocked;
+      stocks = moved_stocks turn s inside m stocked;
+      names = empty_file_made m;
+      takes = empty_takes_made m;
+    }
+
+    abbrev moved : After turn
+    moved = removal (empty_word_of m) where₂ stock₂
+
+    moved_tells : (e : ℕ) → get_elem? (first_log v.logs).stock e ≡ some m
+        → Stepped (as_swapped e (name_in word - 1) (v, carried)) ([] ▷ Release f ▷ Take s (Some f)) (retiring_work v.start (word - 1) (Some f)) v.glance c₁
+        (w turn moved, carried)
+    moved_tells e is = subst (λ (z : List ℕ × ℕ). Stepped (as_stocked (set z.0 z.1 (name_in word - 1)) (v, carried)) ([] ▷ Release f ▷ Take s (Some f))
+        (retiring_work v.start (word - 1) (Some f)) v.glance c₁ (w turn moved, carried))
+        (λ i. (sym same_stock i, one_entry turn s inside m stocked e (ap (λ (l : List ℕ). get_elem? l e) (sym same_stock) ∙ is) i))
+        (tells_stocked turn moved refl carried carried ([] ▷ Release f ▷ Take s (Some f)) grows legal₁ own knows)
+      where
+        same_stock : (first_log v.logs).stock ≡ x.stock
+        same_stock = ap (λ (l : List Log). (first_log l).stock) one
+
+    abbrev Swaps : (old_word : ℕ) → ℕ → Type 0
+    Swaps old_word y = Made turn carried (slot_place s) (λ _. y) (SwapsHeld (step slots (slot_place s) old_word (empty_word_of m) none) (v, carried))
+
+    pub swaps_held : (old_word : ℕ) → word ≡ old_word → Swaps old_word (empty_word_of m)
+    swaps_held old_word is = (
+      w turn moved,
+      keeps,
+      tt,
+      removal_agrees (empty_word_of m) where₂ stock₂ leaves_node,
+      record {
+        wins = λ g node k e works' at makes _. let same : f ≡ g = cc (sym works ∙ works') in let its_own : m ≡ k = omega (arith, makes) in
+            rw (← same, slot_back s) (some_takes, by_number, names_a_node turn inside, moved_tells e (at ∙ ap some (sym its_own)), refl);
+        loses = λ other. absurd (other is);
+      },
+    )
+
+-- a pass that finds another word sees it
+module _ (turn : Turn) (s : ℕ) (inside : s < slots_of turn.v.start) (carried : List (ℕ × Option Closed)) (slots old_word new : ℕ)
+    (other : slot_word turn.st.words s ≢ old_word) where
+  open turn use {st, v, r, id, x, here, one}
+
+  pub swaps_not : Made turn carried (slot_place s) (λ _. slot_word st.words s) (SwapsHeld (step slots (slot_place s) old_word new none) (v, carried))
+  swaps_not = (
+    w turn (sees_after turn s inside),
+    keeps,
+    tt,
+    sees_kept turn s inside,
+    record { wins = λ g node k e works at makes is. absurd (other is); loses = λ _. sees_slot turn s inside carried slots old_word new },
+  )
+
+  pub takes_not : Made turn carried (slot_place s) (λ _. slot_word st.words s) (TakesHeld (step slots (slot_place s) old_word new none) (v, carried))
+  takes_not = (
+    w turn (sees_after turn s inside),
+    keeps,
+    tt,
+    sees_kept turn s inside,
+    record { wins = λ g node works is. absurd (other is); loses = λ _. sees_slot turn s inside carried slots old_word new },
+  )
+
+pub swaps_held_keep : SwapsHeldKeep SwapsHeld
+swaps_held_keep k slots id i s n old new node f m x has works named inside off stocked place made = rw made (by_turn slots
+    (λ k. (s < slots_of k) × IsOffCount k s m.0.change) (λ _. slot_place s) (λ word. either (eqb word old) (empty_word_of n) word)
+    (λ i. SwapsHeld (step slots i old (empty_word_of n) none) m) has (inside, off) place
+    (λ st r here is fits. let turn = turn_of m x has.1 id st r here in
+    exchanged (word_at st.words (slot_place s)) old (empty_word_of n)
+    (λ y. Made turn m.1 (slot_place s) (λ _. y) (SwapsHeld (step slots (slot_place s) old (empty_word_of n) none) m))
+    (λ same. swaps_held turn s is.0 f node works (ap full_name_in same ∙ named) is.1 slots m.1 n stocked old same)
+    (swaps_not turn s is.0 m.1 slots old (empty_word_of n))))
+
+pub takes_held_keep : TakesHeldKeep TakesHeld
+takes_held_keep k slots id i s old new node f m x has works named inside off place made = rw made (by_turn slots
+    (λ k. (s < slots_of k) × IsOffCount k s m.0.change) (λ _. slot_place s) (λ word. either (eqb word old) (without_file old) word)
+    (λ i. TakesHeld (step slots i old (without_file old) none) m) has (inside, off) place
+    (λ st r here is fits. let turn = turn_of m x has.1 id st r here in
+    exchanged (word_at st.words (slot_place s)) old (without_file old)
+    (λ y. Made turn m.1 (slot_place s) (λ _. y) (TakesHeld (step slots (slot_place s) old (without_file old) none) m))
+    (λ same. takes_held turn s is.0 f node works (ap full_name_in same ∙ named) is.1 slots m.1 old same)
+    (takes_not turn s is.0 m.1 slots old (without_file old))))

@@ -1,0 +1,8 @@
+-- The life of a table: its layout, its opening and its end.
+pub mod Closing
+pub mod Cuts
+pub mod Firsts
+pub mod Layout
+pub mod Lives
+pub mod Opens
+pub mod Showing

@@ -1,0 +1,4 @@
+-- The allocation range: counts, questions and searches.
+pub mod Groups
+pub mod Questions
+pub mod Tries

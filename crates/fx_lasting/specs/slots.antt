@@ -1,0 +1,8 @@
+-- The words of slots, and the calls that change one.
+pub mod Alone
+pub mod AtEmpty
+pub mod ByKey
+pub mod ByNode
+pub mod Deeds
+pub mod SwapSteps
+pub mod Watches

@@ -1,0 +1,116 @@
+-- The removal by a key that one pass makes: the pass holds the file of the key by a take, and its
+-- hold ends with the step that empties the slot.
+use Rattle.std.specs.Prelude.{◌≡◌, ℕ, ◌+◌, ◌<◌, ◌⊎◌, List, [], Option, Some, None, Result, Ok, Err}
+use mathlib.Core.Option.{some}
+use lib.ListN.{get_elem?}
+use Rattle.fx_base.specs.Identity.{Identity}
+use Rattle.fx_plain.specs.History.{◌▷◌}
+use Rattle.fx_plain.specs.declared.event.Action.TheVariants.{Release, Take}
+use Rattle.fx_plain.specs.declared.event.File.{File}
+use Rattle.fx_table.specs.Calls.{Adds, no_use}
+use Rattle.fx_table.specs.Pass.{PassView, IsFileRemoval}
+use Rattle.fx_table.specs.declared.values.Doing.TheVariants.{Holding}
+use Rattle.fx_table.specs.declared.values.Doing.TheVariants.{Retiring as Retires}
+use Rattle.fx_table.specs.declared.values.Hold.{Hold}
+use Rattle.fx_table.specs.declared.values.Retired.{Retired}
+use Rattle.fx_lasting.specs.Agrees.{Names}
+use Rattle.fx_lasting.specs.Ends.{Does}
+use Rattle.fx_lasting.specs.slots.ByNode.{FailedIf, FitsMiss, WasSo}
+use Rattle.fx_lasting.specs.slots.ByKey.{HeldByKey, HoldsAtKey, IsKeyOf, LookedByKey, TriesKey}
+use Rattle.fx_lasting.specs.slots.ByKey.{fault_for}
+use Rattle.fx_lasting.specs.Fields.{full_name_in}
+use Rattle.fx_lasting.specs.Passes.{Sat, nodes_of, node_of_number}
+use Rattle.fx_lasting.specs.Runs.{Runs}
+use Rattle.fx_lasting.specs.nodes.Stocks.{IsStockOf}
+use Rattle.fx_lasting.specs.Tables.{opening_of, view_of}
+use Rattle.fx_lasting.specs.Effects.{as_stocked, as_swapped, pass_in, retiring_work}
+use Rattle.fx_lasting.specs.declared.answers.Miss.{Miss}
+use Rattle.fx_lasting.specs.declared.answers.TakenIf.{TakenIf}
+use Rattle.fx_lasting.specs.declared.answers.TakenIf.TheVariants as taken
+use Rattle.fx_lasting.specs.declared.key.Key.{Key}
+use Rattle.fx_lasting.specs.declared.key_answers.KeyFault.{KeyFault}
+use Rattle.fx_lasting.specs.declared.key_answers.TakenByKey.{TakenByKey}
+use Rattle.fx_lasting.specs.declared.key_answers.TakenByKey.TheVariants.{Removed, Missed, Hot}
+use Rattle.fx_lasting.specs.declared.pass.LastingPass.{LastingPass}
+use Rattle.fx_lasting.specs.declared.view.Change.TheVariants.{Outside}
+use Rattle.fx_lasting.specs.declared.view.Start.{Start}
+use Rattle.fx_lasting.specs.declared.view.Work.TheVariants.{Counted}
+
+-- a pass that holds a file by a take and tried to empty the slot, whose word named the file's node.
+-- The word is returned without the pass's own take
+abbrev pub TriedTakeHeld : Start → (slot node : ℕ) → Sat → Result ℕ Miss → Sat → Type 0
+TriedTakeHeld k slot node m (Ok word) m' = (f : File) × (m.0.work ≡ Counted f node)
+    × (full_name_in word ≡ node + 1) × Names (node_of_number k) word (Some f)
+    × Runs m ([] ▷ Release f ▷ Take slot (Some f)) (retiring_work k word (Some f)) m.0.glance
+    Outside 4 m'
+TriedTakeHeld k slot node m (Err miss) m' =
+    FailedIf k slot node miss m m' × Does m [] m.0.work 4 m'
+
+-- one that tried it by an exchange of names, with a node of its stock
+abbrev pub TriedSwapHeld : Start → (slot node own : ℕ) → Sat → Result ℕ Miss → Sat → Type 0
+TriedSwapHeld k slot node own m (Ok word) m' = (f : File) × (m.0.work ≡ Counted f node)
+    × (full_name_in word ≡ node + 1) × Names (node_of_number k) word (Some f) × (node < nodes_of k)
+    × ((entry : ℕ) → get_elem? (pass_in m).stock entry ≡ some own
+    → Runs (as_swapped entry node m) ([] ▷ Release f ▷ Take slot (Some f))
+    (retiring_work k word (Some f)) m.0.glance Outside 4 m')
+TriedSwapHeld k slot node own m (Err miss) m' =
+    FailedIf k slot node miss m m' × Does m [] m.0.work 4 m'
+
+-- one that tried it, and has this stock now
+abbrev pub TriedOutHeld : Start → (slot node : ℕ) → List ℕ → Sat → Result ℕ Miss → Sat → Type 0
+TriedOutHeld k slot node stock m (Ok word) m' = (f : File) × (m.0.work ≡ Counted f node)
+    × (full_name_in word ≡ node + 1) × Names (node_of_number k) word (Some f)
+    × IsStockOf k (pass_in m).number stock
+    × Runs (as_stocked stock m) ([] ▷ Release f ▷ Take slot (Some f))
+    (retiring_work k word (Some f)) m.0.glance Outside 4 m'
+TriedOutHeld k slot node stock m (Err miss) m' = FailedIf k slot node miss m m'
+    × Does m [] m.0.work 4 m' × (stock ≡ (pass_in m).stock)
+
+-- the file that the pass held was removed from the slot, and the hold ended; or the slot was left
+-- as it is, and the pass holds the file still
+abbrev pub HasTakenHeld : Start → PassView → ℕ → Hold → TakenIf → PassView → Type 0
+HasTakenHeld k v slot hold (taken.Removed x) w = (f : File) × (v.doing ≡ Holding f hold)
+    × IsFileRemoval (opening_of k) f x
+    × Adds (opening_of k) v ([] ▷ Release f ▷ Take slot (Some f)) (Retires f x) no_use w
+HasTakenHeld k v slot hold (taken.Missed miss) w = (f : File) × (v.doing ≡ Holding f hold)
+    × WasSo k slot (FitsMiss k hold.node miss) v.front w.front
+    × Adds (opening_of k) v [] (Holding f hold) no_use w
+
+-- the pass looked the file of the key up, and removed the file that it held
+pub record RemovesAlone (k : Start) (p : LastingPass) (key : Key) (x : Retired)
+    (freed released : Option Identity) (p' : LastingPass) : Type 0 where
+  pub file : File
+  pub hold : Hold
+  pub between : PassView
+  pub its_key : IsKeyOf key file
+  pub held : HoldsAtKey k (view_of p) key file hold freed between
+  pub removal : IsFileRemoval (opening_of k) file x
+  pub adds : Adds (opening_of k) between ([] ▷ Release file ▷ Take key.slot (Some file))
+      (Retires file x) no_use (view_of p')
+  pub released_none : released ≡ None
+
+-- the pass held the file of the key, and released it: after its look-up the slot was empty; or had
+-- a file on another node; or, for `Again`, had the file, and another pass was at the slot
+pub record LeftAlone (k : Start) (p : LastingPass) (key : Key) (fault : KeyFault)
+    (freed released : Option Identity) (p' : LastingPass) : Type 0 where
+  pub hold : Hold
+  pub holder : HeldByKey k (view_of p) key hold freed released (view_of p')
+  pub miss : Miss
+  pub same : fault ≡ fault_for miss
+  pub was : WasSo k key.slot (FitsMiss k hold.node miss) holder.between.front (view_of p').front
+  pub tries : TriesKey k (view_of p) key fault freed p p'
+
+-- the pass held the file of the key, and released it
+abbrev pub LeavesKey : Start → LastingPass → Key → (freed released : Option Identity) → LastingPass
+    → Type 0
+LeavesKey k p key freed released p' =
+    (hold : Hold) × HeldByKey k (view_of p) key hold freed released (view_of p')
+
+-- a removal by a key by one pass
+abbrev pub TakesAlone : Start → LastingPass → Key → TakenByKey
+    → (freed released : Option Identity) → LastingPass → Type 0
+TakesAlone k p key (Removed x) freed released p' = RemovesAlone k p key x freed released p'
+TakesAlone k p key (Missed fault) freed released p' =
+    LookedByKey k (view_of p) key (Err fault) freed released (view_of p')
+    ⊎ LeftAlone k p key fault freed released p'
+TakesAlone k p key Hot freed released p' = LeavesKey k p key freed released p'

@@ -1,0 +1,100 @@
+-- The call that installs a file at a slot if it is empty, and the one that checks whether all are
+-- full.
+use Rattle.std.specs.Prelude.{◌≡◌, ℕ, ◌⊎◌, Bool, true, false, List, [], Option, Some, None}
+use Rattle.fx_base.specs.Identity.{Identity}
+use Rattle.fx_plain.specs.History.{◌▷◌, IsSeenBy}
+use Rattle.fx_plain.specs.declared.event.Event.{Event}
+use Rattle.fx_plain.specs.declared.event.Action.TheVariants.{Allocate, Full}
+use Rattle.fx_plain.specs.declared.event.File.{File}
+use Rattle.fx_table.specs.Calls.{Adds, IsNewFile, no_use, one_number}
+use Rattle.fx_table.specs.Pass.{PassView}
+use Rattle.fx_table.specs.declared.values.Doing.TheVariants.{Idle as DoesNothing}
+use Rattle.fx_lasting.specs.Ends.{Does}
+use Rattle.fx_lasting.specs.slots.ByNode.{WasSo, HasMet, WasOvertaken, WasOvertakenIn}
+use Rattle.fx_lasting.specs.Passes.{Sat}
+use Rattle.fx_lasting.specs.Tables.{opening_of, view_of}
+use Rattle.fx_lasting.specs.Effects.{pass_in, HasGap, MeetsOne}
+use Rattle.fx_lasting.specs.Laws.{IsInRange}
+use Rattle.fx_lasting.specs.declared.answers.FoundSlot.{FoundSlot}
+use Rattle.fx_lasting.specs.declared.answers.FoundSlot.TheVariants as found
+use Rattle.fx_lasting.specs.declared.answers.PutEmpty.{PutEmpty}
+use Rattle.fx_lasting.specs.declared.answers.PutEmpty.TheVariants.{Installed, HasFile, Lost}
+use Rattle.fx_lasting.specs.declared.tried.TriedPut.{TriedPut}
+use Rattle.fx_lasting.specs.declared.tried.TriedPut.TheVariants.{At, Full as AllFull, Again}
+use Rattle.fx_lasting.specs.declared.pass.LastingPass.{LastingPass}
+use Rattle.fx_lasting.specs.declared.view.Start.{Start}
+
+-- a slot with this content has a file, or has none
+abbrev pub FitsSight : Bool → Option File → Type 0
+FitsSight true there = (f : File) × (there ≡ Some f)
+FitsSight false there = there ≡ None
+
+-- a pass that read whether a slot has a file
+abbrev pub SeesFile : Start → ℕ → Sat → Bool → Sat → Type 0
+SeesFile k slot m full m' = WasSo k slot (FitsSight full) (pass_in m).front (pass_in m').front
+    × Does m [] m.0.work 1 m'
+
+-- nothing was done; the slot had a file, or had none, at a moment of the call
+pub record PutsNothing (k : Start) (v : PassView) (slot : ℕ) (full : Bool) (w : PassView)
+    : Type 0 where
+  pub was : WasSo k slot (FitsSight full) v.front w.front
+  pub adds : Adds (opening_of k) v [] DoesNothing no_use w
+
+-- the file was installed at a slot of the range that was empty, or comes back. It comes back from a
+-- slot that was empty only if another pass was at the slot during the call
+abbrev pub HasPutEmpty : Start → LastingPass → ℕ → Identity → PutEmpty → LastingPass → Type 0
+HasPutEmpty k p slot file Installed p' = (new : File)
+    × IsNewFile (opening_of k) (view_of p) file new
+    × Adds (opening_of k) (view_of p) ([] ▷ Allocate slot new) DoesNothing one_number (view_of p')
+HasPutEmpty k p slot file (HasFile back) p' =
+    (back ≡ file) × PutsNothing k (view_of p) slot true (view_of p')
+HasPutEmpty k p slot file (Lost back) p' =
+    (back ≡ file) × PutsNothing k (view_of p) slot false (view_of p') × WasOvertaken k slot p p'
+
+-- a slot of the range was empty after what was seen before, and within what is seen after
+pub record HadGap (k : Start) (before after : List Event) : Type 0 where
+  pub history : List Event
+  pub later : IsSeenBy before history
+  pub seen : IsSeenBy history after
+  pub gap : HasGap k history
+
+-- at a moment of the call a slot of the range was empty, or the pass met another one in the middle
+-- of a call
+abbrev pub FellShort : Start → LastingPass → LastingPass → Type 0
+FellShort k p p' = HadGap k (view_of p).front (view_of p').front ⊎ HasMet k p p'
+
+-- every slot of the range had a file at a step of the call, or nothing was done
+abbrev pub AnswersFull : Start → LastingPass → Bool → LastingPass → Type 0
+AnswersFull k p true p' =
+    Adds (opening_of k) (view_of p) ([] ▷ Full) DoesNothing no_use (view_of p')
+AnswersFull k p false p' =
+    Adds (opening_of k) (view_of p) [] DoesNothing no_use (view_of p') × FellShort k p p'
+
+-- some steps after which the range wasn't seen to be full
+abbrev pub FallsShort : Start → Sat → Sat → Type 0
+FallsShort k m m' = HadGap k (pass_in m).front (pass_in m').front ⊎ MeetsOne m m'
+
+-- why a slot that was seen to be empty doesn't get the file: it has one, or another pass was there
+abbrev pub FailsToFill : Start → ℕ → Sat → Sat → Type 0
+FailsToFill k slot m m' =
+    WasSo k slot (FitsSight true) (pass_in m).front (pass_in m').front ⊎ WasOvertakenIn slot m m'
+
+-- a try over the range that found no slot, and not that all are full
+abbrev pub GivesUpFor : Start → LastingPass → TriedPut → LastingPass → Type 0
+GivesUpFor k p (At slot) p' = Unit {0}
+GivesUpFor k p (AllFull back) p' = Unit {0}
+GivesUpFor k p (Again back) p' = FellShort k p p'
+
+-- a pass that looked for a slot without a file
+abbrev pub LooksFor : Start → (most : ℕ) → Sat → Option ℕ → Sat → Type 0
+LooksFor k most m (Some slot) m' = IsInRange k slot
+    × WasSo k slot (FitsSight false) (pass_in m).front (pass_in m').front
+    × Does m [] m.0.work most m'
+LooksFor k most m None m' = Does m [] m.0.work most m'
+
+-- a slot of the range was empty at a moment of the call; or all had a file; or neither was found
+abbrev pub HasSearched : Start → LastingPass → FoundSlot → LastingPass → Type 0
+HasSearched k p (found.At slot) p' =
+    IsInRange k slot × PutsNothing k (view_of p) slot false (view_of p')
+HasSearched k p found.Full p' = AnswersFull k p true p'
+HasSearched k p found.Again p' = AnswersFull k p false p'

@@ -1,0 +1,233 @@
+-- Keys: the name of a file by its slot and the number of its mark, and the calls that take one.
+use Rattle.std.specs.Prelude.{◌≡◌, ◌≢◌, ℕ, ◌+◌, ◌*◌, ◌/◌, ◌%◌, ◌^◌, ◌<◌, ◌≤◌, ◌⊎◌, ◌==◌, nat_lt}
+use Rattle.std.specs.Prelude.{if◌then◌else◌, List, [], Contains, Option, Some, None}
+use Rattle.std.specs.Prelude.{Result, Ok, Err}
+use Rattle.fx_base.specs.Identity.{Identity}
+use Rattle.fx_base.specs.declared.mark.Mark.{Mark}
+use Rattle.fx_base.specs.declared.mark.Mark.TheVariants.{Registered, Submitted}
+use Rattle.fx_plain.specs.History.{◌▷◌}
+use Rattle.fx_plain.specs.declared.event.Action.TheVariants.{Put, Take}
+use Rattle.fx_plain.specs.declared.event.File.{File}
+use Rattle.fx_table.specs.Calls.{Adds, LookedUp, ReleasesFile, no_use, one_number}
+use Rattle.fx_table.specs.Pass.{PassView, IsFileRemoval}
+use Rattle.fx_table.specs.declared.values.Doing.TheVariants.{Idle as DoesNothing, Holding}
+use Rattle.fx_table.specs.declared.values.Doing.TheVariants.{Retiring as Retires}
+use Rattle.fx_table.specs.declared.values.Hold.{Hold}
+use Rattle.fx_table.specs.declared.values.LookFault.TheVariants.{Empty as EmptySlot}
+use Rattle.fx_table.specs.declared.values.Retired.{Retired}
+use Rattle.fx_lasting.specs.slots.ByNode.{FitsMiss, HasMet, IsOn, WasSo}
+use Rattle.fx_lasting.specs.nodes.Labels.{number_of_mark}
+use Rattle.fx_lasting.specs.Passes.{slots_of}
+use Rattle.fx_lasting.specs.Tables.{opening_of, view_of}
+use Rattle.fx_lasting.specs.slots.Watches.{HasActed}
+use Rattle.fx_lasting.specs.declared.answers.Miss.{Miss}
+use Rattle.fx_lasting.specs.declared.answers.Miss.TheVariants as miss
+use Rattle.fx_lasting.specs.declared.answers.PutIf.{PutIf}
+use Rattle.fx_lasting.specs.declared.answers.PutIf.TheVariants as put
+use Rattle.fx_lasting.specs.declared.answers.TakenIf.{TakenIf}
+use Rattle.fx_lasting.specs.declared.answers.TakenIf.TheVariants as taken
+use Rattle.fx_lasting.specs.declared.key.Key.{Key}
+use Rattle.fx_lasting.specs.declared.key_answers.KeyFault.{KeyFault}
+use Rattle.fx_lasting.specs.declared.key_answers.KeyFault.TheVariants.{NoSlot, Empty, Other, Again}
+use Rattle.fx_lasting.specs.declared.key_answers.PutOverKey.{PutOverKey}
+use Rattle.fx_lasting.specs.declared.key_answers.PutOverKey.TheVariants.{Replaced, Missed}
+use Rattle.fx_lasting.specs.declared.pass.LastingPass.{LastingPass}
+use Rattle.fx_lasting.specs.declared.view.Start.{Start}
+
+-- the key of a file with this mark at a slot
+abbrev pub key_at : ℕ → Mark → Key
+key_at slot mark = record { slot = slot; number = number_of_mark mark }
+
+-- the key names the file: its number is that of the file's mark, and isn't 0
+abbrev pub IsKeyOf : Key → File → Type 0
+IsKeyOf key f = (key.number ≢ 0) × (number_of_mark f.identity.mark ≡ key.number)
+
+-- the bits of a key with a slot below 4,096, and those of one with another slot
+abbrev pub narrow_bits : Key → Option ℕ
+narrow_bits key =
+    if nat_lt key.number (2 ^ 51) then Some (key.number * 2 ^ 13 + key.slot * 2) else None
+
+abbrev pub wide_bits : Key → Option ℕ
+wide_bits key =
+    if nat_lt key.number (2 ^ 43) then Some (key.number * 2 ^ 21 + key.slot * 2 + 1) else None
+
+-- the bits of a key, if it has no more than 64
+abbrev pub bits_of_key : Key → Option ℕ
+bits_of_key key = if nat_lt key.slot 4096 then narrow_bits key else
+    if nat_lt key.slot (2 ^ 20) then wide_bits key else None
+
+-- the key of some bits
+abbrev pub key_of_bits : ℕ → Key
+key_of_bits bits =
+    if bits % 2 == 0 then record { slot = bits / 2 % 4096; number = bits / 2 ^ 13 }
+    else record { slot = bits / 2 % 2 ^ 20; number = bits / 2 ^ 21 }
+
+-- the key of a key's bits is that key
+abbrev pub KeysComeBack : Type 0
+KeysComeBack = (key : Key) (bits : ℕ) → bits_of_key key ≡ Some bits → key_of_bits bits ≡ key
+
+-- a mark whose numbers have 32 bits
+abbrev pub HasShortNumber : Mark → Type 0
+HasShortNumber (Registered k i) = i < 2 ^ 32
+HasShortNumber (Submitted submission chain member entry) = Unit {0}
+
+-- no two of the files have the same mark
+abbrev pub HaveTheirOwnMarks : List File → Type 0
+HaveTheirOwnMarks files = (f g : File) → Contains files f → Contains files g
+    → f.identity.mark ≡ g.identity.mark → f ≡ g
+
+-- if no two of some files have the same mark, a key names at most one of them
+abbrev pub KeysAreOfOneFile : Type 0
+KeysAreOfOneFile = (files : List File) (key : Key) (f g : File) → HaveTheirOwnMarks files
+    → ((h : File) → Contains files h → HasShortNumber h.identity.mark)
+    → Contains files f → Contains files g → IsKeyOf key f → IsKeyOf key g → f ≡ g
+
+-- the pass looked the key's slot up, and holds the file there, which is on the hold's node
+pub record HoldsAtKey (k : Start) (v : PassView) (key : Key) (f : File) (hold : Hold)
+    (freed : Option Identity) (w : PassView) : Type 0 where
+  pub looked : LookedUp (opening_of k) v key.slot (Ok hold) freed w
+  pub holds : w.doing ≡ Holding f hold
+  pub node : IsOn k hold.node f
+  pub inside : key.slot < slots_of k
+
+-- the key doesn't name the file at the slot: the pass held it, and released it at once
+pub record WasOther (k : Start) (v : PassView) (key : Key) (freed released : Option Identity)
+    (w : PassView) : Type 0 where
+  pub file : File
+  pub hold : Hold
+  pub between : PassView
+  pub other : IsKeyOf key file → ⊥
+  pub held : HoldsAtKey k v key file hold freed between
+  pub releases : ReleasesFile (opening_of k) between file released w
+
+-- a look-up by key
+abbrev pub LookedByKey : Start → PassView → Key → Result Hold KeyFault
+    → (freed released : Option Identity) → PassView → Type 0
+LookedByKey k v key (Ok hold) freed released w =
+    (f : File) × IsKeyOf key f × HoldsAtKey k v key f hold freed w × (released ≡ None)
+LookedByKey k v key (Err NoSlot) freed released w =
+    (slots_of k ≤ key.slot) × (w ≡ v) × (freed ≡ None) × (released ≡ None)
+LookedByKey k v key (Err Empty) freed released w =
+    LookedUp (opening_of k) v key.slot (Err EmptySlot) freed w × (released ≡ None)
+LookedByKey k v key (Err Other) freed released w = WasOther k v key freed released w
+LookedByKey k v key (Err Again) freed released w = ⊥
+
+-- the holder looked the file of the key up, and released it after the call's change
+pub record HeldByKey (k : Start) (v : PassView) (key : Key) (hold : Hold)
+    (freed released : Option Identity) (w : PassView) : Type 0 where
+  pub file : File
+  pub between : PassView
+  pub its_key : IsKeyOf key file
+  pub held : HoldsAtKey k v key file hold freed between
+  pub releases : ReleasesFile (opening_of k) between file released w
+
+-- the reason why a call by key changed nothing, from that of the call by node
+abbrev pub fault_for : Miss → KeyFault
+fault_for miss.Empty = Empty
+fault_for miss.Other = Other
+fault_for miss.Again = Again
+
+-- the results of the calls by key, from those of the calls by node
+abbrev pub taken_answer : TakenIf → Result Retired KeyFault
+taken_answer (taken.Removed x) = Ok x
+taken_answer (taken.Missed miss) = Err (fault_for miss)
+
+abbrev pub put_answer : PutIf → PutOverKey
+put_answer (put.Replaced x) = Replaced x
+put_answer (put.Missed miss file) = Missed (fault_for miss) file
+
+-- at a moment after the holder's look-up the slot was empty; or had a file on another node than the
+-- held file; or, for `Again`, had the file on that node. It was left as it is
+pub record LeftIt (k : Start) (v between : PassView) (slot node : ℕ) (fault : KeyFault)
+    (w : PassView) : Type 0 where
+  pub miss : Miss
+  pub same : fault ≡ fault_for miss
+  pub was : WasSo k slot (FitsMiss k node miss) between.front w.front
+  pub adds : Adds (opening_of k) v [] DoesNothing no_use w
+
+-- another pass was first
+pub record WasHeld (k : Start) (vh v : PassView) (key : Key) (fault : KeyFault)
+    (freed released : Option Identity) (wh w : PassView) : Type 0 where
+  pub hold : Hold
+  pub holder : HeldByKey k vh key hold freed released wh
+  pub left : LeftIt k v holder.between key.slot hold.node fault w
+
+-- the call changed nothing: the holder found no file of the key, or another pass was first
+abbrev pub FailsByKey : Start → (vh v : PassView) → Key → KeyFault
+    → (freed released : Option Identity) → (wh w : PassView) → Type 0
+FailsByKey k vh v key fault freed released wh w =
+    (LookedByKey k vh key (Err fault) freed released wh × (w ≡ v))
+    ⊎ WasHeld k vh v key fault freed released wh w
+
+-- the file of the key, which the holder held, was removed from its slot
+pub record RemovesKey (k : Start) (vh v : PassView) (key : Key) (x : Retired)
+    (freed released : Option Identity) (wh w : PassView) : Type 0 where
+  pub hold : Hold
+  pub holder : HeldByKey k vh key hold freed released wh
+  pub removal : IsFileRemoval (opening_of k) holder.file x
+  pub adds : Adds (opening_of k) v ([] ▷ Take key.slot (Some holder.file))
+      (Retires holder.file x) no_use w
+
+abbrev pub TakesByKey : Start → (vh v : PassView) → Key → Result Retired KeyFault
+    → (freed released : Option Identity) → (wh w : PassView) → Type 0
+TakesByKey k vh v key (Ok x) freed released wh w = RemovesKey k vh v key x freed released wh w
+TakesByKey k vh v key (Err fault) freed released wh w =
+    FailsByKey k vh v key fault freed released wh w
+
+-- the file of the key, which the holder held, was replaced
+pub record ReplacesKey (k : Start) (vh v : PassView) (key : Key) (file : Identity) (x : Retired)
+    (freed released : Option Identity) (wh w : PassView) : Type 0 where
+  pub hold : Hold
+  pub holder : HeldByKey k vh key hold freed released wh
+  pub new : File
+  pub is_new : new.identity ≡ file
+  pub removal : IsFileRemoval (opening_of k) holder.file x
+  pub adds : Adds (opening_of k) v ([] ▷ Put key.slot new (Some holder.file))
+      (Retires holder.file x) one_number w
+
+abbrev pub PutsOverKey : Start → (vh v : PassView) → Key → Identity → PutOverKey
+    → (freed released : Option Identity) → (wh w : PassView) → Type 0
+PutsOverKey k vh v key file (Replaced x) freed released wh w =
+    ReplacesKey k vh v key file x freed released wh w
+PutsOverKey k vh v key file (Missed fault back) freed released wh w =
+    (back ≡ file) × FailsByKey k vh v key fault freed released wh w
+
+-- the holder had found the file of the key, and afterwards another pass than that of the call acted
+-- at the slot, or heated it
+pub record OvertakenByKey (k : Start) (vh : PassView) (key : Key) (freed : Option Identity)
+    (p p' : LastingPass) : Type 0 where
+  pub file : File
+  pub hold : Hold
+  pub between : PassView
+  pub its_key : IsKeyOf key file
+  pub held : HoldsAtKey k vh key file hold freed between
+  pub overtaken : HasActed key.slot (view_of p).number between.front (view_of p').front
+      ⊎ HasMet k p p'
+
+-- a call by key leaves the file of the key only if another pass was at the slot after the look-up
+abbrev pub TriesKey : Start → PassView → Key → KeyFault → Option Identity
+    → LastingPass → LastingPass → Type 0
+TriesKey k vh key Again freed p p' = OvertakenByKey k vh key freed p p'
+TriesKey k vh key NoSlot freed p p' = Unit {0}
+TriesKey k vh key Empty freed p p' = Unit {0}
+TriesKey k vh key Other freed p p' = Unit {0}
+
+abbrev pub TriesToTake : Start → PassView → Key → Result Retired KeyFault → Option Identity
+    → LastingPass → LastingPass → Type 0
+TriesToTake k vh key (Ok x) freed p p' = Unit {0}
+TriesToTake k vh key (Err fault) freed p p' = TriesKey k vh key fault freed p p'
+
+abbrev pub TriesToPut : Start → PassView → Key → PutOverKey → Option Identity
+    → LastingPass → LastingPass → Type 0
+TriesToPut k vh key (Replaced x) freed p p' = Unit {0}
+TriesToPut k vh key (Missed fault back) freed p p' = TriesKey k vh key fault freed p p'
+
+-- an allocation whose slot is that of the returned key
+abbrev pub slot_found : Result Key Identity → Result ℕ Identity
+slot_found (Ok key) = Ok key.slot
+slot_found (Err back) = Err back
+
+-- the key is that of a file with this mark
+abbrev pub IsKeyOfMark : Mark → Result Key Identity → Type 0
+IsKeyOfMark mark (Ok key) = key ≡ key_at key.slot mark
+IsKeyOfMark mark (Err back) = Unit {0}

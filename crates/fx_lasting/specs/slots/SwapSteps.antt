@@ -1,0 +1,80 @@
+-- The kinds of step that empty a slot by an exchange of names: the slot's word names a node of the
+-- pass's stock then, and the node that it named takes that node's place in the stock.
+use Rattle.std.specs.Prelude.{◌≡◌, ◌≢◌, ℕ, ◌-◌, ◌<◌, List, [], Option, Some}
+use mathlib.Core.Option.{some}
+use lib.ListN.{get_elem?}
+use Rattle.fx_plain.specs.History.{◌▷◌}
+use Rattle.fx_plain.specs.declared.event.File.{File}
+use Rattle.fx_plain.specs.declared.event.Action.{Action}
+use Rattle.fx_plain.specs.declared.event.Action.TheVariants.{Release, Take}
+use Rattle.fx_words.specs.Words.{name_in}
+use Rattle.fx_lasting.specs.Agrees.{Names}
+use Rattle.fx_lasting.specs.range.Groups.{account}
+use Rattle.fx_lasting.specs.holds.HeldFiles.{IsOneOnItsNode}
+use Rattle.fx_lasting.specs.Fields.{count_in, empty_word_of}
+use Rattle.fx_lasting.specs.Passes.{Sat, range_at_start, node_of_number}
+use Rattle.fx_lasting.specs.Runs.{Runs}
+use Rattle.fx_lasting.specs.nodes.Stocks.{IsStockOf}
+use Rattle.fx_lasting.specs.Effects.{At, Found, NamesANode, Sees, Stepped, as_stocked, as_swapped}
+use Rattle.fx_lasting.specs.Effects.{pass_in}
+use Rattle.fx_lasting.specs.Effects.{retiring_work, slot_of}
+use Rattle.fx_lasting.specs.declared.view.Start.{Start}
+use Rattle.fx_lasting.specs.declared.view.Work.TheVariants.{Counted}
+
+-- Swap, to the word of an empty slot that names a node of the stock, by a clear or by a take
+pub record SwapsOut (action : ℕ → Option File → Action)
+    (st : At) (m : Sat) (found : ℕ) (m' : Sat) : Type 0 where
+  pub file : Option File
+  pub names : Found found file
+  pub named : NamesANode m.0.start found
+  pub stepped : (n entry : ℕ) → get_elem? (pass_in m).stock entry ≡ some n
+      → st.first ≡ empty_word_of n
+      → Stepped (as_swapped entry (name_in found - 1) m) ([] ▷ action (slot_of st.word) file)
+      (retiring_work m.0.start found file) m.0.glance
+      (account (range_at_start m.0.start) (slot_of st.word) file) m'
+  pub carried : m'.1 ≡ m.1
+
+-- Swap, if the slot's word is the one that the pass saw, to the word of an empty slot that names a
+-- node of the stock, by a take; or nothing changed
+pub record SwapsIf (st : At) (m : Sat) (found : ℕ) (m' : Sat) : Type 0 where
+  pub wins : (n entry : ℕ) → get_elem? (pass_in m).stock entry ≡ some n
+      → st.second ≡ empty_word_of n → found ≡ st.first
+      → (file : Option File) × Names (node_of_number m.0.start) found file
+      × NamesANode m.0.start found
+      × Stepped (as_swapped entry (name_in found - 1) m) ([] ▷ Take (slot_of st.word) file)
+      (retiring_work m.0.start found file) m.0.glance
+      (account (range_at_start m.0.start) (slot_of st.word) file) m' × (m'.1 ≡ m.1)
+      × IsOneOnItsNode m.0.start file (pass_in m').front
+  pub loses : found ≢ st.first → Sees st m found m'
+
+-- Swap, as by `SwapsIf`, by a pass that holds the slot's file by a take: the hold ends with the
+-- step, and the removal doesn't count the pass's own take; or nothing changed
+pub record SwapsHeld (st : At) (m : Sat) (found : ℕ) (m' : Sat) : Type 0 where
+  pub wins : (f : File) (node n entry : ℕ) → m.0.work ≡ Counted f node
+      → get_elem? (pass_in m).stock entry ≡ some n → st.second ≡ empty_word_of n → found ≡ st.first
+      → (0 < count_in found) × Names (node_of_number m.0.start) found (Some f)
+      × NamesANode m.0.start found
+      × Stepped (as_swapped entry (name_in found - 1) m)
+      ([] ▷ Release f ▷ Take (slot_of st.word) (Some f))
+      (retiring_work m.0.start (found - 1) (Some f)) m.0.glance
+      (account (range_at_start m.0.start) (slot_of st.word) (Some f)) m' × (m'.1 ≡ m.1)
+  pub loses : found ≢ st.first → Sees st m found m'
+
+-- Take, as by `TakesIf`, by a pass that holds the slot's file by a take: the hold ends with the
+-- step, and the removal doesn't count the pass's own take; or nothing changed
+pub record TakesHeld (st : At) (m : Sat) (found : ℕ) (m' : Sat) : Type 0 where
+  pub wins : (f : File) (node : ℕ) → m.0.work ≡ Counted f node → found ≡ st.first
+      → (0 < count_in found) × Names (node_of_number m.0.start) found (Some f)
+      × Stepped m ([] ▷ Release f ▷ Take (slot_of st.word) (Some f))
+      (retiring_work m.0.start (found - 1) (Some f)) m.0.glance
+      (account (range_at_start m.0.start) (slot_of st.word) (Some f)) m' × (m'.1 ≡ m.1)
+  pub loses : found ≢ st.first → Sees st m found m'
+
+-- a pass emptied a slot, whose word was this, and has this stock now
+pub record HasEmptied (k : Start) (action : ℕ → Option File → Action) (slot found : ℕ)
+    (stock : List ℕ) (m m' : Sat) : Type 0 where
+  pub file : Option File
+  pub names : Found found file
+  pub its : IsStockOf k (pass_in m).number stock
+  pub runs : Runs (as_stocked stock m) ([] ▷ action slot file) (retiring_work k found file)
+      m.0.glance (account (range_at_start k) slot file) 1 m'

@@ -1,0 +1,101 @@
+//! The steps of a look-up: a cold file is counted at its slot, a hot one is announced in the pass's
+//! hold word.
+ghost use Rattle.std.specs.Prelude.{◌≡◌, ℕ, ◌<◌, []};
+ghost use Rattle.fx_lasting.specs.AtWork.{IsAtWork};
+ghost use Rattle.fx_lasting.specs.Ends.{Guards, LooksByTake};
+ghost use Rattle.fx_lasting.specs.Runs.{Runs};
+ghost use Rattle.fx_lasting.specs.Effects.{glance_after, IsOnList};
+ghost use Rattle.fx_lasting.specs.declared.view.Glance.TheVariants.{None as Nothing, Hot, Cold};
+ghost use Rattle.fx_lasting.specs.declared.view.Work.TheVariants.{Idle};
+
+use crate::fields::{HEAT, announced, cold_takes, count_of, file_node_of, is_hot_at};
+use crate::kinds::{Announcing, Confirming, HeatingUp, Taking};
+use crate::life::layout::{hold_place, slot_place};
+use crate::table::LastingTable;
+use crate::view::View;
+use atomic_table::Seat;
+use fx_base::OpenFile;
+use fx_table::{Hold, LookFault};
+use fx_words::entry_of;
+
+impl LastingTable {
+    // Announces the node of a hot slot and looks at the slot again, in two steps. Returns the
+    // file's entry if the slot still has the file; the pass holds it then. Otherwise the
+    // announcement is to be withdrawn.
+    #[inline(always)]
+    pub(crate) fn guard(
+        &self,
+        seat: &mut Seat<Option<OpenFile>, View>,
+        number: u32,
+        slot: u32,
+        node: u32,
+    ) -> Option<u8>
+        requires table { seat.old.table_id ≡ self.now.table.shared.table_id }
+        requires at { IsAtWork self.now.table.shared.key number seat.old.me }
+        requires listed { IsOnList seat.old.me }
+        requires idle { seat.old.me.0.work ≡ Idle }
+        requires saw { seat.old.me.0.glance ≡ Hot slot node }
+        requires slot { slot < self.now.size }
+        ensures table { seat.new.table_id ≡ seat.old.table_id }
+        ensures guards { Guards slot node seat.old.me result seat.new.me }
+        ensures places { seat.new.me.1 ≡ seat.old.me.1 }
+    {
+        let shared = &self.table.shared;
+        let hold = hold_place(self.size, number);
+        shared.store::<Announcing>(seat, hold, announced(node));
+        let word = shared.load::<Confirming>(seat, slot_place(slot));
+        if is_hot_at(word, node) {
+            Some(entry_of(word))
+        } else {
+            None
+        }
+    }
+
+    // Adds a take to the slot's word, and heats the slot if it had its takes, in at most two steps.
+    // Returns the hold of the file there.
+    #[inline(always)]
+    pub(crate) fn take_at(
+        &self,
+        seat: &mut Seat<Option<OpenFile>, View>,
+        slot: u32,
+    ) -> Result<Hold, LookFault>
+        requires table { seat.old.table_id ≡ self.now.table.shared.table_id }
+        requires at { (number : ℕ) × IsAtWork self.now.table.shared.key number seat.old.me }
+        requires listed { IsOnList seat.old.me }
+        requires idle { seat.old.me.0.work ≡ Idle }
+        requires cold { seat.old.me.0.glance ≡ Cold slot }
+        requires slot { slot < self.now.size }
+        ensures table { seat.new.table_id ≡ seat.old.table_id }
+        ensures takes { LooksByTake slot seat.old.me result seat.new.me }
+        ensures places { seat.new.me.1 ≡ seat.old.me.1 }
+    {
+        let shared = &self.table.shared;
+        let word = shared.fetch_add::<Taking>(seat, slot_place(slot), 1);
+        self.heat(seat, slot, word);
+        match file_node_of(word) {
+            None => Err(LookFault::Empty),
+            Some(node) => Ok(Hold {
+                node,
+                entry: entry_of(word),
+            }),
+        }
+    }
+
+    // Heats the slot if the word that the pass found had its takes, in at most one step.
+    fn heat(&self, seat: &mut Seat<Option<OpenFile>, View>, slot: u32, word: u64)
+        requires table { seat.old.table_id ≡ self.now.table.shared.table_id }
+        requires at { (number : ℕ) × IsAtWork self.now.table.shared.key number seat.old.me }
+        requires listed { IsOnList seat.old.me }
+        requires took { seat.old.me.0.glance ≡ glance_after self.now.passes slot word }
+        requires slot { slot < self.now.size }
+        ensures table { seat.new.table_id ≡ seat.old.table_id }
+        ensures heats { Runs seat.old.me [] seat.old.me.0.work Nothing seat.old.me.0.change 1
+            seat.new.me }
+        ensures places { seat.new.me.1 ≡ seat.old.me.1 }
+    {
+        if cold_takes(self.passes) <= count_of(word) {
+            let shared = &self.table.shared;
+            shared.fetch_add::<HeatingUp>(seat, slot_place(slot), HEAT);
+        }
+    }
+}

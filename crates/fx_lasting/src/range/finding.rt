@@ -1,0 +1,128 @@
+//! The search for an empty slot of the allocation range, for a caller that installs a file there
+//! later (`put_empty`). It looks where an allocation looks, and changes no word.
+ghost use Rattle.std.specs.Prelude.{◌≡◌, ℕ, ◌+◌, ◌*◌, ◌<◌, ◌≤◌};
+ghost use Rattle.fx_table.specs.Pass.{IsIdle};
+ghost use Rattle.fx_lasting.specs.AtWork.{IsAtWork};
+ghost use Rattle.fx_lasting.specs.life.Layout.{groups_in};
+ghost use Rattle.fx_lasting.specs.Tables.{view_of, steps_taken, IsPassOfTable};
+ghost use Rattle.fx_lasting.specs.range.Tries.{group_steps, scan_steps};
+ghost use Rattle.fx_lasting.specs.slots.AtEmpty.{HasSearched, LooksFor};
+ghost use Rattle.fx_lasting.specs.declared.life.layout.TheConstants.{MOST_PASSES};
+
+use crate::answers::FoundSlot;
+use crate::kinds::Peeking;
+use crate::life::layout::{group_len, group_place, group_size, groups_in};
+use crate::pass::LastingPass;
+use crate::range::put_any::step_of;
+use crate::table::LastingTable;
+use crate::view::View;
+use atomic_table::Seat;
+use fx_base::OpenFile;
+
+impl LastingTable {
+    /// Finds an empty slot of the allocation range, for an idle pass (`is_idle`) that installs
+    /// files (`numbers_left`). It looks at the slots that `try_put_any` tries, and makes at most
+    /// three atomic steps for each slot of a group, two for each group, and seven more. Nothing
+    /// changes: another pass may fill the slot before `put_empty` is called.
+    pub fn find(&self, pass: &mut LastingPass) -> FoundSlot
+        requires fits { IsPassOfTable self.now pass.old }
+        requires idle { IsIdle (view_of pass.old) }
+        requires numbers { 0 < (view_of pass.old).numbers_left }
+        ensures fits { IsPassOfTable self.now pass.new }
+        ensures found { HasSearched self.now.table.shared.key pass.old result pass.new }
+        ensures steps { let len = self.now.range_len in
+            steps_taken pass.new ≤ steps_taken pass.old + (scan_steps len + groups_in len + 4) }
+    {
+        if self.is_still_full(pass) {
+            return FoundSlot::Full;
+        }
+        let from = pass.emptied.take_last();
+        if let Some(slot) = self.look_for(&mut pass.seat, pass.number, from) {
+            return FoundSlot::At(slot);
+        }
+        if self.is_all_full(pass) {
+            FoundSlot::Full
+        } else {
+            FoundSlot::Again
+        }
+    }
+
+    // Looks for an empty slot of the range, from `from` on, if that is in the range, and then once
+    // over the groups that aren't full.
+    #[inline(always)]
+    fn look_for(
+        &self,
+        seat: &mut Seat<Option<OpenFile>, View>,
+        number: u32,
+        from: u32,
+    ) -> Option<u32>
+        requires table { seat.old.table_id ≡ self.now.table.shared.table_id }
+        requires at { IsAtWork self.now.table.shared.key number seat.old.me }
+        requires number { number ≤ MOST_PASSES }
+        ensures table { seat.new.table_id ≡ seat.old.table_id }
+        ensures places { seat.new.me.1 ≡ seat.old.me.1 }
+        ensures looks { LooksFor self.now.table.shared.key (scan_steps self.now.range_len)
+            seat.old.me result seat.new.me }
+    {
+        if self.range_len == 0 {
+            return None;
+        }
+        let first = self.first_slot(from, number);
+        if !self.sees_file(seat, first) {
+            return Some(first);
+        }
+        self.look_in_groups(seat, number, self.group_of(first))
+    }
+
+    // Looks for one in the groups, from this group on.
+    fn look_in_groups(
+        &self,
+        seat: &mut Seat<Option<OpenFile>, View>,
+        number: u32,
+        first: u32,
+    ) -> Option<u32>
+        requires table { seat.old.table_id ≡ self.now.table.shared.table_id }
+        requires at { IsAtWork self.now.table.shared.key number seat.old.me }
+        requires group { first < groups_in self.now.range_len }
+        ensures table { seat.new.table_id ≡ seat.old.table_id }
+        ensures places { seat.new.me.1 ≡ seat.old.me.1 }
+        ensures looks { let len = self.now.range_len in
+            LooksFor self.now.table.shared.key (groups_in len * group_steps len) seat.old.me result
+            seat.new.me }
+    {
+        let groups = groups_in(self.range_len);
+        let step = step_of(number, groups);
+        let mut group = first;
+        for _ in 0..groups {
+            match self.look_in_group(seat, group) {
+                Some(found) => return Some(found),
+                None => group = (group + step) % groups,
+            }
+        }
+        None
+    }
+
+    // Looks for one in the group. A group that counts all its slots has none.
+    fn look_in_group(&self, seat: &mut Seat<Option<OpenFile>, View>, group: u32) -> Option<u32>
+        requires table { seat.old.table_id ≡ self.now.table.shared.table_id }
+        requires at { (number : ℕ) × IsAtWork self.now.table.shared.key number seat.old.me }
+        requires group { group < groups_in self.now.range_len }
+        ensures table { seat.new.table_id ≡ seat.old.table_id }
+        ensures places { seat.new.me.1 ≡ seat.old.me.1 }
+        ensures looks { LooksFor self.now.table.shared.key (group_steps self.now.range_len)
+            seat.old.me result seat.new.me }
+    {
+        let word = self.table.shared.load::<Peeking>(seat, group_place(group));
+        let len = group_len(self.range_len, group);
+        if word == u64::from(len) {
+            return None;
+        }
+        let first = self.range_start + group * group_size(self.range_len);
+        for slot in first..first + len {
+            if !self.sees_file(seat, slot) {
+                return Some(slot);
+            }
+        }
+        None
+    }
+}

@@ -1,0 +1,93 @@
+//! The counts of full slots in the allocation range. The slots are in groups, and each group has a
+//! word. A pass takes a slot off its group's count before it empties the slot, and adds a slot
+//! after it has filled it, or if it emptied a slot that was empty. So a word never counts more full
+//! slots than its group has, and a word that counts them all says that the group is full. Between
+//! the two steps of a removal the pass clears the question word, if another pass asks whether all
+//! groups are full (`range/question.rt`).
+ghost use Rattle.std.specs.Prelude.{◌≡◌, ℕ, ◌<◌, [], true};
+ghost use Rattle.fx_lasting.specs.AtWork.{IsAtWork};
+ghost use Rattle.fx_lasting.specs.range.Groups.{is_in, uncounted};
+ghost use Rattle.fx_lasting.specs.Laws.{IsInRange};
+ghost use Rattle.fx_lasting.specs.life.Layout.{group_of, groups_in};
+ghost use Rattle.fx_lasting.specs.Passes.{range_at_start};
+ghost use Rattle.fx_lasting.specs.Runs.{Runs};
+ghost use Rattle.fx_lasting.specs.declared.view.Change.TheVariants.{Outside};
+
+use crate::kinds::{Breaking, Checking, Lowering, Raising};
+use crate::life::layout::{QUESTION, group_place};
+use crate::table::LastingTable;
+use crate::view::View;
+use atomic_table::Seat;
+use fx_base::OpenFile;
+
+impl LastingTable {
+    // Checks whether the slot is in the allocation range.
+    #[inline(always)]
+    pub(crate) fn is_in_range(&self, slot: u32) -> bool
+        ensures { result ≡ is_in (range_at_start self.now.table.shared.key) slot }
+    {
+        self.range_start <= slot && slot - self.range_start < self.range_len
+    }
+
+    // Returns the group of a slot of the allocation range.
+    #[inline(always)]
+    pub(crate) fn group_of(&self, slot: u32) -> u32
+        requires { IsInRange self.now.table.shared.key slot }
+        ensures group { result ≡ group_of (range_at_start self.now.table.shared.key) slot }
+        ensures few { result < groups_in self.now.range_len }
+    {
+        (slot - self.range_start) >> self.group_bits
+    }
+
+    // Takes a slot that is about to be emptied off its group's count, if it is in the range, and
+    // clears the questions of other passes, in at most three steps.
+    #[inline(always)]
+    pub(crate) fn lower(&self, seat: &mut Seat<Option<OpenFile>, View>, slot: u32, inside: bool)
+        requires table { seat.old.table_id ≡ self.now.table.shared.table_id }
+        requires at { (number : ℕ) × IsAtWork self.now.table.shared.key number seat.old.me }
+        requires change { seat.old.me.0.change ≡ Outside }
+        requires inside { inside ≡ is_in (range_at_start self.now.table.shared.key) slot }
+        ensures table { seat.new.table_id ≡ seat.old.table_id }
+        ensures places { seat.new.me.1 ≡ seat.old.me.1 }
+        ensures runs { let range = range_at_start self.now.table.shared.key in
+            Runs seat.old.me [] seat.old.me.0.work seat.old.me.0.glance
+            (uncounted inside true (group_of range slot)) 3 seat.new.me }
+    {
+        if inside {
+            let shared = &self.table.shared;
+            shared.fetch_sub::<Lowering>(seat, group_place(self.group_of(slot)), 1);
+            let question = shared.load::<Checking>(seat, QUESTION);
+            if question != 0 {
+                shared.swap::<Breaking>(seat, QUESTION, 0);
+            }
+        }
+    }
+
+    // Adds a slot that was empty to its group's count, if it is in the range: it is full now, or
+    // was taken off the count although it was empty.
+    #[inline(always)]
+    pub(crate) fn raise(
+        &self,
+        seat: &mut Seat<Option<OpenFile>, View>,
+        slot: u32,
+        inside: bool,
+        was_empty: bool,
+    )
+        requires table { seat.old.table_id ≡ self.now.table.shared.table_id }
+        requires at { (number : ℕ) × IsAtWork self.now.table.shared.key number seat.old.me }
+        requires inside { inside ≡ is_in (range_at_start self.now.table.shared.key) slot }
+        requires change { let range = range_at_start self.now.table.shared.key in
+            seat.old.me.0.change ≡ uncounted inside was_empty (group_of range slot) }
+        ensures table { seat.new.table_id ≡ seat.old.table_id }
+        ensures places { seat.new.me.1 ≡ seat.old.me.1 }
+        ensures runs { Runs seat.old.me [] seat.old.me.0.work seat.old.me.0.glance Outside 1
+            seat.new.me }
+    {
+        if inside {
+            if was_empty {
+                let shared = &self.table.shared;
+                shared.fetch_add::<Raising>(seat, group_place(self.group_of(slot)), 1);
+            }
+        }
+    }
+}

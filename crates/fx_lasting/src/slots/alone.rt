@@ -1,0 +1,242 @@
+//! The removal by key that one pass makes. The pass takes the file of the key, so no other file is
+//! on its node. Its own take ends with the step that empties the slot: the retirement counts one
+//! take less, and nothing is dropped. So the pass keeps the node, as after a removal by slot.
+//!
+//! The file of a hot slot is held by the pass's hold word. The call leaves it, and a second pass
+//! has to hold it during the removal (`slots/by_key.rt`).
+ghost use Rattle.std.specs.Prelude.{◌≡◌, ℕ, ◌+◌, ◌<◌, ◌≤◌, false};
+ghost use Rattle.fx_plain.specs.declared.event.File.{File};
+ghost use Rattle.fx_table.specs.Opening.{size_of};
+ghost use Rattle.fx_table.specs.Pass.{IsHoldOf, IsIdle};
+ghost use Rattle.fx_lasting.specs.slots.Alone.{HasTakenHeld, TakesAlone, TriedOutHeld, TriedSwapHeld, TriedTakeHeld};
+ghost use Rattle.fx_lasting.specs.AtWork.{IsAtWork};
+ghost use Rattle.fx_lasting.specs.slots.ByNode.{TriesTake};
+ghost use Rattle.fx_lasting.specs.Laws.{IsOffCount};
+ghost use Rattle.fx_lasting.specs.Fields.{full_name_in};
+ghost use Rattle.fx_lasting.specs.nodes.Stocks.{IsInStock};
+ghost use Rattle.fx_lasting.specs.Effects.{pass_in};
+ghost use Rattle.fx_lasting.specs.Tables.{view_of, steps_taken, opening_of_table, IsPassOfTable};
+ghost use Rattle.fx_lasting.specs.declared.view.Work.TheVariants.{Counted};
+
+use crate::answers::{Miss, TakenIf};
+use crate::fields::{empty_word, without_file};
+use crate::key::Key;
+use crate::key_answers::{KeyLook, KeyRemoval, TakenByKey};
+use crate::kinds::{SwappingHeld, TakingHeld};
+use crate::life::layout::slot_place;
+use crate::pass::LastingPass;
+use crate::slots::by_key::fault_of;
+use crate::slots::by_node::{named_by, removed_by};
+use crate::table::LastingTable;
+use crate::view::View;
+use atomic_table::Seat;
+use fx_base::OpenFile;
+use fx_table::Hold;
+
+impl LastingTable {
+    /// Empties the slot of the file of a key for a close (io_uring_prep_close(3),
+    /// `io_uring_prep_close_direct`), for an idle pass (`is_idle`), in at most 25 atomic steps. The
+    /// removed file is the one that the pass found by the key, and is to be retired. Otherwise the
+    /// slot is left as it is, and the pass is idle again. The answer is `Again` only if another
+    /// pass was at the slot after the look-up. It is `Hot` only if the pass held the key's file and
+    /// has released it (that the slot is hot then is tested): a removal by two passes
+    /// ([`LastingTable::take_key`]) is to be made.
+    #[inline(always)]
+    pub fn take_key_alone(&self, pass: &mut LastingPass, key: Key) -> KeyRemoval
+        requires fits { IsPassOfTable self.now pass.old }
+        requires idle { IsIdle (view_of pass.old) }
+        ensures fits { IsPassOfTable self.now pass.new }
+        ensures taken { TakesAlone self.now.table.shared.key pass.old key result.taken result.freed
+            result.released pass.new }
+        ensures steps { steps_taken pass.new ≤ steps_taken pass.old + 25 }
+    {
+        let KeyLook {
+            found,
+            freed,
+            released,
+        } = self.look_key(pass, key);
+        let hold = match found {
+            Ok(hold) => hold,
+            Err(fault) => {
+                return KeyRemoval {
+                    taken: TakenByKey::Missed(fault),
+                    freed,
+                    released,
+                };
+            }
+        };
+        let None = released else { unreachable!() };
+        if pass.guarded {
+            let released = self.release(pass, hold);
+            return KeyRemoval {
+                taken: TakenByKey::Hot,
+                freed,
+                released,
+            };
+        }
+        let miss = match self.take_held(pass, key.slot, &hold) {
+            TakenIf::Missed(miss) => miss,
+            TakenIf::Removed(retired) => {
+                let Hold { node: _, entry: _ } = hold;
+                return KeyRemoval {
+                    taken: TakenByKey::Removed(retired),
+                    freed,
+                    released: None,
+                };
+            }
+        };
+        let released = self.release(pass, hold);
+        KeyRemoval {
+            taken: TakenByKey::Missed(fault_of(miss)),
+            freed,
+            released,
+        }
+    }
+
+    // Empties the slot for a close, if its file is on the node of the hold, for a pass that holds
+    // the file by a take, in at most nine steps. The hold ends then. Otherwise the pass holds the
+    // file still.
+    #[inline(always)]
+    fn take_held(&self, pass: &mut LastingPass, slot: u32, hold: &Hold) -> TakenIf
+        requires fits { IsPassOfTable self.now pass.old }
+        requires held { IsHoldOf (view_of pass.old) hold.now }
+        requires counted { pass.old.guarded ≡ false }
+        requires slot { slot < size_of (opening_of_table self.now) }
+        ensures fits { IsPassOfTable self.now pass.new }
+        ensures taken { HasTakenHeld self.now.table.shared.key (view_of pass.old) slot hold.now
+            result (view_of pass.new) }
+        ensures tries { TriesTake self.now.table.shared.key slot result pass.old pass.new }
+        ensures steps { steps_taken pass.new ≤ steps_taken pass.old + 9 }
+    {
+        let node = hold.node;
+        let word = match self.see(&mut pass.seat, slot, node) {
+            Ok(word) => word,
+            Err(miss) => return TakenIf::Missed(miss),
+        };
+        let inside = self.is_in_range(slot);
+        self.lower(&mut pass.seat, slot, inside);
+        let entry = pass.next_entry;
+        match self.try_out_held(&mut pass.seat, &mut pass.stock, entry, slot, node, word) {
+            Ok(found) => {
+                pass.next_visit = self.first_visit(found);
+                pass.emptied.keep(slot, inside, false);
+                TakenIf::Removed(removed_by(found, node))
+            }
+            Err(miss) => {
+                self.raise(&mut pass.seat, slot, inside, true);
+                TakenIf::Missed(miss)
+            }
+        }
+    }
+
+    // Empties the slot while its word names the node, whose file the pass holds by a take, in at
+    // most four steps. The hold ends then. Returns the word that it found, without the pass's own
+    // take. The slot names the node at the entry of the stock then, and the stock has the node that
+    // the slot named. A pass without a stock leaves the name at the slot.
+    #[inline(always)]
+    fn try_out_held(
+        &self,
+        seat: &mut Seat<Option<OpenFile>, View>,
+        stock: &mut Vec<u32>,
+        entry: u32,
+        slot: u32,
+        node: u32,
+        word: u64,
+    ) -> Result<u64, Miss>
+        requires table { seat.old.table_id ≡ self.now.table.shared.table_id }
+        requires at { (number : ℕ) × IsAtWork self.now.table.shared.key number seat.old.me }
+        requires held { (f : File) × (seat.old.me.0.work ≡ Counted f node) }
+        requires stock { stock.old.items ≡ (pass_in seat.old.me).stock }
+        requires slot { slot < self.now.size }
+        requires off { IsOffCount self.now.table.shared.key slot seat.old.me.0.change }
+        requires named { full_name_in word ≡ node + 1 }
+        ensures table { seat.new.table_id ≡ seat.old.table_id }
+        ensures places { seat.new.me.1 ≡ seat.old.me.1 }
+        ensures tried { TriedOutHeld self.now.table.shared.key slot node stock.new.items
+            seat.old.me result seat.new.me }
+    {
+        let at = entry as usize;
+        if stock.len() <= at {
+            return self.try_take_held(seat, slot, node, word);
+        }
+        let found = self.try_swap_held(seat, slot, node, stock[at], word)?;
+        stock[at] = node;
+        Ok(found)
+    }
+
+    // Exchanges names as `try_out_held` does, with a node of the stock.
+    #[inline(always)]
+    fn try_swap_held(
+        &self,
+        seat: &mut Seat<Option<OpenFile>, View>,
+        slot: u32,
+        node: u32,
+        own: u32,
+        word: u64,
+    ) -> Result<u64, Miss>
+        requires table { seat.old.table_id ≡ self.now.table.shared.table_id }
+        requires at { (number : ℕ) × IsAtWork self.now.table.shared.key number seat.old.me }
+        requires held { (f : File) × (seat.old.me.0.work ≡ Counted f node) }
+        requires stocked { IsInStock (pass_in seat.old.me).stock own }
+        requires slot { slot < self.now.size }
+        requires off { IsOffCount self.now.table.shared.key slot seat.old.me.0.change }
+        requires named { full_name_in word ≡ node + 1 }
+        ensures table { seat.new.table_id ≡ seat.old.table_id }
+        ensures places { seat.new.me.1 ≡ seat.old.me.1 }
+        ensures tried { TriedSwapHeld self.now.table.shared.key slot node own seat.old.me result
+            seat.new.me }
+    {
+        let shared = &self.table.shared;
+        let place = slot_place(slot);
+        let new = empty_word(own);
+        let mut expected = word;
+        for _ in 0..4u32 {
+            let was = shared.compare_exchange::<SwappingHeld>(seat, place, expected, new);
+            if was == expected {
+                return Ok(was - 1);
+            }
+            match named_by(was, node) {
+                Ok(again) => expected = again,
+                Err(miss) => return Err(miss),
+            }
+        }
+        Err(Miss::Again)
+    }
+
+    // Empties the slot as `try_out_held` does, for a pass without a stock.
+    #[inline(always)]
+    fn try_take_held(
+        &self,
+        seat: &mut Seat<Option<OpenFile>, View>,
+        slot: u32,
+        node: u32,
+        word: u64,
+    ) -> Result<u64, Miss>
+        requires table { seat.old.table_id ≡ self.now.table.shared.table_id }
+        requires at { (number : ℕ) × IsAtWork self.now.table.shared.key number seat.old.me }
+        requires held { (f : File) × (seat.old.me.0.work ≡ Counted f node) }
+        requires slot { slot < self.now.size }
+        requires off { IsOffCount self.now.table.shared.key slot seat.old.me.0.change }
+        requires named { full_name_in word ≡ node + 1 }
+        ensures table { seat.new.table_id ≡ seat.old.table_id }
+        ensures places { seat.new.me.1 ≡ seat.old.me.1 }
+        ensures tried { TriedTakeHeld self.now.table.shared.key slot node seat.old.me result
+            seat.new.me }
+    {
+        let shared = &self.table.shared;
+        let place = slot_place(slot);
+        let mut expected = word;
+        for _ in 0..4u32 {
+            let left = without_file(expected);
+            let found = shared.compare_exchange::<TakingHeld>(seat, place, expected, left);
+            if found == expected {
+                return Ok(found - 1);
+            }
+            match named_by(found, node) {
+                Ok(again) => expected = again,
+                Err(miss) => return Err(miss),
+            }
+        }
+        Err(Miss::Again)
+    }
+}

@@ -1,0 +1,312 @@
+//! The calls that change a slot only if its file is on a node that the caller names. A file that is
+//! held keeps its node (`held_nodes_name_files`): so a caller that holds the file of that node by
+//! another pass removes that file, and never one that took its place.
+//!
+//! A call loads the slot's word. If the word names the node, the call exchanges it for another one.
+//! A look-up in between changes the word: the call tries again with the word that it found, four
+//! times in all. It returns `Again` only if another pass was at the slot during the call.
+//! While a file stays at its slot, look-ups change the word at most 16 times, and twice for each
+//! pass (`words_are_bounded`).
+ghost use Rattle.std.specs.Prelude.{◌≡◌, ℕ, ◌+◌, ◌<◌, ◌≤◌};
+ghost use Rattle.fx_table.specs.Opening.{size_of};
+ghost use Rattle.fx_table.specs.Pass.{IsIdle};
+ghost use Rattle.fx_words.specs.Words.{entry_in};
+ghost use Rattle.fx_lasting.specs.AtWork.{IsAtWork};
+ghost use Rattle.fx_lasting.specs.slots.ByNode.{HasPutIf, HasTakenIf, SawIf, SaysIf, TriedOut};
+ghost use Rattle.fx_lasting.specs.slots.ByNode.{TriedReplace, TriedSwap, TriedTake, TriesPut, TriesTake};
+ghost use Rattle.fx_lasting.specs.Laws.{IsOffCount};
+ghost use Rattle.fx_lasting.specs.Fields.{count_in, full_name_in};
+ghost use Rattle.fx_lasting.specs.Passes.{HasNoFile};
+ghost use Rattle.fx_lasting.specs.nodes.Stocks.{IsInStock};
+ghost use Rattle.fx_lasting.specs.Effects.{pass_in};
+ghost use Rattle.fx_lasting.specs.Tables.{view_of, steps_taken, opening_of_table, IsPassOfTable};
+ghost use Rattle.fx_lasting.specs.range.Tries.{IsPlacing};
+ghost use Rattle.fx_lasting.specs.declared.view.Change.TheVariants.{Outside};
+
+use crate::answers::{Miss, PutIf, TakenIf};
+use crate::fields::{count_of, empty_word, file_node_of, file_word, without_file};
+use crate::kinds::{Replacing, Seeing, SwappingIf, TakingIf};
+use crate::life::layout::slot_place;
+use crate::pass::LastingPass;
+use crate::table::LastingTable;
+use crate::view::View;
+use atomic_table::Seat;
+use fx_base::{Closed, OpenFile};
+use fx_table::Retired;
+use fx_words::entry_of;
+
+impl LastingTable {
+    /// Empties a slot below `size` for a close, if its file is on this node, for an idle pass
+    /// (`is_idle`), in at most ten atomic steps (io_uring_prep_close(3),
+    /// `io_uring_prep_close_direct`). The file that was there is to be retired. Otherwise nothing
+    /// changes.
+    pub fn take_if(&self, pass: &mut LastingPass, slot: u32, node: u32) -> TakenIf
+        requires fits { IsPassOfTable self.now pass.old }
+        requires idle { IsIdle (view_of pass.old) }
+        requires slot { slot < size_of (opening_of_table self.now) }
+        ensures fits { IsPassOfTable self.now pass.new }
+        ensures taken { HasTakenIf self.now.table.shared.key (view_of pass.old) slot node result
+            (view_of pass.new) }
+        ensures tries { TriesTake self.now.table.shared.key slot result pass.old pass.new }
+        ensures steps { steps_taken pass.new ≤ steps_taken pass.old + 10 }
+    {
+        self.settle(pass);
+        let word = match self.see(&mut pass.seat, slot, node) {
+            Ok(word) => word,
+            Err(miss) => return TakenIf::Missed(miss),
+        };
+        let inside = self.is_in_range(slot);
+        self.lower(&mut pass.seat, slot, inside);
+        let entry = pass.next_entry;
+        match self.try_out(&mut pass.seat, &mut pass.stock, entry, slot, node, word) {
+            Ok(found) => {
+                pass.next_visit = self.first_visit(found);
+                pass.idle = false;
+                pass.emptied.keep(slot, inside, false);
+                TakenIf::Removed(removed_by(found, node))
+            }
+            Err(miss) => {
+                self.raise(&mut pass.seat, slot, inside, true);
+                TakenIf::Missed(miss)
+            }
+        }
+    }
+
+    /// Installs a file at a slot below `size`, in place of a file that is on this node, under a
+    /// number that no file has had, for an idle pass (`is_idle`) that installs files
+    /// (`numbers_left`). It makes at most nine atomic steps more than the table has passes
+    /// (io_uring_prep_openat(3), `io_uring_prep_openat_direct`). The file that was there is to be
+    /// retired. Otherwise nothing changes, and the new file comes back.
+    pub fn put_if(&self, pass: &mut LastingPass, slot: u32, node: u32, file: OpenFile) -> PutIf
+        requires fits { IsPassOfTable self.now pass.old }
+        requires idle { IsIdle (view_of pass.old) }
+        requires slot { slot < size_of (opening_of_table self.now) }
+        requires numbers { 0 < (view_of pass.old).numbers_left }
+        ensures fits { IsPassOfTable self.now pass.new }
+        ensures placed { HasPutIf self.now.table.shared.key (view_of pass.old) slot node file result
+            (view_of pass.new) }
+        ensures tries { TriesPut self.now.table.shared.key slot result pass.old pass.new }
+        ensures steps { let passes = self.now.passes in
+            steps_taken pass.new ≤ steps_taken pass.old + (passes + 9) }
+    {
+        let word = match self.see(&mut pass.seat, slot, node) {
+            Ok(word) => word,
+            Err(miss) => return PutIf::Missed(miss, file),
+        };
+        let stock = pass.stock.as_slice();
+        let start = pass.next_entry;
+        let identity = file.identity();
+        let seat = &mut pass.seat;
+        let (entry, own, lost) = self.place(seat, pass.number, stock, start, pass.keeps, file);
+        pass.next_entry = entry;
+        pass.keeps = false;
+        match self.try_replace(&mut pass.seat, slot, node, word, own, lost, identity) {
+            Ok(found) => {
+                pass.stock[entry as usize] = node;
+                pass.next_visit = self.first_visit(found);
+                pass.idle = false;
+                PutIf::Replaced(removed_by(found, node))
+            }
+            Err(miss) => PutIf::Missed(miss, self.take_out(&mut pass.seat, own)),
+        }
+    }
+
+    // Reads which file is at the slot, in one step. Returns the slot's word if that file is on the
+    // node.
+    #[inline(always)]
+    pub(crate) fn see(
+        &self,
+        seat: &mut Seat<Option<OpenFile>, View>,
+        slot: u32,
+        node: u32,
+    ) -> Result<u64, Miss>
+        requires table { seat.old.table_id ≡ self.now.table.shared.table_id }
+        requires at { (number : ℕ) × IsAtWork self.now.table.shared.key number seat.old.me }
+        requires slot { slot < self.now.size }
+        ensures table { seat.new.table_id ≡ seat.old.table_id }
+        ensures places { seat.new.me.1 ≡ seat.old.me.1 }
+        ensures saw { SawIf self.now.table.shared.key slot node seat.old.me result seat.new.me }
+    {
+        let word = self.table.shared.load::<Seeing>(seat, slot_place(slot));
+        named_by(word, node)
+    }
+
+    // Empties the slot while its word names the node, in at most four steps. Returns the word that
+    // it found. The slot names the node at the entry of the stock then, and the stock has the node
+    // that the slot named. A pass without a stock leaves the name at the slot.
+    #[inline(always)]
+    fn try_out(
+        &self,
+        seat: &mut Seat<Option<OpenFile>, View>,
+        stock: &mut Vec<u32>,
+        entry: u32,
+        slot: u32,
+        node: u32,
+        word: u64,
+    ) -> Result<u64, Miss>
+        requires table { seat.old.table_id ≡ self.now.table.shared.table_id }
+        requires at { (number : ℕ) × IsAtWork self.now.table.shared.key number seat.old.me }
+        requires idle { HasNoFile seat.old.me.0.work }
+        requires stock { stock.old.items ≡ (pass_in seat.old.me).stock }
+        requires slot { slot < self.now.size }
+        requires off { IsOffCount self.now.table.shared.key slot seat.old.me.0.change }
+        requires named { full_name_in word ≡ node + 1 }
+        ensures table { seat.new.table_id ≡ seat.old.table_id }
+        ensures places { seat.new.me.1 ≡ seat.old.me.1 }
+        ensures tried { TriedOut self.now.table.shared.key slot node stock.new.items seat.old.me
+            result seat.new.me }
+    {
+        let at = entry as usize;
+        if stock.len() <= at {
+            return self.try_take(seat, slot, node, word);
+        }
+        let found = self.try_swap(seat, slot, node, stock[at], word)?;
+        stock[at] = node;
+        Ok(found)
+    }
+
+    // Exchanges names as `try_out` does, with a node of the stock.
+    #[inline(always)]
+    fn try_swap(
+        &self,
+        seat: &mut Seat<Option<OpenFile>, View>,
+        slot: u32,
+        node: u32,
+        own: u32,
+        word: u64,
+    ) -> Result<u64, Miss>
+        requires table { seat.old.table_id ≡ self.now.table.shared.table_id }
+        requires at { (number : ℕ) × IsAtWork self.now.table.shared.key number seat.old.me }
+        requires idle { HasNoFile seat.old.me.0.work }
+        requires stocked { IsInStock (pass_in seat.old.me).stock own }
+        requires slot { slot < self.now.size }
+        requires off { IsOffCount self.now.table.shared.key slot seat.old.me.0.change }
+        requires named { full_name_in word ≡ node + 1 }
+        ensures table { seat.new.table_id ≡ seat.old.table_id }
+        ensures places { seat.new.me.1 ≡ seat.old.me.1 }
+        ensures tried { TriedSwap self.now.table.shared.key slot node own seat.old.me result
+            seat.new.me }
+    {
+        let shared = &self.table.shared;
+        let place = slot_place(slot);
+        let new = empty_word(own);
+        let mut expected = word;
+        for _ in 0..4u32 {
+            let was = shared.compare_exchange::<SwappingIf>(seat, place, expected, new);
+            if was == expected {
+                return Ok(was);
+            }
+            match named_by(was, node) {
+                Ok(again) => expected = again,
+                Err(miss) => return Err(miss),
+            }
+        }
+        Err(Miss::Again)
+    }
+
+    // Empties the slot as `try_out` does, for a pass without a stock.
+    #[inline(always)]
+    fn try_take(
+        &self,
+        seat: &mut Seat<Option<OpenFile>, View>,
+        slot: u32,
+        node: u32,
+        word: u64,
+    ) -> Result<u64, Miss>
+        requires table { seat.old.table_id ≡ self.now.table.shared.table_id }
+        requires at { (number : ℕ) × IsAtWork self.now.table.shared.key number seat.old.me }
+        requires idle { HasNoFile seat.old.me.0.work }
+        requires slot { slot < self.now.size }
+        requires off { IsOffCount self.now.table.shared.key slot seat.old.me.0.change }
+        requires named { full_name_in word ≡ node + 1 }
+        ensures table { seat.new.table_id ≡ seat.old.table_id }
+        ensures places { seat.new.me.1 ≡ seat.old.me.1 }
+        ensures tried { TriedTake self.now.table.shared.key slot node seat.old.me result
+            seat.new.me }
+    {
+        let shared = &self.table.shared;
+        let place = slot_place(slot);
+        let mut expected = word;
+        for _ in 0..4u32 {
+            let left = without_file(expected);
+            let found = shared.compare_exchange::<TakingIf>(seat, place, expected, left);
+            if found == expected {
+                return Ok(found);
+            }
+            match named_by(found, node) {
+                Ok(again) => expected = again,
+                Err(miss) => return Err(miss),
+            }
+        }
+        Err(Miss::Again)
+    }
+
+    // Puts the file that the pass places on its own node at the slot while the slot's word names
+    // the other node, in at most four steps. Returns the word that it found.
+    #[inline(always)]
+    fn try_replace(
+        &self,
+        seat: &mut Seat<Option<OpenFile>, View>,
+        slot: u32,
+        node: u32,
+        word: u64,
+        own: u32,
+        lost: u64,
+        file: Closed,
+    ) -> Result<u64, Miss>
+        requires table { seat.old.table_id ≡ self.now.table.shared.table_id }
+        requires at { (number : ℕ) × IsAtWork self.now.table.shared.key number seat.old.me }
+        requires placing { IsPlacing own lost file seat.old.me }
+        requires slot { slot < self.now.size }
+        requires change { seat.old.me.0.change ≡ Outside }
+        requires named { full_name_in word ≡ node + 1 }
+        ensures table { seat.new.table_id ≡ seat.old.table_id }
+        ensures tried { TriedReplace self.now.table.shared.key slot node own file seat.old.me result
+            seat.new.me }
+    {
+        let shared = &self.table.shared;
+        let place = slot_place(slot);
+        let new = file_word(own, file.entry) + lost;
+        let mut expected = word;
+        for _ in 0..4u32 {
+            let seen = shared.compare_exchange::<Replacing>(seat, place, expected, new);
+            if seen == expected {
+                return Ok(seen);
+            }
+            match named_by(seen, node) {
+                Ok(again) => expected = again,
+                Err(miss) => return Err(miss),
+            }
+        }
+        Err(Miss::Again)
+    }
+}
+
+// Returns the slot's word if it names the node.
+pub(crate) fn named_by(word: u64, node: u32) -> Result<u64, Miss>
+    ensures { SaysIf word node result }
+{
+    match file_node_of(word) {
+        None => Err(Miss::Empty),
+        Some(named) => {
+            if named == node {
+                Ok(word)
+            } else {
+                Err(Miss::Other)
+            }
+        }
+    }
+}
+
+// Returns the removal of the file of a node, from the word that named it.
+pub(crate) fn removed_by(word: u64, node: u32) -> Retired
+    ensures node { result.node ≡ node }
+    ensures entry { result.entry ≡ entry_in word }
+    ensures takes { result.takes ≡ count_in word }
+{
+    Retired {
+        node,
+        entry: entry_of(word),
+        takes: count_of(word),
+    }
+}
