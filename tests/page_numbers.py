@@ -11,7 +11,9 @@ import functools
 import glob
 import os
 import re
+import statistics
 
+from ratios import read_rounds, title
 from repository import ROOT, files_of, read
 
 ROWS = "tests/numbers.txt"
@@ -174,7 +176,25 @@ def tails(pattern, word):
     return sorted(int(it) / 1000 for it in re.findall(rf"^tails: {pattern}.*? {word} (\d+)", read("bench/tails.txt"), re.MULTILINE))
 
 
-FUNCTIONS = answer, constant_of, found, gate, lines, narrow, number, on_four_threads, python, round, tails, version, width, width_of_slots
+@functools.cache
+def kept_rounds():
+    """Returns each row of bench/rust.txt with its rounds, run by run."""
+    return list(read_rounds(read("bench/rust.txt").splitlines()))
+
+
+def crate(name, other, own="Rust crate"):
+    """Returns how often a table took another one's time on 1, 2 and 4 threads: of each kept run the median, and of these the median."""
+    runs = [[statistics.median(it[own] / it[other] for it in rounds) for what, rounds in kept_rounds() if what == title(name, threads)] for threads in (1, 2, 4)]
+    return " ".join(f"{statistics.median(it):.2f}" for it in runs)
+
+
+def measured(path, pattern):
+    """Returns the number of a kept log that a pattern finds, with one decimal, or the least and the greatest of several."""
+    numbers = sorted(map(float, re.findall(pattern, read(path))))
+    return " to ".join(f"{it:.1f}" for it in [numbers[0], *numbers[1:][-1:]])
+
+
+FUNCTIONS = answer, constant_of, crate, found, gate, lines, measured, narrow, number, on_four_threads, python, round, tails, version, width, width_of_slots
 SOURCES = Sources({it.__name__: it for it in FUNCTIONS})
 
 
