@@ -4,9 +4,10 @@ use crate::errors::OpenError;
 
 /// The size of a table: its slots, and its seats.
 ///
-/// A handle takes three seats: one that installs, one that holds a value during its calls by key,
-/// and one for its first living guard. A reader takes one, for its first living guard. Each other
-/// living guard takes one. A table has at most [`MOST_SEATS`](crate::MOST_SEATS) seats.
+/// A handle takes three seats: one that installs, one that holds a value while it replaces that by
+/// its key or removes it from a hot slot, and one for its first living guard. A reader takes one,
+/// for its first living guard. Each other living guard takes one. A table has at most
+/// [`MOST_SEATS`](crate::MOST_SEATS) seats.
 ///
 /// ```
 /// use yachtbanyan::Options;
