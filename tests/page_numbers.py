@@ -4,11 +4,16 @@ tests/numbers.txt.
 
 That file has the rows of each page after a line `== PAGE`. A row is a part of the page, word for word, in which {=EXPRESSION} is a number
 that is computed: of constants (`fx_lasting.MOST_SLOTS`, `yachtjudge.YACHT_STATES`), of the functions below, and of Python's operators.
-{=EXPRESSION;d} is the number without commas. A row without an expression is after a line `-- REASON`, which says why it has none."""
+{=EXPRESSION;d} is the number without commas. A row with one has no other number, but those that the expression has, as in the name of a kept
+row. Each other row is after a line with its source:
+`-- in FILE, ..`, of which one has the row word for word; `-- run by CHECK`, which plays the page's samples and names the page; or
+`-- REASON`, which says why the number is neither computed nor held to a file."""
 import ast
+import datetime
 import errno
 import functools
 import glob
+import importlib
 import os
 import re
 import statistics
@@ -23,6 +28,8 @@ NUMBER = re.compile(r"(?<![\w.^])-?\d(?:[\d,.^]*\d)?(?!\w)")
 EXPRESSION = re.compile(r"\{=([^{}]+)\}")
 # the words before and after a number that a row gets
 AROUND = 2
+# what the lines begin with that name the source of the rows after them
+IN, RUN_BY = "in ", "run by "
 
 
 def pages():
@@ -35,6 +42,15 @@ def newest(changes):
     return re.split(r"^## ", changes, flags=re.MULTILINE)[1]
 
 
+def is_long(number):
+    """Checks whether a number needs a row wherever it is: if it has two digits or more, or a sign."""
+    return len(re.sub(r"\D", "", number)) > 1 or number.startswith("-")
+
+
+def places_of(part, text):
+    return re.finditer(rf"(?<![\w.,]){re.escape(part)}(?![.,]?\w)", text)
+
+
 class Page:
     """The words of a page, and where each of its numbers is in them. A word knows its line if that is one of an indented block."""
 
@@ -45,7 +61,7 @@ class Page:
         if path.endswith(".h"):
             text = "\n".join(re.findall(r"/\*.*?\*/", text, re.DOTALL))
         for number, line in enumerate(text.splitlines()):
-            found = re.sub(r"^\s*(\*(?=\s)|/\*|\|)", "", line).split()
+            found = re.sub(r"^\s*(\*(?=\s)|/\*|\||\d+\.(?=\s))", "", line).split()
             self.words += found
             self.lines += [number if line.startswith("    ") and path.endswith(".md") else None] * len(found)
         self.text = " ".join(self.words)
@@ -53,11 +69,11 @@ class Page:
 
     def is_one(self, it):
         is_status = re.search(r"\bstatus(?:es)?(?: is)? $", self.text[: it.start()])
-        return len(re.sub(r"\D", "", it[0])) > 1 or it[0].startswith("-") or is_status
+        return is_long(it[0]) or is_status
 
     def uncovered(self, parts):
         """Returns the numbers that none of these parts of the page has."""
-        spans = [it.span() for part in parts for it in re.finditer(rf"(?<![\w.,]){re.escape(part)}(?![.,]?\w)", self.text)]
+        spans = [it.span() for part in parts for it in places_of(part, self.text)]
         return [it for it in self.numbers if not any(begin <= it.start() and it.end() <= end for begin, end in spans)]
 
     def parts_of(self, numbers):
@@ -121,9 +137,47 @@ def version():
     return read("VERSION").strip()
 
 
+def date():
+    """Returns the day of the newest version, as the manual pages have it."""
+    day = datetime.date.fromisoformat(found("CHANGELOG.md", rf"^## \[{version()}\] - (.*)$"))
+    return f"{day:%B} {day.day}, {day.year}"
+
+
+def entries(module, name):
+    """Returns the number of entries of what a module of the scripts has."""
+    return len(getattr(importlib.import_module(module), name))
+
+
 def python():
     """Returns the least version of Python."""
     return "3." + found("bindings/python/yachtlog.py", r"version_info < \(3, (\d+)\)")
+
+
+def liburing():
+    """Returns the least version of liburing."""
+    return found("kernel/play-on-kernel", r"liburing (\S+) or later")
+
+
+def linux(parts):
+    """Returns the version of the kernel that docs/use/LINUX.md speaks of, or its first parts."""
+    return ".".join(found("docs/use/LINUX.md", r"^Found on kernel ([\d.]+) ").split(".")[:parts])
+
+
+def line(path, text):
+    """Returns the number of the one line of a file that has a text."""
+    (number,) = [nth for nth, it in enumerate(read(path).splitlines(), 1) if text in it]
+    return number
+
+
+def status(path, what):
+    """Returns the exit status of which a program's help, or a manual page, says this."""
+    return found(path, rf"^ *(?:\.It )?(\d+)(?:  |\n){re.escape(what)}")
+
+
+def bits(path, what):
+    """Returns the number of bits of the type with which a file, in C or in Rust, declares something."""
+    of_c, of_rust = (re.search(it, read(path)) for it in (rf"\buint(\d+)_t {what}\b", rf"\b{what}: u(\d+)"))
+    return int((of_c or of_rust)[1])
 
 
 def answer(name):
@@ -133,7 +187,7 @@ def answer(name):
 
 def constant_of(path, name):
     """Returns a constant of a script."""
-    names, values = re.search(rf"^(.*\b{name}\b.*?) = (.*)$", read(path), re.MULTILINE).groups()
+    names, values = re.search(rf"^(.*\b{name}\b.*?) = (.*?);?$", read(path), re.MULTILINE).groups()
     values = ast.literal_eval(values)
     return values[names.split(", ").index(name)] if isinstance(values, tuple) else values
 
@@ -194,7 +248,8 @@ def measured(path, pattern):
     return " to ".join(f"{it:.1f}" for it in [numbers[0], *numbers[1:][-1:]])
 
 
-FUNCTIONS = answer, constant_of, crate, found, gate, lines, measured, narrow, number, on_four_threads, python, round, tails, version, width, width_of_slots
+FUNCTIONS = (answer, bits, constant_of, crate, date, entries, found, gate, liburing, line, lines, linux, measured, narrow, number, on_four_threads, python, round,
+             status, tails, version, width, width_of_slots)
 SOURCES = Sources({it.__name__: it for it in FUNCTIONS})
 
 
@@ -220,17 +275,44 @@ def read_rows(text=None):
     return those
 
 
+@functools.cache
+def words_of(path):
+    return " ".join(read(path).split())
+
+
+def lacks_source(path, row, reason):
+    """Returns what is missing of the source of a row, or None."""
+    if reason.startswith(IN):
+        those = reason.removeprefix(IN).split(", ")
+        return None if any(any(places_of(row, words_of(it))) for it in those) else f"{' and '.join(those)} don't have this"
+    if reason.startswith(RUN_BY):
+        names = path, f"../{os.path.basename(path)}"
+        return None if any(it in read(reason.removeprefix(RUN_BY)) for it in names) else f"{reason.removeprefix(RUN_BY)} doesn't name the page"
+    if EXPRESSION.search(row):
+        named = set(NUMBER.findall(" ".join(EXPRESSION.findall(row))))
+        others = [it for it in NUMBER.findall(EXPRESSION.sub(" ", row)) if is_long(it) and it not in named]
+        return f"{others} are beside computed numbers" if others else None
+    return "nothing is said of where the number comes from" if reason in ("", "?") else None
+
+
+def kind_of(row, reason):
+    """Returns how a row is held: computed, in a file, run by a check, or only explained."""
+    if EXPRESSION.search(row):
+        return "computed"
+    return "in a file" if reason.startswith(IN) else "run by a check" if reason.startswith(RUN_BY) else "explained"
+
+
 def complaints(path, text, rows):
-    """Yields a line for each row that a page doesn't have, and for each number without a row."""
+    """Yields a line for each row that a page doesn't have or that lacks its source, and for each number without a row."""
     page, parts = Page(path, text), []
     for row, reason in rows:
         try:
-            part = rendered(row)
+            part, lack = rendered(row), lacks_source(path, row, reason)
         except (ValueError, SyntaxError, OSError) as fault:
             yield f"{path}: {row}: {fault}"
             continue
-        if not EXPRESSION.search(row) and reason in ("", "?"):
-            yield f"{path}: nothing is said of where the number comes from: {row}"
+        if lack:
+            yield f"{path}: {lack}: {row}"
         if not page.numbers or part not in page.text:
             yield f"{path} doesn't have what {ROWS} has of it: {part}"
         parts.append(part)
