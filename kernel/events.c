@@ -1,6 +1,7 @@
 #define _GNU_SOURCE
 #include "events.h"
 
+#include <ctype.h>
 #include <fcntl.h>
 #include <ftw.h>
 #include <limits.h>
@@ -94,8 +95,18 @@ void read_events(void (*note)(const struct inotify_event *event)) {
 	}
 }
 
-/* The list in /proc/self/fdinfo is between the lines `UserFiles:` and `UserBufs:`. Each of its
- * lines has a slot and a path. */
+/* Returns the link in a line of that list, or NULL. A line has a slot, a colon, and a path, or on
+ * older kernels the path's last name, and for an empty slot `<none>`. A link begins with a
+ * digit. */
+static const char *link_of_line(const char *line) {
+	const char *colon = strstr(line, ": ");
+	if (!colon)
+		return NULL;
+	const char *slash = strrchr(colon, '/'), *name = slash ? slash + 1 : colon + 2;
+	return isdigit((unsigned char)*name) ? name : NULL;
+}
+
+/* The list in /proc/self/fdinfo is between the lines `UserFiles:` and `UserBufs:`. */
 int read_table(int ring, void (*note)(const char *link)) {
 	char path[64], line[2 * PATH_MAX];
 	int is_listed = 0;
@@ -104,9 +115,9 @@ int read_table(int ring, void (*note)(const char *link)) {
 	if (!information)
 		die(path);
 	while (fgets(line, sizeof line, information) && strncmp(line, "UserBufs:", 9)) {
-		const char *name = strrchr(line, '/');
-		if (is_listed && name)
-			note(name + 1);
+		const char *link = is_listed ? link_of_line(line) : NULL;
+		if (link)
+			note(link);
 		is_listed |= !strncmp(line, "UserFiles:", 10);
 	}
 	fclose(information);
