@@ -7,8 +7,8 @@ import subprocess
 import sys
 from typing import NamedTuple
 
-from programs import given_time, run
-from repository import BUILD, ROOT
+from scripts.programs import given_time, run
+from scripts.repository import BUILD, ROOT
 
 # where the reader of logs is: in the repository, in the archive, and once installed
 PYTHON = ("bindings/python", "python", "../../share/yachtbanyan/python")
@@ -57,7 +57,7 @@ def recorded(program, words, seed):
 
 def whole_updates(log):
     """Judges a log with each update as one step, as Linux makes it. The verified judge takes it as a step for each entry, as MODEL.md says."""
-    import flight_states
+    from model import flight_states
 
     return flight_states.judged(log, is_whole=True)
 

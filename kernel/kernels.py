@@ -8,11 +8,11 @@ import os
 import re
 from typing import NamedTuple
 
-from model import CHAINS, REGISTRATIONS, SUBMISSIONS, Script, play
-from orders import TooManyOrders, ending_of
-from programs import LEGAL, NOT_LEGAL, UNDECIDED, given_time, run, run_within, verdict
-from repository import BUILD, ROOT, read
-from rules import Linux
+from model.model import CHAINS, REGISTRATIONS, SUBMISSIONS, Script, play
+from model.orders import TooManyOrders, ending_of
+from scripts.programs import LEGAL, NOT_LEGAL, UNDECIDED, given_time, run, run_within, verdict
+from scripts.repository import BUILD, ROOT, read
+from kernel.rules import Linux
 
 PLAYER = os.path.join(BUILD, "play-on-kernel")
 FIXCHECK = os.path.join(ROOT, "bin/fixcheck")

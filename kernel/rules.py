@@ -1,7 +1,7 @@
 """Changes the model by the differences of Linux that docs/use/LINUX.md lists, each under its name."""
 import resource
 
-from model import EAGAIN, EBADF, EINVAL, SLOTS, Player, has_bad_tags, registered, submitted
+from model.model import EAGAIN, EBADF, EINVAL, SLOTS, Player, has_bad_tags, registered, submitted
 
 # the kernel's limit, beside the hard limit of open files
 SLOTS_OF_LINUX = 1 << 20

@@ -10,8 +10,8 @@ at the others are left out, and none of their lines may be named.
 answer and whichever of them are canceled. An open at any slot still takes the slot that its line says."""
 import re
 
-from model import ECANCELED, Player, chains_of, severs, submitted, text_of_mark
-from orders import Search, TooManyOrders, completion_of, pieces_of, reached
+from model.model import ECANCELED, Player, chains_of, severs, submitted, text_of_mark
+from model.orders import Search, TooManyOrders, completion_of, pieces_of, reached
 
 SAYS, OF_SLOT = "no order of the requests gives ", re.compile(r"which concerns? slot (\d+)")
 CLOSES_NO_OTHER, FEWER = "and closes no other file", re.compile("fewer of them may contradict|there may be none without it")

@@ -1,8 +1,8 @@
 """Finds all texts of a script: plays every order of its chains' members, and of the entries of updates, to its end, each on a player of
 its own. No state is remembered and no order is left out; a member that doesn't reach the table takes a turn like any other. So it is
 for tiny scripts. Nothing answers -12 here. tests/check-outcomes compares the lists of fixcheck with it."""
-from model import ECANCELED, Player, Script, chains_of, completion_line, severs
-from orders import TooManyOrders
+from model.model import ECANCELED, Player, Script, chains_of, completion_line, severs
+from model.orders import TooManyOrders
 
 # the most orders of a script; with more it is left out
 MOST_ORDERS = 20_000

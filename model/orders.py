@@ -6,7 +6,7 @@ an update is a step of its own, so that requests of other chains may come betwee
 """
 import re
 
-from model import Player, chains_of, completion_line, severs
+from model.model import Player, chains_of, completion_line, severs
 
 # the most states of a search
 LARGEST_SEARCH = 200_000

@@ -2,7 +2,7 @@
 import random
 from typing import NamedTuple
 
-from model import LARGEST_TAG
+from model.model import LARGEST_TAG
 
 # what the files have: two have the same bytes
 FILES = ("-", "0a0b", "68656c6c6f", "0a0b")

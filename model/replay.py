@@ -1,8 +1,8 @@
 """Plays a script on model/model.py with the requests of each submission done in a given order, one at a time."""
 import re
 
-from model import ECANCELED, Player, completion_line, severs
-from illegal import want
+from model.model import ECANCELED, Player, completion_line, severs
+from model.illegal import want
 
 ORDER = re.compile(r"order (\d+):((?: \d+\.\d+\.\d+(?:\.\d+)?)*)")
 

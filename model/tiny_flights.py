@@ -2,7 +2,7 @@
 legal. Written from docs/inside/FLIGHT.md and docs/inside/MODEL.md alone; tests/check-flights compares the judge with it."""
 import random
 
-from model import Player, submitted
+from model.model import Player, submitted
 
 NAMES = {"a": "61", "b": "6262", "c": "63"}
 ENTRIES = list(NAMES)

@@ -3,8 +3,8 @@ allowed when it comes and belongs to its request, each line ends with the state 
 text. The number of bytes of a read is checked, and the bytes aren't, since a history doesn't have them."""
 import re
 
-from model import Script, chains_of
-from illegal import Illegal, want
+from model.model import Script, chains_of
+from model.illegal import Illegal, want
 
 EVENT = re.compile(r"(Look|Release|Put|Clear|Take|Allocate|Full|Close)(?:\(([^)]*)\))?(?: tag (\d+))?")
 

@@ -4,8 +4,11 @@ import os
 import re
 import sys
 
-from pages import anchors
-from repository import ROOT, read, write
+if __name__ == "__main__":
+    sys.path.insert(1, f"{sys.path[0]}/..")
+
+from scripts.pages import anchors
+from scripts.repository import ROOT, read, write
 
 PAGES = {"docs/use/ARCHIVE.md": "README.md"} | {
     it: it for it in (*(f"docs/{name}.md" for name in ("use/BAD_ENTRY", "use/BINDINGS", "use/C", "use/CHECKING", "use/CHOOSING", "use/DIRECT", "inside/FLIGHT", "use/KERNEL", "use/LIMITS", "use/LINUX", "use/LITMUS", "inside/MODEL", "use/PYTHON", "use/RECORDING", "use/RUST", "use/SCRIPT")), "examples/README.md")}

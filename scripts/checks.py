@@ -10,7 +10,10 @@ import re
 import subprocess
 import sys
 
-from repository import read
+if __name__ == "__main__":
+    sys.path.insert(1, f"{sys.path[0]}/..")
+
+from scripts.repository import read
 
 # the number of cases of each check, and how many times it there may be if it is "about" so many
 CASES, MOST = "tests/cases.txt", 1.05

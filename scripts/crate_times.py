@@ -2,7 +2,7 @@
 take that are proved in parallel."""
 import re
 
-from repository import read
+from scripts.repository import read
 
 # the seconds of a crate that was not measured
 UNMEASURED = 100

@@ -5,7 +5,7 @@ wrong-bodies.txt, each after a line with its name in brackets."""
 import os
 import re
 
-from repository import files_of, read
+from scripts.repository import files_of, read
 
 FILE = "wrong-bodies.txt"
 

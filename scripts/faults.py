@@ -3,11 +3,12 @@ what is expected there, and exits with status 3, as fixfiles does."""
 import re
 import sys
 
-sys.path.append(f"{sys.path[0]}/../model")
+if __name__ == "__main__":
+    sys.path.insert(1, f"{sys.path[0]}/..")
 
-from model import COMMANDS, ENTRIES, FILE_BYTES, LARGEST, LARGEST_TAG, LONGEST_LINE, LONGEST_SCRIPT, MAY_HAVE, OPENS, REQUESTS
-from model import Fault, Script, entry, link, tags
-from repository import read
+from model.model import COMMANDS, ENTRIES, FILE_BYTES, LARGEST, LARGEST_TAG, LONGEST_LINE, LONGEST_SCRIPT, MAY_HAVE, OPENS, REQUESTS
+from model.model import Fault, Script, entry, link, tags
+from scripts.repository import read
 
 BAD_SCRIPT = 3
 PAGE = "docs/use/SCRIPT.md"

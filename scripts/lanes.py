@@ -19,10 +19,13 @@ import sys
 import tempfile
 import time
 
-import refusals
-from crate_times import KEPT, UNMEASURED, behind, crates, expected, in_words, measured, needed, static_libraries
-from proved import copy_below, take_back
-from repository import ROOT, SOURCES, files_of
+if __name__ == "__main__":
+    sys.path.insert(1, f"{sys.path[0]}/..")
+
+from scripts import refusals
+from scripts.crate_times import KEPT, UNMEASURED, behind, crates, expected, in_words, measured, needed, static_libraries
+from scripts.proved import copy_below, take_back
+from scripts.repository import ROOT, SOURCES, files_of
 
 LOG = "build/program.log"
 STARTED = "build/program.started"

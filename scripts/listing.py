@@ -2,8 +2,8 @@
 import re
 from typing import NamedTuple
 
-from programs import kept_script, run
-from repository import read
+from scripts.programs import kept_script, run
+from scripts.repository import read
 
 # the number of texts that are listed if none is given
 MOST = 100

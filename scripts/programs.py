@@ -6,7 +6,7 @@ import signal
 import subprocess
 import tempfile
 
-from repository import BUILD, ROOT
+from scripts.repository import BUILD, ROOT
 
 # how fixcheck ends
 LEGAL, NOT_LEGAL, UNDECIDED = 0, 1, 6

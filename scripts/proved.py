@@ -5,8 +5,8 @@ import shutil
 import subprocess
 import sys
 
-from crate_times import needed
-from repository import ROOT, SOURCES, files_of, read, write
+from scripts.crate_times import needed
+from scripts.repository import ROOT, SOURCES, files_of, read, write
 
 PARTS = (*SOURCES, "out")
 # how the gate ends

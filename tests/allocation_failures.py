@@ -5,8 +5,8 @@ status 5 and the whole texts of its first commands. The order of chains changes 
 import functools
 import re
 
-from limits import CHAINS, ENTRIES, MEMBERS, full_catalogue, linked, lines
-from model import Player, Script, chains_of
+from tests.limits import CHAINS, ENTRIES, MEMBERS, full_catalogue, linked, lines
+from model.model import Player, Script, chains_of
 
 ENOMEM = 12
 NO_MEMORY = "fixfiles: out of memory\n"

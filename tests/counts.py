@@ -7,8 +7,8 @@ import sys
 import tempfile
 from typing import NamedTuple
 
-from checks import Counted
-from programs import built, preloaded, run
+from scripts.checks import Counted
+from scripts.programs import built, preloaded, run
 
 # the numbers of watch.c, and how many writes it reports
 NUMBERS, WRITES = 4, 64

@@ -1,7 +1,7 @@
 """Makes texts for fixcheck beside those of random scripts: texts of each size, and submissions of which a part has too many states. Statuses
 and lines are derived by hand from docs/use/CHECKING.md."""
-from limits import limits, lines
-from sweeps import sweeps
+from tests.limits import limits, lines
+from tests.sweeps import sweeps
 
 LEGAL, NOT_LEGAL, UNDECIDED = 0, 1, 6
 # of limits two are bad scripts

@@ -2,8 +2,8 @@
 hand. tests/check-conform looks at them."""
 from collections import Counter
 
-from listing import Listing, kept
-from repository import module, read_bytes
+from scripts.listing import Listing, kept
+from scripts.repository import module, read_bytes
 
 QUESTION = "examples/questions/open_any_beside_a_close"
 SHARED = "register 0; 1.1.1 close 0: 0; closed r1.0 old.txt"

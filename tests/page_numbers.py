@@ -18,8 +18,8 @@ import os
 import re
 import statistics
 
-from ratios import read_rounds, title
-from repository import ROOT, files_of, read
+from bench.ratios import read_rounds, title
+from scripts.repository import ROOT, files_of, read
 
 ROWS = "tests/numbers.txt"
 # a number, as part of a word

@@ -4,9 +4,10 @@ import re
 import sys
 import time
 
-sys.path.insert(1, f"{sys.path[0]}/../model")
+if __name__ == "__main__":
+    sys.path.insert(1, f"{sys.path[0]}/..")
 
-from model import ECANCELED, EBADF, Player, Script, completion_line, play, severs
+from model.model import ECANCELED, EBADF, Player, Script, completion_line, play, severs
 
 # the number of random scripts
 RANDOM = 20
@@ -57,7 +58,7 @@ def example(name):
 
 
 def drawn(shape):
-    from random_scripts import random_scripts
+    from model.random_scripts import random_scripts
 
     return [script for _, script in random_scripts(shape, 1, RANDOM)]
 

@@ -1,6 +1,6 @@
 """Rows for tests/reasons.py, each derived by hand: for each rule steps that follow from LOG, and last steps in their place that don't. wrong_rows
 yields each row that comes out otherwise."""
-from reasons import ACCESS, EVENT, GONE, PUT, complaint
+from tests.reasons import ACCESS, EVENT, GONE, PUT, complaint
 
 NO_CONTRADICTION = "the last step has no point before itself"
 # the number of each line is that of its call, or in the comment

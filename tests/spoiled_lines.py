@@ -5,7 +5,7 @@ command too."""
 import functools
 import re
 
-from model import Script, fault_of
+from model.model import Script, fault_of
 
 # the script of a source; that of many texts one after another is read once
 parsed = functools.lru_cache(1)(Script)

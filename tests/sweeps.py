@@ -2,8 +2,8 @@
 lists, tables, and the files that the end closes, that is every size up to the limit; for all others each power of two, one less and
 one more, up to the limit, and the limit. Each has the text that it must write: that of model/model.py, which the order of chains doesn't
 change. tests/check-limits plays them."""
-from limits import BYTES, CHAINS, ENTRIES, FILES, LARGEST_TAG, MEMBERS, SCRIPT_BYTES, SLOTS, lines, linked
-from model import play
+from tests.limits import BYTES, CHAINS, ENTRIES, FILES, LARGEST_TAG, MEMBERS, SCRIPT_BYTES, SLOTS, lines, linked
+from model.model import play
 
 A = "file a.txt 68656c6c6f"
 REQUESTS = CHAINS * MEMBERS

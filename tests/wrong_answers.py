@@ -5,18 +5,18 @@ and whether each is judged as it should. tests/check-checks checks the numbers."
 import os
 import re
 
-from allocation_failures import NO_MEMORY, Outcomes
-import contradictions
-from illegal import Illegal
-import kernels
-import listing
-from kernels import AGREES
-from model import Script, play
-from programs import LEGAL, NOT_LEGAL, UNDECIDED, run, verdict
-from replay import replayed
-from repository import ROOT, module, read, read_bytes, scripts_of, text_beside
-from spoiled_lines import Spoiled
-from told_history import complaint_of
+from tests.allocation_failures import NO_MEMORY, Outcomes
+from model import contradictions
+from model.illegal import Illegal
+from kernel import kernels
+from scripts import listing
+from kernel.kernels import AGREES
+from model.model import Script, play
+from scripts.programs import LEGAL, NOT_LEGAL, UNDECIDED, run, verdict
+from model.replay import replayed
+from scripts.repository import ROOT, module, read, read_bytes, scripts_of, text_beside
+from tests.spoiled_lines import Spoiled
+from model.told_history import complaint_of
 
 # examples whose histories have each event and each call, and tags
 TOLD = ("open_read_close", "tagged_files_leave_in_each_way", "replaced_between_two_members", "unregister_closes_every_file",

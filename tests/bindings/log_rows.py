@@ -9,9 +9,9 @@ import yachtlog
 from rows import end, raises, want
 from yachtjudge import LogVerdict, Point, Step, explain_events, judge_events
 
-sys.path += [str(Path(__file__).resolve().parents[2] / it) for it in ("model", "tests")]
-import flight_states
-import reasons
+sys.path.insert(1, str(Path(__file__).resolve().parents[2]))
+from model import flight_states
+from tests import reasons
 
 HEAD = "file a 61\nfile b 6262\ncall 1 sparse 2\ndone 1.1 0\n"
 

@@ -6,8 +6,8 @@ from pathlib import Path
 import yachtjudge
 import yachtlog
 
-sys.path.append(str(Path(__file__).resolve().parents[1]))
-import reasons
+sys.path.insert(1, str(Path(__file__).resolve().parents[2]))
+from tests import reasons
 
 NONE = 2
 

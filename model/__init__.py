@@ -1,0 +1,1 @@
+"""Independent models of fixfiles, of its tables and of logs."""

@@ -1,0 +1,1 @@
+"""The commands of make, and the modules that all folders share."""
