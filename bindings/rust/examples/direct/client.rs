@@ -85,7 +85,8 @@ impl Client {
             leaves_after,
             input: vec![],
         };
-        it.send_lines()?;
+        // the server may have ended the connection already: the next read sees that
+        let _is_ended = it.send_lines().is_err();
         Ok(it)
     }
 

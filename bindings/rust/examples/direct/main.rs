@@ -109,7 +109,11 @@ fn run(ring: Ring, slots: u32, plan: Plan, log: Option<Log>) -> Result<bool, Box
             bell.ring();
         }
     };
-    let clients = thread::spawn(move || client::run(address, plan, stop));
+    let clients = thread::spawn(move || {
+        let seen = client::run(address, plan, &stop);
+        stop(); // after an error too, so that the server ends and the error is printed
+        seen
+    });
     let shared = Shared {
         listener,
         folder: folder.clone(),
