@@ -248,8 +248,13 @@ def measured(path, pattern):
     return " to ".join(f"{it:.1f}" for it in [numbers[0], *numbers[1:][-1:]])
 
 
+def whole(path, pattern):
+    """Returns the number that a pattern finds in a kept log, without decimals."""
+    return round(float(found(path, pattern)))
+
+
 FUNCTIONS = (answer, bits, constant_of, crate, date, entries, found, gate, liburing, line, lines, linux, measured, narrow, number, on_four_threads, python, round,
-             status, tails, version, width, width_of_slots)
+             status, tails, version, whole, width, width_of_slots)
 SOURCES = Sources({it.__name__: it for it in FUNCTIONS})
 
 
