@@ -64,7 +64,7 @@ enum {
     YACHT_IN_USE = 2,        /* done, and the old value has other users: the last one drops it */
     YACHT_EMPTY = -1,        /* the slot is empty */
     YACHT_NO_SLOT = -2,      /* the table has no such slot */
-    YACHT_BUSY = -3,         /* the handle holds a value */
+    YACHT_BUSY = -3,         /* the handle holds a value, or makes one in yacht_insert_with */
     YACHT_IDLE = -4,         /* the handle holds no value */
     YACHT_READER = -5,       /* the handle is a reader, which only looks values up */
     YACHT_FULL = -6,         /* every slot had a value at one moment of the call */
@@ -148,13 +148,13 @@ int yacht_try_insert(yacht_handle *handle, void *value);
 int yacht_insert_key(yacht_handle *handle, void *value, yacht_key *key);
 int yacht_try_insert_key(yacht_handle *handle, void *value, yacht_key *key);
 
-/* Returns a value for this key. It may use other handles of the table. */
+/* Returns a value for this key. It may use the handles of the table. But an insertion by the handle
+ * that calls it returns YACHT_BUSY: the value would get the slot that was found. */
 typedef void *yacht_make(yacht_key key, void *with);
 
 /* Makes a value from its key, installs it at a free slot, and writes the key to *key. It calls
- * `make` with the key that a value gets at a slot that was empty. If another thread fills the slot
- * meanwhile, the value is dropped, and `make` is called again, with another key. It may wait as
- * yacht_insert.
+ * `make` with the key that a value gets at a slot that was empty. If the slot is filled meanwhile,
+ * the value is dropped, and `make` is called again, with another key. It may wait as yacht_insert.
  * Returns the slot; or YACHT_FULL, YACHT_BUSY, YACHT_READER or YACHT_BAD_ARGUMENT, this also if
  * `make` returns NULL: then it has installed and written nothing. */
 int yacht_insert_with(yacht_handle *handle, yacht_make *make, void *with, yacht_key *key);

@@ -30,7 +30,8 @@ struct yacht_handle {
     void *held;      /* or NULL */
     uint64_t number; /* of what it holds */
     uint32_t slot;   /* of what it holds */
-    char apart[128 - 3 * sizeof(void *) - sizeof(uint64_t) - sizeof(uint32_t)];
+    uint32_t making; /* whether it makes a value for yacht_insert_with */
+    char apart[128 - 3 * sizeof(void *) - sizeof(uint64_t) - 2 * sizeof(uint32_t)];
 };
 
 struct yacht_table {
@@ -154,6 +155,7 @@ static int insert(yacht_handle *handle, void *value, yacht_key *key, int once) {
     uint64_t number;
     int64_t answer;
     if (!value || !key) return YACHT_BAD_ARGUMENT;
+    if (handle->making) return YACHT_BUSY;
     release(value);
     while ((answer = yacht_core_insert(&handle->core, tag_of(value), &number)) == YACHT_AGAIN && !once)
         sched_yield();
@@ -181,12 +183,15 @@ int yacht_try_insert_key(yacht_handle *handle, void *value, yacht_key *key) {
 
 int yacht_insert_with(yacht_handle *handle, yacht_make *make, void *with, yacht_key *key) {
     if (!make || !key) return YACHT_BAD_ARGUMENT;
+    if (handle->making) return YACHT_BUSY;
     for (;;) {
         yacht_key its;
         int64_t answer = yacht_core_find(&handle->core, &its.number);
         if (answer >= 0) {
             its.slot = (uint32_t)answer;
+            handle->making = 1;
             void *value = make(its, with);
+            handle->making = 0;
             if (!value) return YACHT_BAD_ARGUMENT;
             release(value);
             answer = yacht_core_put_empty(&handle->core, its.slot, tag_of(value));
@@ -276,7 +281,7 @@ const char *yacht_strerror(int answer) {
     case YACHT_IN_USE: return "the old value is in use";
     case YACHT_EMPTY: return "the slot is empty";
     case YACHT_NO_SLOT: return "the table has no such slot";
-    case YACHT_BUSY: return "the handle holds a value";
+    case YACHT_BUSY: return "the handle holds or makes a value";
     case YACHT_IDLE: return "the handle holds no value";
     case YACHT_READER: return "a reader only looks values up";
     case YACHT_FULL: return "every slot has a value";

@@ -208,6 +208,34 @@ static void made_from_keys(void) {
     WANT(drops == 6 && dropped[12] == 3 && dropped[14] == 2);
 }
 
+/* looks a value up, removes it, and inserts none, by the handle that makes a value */
+static void *make_within(yacht_key key, void *with) {
+    yacht_handle *own = with;
+    yacht_key inner = {0, 9};
+    void *value;
+    WANT(yacht_insert(own, &dropped[1]) == YACHT_BUSY && yacht_try_insert(own, &dropped[1]) == YACHT_BUSY);
+    WANT(yacht_insert_key(own, &dropped[1], &inner) == YACHT_BUSY && yacht_try_insert_key(own, &dropped[1], &inner) == YACHT_BUSY);
+    WANT(yacht_insert_with(own, make_within, own, &inner) == YACHT_BUSY && inner.slot == 9);
+    WANT(yacht_get_at(own, 3, &value) == YACHT_DONE && value == &dropped[2] && yacht_release(own) == YACHT_DONE);
+    WANT(yacht_remove_at(own, 3) == YACHT_DROPPED && key.slot < 3);
+    return &dropped[3];
+}
+
+static void made_within(void) {
+    yacht_table *table;
+    yacht_key key;
+    void *value;
+    memset(dropped, 0, sizeof dropped);
+    WANT(yacht_open(&table, 4, 1, 0, drop, &drops) == YACHT_DONE);
+    yacht_handle *own = yacht_handle_of(table, 0);
+    WANT(yacht_replace_at(own, 3, &dropped[2]) == YACHT_DONE);
+    WANT(yacht_insert_with(own, make_within, own, &key) == (int)key.slot && dropped[2] == 1);
+    WANT(yacht_get(own, key, &value) == YACHT_DONE && value == &dropped[3] && yacht_release(own) == YACHT_DONE);
+    WANT(yacht_insert(own, &dropped[4]) >= 0);
+    yacht_free(table);
+    WANT(!dropped[1] && dropped[3] == 1 && dropped[4] == 1);
+}
+
 static void bits(void) {
     yacht_key key = yacht_key_from_bits(UINT64_MAX);
     WANT(key.slot == 1048575 && key.number == UINT64_MAX >> 21 && yacht_key_to_bits(key) == UINT64_MAX);
@@ -271,7 +299,7 @@ static void an_empty_slot_is_found(void) {
 static void words(void) {
     static const struct { int number; const char *words; } said[] = {
         {YACHT_DONE, "done"}, {YACHT_DROPPED, "the old value was dropped"}, {YACHT_IN_USE, "the old value is in use"},
-        {YACHT_EMPTY, "the slot is empty"}, {YACHT_NO_SLOT, "the table has no such slot"}, {YACHT_BUSY, "the handle holds a value"},
+        {YACHT_EMPTY, "the slot is empty"}, {YACHT_NO_SLOT, "the table has no such slot"}, {YACHT_BUSY, "the handle holds or makes a value"},
         {YACHT_IDLE, "the handle holds no value"}, {YACHT_READER, "a reader only looks values up"}, {YACHT_FULL, "every slot has a value"},
         {YACHT_AGAIN, "other threads are changing slots"}, {YACHT_BAD_ARGUMENT, "an argument is NULL or out of its range"},
         {YACHT_NO_MEMORY, "an allocation failed"}, {YACHT_STALE, "the slot has another value"}, {3, "not a number of yachtbanyan.h"},
@@ -303,6 +331,7 @@ int main(void) {
     drops_that_install();
     keys();
     made_from_keys();
+    made_within();
     an_empty_slot_is_found();
     words();
     refused_openings();

@@ -1222,13 +1222,13 @@
 //!
 //! ```
 //! use std::panic::{RefUnwindSafe, UnwindSafe};
-//! use yachtbanyan::{Full, GetError, Key, NoSeat, NoSlot, OpenError, Options, Reason, RemoveError};
+//! use yachtbanyan::{GetError, Key, NoSeat, NoSlot, OpenError, Options, Reason, RemoveError};
 //! use yachtbanyan::{Guard, Handle, Iter, OwnedGuard, Reader, Table};
 //! fn plain<T: Copy + Send + Sync + UnwindSafe + RefUnwindSafe + Unpin + 'static>() {}
 //! fn error<T: std::error::Error>() {}
 //! fn moves<T: Unpin>() {}
 //! type Pinned = std::marker::PhantomPinned;
-//! plain::<(Key, Options, (Full, GetError, NoSeat, NoSlot), (OpenError, Reason, RemoveError))>();
+//! plain::<(Key, Options, (GetError, NoSeat, NoSlot), (OpenError, Reason, RemoveError))>();
 //! error::<yachtbanyan::Refused<Pinned>>();
 //! moves::<(Table<Pinned>, Handle<Pinned>, Reader<Pinned>, OwnedGuard<Pinned>)>();
 //! moves::<(Guard<'static, Pinned>, Iter<'static, Pinned>)>();

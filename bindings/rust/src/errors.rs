@@ -60,22 +60,6 @@ pub struct NoSlot {
     pub slots: u32,
 }
 
-/// At one moment every slot had a value.
-///
-/// ```
-/// let table = yachtbanyan::Table::<u64>::with_slots(1)?;
-/// let handle = table.handle()?;
-/// handle.insert_with(|key| u64::from(key.slot()))?;
-/// let error = handle.insert_with(|_| 7).unwrap_err();
-/// assert_eq!((error.slots, error.to_string()), (1, "the only slot has a value".to_string()));
-/// # Ok::<(), Box<dyn std::error::Error>>(())
-/// ```
-#[derive(Clone, Copy, Debug, PartialEq, Eq)]
-pub struct Full {
-    /// The number of slots.
-    pub slots: u32,
-}
-
 /// The reason why a look-up returns no guard.
 ///
 /// ```
@@ -156,6 +140,18 @@ pub struct Refused<T> {
 }
 
 /// The reason why a value is not installed.
+///
+/// ```
+/// use yachtbanyan::{Reason, Table};
+///
+/// let table = Table::<u64>::with_slots(1)?;
+/// let handle = table.handle()?;
+/// handle.insert_with(|key| u64::from(key.slot()))?;
+/// let reason = handle.insert_with(|_| 7).unwrap_err();
+/// assert_eq!(reason, Reason::Full { slots: 1 });
+/// assert_eq!(reason.to_string(), "the only slot has a value");
+/// # Ok::<(), Box<dyn std::error::Error>>(())
+/// ```
 #[derive(Clone, Copy, Debug, PartialEq, Eq)]
 #[non_exhaustive]
 pub enum Reason {
@@ -166,6 +162,9 @@ pub enum Reason {
     },
     /// No slot was free when it was looked at, and others were filling or emptying slots.
     Again,
+    /// The handle is calling the function that makes a value for
+    /// [`insert_with`](crate::Handle::insert_with).
+    Making,
     /// The slot of the key is empty.
     Empty {
         /// The slot.
@@ -205,8 +204,10 @@ impl<T> fmt::Display for Refused<T> {
 impl fmt::Display for Reason {
     fn fmt(&self, f: &mut fmt::Formatter<'_>) -> fmt::Result {
         match *self {
-            Reason::Full { slots } => Full { slots }.fmt(f),
+            Reason::Full { slots: 1 } => f.write_str("the only slot has a value"),
+            Reason::Full { slots } => write!(f, "all {slots} slots have values"),
             Reason::Again => f.write_str("other threads are filling or emptying slots"),
+            Reason::Making => f.write_str("the handle is making a value for insert_with"),
             Reason::Empty { slot } => GetError::Empty { slot }.fmt(f),
             Reason::Stale { slot } => GetError::Stale { slot }.fmt(f),
             Reason::NoSlot(error) => error.fmt(f),
@@ -257,15 +258,6 @@ impl fmt::Display for NoSlot {
             f,
             "slot {slot} is out of range: the table has slots 0 to {last}"
         )
-    }
-}
-
-impl fmt::Display for Full {
-    fn fmt(&self, f: &mut fmt::Formatter<'_>) -> fmt::Result {
-        match self.slots {
-            1 => f.write_str("the only slot has a value"),
-            slots => write!(f, "all {slots} slots have values"),
-        }
     }
 }
 
@@ -329,6 +321,6 @@ impl<T> Error for Refused<T> {}
 impl Error for OpenError {}
 impl Error for NoSeat {}
 impl Error for NoSlot {}
-impl Error for Full {}
+impl Error for Reason {}
 impl Error for GetError {}
 impl Error for RemoveError {}

@@ -15,7 +15,7 @@ mod options;
 mod unwind;
 
 pub use access::{Guard, Handle, OwnedGuard, Reader, Table};
-pub use errors::{Full, GetError, NoSeat, NoSlot, OpenError, Reason, Refused, RemoveError};
+pub use errors::{GetError, NoSeat, NoSlot, OpenError, Reason, Refused, RemoveError};
 pub use iter::Iter;
 pub use key::Key;
 pub use old::Old;

@@ -5,7 +5,7 @@ use std::panic::{catch_unwind, AssertUnwindSafe};
 use std::sync::atomic::{AtomicUsize, Ordering::SeqCst};
 use std::sync::Arc;
 use yachtbanyan::{
-    Full, GetError, Handle, Key, NoSeat, NoSlot, Old, Options, Reason, Refused, RemoveError, Table,
+    GetError, Handle, Key, NoSeat, NoSlot, Old, Options, Reason, Refused, RemoveError, Table,
 };
 
 const EMPTY: GetError = GetError::Empty { slot: 0 };
@@ -276,7 +276,7 @@ fn a_value_that_is_made_from_its_key_has_it() {
     let slots: BTreeSet<u32> = keys.iter().map(|it| it.slot()).collect();
     assert_eq!(slots, BTreeSet::from([0, 1, 2]));
     let full = handle.insert_with(|_| panic!("every slot has a value"));
-    assert_eq!(full, Err(Full { slots: 3 }));
+    assert_eq!(full, Err(Reason::Full { slots: 3 }));
     for key in keys {
         assert_eq!(*handle.get(key).unwrap(), key);
         assert_eq!(handle.remove(key), Ok(Old::Unused(key)));
@@ -322,7 +322,7 @@ fn a_value_whose_slot_was_the_last_one_is_dropped() {
         other.replace_at(key.slot(), 7).unwrap();
         8
     });
-    assert_eq!((full, calls), (Err(Full { slots: 1 }), 1));
+    assert_eq!((full, calls), (Err(Reason::Full { slots: 1 }), 1));
     assert_eq!(handle.remove_at(0), Ok(Old::Unused(7)));
 }
 
@@ -345,17 +345,43 @@ fn a_slot_that_is_empty_again_keeps_its_key() {
 fn a_function_that_makes_a_value_may_use_the_handle_or_panic() {
     let table = Table::<u32>::with_slots(2).unwrap();
     let handle = table.handle().unwrap();
-    let mut inner = None;
+    let mut first = handle.insert(7).unwrap();
     let panics = catch_unwind(AssertUnwindSafe(|| {
         handle.insert_with(|_| {
-            inner = Some(handle.insert(7).unwrap());
-            panic!("after an insertion")
+            first = handle.replace(first, 8).unwrap().0;
+            panic!("after a replacement")
         })
     }));
     assert!(panics.is_err());
-    assert_eq!((handle.len(), *handle.get(inner.unwrap()).unwrap()), (1, 7));
-    let key = handle.insert_with(|_| 8).unwrap();
-    assert_eq!((handle.len(), *handle.get(key).unwrap()), (2, 8));
+    assert_eq!((handle.len(), *handle.get(first).unwrap()), (1, 8));
+    let key = handle.insert_with(|_| match handle.remove(first) {
+        Ok(Old::Unused(value)) => value + 1,
+        other => panic!("{other:?}"),
+    });
+    assert_eq!((handle.len(), *handle.get(key.unwrap()).unwrap()), (1, 9));
+}
+
+/// It would get the slot that was found, so that the value which is made would never have it.
+#[test]
+fn a_function_that_makes_a_value_inserts_none_by_the_handle() {
+    let table = Table::<u32>::with_slots(4).unwrap();
+    let handle = table.handle().unwrap();
+    let mut calls = 0;
+    let key = handle.insert_with(|_| {
+        calls += 1;
+        let refused = handle.insert(7).unwrap_err();
+        assert_eq!((refused.value, refused.reason), (7, Reason::Making));
+        let refused = handle.try_insert(8).unwrap_err();
+        assert_eq!((refused.value, refused.reason), (8, Reason::Making));
+        let inner = handle.insert_with(|_| unreachable!("within another one"));
+        assert_eq!(inner, Err(Reason::Making));
+        9
+    });
+    assert_eq!(
+        (handle.len(), calls, *handle.get(key.unwrap()).unwrap()),
+        (1, 1, 9)
+    );
+    assert!(handle.insert(7).is_ok());
 }
 
 /// Four threads have at most one value each, and four slots: so `Full` is no answer.

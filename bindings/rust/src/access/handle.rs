@@ -10,6 +10,7 @@ use crate::errors::{GetError, NoSeat, NoSlot, Reason, Refused};
 use crate::iter::Iter;
 use crate::key::Key;
 use crate::old::Old;
+use std::cell::Cell;
 use std::fmt;
 
 /// The access of one thread at a time to a [`Table`]: it looks slots up, and installs and removes
@@ -57,6 +58,8 @@ pub struct Handle<T> {
     pub(super) reader: Reader<T>,
     installer: Installer,
     pub(super) spare: Spare<T>,
+    /// Whether the handle makes a value for `insert_with`.
+    pub(super) making: Cell<bool>,
 }
 
 impl<T> Handle<T> {
@@ -67,6 +70,7 @@ impl<T> Handle<T> {
             reader: Reader::new(table, own, Some(installer)),
             installer,
             spare: Spare::default(),
+            making: Cell::new(false),
         }
     }
 
@@ -116,7 +120,8 @@ impl<T> Handle<T> {
     /// thread is stopped within its own insert, replace or remove: [`Handle::try_insert`] doesn't.
     ///
     /// # Errors
-    /// `Full` with the value if at one moment during the call every slot had a value.
+    /// With the value: `Full` if at one moment during the call every slot had a value, `Making`
+    /// within the function of an [`insert_with`](Handle::insert_with) of this handle.
     ///
     /// ```
     /// use yachtbanyan::{Reason, Table};
@@ -130,11 +135,14 @@ impl<T> Handle<T> {
     /// # Ok::<(), Box<dyn std::error::Error>>(())
     /// ```
     pub fn insert(&self, value: T) -> Result<Key, Refused<T>> {
+        if self.making.get() {
+            return Err(Refused::new(value, Reason::Making));
+        }
         let (values, core) = self.parts();
         // SAFETY: the seat is this handle's (one user), and holds nothing between two calls.
         match unsafe { values.insert(core, self.store(value)) } {
             Ok(key) => Ok(key),
-            Err(value) => Err(self.refuse(value, values.is_full())),
+            Err(value) => Err(self.refuse(value, values.full())),
         }
     }
 
@@ -159,12 +167,15 @@ impl<T> Handle<T> {
     /// # Ok::<(), Box<dyn std::error::Error>>(())
     /// ```
     pub fn try_insert(&self, value: T) -> Result<Key, Refused<T>> {
+        if self.making.get() {
+            return Err(Refused::new(value, Reason::Making));
+        }
         let (values, core) = self.parts();
         // SAFETY: the seat is this handle's (one user), and holds nothing between two calls.
         match unsafe { values.try_insert(core, self.store(value)) } {
             Ok(key) => Ok(key),
             Err((value, Round::Again)) => Err(self.refuse(value, Reason::Again)),
-            Err((value, Round::Full)) => Err(self.refuse(value, values.is_full())),
+            Err((value, Round::Full)) => Err(self.refuse(value, values.full())),
         }
     }
 

@@ -179,7 +179,7 @@ impl<T> Table<T> {
         // SAFETY: the seat is this call's (one user).
         match unsafe { self.values.insert(call.core(), Box::new(value)) } {
             Ok(key) => Ok(key),
-            Err(value) => Err(Refused::new(*value, self.values.is_full())),
+            Err(value) => Err(Refused::new(*value, self.values.full())),
         }
     }
 

@@ -2,7 +2,7 @@
 use super::core::{self, Core, Outcome};
 use super::seats::Seats;
 use super::sync;
-use crate::errors::{Full, GetError, NoSlot, OpenError, Reason};
+use crate::errors::{GetError, NoSlot, OpenError, Reason};
 use crate::key::Key;
 use crate::old::Old;
 use crate::options::Options;
@@ -132,14 +132,9 @@ impl<T> Values<T> {
     }
 
     /// Returns the reason why a value isn't installed if every slot has one.
-    pub(super) fn is_full(&self) -> Reason {
-        let Full { slots } = self.full();
+    pub(super) fn full(&self) -> Reason {
+        let slots = self.slots;
         Reason::Full { slots }
-    }
-
-    /// Returns the error of a call that found every slot full.
-    pub(super) fn full(&self) -> Full {
-        Full { slots: self.slots }
     }
 
     /// Looks up a slot or a key. If it finds a value, the seat holds that value until `release`.

@@ -3,24 +3,42 @@ use super::handle::Handle;
 use super::storage;
 use super::sync;
 use super::values::Round;
-use crate::errors::Full;
+use crate::errors::Reason;
 use crate::key::Key;
+use std::cell::Cell;
+
+/// Marks a handle as long as it makes a value, which may panic.
+struct Making<'h>(&'h Cell<bool>);
+
+impl Making<'_> {
+    fn begin(mark: &Cell<bool>) -> Making<'_> {
+        mark.set(true);
+        Making(mark)
+    }
+}
+
+impl Drop for Making<'_> {
+    fn drop(&mut self) {
+        self.0.set(false);
+    }
+}
 
 impl<T> Handle<T> {
     /// Makes a value from its key, and installs it at a free slot. Returns the key. So what names
     /// the value elsewhere, as an event loop, has its key before anybody finds the value.
     ///
     /// It looks for a slot that is empty, calls `make` with the key that a value gets there, and
-    /// installs the value if the slot is still empty. If another thread was faster, the value is
-    /// dropped, and the call looks again: `make` is called again, with another key. No value ever
-    /// gets a key that was lost. Like [`Handle::insert`], it may wait as long as one other thread
-    /// is stopped within its own insert, replace or remove.
+    /// installs the value if the slot is still empty. If the slot was filled meanwhile, the value
+    /// is dropped, and the call looks again: `make` is called again, with another key. No value
+    /// ever gets a key that was lost. Like [`Handle::insert`], it may wait as long as one other
+    /// thread is stopped within its own insert, replace or remove.
     ///
-    /// `make` may call this handle. If it panics, nothing is installed.
+    /// `make` may look up, replace and remove with this handle. It may not insert with it: the
+    /// value would get the slot that was found. If it panics, nothing is installed.
     ///
     /// # Errors
-    /// [`Full`] if at one moment during the call every slot had a value. If `make` was called
-    /// before, what it made was dropped.
+    /// `Full` if at one moment during the call every slot had a value. If `make` was called before,
+    /// what it made was dropped. `Making` within the `make` of this handle.
     ///
     /// ```
     /// use yachtbanyan::{Key, Table};
@@ -41,7 +59,10 @@ impl<T> Handle<T> {
     /// assert_eq!(Key::from_bits(event), key);
     /// # Ok::<(), Box<dyn std::error::Error>>(())
     /// ```
-    pub fn insert_with(&self, mut make: impl FnMut(Key) -> T) -> Result<Key, Full> {
+    pub fn insert_with(&self, mut make: impl FnMut(Key) -> T) -> Result<Key, Reason> {
+        if self.making.get() {
+            return Err(Reason::Making);
+        }
         loop {
             let (values, core) = self.parts();
             // SAFETY: the seat is this handle's (one user), and holds nothing between two calls.
@@ -53,7 +74,11 @@ impl<T> Handle<T> {
                     continue;
                 }
             };
-            let value = self.store(make(key));
+            let made = {
+                let _making = Making::begin(&self.making);
+                make(key)
+            };
+            let value = self.store(made);
             // SAFETY: as above. The core found the slot of the key for this call.
             match unsafe { values.insert_at(core, key.slot(), value) } {
                 Ok(()) => return Ok(key),
