@@ -34,6 +34,12 @@ def listed():
     return names, re.search(r"^Found on kernel (\d+\.\d+)", table, re.MULTILINE)[1]
 
 
+def of_older_kernels():
+    """Returns the names of the differences that only older kernels have, the first cells of the page's table of Linux 6.1."""
+    table = read("docs/use/LINUX.md").split("\n## Linux 6.1\n")[1].split("\n## ")[0]
+    return frozenset(re.findall(r"^\| `([a-z_0-9]+)` \|", table, re.MULTILINE))
+
+
 def large_differences():
     """Yields the scripts of three differences that are too large to be kept as files."""
     yield "too_many_chains", b"close 0\n" * (CHAINS + 1) + b"submit\n"

@@ -39,6 +39,18 @@ class Linux(Player):
         refusal = super().refusal_of_submission(requests)
         return refusal if refusal and not self.meets(refusal.split(" ")[0].replace("-", "_")) else None
 
+    def left(self, file):
+        """Returns a file that is still in the table when the table goes. Linux 6.1 posts no tag for it."""
+        return (*file[:2], 0) if file and file[2] and self.meets("file_left_in_the_table_posts_no_tag") else file
+
+    def unregister(self):
+        self.slots = [self.left(it) for it in self.slots]
+        return super().unregister()
+
+    def end(self):
+        self.slots = [self.left(it) for it in self.slots]
+        return super().end()
+
     def open(self, place, file, slot):
         res = super().open(place, file, slot)
         if res < 0 and file in self.names and self.meets("refused_open_opens_its_file"):

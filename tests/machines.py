@@ -1,0 +1,71 @@
+"""machines.py KIND: speaks as the virtual machine of kernel/in-vm does (kernel/vm/init.c), in place of QEMU, for tests/check-in-vm. KIND is
+`right`, which plays as the model does; `late`, which answers the first play after the second one; or a fault: `wrong` changes the result
+of 1.1.1, `dead` ends at once, `oopses` ends at the first script, after a line on its console, and `lacks-io-uring` has a player that finds
+none. The file of the variable PID_FILE gets the number of the process."""
+import os
+import re
+import sys
+
+sys.path.insert(1, f"{sys.path[0]}/..")
+
+from model.model import play
+
+PART, NO_IO_URING = 2048, 77
+
+
+def send(data):
+    sys.stdout.buffer.write(data)
+    sys.stdout.buffer.flush()
+
+
+def received():
+    """Yields the number of each play and its standard input."""
+    while line := sys.stdin.buffer.readline():
+        number, _, size = map(int, line.split()[:3])
+        given = b""
+        while len(given) < size:
+            part = sys.stdin.buffer.read(min(PART, size - len(given)))
+            given += part
+            if len(part) == PART:
+                send(b"more\n")
+        yield number, given
+
+
+def answer(number, text=b"", status=0, message=b""):
+    send(b"%d %d %d %d\n" % (number, status, len(text), len(message)) + text + message)
+
+
+def write_on_console(line):
+    """Writes to the first serial port, which is a file."""
+    with open(next(it for it in sys.argv if it.startswith("file:")).removeprefix("file:"), "a", encoding="utf-8") as console:
+        console.write(f"{line}\n")
+
+
+def text_of(kind, given):
+    text = play(given)[0]
+    return (re.sub(r"^1\.1\.1 .*", "1.1.1 -77", text, count=1, flags=re.MULTILINE) if kind == "wrong" else text).encode()
+
+
+def main(kind):
+    if kind == "dead":
+        return 1
+    send(b"ready 0.0.7\n")
+    kept = []
+    for number, given in received():
+        if not given and kind == "lacks-io-uring":
+            answer(number, b"", NO_IO_URING, b"there is no io_uring")
+        elif given and kind == "oopses":
+            write_on_console("BUG: kernel NULL pointer dereference")
+            return 0
+        else:
+            kept.append((number, text_of(kind, given)))
+        if kind != "late" or not given or len(kept) > 1:
+            while kept:
+                answer(*kept.pop())
+    return 0
+
+
+if __name__ == "__main__":
+    with open(os.environ["PID_FILE"], "w", encoding="utf-8") as file:
+        file.write(str(os.getpid()))
+    sys.exit(main(sys.argv[1]))
