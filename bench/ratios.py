@@ -1,6 +1,8 @@
-"""Prints the ratios of the tables' times, each the median over its rounds. As a program, it reads the rounds that bench_rust prints."""
+"""Prints the ratios of the tables' times, each the median over its rounds. As a program, it reads the rounds that bench_rust prints. With
+`--keep TABLE,..` it prints the times of these tables instead, a line for each row, to be kept in a file."""
 import itertools
 import os
+import re
 import statistics
 import sys
 
@@ -30,6 +32,26 @@ def read_rounds(lines):
         yield title(name, int(threads)), [{table: float(time) for table, time in (it.rsplit(" ", 1) for it in line[2:])} for line in cells]
 
 
+def keep(lines, tables):
+    """Prints a line for each row: its name, the number of threads, and each of the tables with its time in each round."""
+    split = (line.rstrip("\n").split("\t") for line in lines)
+    for (name, threads), cells in itertools.groupby(split, lambda it: tuple(it[:2])):
+        times = [dict(it.rsplit(" ", 1) for it in line[2:]) for line in cells]
+        kept = [f"{table} {' '.join(f'{float(it[table]):.4g}' for it in times)}" for table in tables if table in times[0]]
+        print(name, threads, *kept, sep="\t")
+
+
+def read_kept(lines):
+    """Yields each row of a kept file, run by run: its title, and each table with its times."""
+    for line in (it for it in lines if not it.startswith("#")):
+        name, threads, *cells = line.rstrip("\n").split("\t")
+        pairs = (re.match(r"(.*?) ([\d. e-]+)$", it).groups() for it in cells)
+        yield title(name, int(threads)), {table: [float(it) for it in times.split()] for table, times in pairs}
+
+
 if __name__ == "__main__":
-    for what, rounds in read_rounds(sys.stdin):
-        tell("bench-rust", what, rounds, 5)
+    if sys.argv[1:2] == ["--keep"]:
+        keep(sys.stdin, sys.argv[2].split(","))
+    else:
+        for what, rounds in read_rounds(sys.stdin):
+            tell("bench-rust", what, rounds, 5)

@@ -14,11 +14,12 @@ import errno
 import functools
 import glob
 import importlib
+import operator
 import os
 import re
 import statistics
 
-from bench.ratios import read_rounds, title
+from bench.ratios import read_kept, title
 from scripts.repository import ROOT, files_of, read
 
 ROWS = "tests/numbers.txt"
@@ -231,15 +232,51 @@ def tails(pattern, word):
 
 
 @functools.cache
-def kept_rounds():
-    """Returns each row of bench/rust.txt with its rounds, run by run."""
-    return list(read_rounds(read("bench/rust.txt").splitlines()))
+def kept(path):
+    """Returns the rows of a kept run of bench_rust, each with the times of each table."""
+    return list(read_kept(read(path).splitlines()))
+
+
+def ratio(path, what, own, other):
+    """Returns how often a table took another one's time in a row: of each kept run the median, and of these the median."""
+    runs = [statistics.median(map(operator.truediv, times[own], times[other])) for row, times in kept(path) if row == what]
+    return statistics.median(runs)
+
+
+def on_threads(path, name, own, other):
+    """Returns the ratios of a row on 1, 2 and 4 threads."""
+    return " ".join(f"{ratio(path, title(name, threads), own, other):.2f}" for threads in (1, 2, 4))
 
 
 def crate(name, other, own="Rust crate"):
-    """Returns how often a table took another one's time on 1, 2 and 4 threads: of each kept run the median, and of these the median."""
-    runs = [[statistics.median(it[own] / it[other] for it in rounds) for what, rounds in kept_rounds() if what == title(name, threads)] for threads in (1, 2, 4)]
-    return " ".join(f"{statistics.median(it):.2f}" for it in runs)
+    return on_threads("bench/rust.txt", name, own, other)
+
+
+def lasting(name, other="sharded-slab keys"):
+    return on_threads("bench/tables.txt", name, "lasting", other)
+
+
+def span(path, pattern, own, other):
+    """Returns the least and the greatest ratio of the rows whose titles a pattern begins."""
+    those = sorted({ratio(path, row, own, other) for row, _ in kept(path) if re.match(pattern, row)})
+    return f"{those[0]:.2f} to {those[-1]:.2f}"
+
+
+def calls(name, *tables):
+    """Returns the instructions and the locked steps of calls, table by table."""
+    those = (found("bench/calls.txt", rf"^{table}: {name}: ([\d.]+ instructions, [\d.]+) locked").split(" instructions, ") for table in tables)
+    return " ".join(f"{float(instructions):.0f} ({locked})" for instructions, locked in those)
+
+
+def busy(table, names, word):
+    """Returns the least and the greatest microseconds after a word of calls of a table in bench/busy_tails.txt, in the three runs' medians."""
+    those = sorted(of_runs("bench/busy_tails.txt", f"{table}, {writing} writing: {name}", word) / 1000 for writing in (1, 58) for name in names.split(", "))
+    return those[0], those[-1]
+
+
+def of_runs(path, name, word):
+    """Returns the median of what each kept run has after a word in a row."""
+    return statistics.median(map(int, found(path, rf"^\w+: {name}: .*?\b{word} ([\d ]+)").split()))
 
 
 def measured(path, pattern):
@@ -253,8 +290,8 @@ def whole(path, pattern):
     return round(float(found(path, pattern)))
 
 
-FUNCTIONS = (answer, bits, constant_of, crate, date, entries, found, gate, liburing, line, lines, linux, measured, narrow, number, on_four_threads, python, round,
-             status, tails, version, whole, width, width_of_slots)
+FUNCTIONS = (answer, bits, busy, calls, constant_of, crate, date, entries, found, gate, lasting, liburing, line, lines, linux, measured, narrow, number, of_runs,
+             on_four_threads, python, ratio, round, span, status, tails, version, whole, width, width_of_slots)
 SOURCES = Sources({it.__name__: it for it in FUNCTIONS})
 
 
