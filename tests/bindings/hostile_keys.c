@@ -1,7 +1,8 @@
 /* Four threads that insert, replace, remove and look up by keys that all of them know, in tables of
  * 1, 2, 4 and 16 slots. Each key is ended at most once: one removal or replacement of it is done.
  * Each key that was returned is ended, or is that of a value which is still there. A look-up finds
- * the value of its key. Each value is dropped once. */
+ * the value of its key, which is not dropped before it is released. Each value is dropped once.
+ * The first complaints are printed, each with its thread, its key and what was found. */
 #include <pthread.h>
 #include <stdatomic.h>
 #include <stdbool.h>
@@ -9,7 +10,7 @@
 #include <string.h>
 #include <yachtbanyan.h>
 
-enum { THREADS = 4, CALLS = 150000, KNOWN = 8, MOST = THREADS * CALLS };
+enum { THREADS = 4, CALLS = 150000, KNOWN = 8, MOST = THREADS * CALLS, PRINTED = 8 };
 
 typedef struct value {
     atomic_ulong number; /* of its key, or 0 before that is known */
@@ -26,9 +27,26 @@ typedef struct thread {
     unsigned random;
 } thread;
 
+/* of the thread that complains: its number, or -1 in main, and the number of its last call */
+static _Thread_local int me = -1, at;
+
+/* prints the first complaints: the check that fails, its key, and the numbers that it compares */
+static void complain(const char *check, yacht_key key, unsigned long found, unsigned long wanted) {
+    if (wrong++ >= PRINTED) return;
+    printf("  thread %d, call %d, key %lu at slot %u: %s: %lu, and not %lu\n", me, at,
+           (unsigned long)key.number, key.slot, check, found, wanted);
+}
+
+/* complains unless the numbers are equal */
+static void want(const char *check, yacht_key key, unsigned long found, unsigned long wanted) {
+    if (found != wanted) complain(check, key, found, wanted);
+}
+
 static void drop(void *it, void *with) {
     (void)with;
-    if (atomic_fetch_add(&((value *)it)->drops, 1)) wrong++;
+    value *its = it;
+    int before = atomic_fetch_add(&its->drops, 1);
+    want("drops of the value before this one", (yacht_key){its->number, 0}, before, 0);
 }
 
 static unsigned next(thread *it) {
@@ -42,24 +60,28 @@ static value *fresh(void) { return &values[atomic_fetch_add(&used, 1)]; }
 /* a value that is not installed after all is as one that was dropped */
 static void keep_back(value *it) { drop(it, NULL); }
 
+/* another thread may have noted the value's number before */
+static void note_number(const char *check, value *its, yacht_key key) {
+    unsigned long before = 0;
+    if (!atomic_compare_exchange_strong(&its->number, &before, key.number))
+        want(check, key, before, key.number);
+}
+
 static void publish(thread *it, value *own, yacht_key key) {
-    unsigned long unknown = 0;
     issued++;
-    /* another thread may have found the value before */
-    if (!atomic_compare_exchange_strong(&own->number, &unknown, key.number) && unknown != key.number) wrong++;
+    note_number("the number by which another thread found the value", own, key);
     atomic_store(&known[next(it) % KNOWN], yacht_key_to_bits(key));
 }
 
 static void end(yacht_key key) {
-    if (atomic_fetch_add(&ended[key.number], 1)) wrong++;
+    want("ends of the key before this one", key, atomic_fetch_add(&ended[key.number], 1), 0);
 }
 
 static void look_up(thread *it, yacht_key key) {
     void *found;
     if (yacht_get(it->handle, key, &found) != YACHT_DONE) return;
-    unsigned long number = 0;
-    if (!atomic_compare_exchange_strong(&((value *)found)->number, &number, key.number) && number != key.number) wrong++;
-    if (((value *)found)->drops) wrong++;
+    note_number("the number of the value that was found", found, key);
+    want("drops of a value that is held", key, ((value *)found)->drops, 0);
     yacht_release(it->handle);
 }
 
@@ -83,9 +105,9 @@ static void insert(thread *it) {
 
 static void *run(void *with) {
     thread *it = with;
-    begun++;
+    me = begun++;
     while (begun < THREADS) continue;
-    for (int call = 0; call < CALLS; call++) {
+    for (at = 0; at < CALLS; at++) {
         yacht_key key = yacht_key_from_bits(known[next(it) % KNOWN]);
         switch (next(it) % 4) {
         case 0: insert(it); break;
@@ -99,8 +121,8 @@ static void *run(void *with) {
     return NULL;
 }
 
-/* checks that each key that was returned is ended, or that of a value in a slot */
-static bool are_all_ended(yacht_table *table, uint32_t slots) {
+/* each key that was returned is ended, or that of a value in a slot */
+static void check_ends(yacht_table *table, uint32_t slots) {
     yacht_handle *handle = yacht_handle_of(table, 0);
     int count = 0;
     for (int number = 0; number < (int)(sizeof ended / sizeof *ended); number++) count += ended[number];
@@ -111,9 +133,10 @@ static bool are_all_ended(yacht_table *table, uint32_t slots) {
         yacht_key_of(handle, &key);
         yacht_release(handle);
         count++;
-        if (ended[key.number] || ((value *)found)->number != key.number) wrong++;
+        want("ends of the key of a value in its slot", key, ended[key.number], 0);
+        want("the number of the value in the slot", key, ((value *)found)->number, key.number);
     }
-    return count == issued;
+    want("keys that were ended or are in the table", (yacht_key){0, 0}, count, issued);
 }
 
 static bool is_right(uint32_t slots) {
@@ -128,12 +151,12 @@ static bool is_right(uint32_t slots) {
         if (pthread_create(&ids[i], NULL, run, &threads[i])) return false;
     }
     for (int i = 0; i < THREADS; i++) pthread_join(ids[i], NULL);
-    bool ends = are_all_ended(table, slots);
+    check_ends(table, slots);
     yacht_free(table);
     for (int i = 0; i < used; i++)
-        if (values[i].drops != 1) wrong++;
+        want("drops of a value in all", (yacht_key){values[i].number, 0}, values[i].drops, 1);
     printf("%u slots: %d keys, %d wrong\n", slots, (int)issued, (int)wrong);
-    return ends && !wrong && issued > CALLS / 40;
+    return !wrong && issued > CALLS / 40;
 }
 
 int main(void) {
