@@ -1,8 +1,9 @@
 -- The places of a call's steps.
-use Rattle.fx_lasting.proofs.Words.{◌≡◌, ◌<◌, ◌≤◌, ℕ, ◌*◌, arith, ⊎_elim, Start, LastingTable, list_place, slot_place, hold_place, node_place}
-use Rattle.fx_lasting.proofs.Words.{word_of, hold_word_of, nodes_of, slots_of, HasPlace, IsAtWork, Sat, Emptying, Placing, LastingPass, IsPassOfTable}
+use Rattle.fx_lasting.proofs.Frames.{alone_cases}
+use Rattle.fx_lasting.proofs.Words.{subst, ◌≡◌, ◌<◌, ◌≤◌, ℕ, ◌*◌, arith, ⊎_elim, Start, LastingTable, list_place, slot_place, hold_place, node_place}
+use Rattle.fx_lasting.proofs.Words.{word_of, hold_word_of, nodes_of, slots_of, HasPlace, IsAtWork, Sat, Emptying, LastingPass, IsPassOfTable}
 use Rattle.fx_lasting.proofs.Words.{Option, Closed, List, Bool, cond, le-ltb, length, pass_in, get_elem?, some, ◌∙◌, sym, mul-le-mul_right, ap}
-use Rattle.fx_lasting.proofs.Words.{groups_in, group_place, range_at_start, IsGroup, tag_place, number_place, tag_word_of, number_word_of, Placement}
+use Rattle.fx_lasting.proofs.Words.{groups_in, group_place, range_at_start, IsGroup, tag_place, number_place, tag_word_of, number_word_of}
 use Rattle.fx_lasting.proofs.Words.{MOST_NODES}
 use Rattle.fx_lasting.proofs.range_lemmas.Groups.{few_groups}
 use Rattle.fx_lasting.proofs.Running.{its_inside, stock_is}
@@ -65,8 +66,10 @@ number_word t n is = omega (arith, is, t.same_size, t.key.0)
 
 -- the node whose place is with the pass
 pub place_inside : {k : Start} {p n : ℕ} {x : Option Closed} {m : Sat} → IsAtWork k p m → HasPlace n x m → n < nodes_of k
-place_inside {n = n} {m = m} at has = ⊎_elim (λ (e : m.0.work ≡ Emptying n). its_inside at e)
-    (λ (e : (l : Placement) × (m.0.work ≡ Placing n l)). its_inside at e.1) has.work
+place_inside {k = k} {n = n} {m = m} at has = ⊎_elim (λ (e : m.0.work ≡ Emptying n). its_inside at e)
+    (λ e. ⊎_elim (λ is. its_inside at is) (λ z. let same : z.2 ≡ n = cc (sym z.5) in let both : (z.1 < nodes_of k) × (z.2 < nodes_of k) = its_inside at z.4 in
+    subst (λ (i : ℕ). i < nodes_of k) same both.1)
+    (alone_cases m.0.work e.1)) has.work
 
 -- a table has few nodes
 pub few_nodes : (t : LastingTable) → nodes_of t.table.shared.key ≤ MOST_NODES

@@ -1,6 +1,6 @@
 -- Steps at which no slot and no node changes: they change the pass alone, and perhaps its hold word
 -- or a word that counts or asks.
-use Rattle.fx_lasting.proofs.Words.{◌≡◌, ◌≢◌, ℕ, ◌+◌, ◌<◌, List, set, length, refl, ap, ◌∙◌, subst, arith, Option, Bool, held_by, File, Event}
+use Rattle.fx_lasting.proofs.Words.{alone_in, ◌≡◌, ◌≢◌, ℕ, ◌+◌, ◌<◌, List, set, length, refl, ap, ◌∙◌, subst, arith, Option, Bool, held_by, File, Event}
 use Rattle.fx_lasting.proofs.Words.{range_at_start, NodeAgrees, IsAllowed, Agrees, RangeCounts, Survey, slots_of, nodes_of, IsHistory}
 use Rattle.fx_lasting.proofs.Words.{state_after_all, held_in, held_of, taken_of, taking, Work, Glance, Change, ⊎_elim, ◌⊎◌, inr, word_of}
 use Rattle.fx_lasting.proofs.Words.{hold_word_of, count_in, name_in, full_name_in, HoldAgrees, GuardAgrees, WorkAgrees, sum_set, sum_by, get_elem?}
@@ -79,7 +79,7 @@ module _ (turn : Turn) (h' front : List Event) (words' : List ℕ) (d : Work) (g
         nodes = λ n l. node_same (slots_of v.start) r.node_of n (omega arith) (s.node_words n)
             (let t = sum_set (taken_of n) st.views id v (w turn calm_after) here in let e = s.taken n in omega arith)
             refl refl (r.phase n) (λ i f is there. (at_is i, ap count_in (s.slot_words i (inside n l i f is)))) (r.each_node n l);
-        owners = λ n l. ⊎_elim (λ same. owner_same st.views id v (w turn calm_after) here same n (r.phase n) (r.each_owner n l))
+        owners = λ n l. ⊎_elim (λ same. owner_same st.views id v (w turn calm_after) here (ap alone_in same) n (r.phase n) (r.each_owner n l))
             (λ none. owner_stays st.views id v (w turn calm_after) here n (λ bad. omega arith) (r.phase n) (r.each_owner n l)) s.owners;
         labels = λ n l. labels_same v.start _ _ _ (written_in (r.phase n)) (s.label_words n) (r.each_label n l);
         removed = λ number. ap (λ (f : ℕ → Option File). f number) s.removed ∙ r.removed number;

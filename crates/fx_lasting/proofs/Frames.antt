@@ -1,4 +1,5 @@
 -- A step of one seat leaves other seats, slots and nodes as they were.
+use Rattle.fx_lasting.proofs.Words.{alone_in, Placement, Renewing}
 use Rattle.fx_lasting.proofs.Words.{◌≡◌, ◌≢◌, ℕ, ◌+◌, ◌<◌, ◌≤◌, List, set, sym, refl, ap, ◌∙◌, subst, arith, Option, Some, None, File, inl, inr, some}
 use Rattle.fx_lasting.proofs.Words.{some-injective, get_elem?, set_here, set_else, stands_at, ⊎_elim, ◌⊎◌, dite, ℕ_discrete, dec_le, SlotAgrees}
 use Rattle.fx_lasting.proofs.Words.{NodeAgrees, OwnerAgrees, WorkAgrees, LogAgrees, HoldAgrees, GuardAgrees, Does, GlanceAgrees, Heats, MayBeUnmarked}
@@ -13,10 +14,30 @@ use Rattle.fx_lasting.proofs.Keeping.{Turn, After, Keeps, w, word_at, slot_word}
 -- the node that a pass alone works with, plus 1, or 0
 abbrev pub busy : Work → ℕ
 busy (Placing n w) = n + 1
+busy (Renewing f held n w) = n + 1
 busy (Retiring f n takes next marks) = n + 1
 busy (Emptying n) = n + 1
 busy (Keeping n lost) = n + 1
 busy _ = 0
+
+-- what a pass does with a node alone is its whole work, or it holds a file besides
+pub alone_cases : (w : Work) {d : Work} → alone_in w ≡ d
+    → (w ≡ d) ⊎ ((f : File) × (held n : ℕ) × (l : Placement) × (w ≡ Renewing f held n l) × (d ≡ Placing n l))
+alone_cases (Renewing f held n l) is = inr (f, held, n, l, refl, sym is)
+alone_cases Idle is = inl is
+alone_cases (Announced n) is = inl is
+alone_cases (Counted f n) is = inl is
+alone_cases (Guarded f n) is = inl is
+alone_cases (Owing n) is = inl is
+alone_cases (Yielding f n) is = inl is
+alone_cases (Searching n) is = inl is
+alone_cases (Placing n l) is = inl is
+alone_cases (Retiring f n t nx m) is = inl is
+alone_cases (Emptying n) is = inl is
+alone_cases (Keeping n lost) is = inl is
+
+pub busy_alone : (w : Work) → busy w ≡ busy (alone_in w)
+busy_alone w = ⊎_elim (λ is. ap busy is) (λ z. ap busy z.4 ∙ sym (ap busy z.5)) (alone_cases w refl)
 
 -- the label of a file, if there is one
 abbrev label_in : Option File → Written
@@ -43,22 +64,22 @@ owner_map views others n f (emptied j) o = f j (Emptying n) refl o
 owner_map views others n f (kept j lost) o = f j (Keeping n lost) refl o
 owner_map views others n f _ o = tt
 
-pub does_now : (views : List View) (id : ℕ) (v w : View) (d : Work) → get_elem? views id ≡ some v → w.work ≡ d → Does (set views id w) id d
+pub does_now : (views : List View) (id : ℕ) (v w : View) (d : Work) → get_elem? views id ≡ some v → alone_in w.work ≡ d → Does (set views id w) id d
 does_now views id v w d here is = (w, set_here views id w (stands_at views id v here).0, is)
 
 module _ (views : List View) (id : ℕ) (v w : View) (here : get_elem? views id ≡ some v) where
   does_else : {j : ℕ} {d : Work} → j ≢ id → Does views j d → Does (set views id w) j d
   does_else {j} other o = (o.0, set_else views id j w other ∙ o.1, o.2)
 
-  work_of : {j : ℕ} {d : Work} → j ≡ id → Does views j d → v.work ≡ d
-  work_of same o = ap (λ (u : View). u.work) (some-injective v o.0 (sym here ∙ (ap (get_elem? views) (sym same) ∙ o.1))) ∙ o.2
+  work_of : {j : ℕ} {d : Work} → j ≡ id → Does views j d → alone_in v.work ≡ d
+  work_of same o = ap (λ (u : View). alone_in u.work) (some-injective v o.0 (sym here ∙ (ap (get_elem? views) (sym same) ∙ o.1))) ∙ o.2
 
   -- a node that the pass was not busy with
   pub owner_stays : (n : ℕ) → busy v.work ≢ n + 1 → (ph : Phase) → OwnerAgrees views n ph → OwnerAgrees (set views id w) n ph
-  owner_stays n idle = owner_map views (set views id w) n (λ j d is o. does_else (λ same. idle (ap busy (work_of same o) ∙ is)) o)
+  owner_stays n idle = owner_map views (set views id w) n (λ j d is o. does_else (λ same. idle (busy_alone v.work ∙ (ap busy (work_of same o) ∙ is))) o)
 
-  -- any node, after a step that leaves the pass at its work
-  pub owner_same : w.work ≡ v.work → (n : ℕ) (ph : Phase) → OwnerAgrees views n ph → OwnerAgrees (set views id w) n ph
+  -- any node, after a step that leaves the pass at its work with a node alone
+  pub owner_same : alone_in w.work ≡ alone_in v.work → (n : ℕ) (ph : Phase) → OwnerAgrees views n ph → OwnerAgrees (set views id w) n ph
   owner_same same n = owner_map views (set views id w) n (λ j d is o. dite (ℕ_discrete j id)
       (λ (e : j ≡ id). subst (λ (i : ℕ). Does (set views id w) i d) (sym e) (does_now views id v w d here (same ∙ work_of e o)))
       (λ (e : j ≢ id). does_else e o))
@@ -205,6 +226,7 @@ module _ (turn : Turn) (a : After turn) where
     work_stays (Searching m) is at = let b = rw is at o.allowed in
         (at.0, leaves.spare m z.number b.0 at.1 ((r.stocks j u z there has).here b.0 m b.1) n)
     work_stays (Placing m w) is at = (at.0, same_for at.1 refl)
+    work_stays (Renewing f m own w) is at = (leaves.open_file j u f m other there (ap held_in is) at.0, (at.1.0, same_for at.1.1 refl))
     work_stays (Retiring f m t next marks) is at = (at.0, same_for at.1 refl)
     work_stays (Emptying m) is at = (at.0, same_for at.1 refl)
     work_stays (Keeping m lost) is at = (at.0, same_for at.1 refl)
@@ -239,6 +261,7 @@ module _ (turn : Turn) (a : After turn) where
       go (Yielding f n) g = tt
       go (Searching n) g = tt
       go (Placing n w) g = tt
+      go (Renewing f n own w) g = tt
       go (Retiring f n t nx m) g = tt
       go (Emptying n) g = tt
       go (Keeping n lost) g = tt

@@ -1,4 +1,5 @@
 -- A pass between two calls, and what a call adds to it.
+use Rattle.fx_lasting.proofs.Words.{Renewing}
 use Rattle.fx_lasting.proofs.Words.{as_listed, get_elem?, some, ◌≡◌, ℕ, ◌+◌, ◌-◌, ◌≤◌, ◌<◌, ◌^◌, ◌⊎◌, List, [], sym, refl, ap, ◌∙◌, subst, arith}
 use Rattle.fx_lasting.proofs.Words.{Bool, true, false, Option, Some, None, Start, Sat, Work, Glance, Change, Nothing, Outside, Runs, IsAtWork}
 use Rattle.fx_lasting.proofs.Words.{as_swapped, nodes_of, set, part_of_pass, TableId, Idle, Counted, Guarded, Retiring, Keeping, LastingPass}
@@ -126,13 +127,15 @@ pub holds_on : (w : Work) {f : File} {hold : Hold} → doing_in w ≡ Holding f 
 holds_on (Counted g n) {f} {hold} is = let same : g ≡ f = cc is in let value : hold_at g n ≡ hold = cc is in
     inl (λ i. Counted (same i) (ap (λ (h : Hold). h.node) value i))
 holds_on (Guarded g n) {f} {hold} is = let same : g ≡ f = cc is in let value : hold_at g n ≡ hold = cc is in
-    inr (λ i. Guarded (same i) (ap (λ (h : Hold). h.node) value i))
+    inr (inl (λ i. Guarded (same i) (ap (λ (h : Hold). h.node) value i)))
 holds_on Idle is = absurd (cc is)
 holds_on (Announced n) is = absurd (cc is)
 holds_on (Owing n) is = absurd (cc is)
 holds_on (Yielding g n) is = absurd (cc is)
 holds_on (Searching n) is = absurd (cc is)
 holds_on (Placing n l) is = absurd (cc is)
+holds_on (Renewing g n own l) {f} {hold} is = let same : g ≡ f = cc is in let value : hold_at g n ≡ hold = cc is in
+    inr (inr (own, l, λ i. Renewing (same i) (ap (λ (h : Hold). h.node) value i) own l))
 holds_on (Retiring g n t nx m) is = absurd (cc is)
 holds_on (Emptying n) is = absurd (cc is)
 holds_on (Keeping n lost) is = absurd (cc is)

@@ -1,9 +1,9 @@
 -- Some steps in a row, and the seat after them.
-use Rattle.fx_lasting.proofs.Words.{as_listed, as_asked, as_stocked, as_swapped, IsStockOf, Survey, true, set, set_here, set_else, length-set}
+use Rattle.fx_lasting.proofs.Words.{TakesAs, HoldsOn, Placement, Renewing, as_listed, as_asked, as_stocked, as_swapped, IsStockOf, Survey, true, set, set_here, set_else, length-set}
 use Rattle.fx_lasting.proofs.Words.{stands_at, get_elem?, some, some-injective, ◌≡◌, ◌≤◌, ℕ, ◌+◌, List, [], ◌++◌, map, sym, refl, ap, ◌∙◌, subst}
 use Rattle.fx_lasting.proofs.Words.{arith, ◌▷▷◌, Action, Event, Sat, Stepped, Goes, Runs, Change, IsAtWork, Log, first_log, ◌∷◌, ◌-◌, ◌<◌, ⊎_elim}
 use Rattle.fx_lasting.proofs.Words.{inl, dite, ℕ_discrete, eq-eqb, ne_eqb, Option, Some, None, Closed, File, ◌▷◌, Release, Close, Look, Idle, Owing}
-use Rattle.fx_lasting.proofs.Words.{Yielding, Counted, Cold, TakesOut, LettingGo, Takes, glance_after, LetsMarkGo, LetsFileGo, HasPlace, IsReleasing}
+use Rattle.fx_lasting.proofs.Words.{Yielding, Counted, Cold, TakesOut, LettingGo, glance_after, LetsMarkGo, LetsFileGo, HasPlace, IsReleasing}
 use Rattle.fx_lasting.proofs.Words.{HasToLetGo, nodes_of, full_name_in, file_node_in, At, Glance, Work, Start, IsHistory, pass_in, pass_event}
 use Rattle.fx_lasting.proofs.Words.{part_of_pass, IsInside, rested, append_assoc, map-append, seen_further}
 
@@ -287,11 +287,15 @@ let_go_inside {n = n} {m = m} at has = ⊎_elim (λ (e : m.0.work ≡ Owing n). 
     (λ other. ⊎_elim (λ (y : (f : File) × (m.0.work ≡ Yielding f n)). its_inside at y.1)
     (λ (y : (f : File) × (m.0.work ≡ Counted f n)). its_inside at y.1) other) has
 
+-- the node whose file it holds is the table's
+pub held_inside : {k : Start} {p n : ℕ} {f : File} {m : Sat} → IsAtWork k p m → HoldsOn m.0.work f n → n < nodes_of k
+held_inside {k} {n = n} {f = f} {m = m} at holds = ⊎_elim (λ is. its_inside at is) (λ z. ⊎_elim (λ is. its_inside at is) (λ (is : (own : ℕ) × (l : Placement) × (m.0.work ≡ Renewing f n own l)). let both : (n < nodes_of k) × (is.0 < nodes_of k) = its_inside at is.2 in both.0) z) holds
+
 -- a pass takes what a slot names: a file, or nothing
-pub took : {st : At} {m m' : Sat} {slot found : ℕ} → m.0.glance ≡ Cold slot → Takes st m found m'
+pub took : {none : Work} {holding : File → ℕ → Work} {st : At} {m m' : Sat} {slot found : ℕ} → m.0.glance ≡ Cold slot → TakesAs none holding st m found m'
     → (xs : List Action) × (w : Work) × Goes m xs w (glance_after m.0.start.passes slot found) m'
-took {slot = slot} {found = found} cold did = dite (ℕ_discrete (full_name_in found) 0) (λ e. ([] ▷ Look slot None, Idle, did.empty slot cold e))
-    (λ some. let h = did.holds slot (full_name_in found - 1) cold (omega (arith, some)) in ([] ▷ Look slot (Some h.0), Counted h.0 (full_name_in found - 1), h.2))
+took {none = none} {holding = holding} {slot = slot} {found = found} cold did = dite (ℕ_discrete (full_name_in found) 0) (λ e. ([] ▷ Look slot None, none, did.empty slot cold e))
+    (λ some. let h = did.holds slot (full_name_in found - 1) cold (omega (arith, some)) in ([] ▷ Look slot (Some h.0), holding h.0 (full_name_in found - 1), h.2))
 
 -- the name in a word
 pub no_name : (word : ℕ) → None ≡ file_node_in word → full_name_in word ≡ 0

@@ -1,4 +1,6 @@
 -- One history has what all passes did, and each removed file that is open has a user.
+use Rattle.fx_lasting.proofs.Words.{Renewing}
+use Rattle.fx_lasting.proofs.Frames.{alone_cases}
 use Rattle.fx_lasting.proofs.Words.{contents_of, Contains, contains_head, ◌≡◌, ℕ, suc, ◌+◌, ◌<◌, ◌≤◌, List, [], ◌∷◌, length, sym, refl, ap, ◌∙◌}
 use Rattle.fx_lasting.proofs.Words.{subst, arith, Some, None, some, get_elem?, ⊎_elim, dite, dec_le, eqb, Bool, true, false, cond, at_index}
 use Rattle.fx_lasting.proofs.Words.{found_sum, File, Agrees, NodeAgrees, WorkAgrees, HoldAgrees, HoldsAt, OwnerAgrees, Shared, Start, View, Work, Log}
@@ -105,6 +107,7 @@ module _ (k : Start) (s : Shared) (r : Agrees k s) where
         go (Yielding g m) is at = absurd (omega arith)
         go (Searching m) is at = absurd (omega arith)
         go (Placing m w) is at = absurd (omega arith)
+        go (Renewing g m own w) is at = dite (ℕ_discrete m n) (λ same. same_file g (rw same at at.0)) (λ other. absurd (let a = bit_else n m other in omega arith))
         go (Retiring g m t rd k) is at = absurd (omega arith)
         go (Emptying m) is at = absurd (omega arith)
         go (Keeping m lost) is at = absurd (omega arith)
@@ -119,6 +122,7 @@ module _ (k : Start) (s : Shared) (r : Agrees k s) where
     owes seat (Counted g m) word debt is h at = let a = h.1 in absurd (omega arith)
     owes seat (Searching m) word debt is h at = let a = h.1 in absurd (omega arith)
     owes seat (Placing m w) word debt is h at = let a = h.1 in absurd (omega arith)
+    owes seat (Renewing g m own w) word debt is h at = let a = h.1 in absurd (omega arith)
     owes seat (Retiring g m t rd k) word debt is h at = let a = h.1 in absurd (omega arith)
     owes seat (Emptying m) word debt is h at = let a = h.1 in absurd (omega arith)
     owes seat (Keeping m lost) word debt is h at = let a = h.1 in absurd (omega arith)
@@ -138,7 +142,7 @@ module _ (k : Start) (s : Shared) (r : Agrees k s) where
   user_of : (number n : ℕ) (f : File) (ph : Phase) → r.phase n ≡ ph → Node n ph → OwnerAgrees s.views n ph → removed_in number ph ≡ Some f
       → (f.number ≡ number) × ((seat : ℕ) × (v : View) × (get_elem? s.views seat ≡ some v) × Uses f n v.work)
   user_of number n f (leaving seat t rd m g) at o who is = let e = found_file number g f is in
-      (e.1, (seat, who.0, who.1, subst (Uses f n) (sym who.2) e.0))
+      (e.1, (seat, who.0, who.1, ⊎_elim (λ its. subst (Uses f n) (sym its) e.0) (λ z. absurd (cc z.5)) (alone_cases who.0.work who.2)))
   user_of number n f (retired g) at o who is = let e = found_file number g f is in
       (e.1, somebody n f (ap file_in at ∙ ap (λ (x : File). Some x) e.0) o.somebody)
   user_of number n f free at o who is = absurd (cc is)

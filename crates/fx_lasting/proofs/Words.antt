@@ -4,7 +4,7 @@ pub use Rattle.atomic_table.specs.Seated.{TableId}
 pub use Rattle.atomic_table.specs.Table.{Act, keeps, Valid, stepped, carried_after, step, gives, rest, takes, Allows, Final, Seen, opening, Splits}
 pub use Rattle.atomic_table.specs.Table.{put_back}
 pub use Rattle.fx_base.specs.declared.open_file.Closed.{Closed}
-pub use Rattle.fx_lasting.specs.Agrees.{HoldAgrees, MayBeUnmarked, GuardAgrees, GlanceAgrees, Heats, LogAgrees, ViewAgrees, Agrees, NodeAgrees, Does}
+pub use Rattle.fx_lasting.specs.Agrees.{IsIn, HoldAgrees, MayBeUnmarked, GuardAgrees, GlanceAgrees, Heats, LogAgrees, ViewAgrees, Agrees, NodeAgrees, Does}
 pub use Rattle.fx_lasting.specs.Agrees.{OwnerAgrees, HoldsAt, WorkAgrees, IsAllowed, IsIdleIn, IsToVisit, NamesNode, Nodes, Names, IsSeated}
 pub use Rattle.fx_lasting.specs.Agrees.{SlotAgrees, Home, IsFileOfNode, IsVacant, IsBorn, Labels}
 pub use Rattle.fx_lasting.specs.AtWork.{IsAtWork, IsReleasing, HasPlace, MayPlace}
@@ -12,7 +12,7 @@ pub use Rattle.fx_lasting.specs.range.Groups.{owing, owing_of, is_in, uncounted,
 pub use Rattle.fx_lasting.specs.Counts.{tally, owed}
 pub use Rattle.fx_lasting.specs.Ends.{LetsMarkGo, LetsFileGo, LooksByTake, Parked, TakenOut}
 pub use Rattle.fx_lasting.specs.life.Cuts.{new_logs, first_view, together, spent, without_first, first_alone, view_with}
-pub use Rattle.fx_lasting.specs.Laws.{HasToLetGo, IsOffCount, ClearsKeep, TakesOutKeep, ExchangesKeep, HasPass, GlancesKeep, AnnouncesKeep}
+pub use Rattle.fx_lasting.specs.Laws.{AimsKeep, TakesBesideKeep, ReplacesHeldKeep, HasToLetGo, IsOffCount, ClearsKeep, TakesOutKeep, ExchangesKeep, HasPass, GlancesKeep, AnnouncesKeep}
 pub use Rattle.fx_lasting.specs.Laws.{ConfirmsKeep, WithdrawsKeep, TakesOnceKeep, HeatsKeep, SplitsKeep, JoinsKeep, LowersKeep, RaisesKeep, AsksKeep}
 pub use Rattle.fx_lasting.specs.Laws.{ChecksKeep, BreaksKeep, BeginsKeep, CountsKeep, DecidesKeep, IsGroup, PeeksKeep, InstallsKeep, StepsDownKeep}
 pub use Rattle.fx_lasting.specs.Laws.{LettingGoKeeps, SeeksKeep, BirthsKeep, RestsKeep, VisitsKeep, MarksKeep, ParksKeep, ResumesKeep, SettlesKeep}
@@ -30,7 +30,7 @@ pub use Rattle.fx_lasting.specs.slots.Deeds.{Deed, untouched, over, heated, has_
 pub use Rattle.fx_lasting.specs.Fields.{heat_unit, count_in, heat_in, IsHot, cold_takes, birth_word, retirement_amount, announced, mark, bit_of}
 pub use Rattle.fx_lasting.specs.Fields.{IsListedIn, full_name_in, file_node_in, file_word_of, empty_word_of, without_file, name_mask, most_carried}
 pub use Rattle.fx_lasting.specs.Fields.{MayCarry}
-pub use Rattle.fx_lasting.specs.Passes.{node_of_number, HasNoFile, Shared, Sat, state_at_start, slots_of, range_at_start, nodes_of, first_stock}
+pub use Rattle.fx_lasting.specs.Passes.{alone_in, node_of_number, HasNoFile, Shared, Sat, state_at_start, slots_of, range_at_start, nodes_of, first_stock}
 pub use Rattle.fx_lasting.specs.Passes.{word_of, hold_word_of, logs_of, lengths, state_after_all, IsHistory, new_log, first_log, held_in, if_file}
 pub use Rattle.fx_lasting.specs.Passes.{held_of, taking, taken_of, tag_word_of, number_word_of, HoldsOn, contents_of, empty_slots}
 pub use Rattle.fx_lasting.specs.nodes.Stocks.{Whereabouts, at_slot, in_stock, IsInStock, NamesItsNode, IsStockOf, StockAgrees}
@@ -46,7 +46,7 @@ pub use Rattle.fx_lasting.specs.Tables.{hold_at, retired_at, doing_in, numbers_o
 pub use Rattle.fx_lasting.specs.Tables.{meetings, IsPassOf, opening_of_table, IsPassOfTable, first_passes, as_first}
 pub use Rattle.fx_lasting.specs.declared.pass.LastingPass.{LastingPass}
 pub use Rattle.fx_lasting.specs.declared.table.LastingTable.{LastingTable}
-pub use Rattle.fx_lasting.specs.Effects.{At, rested, Lists, Skims, IsOnList, as_listed, round_at, round_from, new_round, Announces, Shows, Confirms}
+pub use Rattle.fx_lasting.specs.Effects.{TakesAs, At, rested, Lists, Skims, IsOnList, as_listed, round_at, round_from, new_round, Announces, Shows, Confirms}
 pub use Rattle.fx_lasting.specs.Effects.{Withdraws, glance_after, Takes, HeatsSlot, StepsDown, TakesOut, slot_of, pass_at, pass_event, pass_in}
 pub use Rattle.fx_lasting.specs.Effects.{IsInside, Stepped, Goes, Glances, Exchanges, LettingGo, Seeks, Births, Rests, Visits, Marks, Retires}
 pub use Rattle.fx_lasting.specs.Effects.{first_visit, retiring_work, Found, Installs, Removes, Turns, Asks, Peeks, as_asked, group_at, as_stocked}
@@ -66,7 +66,7 @@ pub use Rattle.fx_lasting.specs.declared.view.View.{View}
 pub use Rattle.fx_lasting.specs.declared.view.Watch.{Watch}
 pub use Rattle.fx_lasting.specs.slots.Watches.{ActsAt, HasActed, HasHeated, IsAsSeen, WatchAgrees, without_slot}
 pub use Rattle.fx_lasting.specs.declared.view.Work.{Work}
-pub use Rattle.fx_lasting.specs.declared.view.Work.TheVariants.{Idle, Announced, Counted, Guarded, Owing, Yielding, Searching, Placing, Retiring}
+pub use Rattle.fx_lasting.specs.declared.view.Work.TheVariants.{Idle, Announced, Counted, Guarded, Owing, Yielding, Searching, Placing, Renewing, Retiring}
 pub use Rattle.fx_lasting.specs.declared.view.Work.TheVariants.{Emptying, Keeping}
 pub use Rattle.fx_lasting.specs.declared.view.Written.{Written}
 pub use Rattle.fx_lasting.specs.declared.view.Placement.{Placement}
@@ -145,6 +145,7 @@ pub use Rattle.std.proofs.Math.ListN.{get_or-eq_default, replicate}
 pub use Rattle.std.proofs.lemmas.Nat.Bits.{bit_at_or, bit_at-lt, bit_at-pow_same, bit_at-pow_other, and_pow, bit_at-zero, bit_at-trailing_zeros}
 pub use Rattle.std.proofs.lemmas.Nat.Bits.{bit_at_above}
 pub use Rattle.std.proofs.lemmas.Nat.{pow_below, div-mul-add, mod-mul-add, shr-shr}
+pub use Rattle.fx_lasting.specs.slots.PutSteps.{Aims, TakesBeside, ReplacesHeld}
 pub use Rattle.fx_lasting.specs.slots.SwapSteps.{SwapsOut, HasEmptied, SwapsIf, SwapsHeld, TakesHeld}
 pub use prog.Atomic.{either}
 pub use Rattle.fx_lasting.specs.range.Tries.{IsPlacing, HasAllocated, StillPlaces, group_steps}

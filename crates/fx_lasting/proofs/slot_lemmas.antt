@@ -4,11 +4,14 @@ pub mod Watching
 pub mod SlotSteps
 pub mod Sights
 pub mod Swaps
+pub mod Installing
 pub mod SlotLaws
 pub mod SwapsOut
 pub mod Seeing
 pub mod SwapsIf
+pub mod HeldSlots
 pub mod SwapsHeld
+pub mod Renewals
 pub mod Removals
 pub mod Overtaking
 pub mod OvertakenCalls

@@ -24,7 +24,7 @@ use Rattle.fx_lasting.specs.Fields.{announced, mark, bit_of, IsListedIn}
 use Rattle.fx_lasting.specs.Passes.{Shared, slots_of, range_at_start, nodes_of}
 use Rattle.fx_lasting.specs.Passes.{word_of, tag_word_of, number_word_of}
 use Rattle.fx_lasting.specs.Passes.{hold_word_of, state_after_all, IsHistory, held_in, held_of}
-use Rattle.fx_lasting.specs.Passes.{taken_of}
+use Rattle.fx_lasting.specs.Passes.{alone_in, taken_of}
 use Rattle.fx_lasting.specs.Passes.{logs_of, lengths, node_of_number}
 use Rattle.fx_lasting.specs.nodes.Phases.{Phase, free, placed, seated, leaving, retired, emptied}
 use Rattle.fx_lasting.specs.nodes.Phases.{kept}
@@ -44,7 +44,7 @@ use Rattle.fx_lasting.specs.declared.view.Written.{Written}
 use Rattle.fx_lasting.specs.declared.view.Work.TheVariants.{Idle, Announced, Counted, Guarded}
 use Rattle.fx_lasting.specs.declared.view.Work.TheVariants.{Owing}
 use Rattle.fx_lasting.specs.declared.view.Work.TheVariants.{Yielding, Searching, Placing, Retiring}
-use Rattle.fx_lasting.specs.declared.view.Work.TheVariants.{Emptying, Keeping}
+use Rattle.fx_lasting.specs.declared.view.Work.TheVariants.{Renewing, Emptying, Keeping}
 
 -- where the numbers of files are
 abbrev pub Nodes : Type 0
@@ -145,9 +145,9 @@ Labels k words node written =
     HasWritten written (slice_index words (tag_word_of k node))
     (slice_index words (number_word_of k node))
 
--- the pass of the seat does this work
+-- the pass of the seat does this work with a node alone
 abbrev pub Does : List View → ℕ → Work → Type 0
-Does views seat work = (v : View) × (get_elem? views seat ≡ some v) × (v.work ≡ work)
+Does views seat work = (v : View) × (get_elem? views seat ≡ some v) × (alone_in v.work ≡ work)
 
 -- a node that a pass works with alone is known to the pass
 abbrev pub OwnerAgrees : List View → ℕ → Phase → Type 0
@@ -176,6 +176,8 @@ WorkAgrees k phase seat (Owing node) = node < nodes_of k
 WorkAgrees k phase seat (Yielding f node) = HoldsAt k phase f node
 WorkAgrees k phase seat (Searching node) = IsIn k phase node free
 WorkAgrees k phase seat (Placing node placement) = IsIn k phase node (placed seat placement)
+WorkAgrees k phase seat (Renewing f node own placement) =
+    HoldsAt k phase f node × IsIn k phase own (placed seat placement)
 WorkAgrees k phase seat (Retiring f node takes round marks) =
     IsIn k phase node (leaving seat takes round marks f)
 WorkAgrees k phase seat (Emptying node) = IsIn k phase node (emptied seat)
@@ -186,6 +188,7 @@ WorkAgrees k phase seat (Keeping node lost) = IsIn k phase node (kept seat lost)
 abbrev pub IsAllowed : List ℕ → Bool → Work → Type 0
 IsAllowed stock listed (Searching node) = IsInStock stock node
 IsAllowed stock listed (Placing node placement) = IsInStock stock node
+IsAllowed stock listed (Renewing f node own placement) = IsInStock stock own
 IsAllowed stock listed (Keeping node lost) = IsInStock stock node
 IsAllowed stock listed (Announced node) = listed ≡ true
 IsAllowed stock listed (Guarded f node) = listed ≡ true

@@ -38,7 +38,7 @@ use Rattle.fx_lasting.specs.declared.view.Start.{Start}
 use Rattle.fx_lasting.specs.declared.view.Work.{Work}
 use Rattle.fx_lasting.specs.declared.view.Work.TheVariants.{Idle, Announced, Counted, Guarded}
 use Rattle.fx_lasting.specs.declared.view.Work.TheVariants.{Owing, Yielding, Searching, Placing}
-use Rattle.fx_lasting.specs.declared.view.Work.TheVariants.{Retiring, Emptying, Keeping}
+use Rattle.fx_lasting.specs.declared.view.Work.TheVariants.{Renewing, Retiring, Emptying, Keeping}
 use Rattle.fx_lasting.specs.declared.view.Written.TheVariants.{Nothing as Unlabelled}
 
 -- a step of a table whose places have an open file or none
@@ -75,6 +75,7 @@ IsInside k (Owing node) = node < nodes_of k
 IsInside k (Yielding f node) = node < nodes_of k
 IsInside k (Searching node) = node < nodes_of k
 IsInside k (Placing node placement) = node < nodes_of k
+IsInside k (Renewing f node own placement) = (node < nodes_of k) × (own < nodes_of k)
 IsInside k (Retiring f node takes round marks) = node < nodes_of k
 IsInside k (Emptying node) = node < nodes_of k
 IsInside k (Keeping node lost) = node < nodes_of k
@@ -196,14 +197,20 @@ abbrev pub glance_after : ℕ → ℕ → ℕ → Glance
 glance_after passes slot found =
     if nat_lt (count_in found) (cold_takes passes) then Nothing else Heating slot
 
--- Take: the file that the slot names is held by a take, if there is one
-pub record Takes (st : At) (m : Sat) (found : ℕ) (m' : Sat) : Type 0 where
+-- Take: the file that the slot names is held by a take, if there is one. The pass does the one work
+-- if there is none, and the other work if it holds one
+pub record TakesAs (none : Work) (holding : File → ℕ → Work) (st : At) (m : Sat) (found : ℕ)
+    (m' : Sat) : Type 0 where
   pub empty : (slot : ℕ) → m.0.glance ≡ Cold slot → full_name_in found ≡ 0
-      → Goes m ([] ▷ Look slot None) Idle (glance_after m.0.start.passes slot found) m'
+      → Goes m ([] ▷ Look slot None) none (glance_after m.0.start.passes slot found) m'
   pub holds : (slot node : ℕ) → m.0.glance ≡ Cold slot → full_name_in found ≡ node + 1
       → (f : File) × Shows found f
-      × Goes m ([] ▷ Look slot (Some f)) (Counted f node)
+      × Goes m ([] ▷ Look slot (Some f)) (holding f node)
       (glance_after m.0.start.passes slot found) m'
+
+-- Take, by an idle pass
+abbrev pub Takes : At → Sat → ℕ → Sat → Type 0
+Takes = TakesAs Idle Counted
 
 -- Heat: one pass more heated the slot
 pub record HeatsSlot (st : At) (m : Sat) (found : ℕ) (m' : Sat) : Type 0 where
@@ -253,9 +260,11 @@ pub record Births (st : At) (m : Sat) (found : ℕ) (m' : Sat) : Type 0 where
       → Stepped m [] (Placing node (as_written 0 Unlabelled)) m.0.glance m.0.change m'
       × (m'.1 ≡ (node, None) ∷ m.1)
 
--- what a pass does after a rest: a node whose file was not installed is free
+-- what a pass does after a rest: a node whose file was not installed is free, and the pass holds
+-- what it held
 abbrev pub rested : Work → Work
 rested (Placing node placement) = Searching node
+rested (Renewing f node own placement) = Counted f node
 rested _ = Idle
 
 -- Rest: the place is home, without a file

@@ -16,7 +16,8 @@ use Rattle.fx_lasting.specs.Fields.{heat_unit, birth_word, announced, mark, reti
 use Rattle.fx_lasting.specs.Fields.{bit_of, full_name_in, file_word_of, without_file, name_mask}
 use Rattle.fx_lasting.specs.Fields.{empty_word_of}
 use Rattle.fx_lasting.specs.Passes.{Sat, HasNoFile, slots_of, range_at_start, word_of}
-use Rattle.fx_lasting.specs.Passes.{hold_word_of, HoldsOn, tag_word_of, number_word_of}
+use Rattle.fx_lasting.specs.Passes.{alone_in, held_in, hold_word_of, HoldsOn, tag_word_of}
+use Rattle.fx_lasting.specs.Passes.{number_word_of}
 use Rattle.fx_lasting.specs.nodes.Stocks.{IsInStock}
 use Rattle.fx_lasting.specs.Effects.{At}
 use Rattle.fx_lasting.specs.declared.life.layout.TheConstants.{MOST_INSTALLING}
@@ -33,7 +34,7 @@ use Rattle.fx_lasting.specs.declared.view.Work.{Work}
 use Rattle.fx_lasting.specs.declared.view.Work.TheVariants.{Idle, Announced, Counted, Guarded}
 use Rattle.fx_lasting.specs.declared.view.Work.TheVariants.{Owing}
 use Rattle.fx_lasting.specs.declared.view.Work.TheVariants.{Yielding, Searching, Placing, Retiring}
-use Rattle.fx_lasting.specs.declared.view.Work.TheVariants.{Emptying, Keeping}
+use Rattle.fx_lasting.specs.declared.view.Work.TheVariants.{Renewing, Emptying, Keeping}
 use Rattle.fx_lasting.specs.declared.view.Written.{Written}
 use Rattle.fx_lasting.specs.declared.view.Written.TheVariants.{Nothing as Unlabelled, Tag}
 
@@ -90,6 +91,20 @@ WithdrawsKeep tells = (k : Start) (slots id i node : ℕ) (m : Sat) (x : Log) �
 abbrev pub TakesOnceKeep : Kind → Type 0
 TakesOnceKeep tells = (k : Start) (slots id i slot : ℕ) (m : Sat) (x : Log) → HasPass k m x
     → x.listed ≡ true → m.0.work ≡ Idle → m.0.glance ≡ Cold slot → i ≡ slot_place slot
+    → Allows (Agrees k) slots id m i (λ word. (word + 1) % 2 ^ 64) (tells (step slots i 1 0 none) m)
+
+-- a pass that holds no file and looks nothing up loads a slot's word, to take what a cold slot
+-- names
+abbrev pub AimsKeep : Kind → Type 0
+AimsKeep tells = (k : Start) (slots id i slot : ℕ) (m : Sat) (x : Log) → HasPass k m x
+    → held_in m.0.work ≡ None → m.0.glance ≡ Nothing → slot < slots_of k → i ≡ slot_place slot
+    → Allows (Agrees k) slots id m i (λ word. word) (tells (step slots i 0 0 none) m)
+
+-- a listed pass that has placed a file adds a take to the word of a slot
+abbrev pub TakesBesideKeep : Kind → Type 0
+TakesBesideKeep tells = (k : Start) (slots id i slot own : ℕ) (placement : Placement) (m : Sat)
+    (x : Log) → HasPass k m x → x.listed ≡ true → m.0.work ≡ Placing own placement
+    → m.0.glance ≡ Cold slot → i ≡ slot_place slot
     → Allows (Agrees k) slots id m i (λ word. (word + 1) % 2 ^ 64) (tells (step slots i 1 0 none) m)
 
 -- a listed pass that took at a slot with its takes heats the slot
@@ -160,7 +175,7 @@ ReadsNumberKeep tells = (k : Start) (slots id i node : ℕ) (f : File) (m : Sat)
 -- the node's place is with the pass, whose file is closed or was not installed
 abbrev pub HasItsPlace : Work → ℕ → Type 0
 HasItsPlace w node =
-    (w ≡ Emptying node) ⊎ ((placement : Placement) × (w ≡ Placing node placement))
+    (w ≡ Emptying node) ⊎ ((placement : Placement) × (alone_in w ≡ Placing node placement))
 
 -- a pass stores 0 in the word of a node whose file is closed or was not installed
 abbrev pub RestsKeep : Kind → Type 0
@@ -401,6 +416,17 @@ abbrev pub ReplacesKeep : Kind → Type 0
 ReplacesKeep tells = (k : Start) (slots id i slot n lost old new : ℕ) (file : Identity) (m : Sat)
     (x : Log) → HasPass k m x → m.0.work ≡ Placing n (as_written lost (label_of file))
     → m.1 ≡ (n, Some file) ∷ [] → file.entry < 2 ^ 8 → slot < slots_of k → m.0.change ≡ Outside
+    → i ≡ slot_place slot → new ≡ file_word_of n file.entry + lost
+    → Allows (Agrees k) slots id m i (λ word. either (word == old) new word)
+    (tells (step slots i old new none) m)
+
+-- a pass that holds the file of a node by a take, and has placed another one, exchanges the word of
+-- a slot that it saw, which names the node, for the word of the file that it places
+abbrev pub ReplacesHeldKeep : Kind → Type 0
+ReplacesHeldKeep tells = (k : Start) (slots id i slot n lost old new node : ℕ) (file : Identity)
+    (f : File) (m : Sat) (x : Log) → HasPass k m x
+    → m.0.work ≡ Renewing f node n (as_written lost (label_of file)) → m.1 ≡ (n, Some file) ∷ []
+    → file.entry < 2 ^ 8 → full_name_in old ≡ node + 1 → slot < slots_of k → m.0.change ≡ Outside
     → i ≡ slot_place slot → new ≡ file_word_of n file.entry + lost
     → Allows (Agrees k) slots id m i (λ word. either (word == old) new word)
     (tells (step slots i old new none) m)

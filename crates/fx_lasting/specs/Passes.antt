@@ -20,7 +20,8 @@ use Rattle.fx_lasting.specs.declared.view.Watch.{Watch}
 use Rattle.fx_lasting.specs.declared.life.layout.TheConstants.{MOST_SLOTS}
 use Rattle.fx_lasting.specs.declared.view.Work.{Work}
 use Rattle.fx_lasting.specs.declared.view.Work.TheVariants.{Idle, Counted, Guarded, Yielding}
-use Rattle.fx_lasting.specs.declared.view.Work.TheVariants.{Searching}
+use Rattle.fx_lasting.specs.declared.view.Placement.{Placement}
+use Rattle.fx_lasting.specs.declared.view.Work.TheVariants.{Searching, Placing, Renewing}
 
 -- the table as steps see it: a place has an open file or none
 abbrev pub Shared : Type 0
@@ -123,11 +124,21 @@ abbrev pub held_in : Work → Option File
 held_in (Counted f node) = Some f
 held_in (Guarded f node) = Some f
 held_in (Yielding f node) = Some f
+held_in (Renewing f node own placement) = Some f
 held_in _ = None
+
+-- the pass holds the file of the node by a take, and is about to install another one in its place
+abbrev pub IsRenewing : Work → File → ℕ → Type 0
+IsRenewing w f node = (own : ℕ) × (placement : Placement) × (w ≡ Renewing f node own placement)
 
 -- the pass holds the file of the node, by a take or by its hold word
 abbrev pub HoldsOn : Work → File → ℕ → Type 0
-HoldsOn w f node = (w ≡ Counted f node) ⊎ (w ≡ Guarded f node)
+HoldsOn w f node = (w ≡ Counted f node) ⊎ ((w ≡ Guarded f node) ⊎ IsRenewing w f node)
+
+-- the work that a pass does with a node alone
+abbrev pub alone_in : Work → Work
+alone_in (Renewing f node own placement) = Placing own placement
+alone_in w = w
 
 -- the pass does nothing, or has found a free node
 abbrev pub HasNoFile : Work → Type 0
@@ -145,6 +156,7 @@ held_of number v = if_file number (held_in v.work)
 -- 1 where the pass holds the file of the node by a take, and else 0
 abbrev pub taking : ℕ → Work → ℕ
 taking node (Counted f n) = if n == node then 1 else 0
+taking node (Renewing f n own placement) = if n == node then 1 else 0
 taking node _ = 0
 
 abbrev pub taken_of : ℕ → View → ℕ

@@ -25,7 +25,7 @@ use Rattle.fx_lasting.specs.declared.view.Start.{Start}
 use Rattle.fx_lasting.specs.declared.view.View.{View}
 use Rattle.fx_lasting.specs.declared.view.Work.{Work}
 use Rattle.fx_lasting.specs.declared.view.Work.TheVariants.{Idle, Searching, Counted, Guarded}
-use Rattle.fx_lasting.specs.declared.view.Work.TheVariants.{Retiring, Keeping}
+use Rattle.fx_lasting.specs.declared.view.Work.TheVariants.{Renewing, Retiring, Keeping}
 use Rattle.fx_lasting.specs.declared.pass.LastingPass.{LastingPass}
 use Rattle.fx_lasting.specs.declared.table.LastingTable.{LastingTable}
 
@@ -40,6 +40,7 @@ retired_at f node takes = record { node = node; entry = f.identity.entry; takes 
 abbrev pub doing_in : Work → Doing
 doing_in (Counted f node) = Holding f (hold_at f node)
 doing_in (Guarded f node) = Holding f (hold_at f node)
+doing_in (Renewing f node own placement) = Holding f (hold_at f node)
 doing_in (Retiring f node takes round marks) = Retires f (retired_at f node takes)
 doing_in _ = DoesNothing
 

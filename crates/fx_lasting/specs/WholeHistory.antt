@@ -18,7 +18,7 @@ use Rattle.fx_lasting.specs.declared.view.Start.{Start}
 use Rattle.fx_lasting.specs.declared.view.View.{View}
 use Rattle.fx_lasting.specs.declared.view.Work.{Work}
 use Rattle.fx_lasting.specs.declared.view.Work.TheVariants.{Announced, Counted, Guarded, Owing}
-use Rattle.fx_lasting.specs.declared.view.Work.TheVariants.{Yielding, Retiring}
+use Rattle.fx_lasting.specs.declared.view.Work.TheVariants.{Yielding, Renewing, Retiring}
 
 -- the pass of a seat that has one pass, as calls show it
 pub record IsPassAt (s : Shared) (seat : ℕ) (pass : PassView) : Type 0 where
@@ -54,6 +54,7 @@ Uses f node (Retiring other n takes round marks) = other ≡ f
 Uses f node (Counted other n) = other ≡ f
 Uses f node (Guarded other n) = other ≡ f
 Uses f node (Yielding other n) = other ≡ f
+Uses f node (Renewing other n own placement) = other ≡ f
 Uses f node (Announced n) = n ≡ node
 Uses f node (Owing n) = n ≡ node
 Uses f node _ = ⊥

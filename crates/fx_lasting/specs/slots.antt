@@ -4,5 +4,6 @@ pub mod AtEmpty
 pub mod ByKey
 pub mod ByNode
 pub mod Deeds
+pub mod PutSteps
 pub mod SwapSteps
 pub mod Watches

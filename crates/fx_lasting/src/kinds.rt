@@ -340,6 +340,35 @@ impl Play<Option<OpenFile>, View> for SwappingHeld {
     ghost then = { SwapsHeld };
 }
 
+/// Aim: a pass loads a slot's word, to take what a cold slot names beside the file that it places.
+pub struct Aiming;
+
+impl Play<Option<OpenFile>, View> for Aiming {
+    ghost use Rattle.fx_lasting.specs.slots.PutSteps.{Aims};
+
+    ghost then = { Aims };
+}
+
+/// Take: a pass that has placed a file adds a take to a slot's word.
+pub struct TakingBeside;
+
+impl Play<Option<OpenFile>, View> for TakingBeside {
+    ghost use Rattle.fx_lasting.specs.slots.PutSteps.{TakesBeside};
+
+    ghost then = { TakesBeside };
+}
+
+/// Replace, if the slot still has the word that the pass saw, by a pass that holds the slot's file
+/// by a take: the slot gets the file that the pass places, as by [`Replacing`], and the hold ends
+/// with the step.
+pub struct ReplacingHeld;
+
+impl Play<Option<OpenFile>, View> for ReplacingHeld {
+    ghost use Rattle.fx_lasting.specs.slots.PutSteps.{ReplacesHeld};
+
+    ghost then = { ReplacesHeld };
+}
+
 /// Take, if the slot still has the word that the pass saw, by a pass without a stock that holds the
 /// slot's file by a take: the slot is emptied for a close as by [`TakingIf`], and the hold ends
 /// with the step.

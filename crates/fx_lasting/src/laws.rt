@@ -19,15 +19,17 @@ ghost use Rattle.fx_lasting.specs.Laws.{ChecksKeep, BreaksKeep, RaisesKeep, Begi
 ghost use Rattle.fx_lasting.specs.Laws.{CountsKeep, DecidesKeep, PeeksKeep, SplitsKeep, JoinsKeep};
 ghost use Rattle.fx_lasting.specs.Laws.{ClearsKeep, TakesOutKeep, SwapsOutKeep, InstallsKeep};
 ghost use Rattle.fx_lasting.specs.Laws.{ExchangesKeep, SeesKeep, TakesIfKeep, SwapsIfKeep};
-ghost use Rattle.fx_lasting.specs.Laws.{SwapsHeldKeep, TakesHeldKeep, ReplacesKeep};
+ghost use Rattle.fx_lasting.specs.Laws.{SwapsHeldKeep, TakesHeldKeep, ReplacesKeep, AimsKeep};
+ghost use Rattle.fx_lasting.specs.Laws.{TakesBesideKeep, ReplacesHeldKeep};
 
 use crate::kinds::{
-    Announcing, Asking, Beginning, Birth, Breaking, Checking, Clearing, Confirming, Counting, Deal,
-    Deciding, Exchanging, Finishing, Gather, Glancing, HeatingUp, Installing, Letting, Listing,
-    Lowering, Marking, Numbering, OneHistory, Parking, Peeking, Raising, ReadingNumber, ReadingTag,
-    RecallingTag, Replacing, Resting, Resuming, Retire, Seeing, Seeking, Settling, Skimming,
-    SteppingDown, SwappingClear, SwappingHeld, SwappingIf, SwappingTake, Tagging, Taking,
-    TakingHeld, TakingIf, TakingOut, Visiting, Withdrawing,
+    Aiming, Announcing, Asking, Beginning, Birth, Breaking, Checking, Clearing, Confirming,
+    Counting, Deal, Deciding, Exchanging, Finishing, Gather, Glancing, HeatingUp, Installing,
+    Letting, Listing, Lowering, Marking, Numbering, OneHistory, Parking, Peeking, Raising,
+    ReadingNumber, ReadingTag, RecallingTag, Replacing, ReplacingHeld, Resting, Resuming, Retire,
+    Seeing, Seeking, Settling, Skimming, SteppingDown, SwappingClear, SwappingHeld, SwappingIf,
+    SwappingTake, Tagging, Taking, TakingBeside, TakingHeld, TakingIf, TakingOut, Visiting,
+    Withdrawing,
 };
 use crate::view::{Start, View};
 use atomic_table::{Join, Play, Split, TableRule};
@@ -314,6 +316,26 @@ pub fn swap_if_keeps_rule()
 /// has the file to retire, with one take less. The node that the slot named goes into its stock.
 pub fn swap_held_keeps_rule()
     ensures { SwapsHeldKeep ⟦<SwappingHeld as Play<Option<OpenFile>, View>>⟧.then }
+{}
+
+/// A pass that holds no file, looks nothing up and loads a slot's word, to take what a cold slot
+/// names, keeps the rule.
+pub fn aim_keeps_rule()
+    ensures { AimsKeep ⟦<Aiming as Play<Option<OpenFile>, View>>⟧.then }
+{}
+
+/// A listed pass that has placed a file and adds a take to the word of a slot keeps the rule. It
+/// holds the file that the slot names, if there is one, beside the file that it places.
+pub fn take_beside_keeps_rule()
+    ensures { TakesBesideKeep ⟦<TakingBeside as Play<Option<OpenFile>, View>>⟧.then }
+{}
+
+/// A pass that holds the file of a node by a take, has placed another one, and exchanges the word
+/// of a slot that names the node for that of the file that it places, keeps the rule. Its hold
+/// ends. It has the held file to retire, with one take less. The node that the slot named goes into
+/// its stock.
+pub fn replace_held_keeps_rule()
+    ensures { ReplacesHeldKeep ⟦<ReplacingHeld as Play<Option<OpenFile>, View>>⟧.then }
 {}
 
 /// A pass that holds the file of a node by a take, and exchanges the word of a slot that names the

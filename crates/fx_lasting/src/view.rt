@@ -119,6 +119,9 @@ pub enum Work {
     Searching(u32),
     /// It has the place of the node, whose file it is about to install, and has come so far.
     Placing(u32, Placement),
+    /// It holds the file of the first node by a take, and has the place of the second node, whose
+    /// file it is about to install in place of the held file, and has come so far.
+    Renewing(File, u32, u32, Placement),
     /// It removed the file of the node with this many takes, has come so far on its round through
     /// the other passes, and made this many marks.
     Retiring(File, u32, u32, Round, u32),

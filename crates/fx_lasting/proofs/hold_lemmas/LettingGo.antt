@@ -1,6 +1,6 @@
 -- A pass lets a file go: it subtracts a take or a mark from the word of the file's node, or it
 -- retires the file.
-use Rattle.fx_lasting.proofs.Words.{◌≡◌, ◌≢◌, ℕ, ◌+◌, ◌-◌, ◌%◌, ◌^◌, ◌<◌, ◌≤◌, List, ◌∷◌, ◌++◌, map, set, sym, refl, ap, ◌∙◌, arith, Option, Some}
+use Rattle.fx_lasting.proofs.Words.{Renewing, ◌≡◌, ◌≢◌, ℕ, ◌+◌, ◌-◌, ◌%◌, ◌^◌, ◌<◌, ◌≤◌, List, ◌∷◌, ◌++◌, map, set, sym, refl, ap, ◌∙◌, arith, Option, Some}
 use Rattle.fx_lasting.proofs.Words.{None, none, some, set_here, set_else, Closed, ◌▷◌, File, Event, Close, Action, pass_event, held_by, part_of_pass}
 use Rattle.fx_lasting.proofs.Words.{NodeAgrees, OwnerAgrees, MayBeUnmarked, HoldsAt, state_after_all, slots_of, word_of, hold_word_of, held_of}
 use Rattle.fx_lasting.proofs.Words.{taken_of, taking, if_file, owed, count_in, IsHistory, Phase, free, seated, emptied, owner, file_in, removed_in}
@@ -18,6 +18,7 @@ use Rattle.fx_lasting.proofs.Keeping.{labels_same}
 
 pub taking_few : (n : ℕ) (d : Work) → taking n d ≤ 1
 taking_few n (Counted f m) = by_equality m n (λ b. one_if b ≤ 1) (λ _. omega arith) (λ _. omega arith)
+taking_few n (Renewing f m own l) = by_equality m n (λ b. one_if b ≤ 1) (λ _. omega arith) (λ _. omega arith)
 taking_few n _ = omega arith
 
 pub sub_wraps : {n k : ℕ} → k ≤ n → n < 18446744073709551616 → 0 < k → (n + (2 ^ 64 - k)) % 2 ^ 64 ≡ n - k

@@ -1,4 +1,5 @@
 -- A step that sets a pass's bit in the list keeps the rule.
+use Rattle.fx_lasting.proofs.Words.{Renewing}
 use Rattle.fx_lasting.proofs.Words.{ℕ, ◌≤◌, ◌^◌, List, Option, Closed, refl, inl, inr, arith, none, keeps, Idle, Announced, Counted, Guarded, Owing}
 use Rattle.fx_lasting.proofs.Words.{Yielding, Searching, Placing, Retiring, Emptying, Keeping, true, bit_or, bit_of, list_place, step, length-set}
 use Rattle.fx_lasting.proofs.Words.{dite, ℕ_discrete, Work, IsAllowed, Lists, ListsKeep, [], Bool, ◌≡◌, ◌+◌, ◌%◌, ◌<◌, ◌∙◌, sym, false, Agrees}
@@ -16,6 +17,7 @@ use Rattle.fx_lasting.proofs.range_lemmas.Groups.{counts_same}
 allowed_more : (stock : List ℕ) (l : Bool) (d : Work) → IsAllowed stock l d → IsAllowed stock true d
 allowed_more stock l (Searching n) ok = ok
 allowed_more stock l (Placing n w) ok = ok
+allowed_more stock l (Renewing f n own w) ok = ok
 allowed_more stock l (Announced n) ok = refl
 allowed_more stock l (Guarded f n) ok = refl
 allowed_more stock l Idle ok = tt

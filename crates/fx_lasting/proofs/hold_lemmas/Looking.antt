@@ -1,4 +1,7 @@
 -- A look-up loads the slot's word: at first, and again when it has announced a node.
+use Rattle.fx_lasting.proofs.Words.{Aims, AimsKeep}
+use Rattle.fx_lasting.proofs.range_lemmas.GroupSteps.{its_inside}
+use Rattle.fx_lasting.proofs.slot_lemmas.Sights.{sees_after, sees_kept, sees_slot}
 use Rattle.fx_lasting.proofs.Words.{IsOnList, Log, first_log, ◌≡◌, ◌≢◌, ℕ, ◌+◌, ◌-◌, ◌<◌, List, [], ◌∷◌, sym, refl, ap, ◌∙◌, subst, arith, Option}
 use Rattle.fx_lasting.proofs.Words.{Some, None, none, keeps, Closed, File, Event, Look, ◌▷◌, WorkAgrees, GuardAgrees, GlanceAgrees, Heats, NamesNode}
 use Rattle.fx_lasting.proofs.Words.{Names, IsSeated, state_after_all, slots_of, nodes_of, held_in, if_file, taking, pass_event, seated, file_in, Work}
@@ -145,6 +148,70 @@ module _ (turn : Turn) (s : ℕ) (inside : s < slots_of turn.v.start) where
     holds = λ n. let a = ap (if_file n) (no_file works) in omega arith;
   }
 
+  -- a pass at any work that looks nothing up finds an empty slot
+  sees_none : held_in v.work ≡ None → v.glance ≡ Nothing → there ≡ None → Reads turn v.work Nothing h₀
+  sees_none unheld nothing is = let o = its_log turn in record {
+    grows = grows_one x.number r.history _ refl;
+    legal = legal₀ is;
+    at = refl;
+    fresh = refl;
+    removed = refl;
+    taken = λ n. refl;
+    owners = inl refl;
+    held = held_mine (pass_event x (Look s None)) r.history refl ∙ sym unheld;
+    allowed = o.allowed;
+    its = record {
+      hold = o.hold;
+      guarded = o.guarded;
+      sees = tt;
+      heats = heats_all (λ t e. cc (sym nothing ∙ e)) Nothing;
+      work = its_work turn;
+    };
+    holds = λ n. omega arith;
+  }
+
+  pub aim : (slots : ℕ) (carried : List (ℕ × Option Closed)) → held_in v.work ≡ None → v.glance ≡ Nothing
+      → Made turn carried (slot_place s) (λ word. word) (Aims (step slots (slot_place s) 0 0 none) (v, carried))
+  aim slots carried unheld nothing = let calm : (t : ℕ) → v.glance ≢ Heating t = λ t e. cc (sym nothing ∙ e) in ⊎_elim
+      (λ (none_named : full_name_in word ≡ 0). let e = sees_none unheld nothing (unnamed none_named) in (
+        w turn (read_after turn v.work Nothing h₀),
+        keeps,
+        tt,
+        read_kept turn v.work Nothing (slot_place s) e,
+        record {
+          empty = λ _. rw (slot_back s) record {
+            stepped = tells turn (read_after turn v.work Nothing h₀) refl carried carried ([] ▷ Look s None) e.grows e.legal (part_mine r.history refl) (its_inside turn);
+            carried = refl;
+          };
+          cold = λ some _. absurd (some none_named);
+          hot = λ some _. absurd (some none_named);
+        },
+      ))
+      (λ (z : (n : ℕ) × (full_name_in word ≡ n + 1)). ⊎_elim
+      (λ (cold : IsHot word → ⊥). let sees : GlanceAgrees v.start (slot_word st.words) (λ i. r.deed i x.number) (Cold s) = (inside, not_over cold calm) in (
+        w turn (quiet_after v.work (inl refl) (Cold s) calm sees (its_inside turn)),
+        keeps,
+        tt,
+        read_kept turn v.work (Cold s) (slot_place s) (quiet v.work (inl refl) (Cold s) calm sees (its_inside turn)),
+        record {
+          empty = λ is. absurd (let a = z.1 in omega arith);
+          cold = λ _ _. rw (slot_back s) (goes_quiet v.work (inl refl) (Cold s) calm sees (its_inside turn) carried);
+          hot = λ _ hot. absurd (cold hot);
+        },
+      ))
+      (λ (hot : IsHot word). (
+        w turn (sees_after turn s inside),
+        keeps,
+        tt,
+        sees_kept turn s inside,
+        record {
+          empty = λ is. absurd (let a = z.1 in omega arith);
+          cold = λ _ cold. absurd (cold hot);
+          hot = λ _ _. sees_slot turn s inside carried slots 0 0;
+        },
+      )) hot_cases)
+      name_cases
+
   pub glance : (slots : ℕ) (carried : List (ℕ × Option Closed)) → HasNoFile v.work → v.glance ≡ Nothing
       → Made turn carried (slot_place s) (λ word. word) (Glances (step slots (slot_place s) 0 0 none) (v, carried))
   glance slots carried works nothing = let calm : (t : ℕ) → v.glance ≢ Heating t = λ t e. cc (sym nothing ∙ e) in ⊎_elim
@@ -288,3 +355,8 @@ confirms_keep k slots id i s n m x has works saw place = by_turn slots (λ _. Un
     (λ i. Confirms (step slots i 0 0 none) m) has tt place
     (λ st r here _ fits. let turn = turn_of m x has.1 id st r here in let o = rw saw at (its_log turn).sees in
     confirm turn s o.0 n works saw slots m.1)
+
+pub aims_keep : AimsKeep Aims
+aims_keep k slots id i s m x has unheld nothing inside place = by_turn slots (λ (k : Start). s < slots_of k) (λ _. slot_place s) (λ word. word)
+    (λ i. Aims (step slots i 0 0 none) m) has inside place
+    (λ st r here inside fits. aim (turn_of m x has.1 id st r here) s inside slots m.1 unheld nothing)

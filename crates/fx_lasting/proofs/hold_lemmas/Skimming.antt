@@ -1,5 +1,6 @@
 -- A pass that removed a hot file loads a word of the list: the passes without their bits hold
 -- nothing of the node that isn't marked.
+use Rattle.fx_lasting.proofs.Words.{Renewing}
 use Rattle.fx_lasting.proofs.Words.{◌≡◌, ◌≢◌, ℕ, ◌+◌, ◌*◌, ◌<◌, ◌≤◌, List, [], sym, refl, ap, ◌∙◌, subst, arith, Option, none, keeps, Closed, File}
 use Rattle.fx_lasting.proofs.Words.{HoldAgrees, GuardAgrees, MayBeUnmarked, hold_word_of, leaving, Work, Idle, Announced, Counted, Guarded, Owing}
 use Rattle.fx_lasting.proofs.Words.{Yielding, Searching, Placing, Retiring, Emptying, Keeping, step, dite, dec_le, ⊎_elim, set-get_or, Round}
@@ -19,6 +20,7 @@ speaks stock l debt (Owing n) some hold allowed = absurd (some hold.0)
 speaks stock l debt (Yielding f n) some hold allowed = absurd (some hold.0)
 speaks stock l debt (Searching n) some hold allowed = absurd (some hold.0)
 speaks stock l debt (Placing n w) some hold allowed = absurd (some hold.0)
+speaks stock l debt (Renewing h n own w) some hold allowed = absurd (some hold.0)
 speaks stock l debt (Retiring f n t nx m) some hold allowed = absurd (some hold.0)
 speaks stock l debt (Emptying n) some hold allowed = absurd (some hold.0)
 speaks stock l debt (Keeping n lost) some hold allowed = absurd (some hold.0)
@@ -63,6 +65,7 @@ module _ (turn : Turn) (f : File) (n t : ℕ) (nx : Round) (m : ℕ) (works : tu
   guard_on p (Yielding h k) ne range hold guard = tt
   guard_on p (Searching k) ne range hold guard = tt
   guard_on p (Placing k w) ne range hold guard = tt
+  guard_on p (Renewing h k own w) ne range hold guard = tt
   guard_on p (Retiring h k a b c) ne range hold guard = tt
   guard_on p (Emptying k) ne range hold guard = tt
   guard_on p (Keeping k lost) ne range hold guard = tt

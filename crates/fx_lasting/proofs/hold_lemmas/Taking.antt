@@ -1,4 +1,8 @@
 -- A take of what a slot names, and the heat of a slot that had its takes.
+use Rattle.fx_lasting.proofs.Words.{alone_in, HoldAgrees, GuardAgrees, IsAllowed, HoldsAt, TakesAs, TakesBeside, TakesBesideKeep, Placement, Phase, Start, as_written, Unlabelled}
+use Rattle.fx_lasting.proofs.Words.{carried_after, subst}
+use Rattle.fx_lasting.proofs.range_lemmas.GroupSteps.{its_inside}
+use Rattle.fx_lasting.proofs.Words.{alone_in, Renewing}
 use Rattle.fx_lasting.proofs.Words.{◌⊎◌, ◌≡◌, ◌≢◌, ℕ, ◌+◌, ◌%◌, ◌^◌, ◌<◌, ◌≤◌, List, [], ◌∷◌, sym, refl, ap, ◌∙◌, arith, Option, Some, None, none}
 use Rattle.fx_lasting.proofs.Words.{keeps, Closed, File, Event, Look, ◌▷◌, WorkAgrees, GlanceAgrees, Heats, state_after_all, slots_of, nodes_of}
 use Rattle.fx_lasting.proofs.Words.{held_in, if_file, taken_of, taking, pass_event, seated, file_in, Work, Glance, Idle, Counted, Cold, Heating, Deed}
@@ -27,6 +31,56 @@ pub one_heat : (word : ℕ) → heat_in word + 1 < 2048 → (full_name_in (word 
     × (heat_in (word + 2097152) ≡ heat_in word + 1) × (count_in (word + 2097152) ≡ count_in word) × (name_in (word + 2097152) ≡ name_in word)
 one_heat word room =
     (same_full_name (word + 2097152) word (omega arith) (omega arith), omega arith, omega arith, omega arith, omega arith)
+
+-- a pass with the one work may take a file, and has the other work then
+pub record MayTake (none : Work) (holding : File → ℕ → Work) : Type 0 where
+  pub unheld : held_in none ≡ None
+  pub untaken : (n : ℕ) → taking n none ≡ 0
+  pub unguarded : (words : ℕ → ℕ) (phase : ℕ → Phase) (pass debt : ℕ) → GuardAgrees words phase pass debt none
+  pub held : (f : File) (n : ℕ) → held_in (holding f n) ≡ Some f
+  pub takes : (m : ℕ) (f : File) (n : ℕ) → taking m (holding f n) ≡ taking m (Counted f n)
+  pub alone : (f : File) (n : ℕ) → (alone_in (holding f n) ≡ alone_in none) ⊎ (busy none ≡ 0)
+  pub hold : (f : File) (n word debt : ℕ) → HoldAgrees word debt none → HoldAgrees word debt (holding f n)
+  pub guarded : (f : File) (n : ℕ) (words : ℕ → ℕ) (phase : ℕ → Phase) (pass debt : ℕ) → GuardAgrees words phase pass debt (holding f n)
+  pub allowed : (f : File) (n : ℕ) (stock : List ℕ) (listed : Bool) → IsAllowed stock listed none → IsAllowed stock listed (holding f n)
+  pub work : (f : File) (n : ℕ) (k : Start) (phase : ℕ → Phase) (seat : ℕ) → WorkAgrees k phase seat none → HoldsAt k phase f n
+      → WorkAgrees k phase seat (holding f n)
+  pub inside : (f : File) (n : ℕ) (k : Start) → IsInside k none → n < nodes_of k → IsInside k (holding f n)
+
+-- what a pass places
+abbrev placed_in : Work → ℕ × Placement
+placed_in (Placing own l) = (own, l)
+placed_in _ = (0, as_written 0 Unlabelled)
+
+idle_may : MayTake Idle Counted
+idle_may = record {
+  unheld = refl;
+  untaken = λ n. refl;
+  unguarded = λ words phase pass debt. tt;
+  held = λ f n. refl;
+  takes = λ m f n. refl;
+  alone = λ f n. inr refl;
+  hold = λ f n word debt h. h;
+  guarded = λ f n words phase pass debt. tt;
+  allowed = λ f n stock listed a. tt;
+  work = λ f n k phase seat w its. its;
+  inside = λ f n k a l. l;
+}
+
+placing_may : (own : ℕ) (l : Placement) → MayTake (Placing own l) (λ f n. Renewing f n own l)
+placing_may own l = record {
+  unheld = refl;
+  untaken = λ n. refl;
+  unguarded = λ words phase pass debt. tt;
+  held = λ f n. refl;
+  takes = λ m f n. refl;
+  alone = λ f n. inl refl;
+  hold = λ f n word debt h. h;
+  guarded = λ f n words phase pass debt. tt;
+  allowed = λ f n stock listed a. a;
+  work = λ f n k phase seat w its. (its, w);
+  inside = λ f n k a l. (l, a);
+}
 
 module _ (turn : Turn) (s : ℕ) (inside : s < slots_of turn.v.start) where
   open turn use {st, v, r, id, x, here, one}
@@ -60,9 +114,19 @@ module _ (turn : Turn) (s : ℕ) (inside : s < slots_of turn.v.start) where
   counts_here e f = let a = tally_one (λ q. f (does_here e s q)) (λ q. f (r.deed s q)) v.start.passes x.number (in_range turn).0 (in_range turn).1
       (λ q other. ap f (does_other e q other)) in let b = ap (λ (z : Deed). one_if (f z)) (does_own e) in omega arith
 
-  module _ (has : x.listed ≡ true) (works : v.work ≡ Idle) (saw : v.glance ≡ Cold s) (fits : found < 18446744073709551616) where
+  module _ (d : Work) (holding : File → ℕ → Work) (may : MayTake d holding) (has : x.listed ≡ true) (works : v.work ≡ d) (saw : v.glance ≡ Cold s)
+      (fits : found < 18446744073709551616) where
     abbrev new : ℕ
     new = (found + 1) % 2 ^ 64
+
+    not_taking : (n : ℕ) → taking n v.work ≡ 0
+    not_taking n = ap (taking n) works ∙ may.untaken n
+
+    not_holding : held_in v.work ≡ None
+    not_holding = ap held_in works ∙ may.unheld
+
+    knows_none : IsInside v.start d
+    knows_none = subst (IsInside v.start) works (its_inside turn)
 
     new_is : new ≡ found + 1
     new_is = let a = room in omega arith
@@ -137,10 +201,10 @@ module _ (turn : Turn) (s : ℕ) (inside : s < slots_of turn.v.start) where
       h₀ = pass_event x (Look s None) ∷ r.history
 
       abbrev after₀ : After turn
-      after₀ = slot_after turn s inside new h₀ Idle g deed'
+      after₀ = slot_after turn s inside new h₀ d g deed'
 
       -- no file
-      none_taken : there turn s inside ≡ None → SlotStep turn s inside new h₀ Idle g deed'
+      none_taken : there turn s inside ≡ None → SlotStep turn s inside new h₀ d g deed'
       none_taken is = let o = its_log turn in let h = rw works at o.hold in record {
         grows = grows_one x.number r.history _ refl;
         legal = legal_more v.start r.legal (size_so turn s inside, sym is) tt;
@@ -159,15 +223,15 @@ module _ (turn : Turn) (s : ℕ) (inside : s < slots_of turn.v.start) where
         deed_own = so.deed_own;
         counts = λ n f l at. let e = (in_phase turn l at).there in let bad : None ≡ Some f = sym is ∙ e in absurd (cc bad);
         taken = λ n l else. sym (ap (taking n) works);
-        owners = inl (sym works);
-        held = held_mine (pass_event x (Look s None)) r.history refl;
-        allowed = tt;
+        owners = inl (ap alone_in (sym works));
+        held = held_mine (pass_event x (Look s None)) r.history refl ∙ sym may.unheld;
+        allowed = rw works at o.allowed;
         its = record {
           hold = rw (slot_hold turn s inside new x.number (in_range turn).0) h;
-          guarded = tt;
+          guarded = may.unguarded _ _ _ _;
           sees = so.sees;
           heats = so.heats;
-          work = tt;
+          work = subst (WorkAgrees v.start r.phase id) works (its_work turn);
         };
         holds = λ n. let a = ap (λ (e : Work). if_file n (held_in e)) works in omega arith;
       }
@@ -177,14 +241,14 @@ module _ (turn : Turn) (s : ℕ) (inside : s < slots_of turn.v.start) where
         h₁ = pass_event x (Look s (Some f)) ∷ r.history
 
         abbrev after₁ : After turn
-        after₁ = slot_after turn s inside new h₁ (Counted f n) g deed'
+        after₁ = slot_after turn s inside new h₁ (holding f n) g deed'
 
         -- the node of the file at the slot is one
         one_seat : (m : ℕ) (h : File) → m < nodes_of v.start → r.phase m ≡ seated s h → m ≡ n
         one_seat m h l' at' = let e : h ≡ f = cc (sym (in_phase turn l' at').there ∙ is) in
             sym (in_phase turn l' at').file.its_node ∙ (ap (λ (z : File). r.node_of z.number) e ∙ (in_phase turn l at).file.its_node)
 
-        file_taken : SlotStep turn s inside new h₁ (Counted f n) g deed'
+        file_taken : SlotStep turn s inside new h₁ (holding f n) g deed'
         file_taken = let o = its_log turn in let h = rw works at o.hold in record {
           grows = grows_one x.number r.history _ refl;
           legal = legal_more v.start r.legal (size_so turn s inside, sym is) tt;
@@ -202,34 +266,34 @@ module _ (turn : Turn) (s : ℕ) (inside : s < slots_of turn.v.start) where
           deed_other = so.deed_other;
           deed_own = so.deed_own;
           counts = λ m h l' at'. let same = one_seat m h l' at' in let c = (in_phase turn l' at').counts in let a = one_more in
-              let t = sum_set (taken_of m) st.views id v (w turn after₁) here in let b = ap (taking m) works in
-              let e : taking m (Counted f n) ≡ 1 = bit_here m n (sym same) in omega arith;
-          taken = λ m l' else. bit_else m n (λ same. else f (ap r.phase (sym same) ∙ at)) ∙ sym (ap (taking m) works);
-          owners = inr (ap busy works);
-          held = held_mine (pass_event x (Look s (Some f))) r.history refl;
-          allowed = tt;
+              let t = sum_set (taken_of m) st.views id v (w turn after₁) here in let b = not_taking m in
+              let e : taking m (holding f n) ≡ 1 = may.takes m f n ∙ bit_here m n (sym same) in omega arith;
+          taken = λ m l' else. may.takes m f n ∙ (bit_else m n (λ same. else f (ap r.phase (sym same) ∙ at)) ∙ sym (not_taking m));
+          owners = ⊎_elim (λ e. inl (e ∙ ap alone_in (sym works))) (λ none. inr (ap busy works ∙ none)) (may.alone f n);
+          held = held_mine (pass_event x (Look s (Some f))) r.history refl ∙ sym (may.held f n);
+          allowed = may.allowed f n x.stock x.listed (rw works at o.allowed);
           its = record {
-            hold = rw (slot_hold turn s inside new x.number (in_range turn).0) h;
-            guarded = tt;
+            hold = rw (slot_hold turn s inside new x.number (in_range turn).0) (may.hold f n _ _ h);
+            guarded = may.guarded f n _ _ _ _;
             sees = so.sees;
             heats = so.heats;
-            work = (l, ap file_in at);
+            work = may.work f n v.start r.phase id (subst (WorkAgrees v.start r.phase id) works (its_work turn)) (l, ap file_in at);
           };
           holds = λ m. let a = one_more_at (state_after_all v.start r.history).holds f.number m in
-              let b = ap (λ (e : Work). if_file m (held_in e)) works in omega arith;
+              let b = ap (if_file m) not_holding in let c = ap (if_file m) (may.held f n) in omega arith;
         }
 
       pub takes_either : (slots : ℕ) (carried : List (ℕ × Option Closed))
-          → Made turn carried (slot_place s) (λ word. (word + 1) % 2 ^ 64) (Takes (step slots (slot_place s) 1 0 none) (v, carried))
+          → Made turn carried (slot_place s) (λ word. (word + 1) % 2 ^ 64) (TakesAs d holding (step slots (slot_place s) 1 0 none) (v, carried))
       takes_either slots carried = ⊎_elim
           (λ (none_named : full_name_in found ≡ 0). let e = none_taken (unnamed turn s inside none_named) in (
             w turn after₀,
             keeps,
             tt,
-            slot_kept turn s inside new h₀ Idle g deed' e,
+            slot_kept turn s inside new h₀ d g deed' e,
             record {
               empty = λ i saw' _. let same : s ≡ i = cc (sym saw ∙ saw') in rw (← same, ← so.is) record {
-                stepped = tells turn after₀ refl carried carried ([] ▷ Look s None) e.grows e.legal (part_mine r.history refl) tt;
+                stepped = tells turn after₀ refl carried carried ([] ▷ Look s None) e.grows e.legal (part_mine r.history refl) knows_none;
                 carried = refl;
               };
               holds = λ i n saw' is. absurd (omega arith);
@@ -239,7 +303,7 @@ module _ (turn : Turn) (s : ℕ) (inside : s < slots_of turn.v.start) where
             w turn (after₁ z.0 o.0 o.1 o.3 o.4),
             keeps,
             tt,
-            slot_kept turn s inside new (h₁ z.0 o.0 o.1 o.3 o.4) (Counted o.0 z.0) g deed' e,
+            slot_kept turn s inside new (h₁ z.0 o.0 o.1 o.3 o.4) (holding o.0 z.0) g deed' e,
             record {
               empty = λ i saw' is. absurd (let a = z.1 in omega arith);
               holds = λ i n saw' is. let same : s ≡ i = cc (sym saw ∙ saw') in let at : z.0 ≡ n = (let a = z.1 in omega arith) in
@@ -248,7 +312,7 @@ module _ (turn : Turn) (s : ℕ) (inside : s < slots_of turn.v.start) where
                     o.2,
                     record {
                       stepped = tells turn (after₁ z.0 o.0 o.1 o.3 o.4) refl carried carried ([] ▷ Look s (Some o.0)) e.grows e.legal
-                          (part_mine r.history refl) o.3;
+                          (part_mine r.history refl) (may.inside o.0 z.0 v.start knows_none o.3);
                       carried = refl;
                     },
                   );
@@ -257,7 +321,7 @@ module _ (turn : Turn) (s : ℕ) (inside : s < slots_of turn.v.start) where
           (name_cases turn s inside)
 
     pub takes_once : (slots : ℕ) (carried : List (ℕ × Option Closed))
-        → Made turn carried (slot_place s) (λ word. (word + 1) % 2 ^ 64) (Takes (step slots (slot_place s) 1 0 none) (v, carried))
+        → Made turn carried (slot_place s) (λ word. (word + 1) % 2 ^ 64) (TakesAs d holding (step slots (slot_place s) 1 0 none) (v, carried))
     takes_once slots carried = dite (dec_le (cold_takes v.start.passes) (count_in found))
         (λ many. takes_either (Heating s) (does_here over) (heats_now (omega (arith, many))) slots carried)
         (λ few. takes_either Nothing r.deed (cold_still (omega (arith, few))) slots carried)
@@ -350,6 +414,7 @@ module _ (turn : Turn) (s : ℕ) (inside : s < slots_of turn.v.start) where
         go (Yielding f n) o = o.0
         go (Searching n) o = o.0
         go (Placing n w) o = o.0
+        go (Renewing f n own w) o = (o.0.0, o.1.0)
         go (Retiring f n t nx m) o = o.0
         go (Emptying n) o = o.0
         go (Keeping n lost) o = o.0
@@ -373,7 +438,20 @@ pub takes_once_keep : TakesOnceKeep Takes
 takes_once_keep k slots id i s m x has listed works saw place = by_turn slots (λ _. Unit {0}) (λ _. slot_place s) (λ word. (word + 1) % 2 ^ 64)
     (λ i. Takes (step slots i 1 0 none) m) has tt place
     (λ st r here _ fits. let turn = turn_of m x has.1 id st r here in let o = rw saw at (its_log turn).sees in
-    takes_once turn s o.0 listed works saw fits slots m.1)
+    takes_once turn s o.0 Idle Counted idle_may listed works saw fits slots m.1)
+
+pub takes_beside_keep : TakesBesideKeep TakesBeside
+takes_beside_keep k slots id i s own l m x has listed works saw place = by_turn slots (λ _. Unit {0}) (λ _. slot_place s) (λ word. (word + 1) % 2 ^ 64)
+    (λ i. TakesBeside (step slots i 1 0 none) m) has tt place
+    (λ st r here _ fits. let turn = turn_of m x has.1 id st r here in let o = rw saw at (its_log turn).sees in
+    let z = takes_once turn s o.0 (Placing own l) (λ f n. Renewing f n own l) (placing_may own l) listed works saw fits slots m.1 in (
+      z.0,
+      z.1,
+      z.2,
+      z.3,
+      λ own' l' works'. subst (λ (e : Work). TakesAs e (λ f n. Renewing f n (placed_in e).0 (placed_in e).1)
+          (step slots (slot_place s) 1 0 none) m (slot_word st.words s) (z.0, carried_after m.1 z.1)) (sym works ∙ works') z.4,
+    ))
 
 pub heats_keep : HeatsKeep HeatsSlot
 heats_keep k slots id i s m x has listed saw place = by_turn slots (λ _. Unit {0}) (λ _. slot_place s) (λ word. (word + heat_unit) % 2 ^ 64)

@@ -1,5 +1,5 @@
 -- When nothing is counted and nothing is owed to a node any more, nobody holds its file.
-use Rattle.fx_lasting.proofs.Words.{Contains, contains_head, ◌≡◌, ◌≢◌, ℕ, ◌+◌, ◌<◌, ◌≤◌, List, [], ◌∷◌, sym, refl, ap, ◌∙◌, subst, arith, Some, File}
+use Rattle.fx_lasting.proofs.Words.{Renewing, Contains, contains_head, ◌≡◌, ◌≢◌, ℕ, ◌+◌, ◌<◌, ◌≤◌, List, [], ◌∷◌, sym, refl, ap, ◌∙◌, subst, arith, Some, File}
 use Rattle.fx_lasting.proofs.Words.{some, get_elem?, ⊎_elim, dite, ℕ_discrete, eq-eqb, ne_eqb, sum_by, sum_two, sum_only, NodeAgrees, WorkAgrees}
 use Rattle.fx_lasting.proofs.Words.{HoldAgrees, GuardAgrees, MayBeUnmarked, HoldsAt, slots_of, nodes_of, word_of, hold_word_of, state_after_all}
 use Rattle.fx_lasting.proofs.Words.{held_in, held_of, taken_of, taking, if_file, owed, count_in, Phase, seated, leaving, retired, file_in, Log, View}
@@ -47,6 +47,11 @@ module _ (turn : Turn) where
           → GuardAgrees (slot_word st.words) r.phase z.number (r.debt z.number) d → if_file f.number (held_in d) ≡ 0
       by_log (Counted g m) z at is w h gd = dite (ℕ_discrete g.number f.number)
           (λ same. let e = one_node its w same in absurd (
+          let a = sum_two (taken_of n) st.views j id u v other there here in
+          let b : taken_of n u ≡ 1 = ap (taking n) is ∙ rw (eq-eqb m n e) refl in omega arith))
+          (λ ne. rw (ne_eqb g.number f.number ne) refl)
+      by_log (Renewing g m own l) z at is w h gd = dite (ℕ_discrete g.number f.number)
+          (λ same. let e = one_node its w.0 same in absurd (
           let a = sum_two (taken_of n) st.views j id u v other there here in
           let b : taken_of n u ≡ 1 = ap (taking n) is ∙ rw (eq-eqb m n e) refl in omega arith))
           (λ ne. rw (ne_eqb g.number f.number ne) refl)

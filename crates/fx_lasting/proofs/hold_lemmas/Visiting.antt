@@ -1,5 +1,6 @@
 -- A pass that removed a hot file visits the hold words of the others: where one names the node, the
 -- pass marks it.
+use Rattle.fx_lasting.proofs.Words.{Renewing}
 use Rattle.fx_lasting.proofs.Words.{Round, round_at, IsToVisit, IsPassed, list_place, ◌≡◌, ◌≢◌, ℕ, ◌+◌, ◌^◌, ◌<◌, ◌≤◌, List, [], set, length, sym}
 use Rattle.fx_lasting.proofs.Words.{refl, ap, ◌∙◌, subst, arith, Option, none, keeps, Closed, File, WorkAgrees, HoldAgrees, GuardAgrees}
 use Rattle.fx_lasting.proofs.Words.{MayBeUnmarked, slots_of, nodes_of, word_of, hold_word_of, held_in, if_file, taken_of, taking, owed, Phase}
@@ -130,6 +131,7 @@ module _ (turn : Turn) (f : File) (n t : ℕ) (nx : Round) (m : ℕ) (works : tu
     guard_else words' m' same p (Yielding h k) ne not_pass guard = tt
     guard_else words' m' same p (Searching k) ne not_pass guard = tt
     guard_else words' m' same p (Placing k w) ne not_pass guard = tt
+    guard_else words' m' same p (Renewing h k own w) ne not_pass guard = tt
     guard_else words' m' same p (Retiring h k a b c) ne not_pass guard = tt
     guard_else words' m' same p (Emptying k) ne not_pass guard = tt
     guard_else words' m' same p (Keeping k lost) ne not_pass guard = tt
@@ -148,6 +150,7 @@ module _ (turn : Turn) (f : File) (n t : ℕ) (nx : Round) (m : ℕ) (works : tu
     guard_here not_so (Yielding h k) hold guard = tt
     guard_here not_so (Searching k) hold guard = tt
     guard_here not_so (Placing k w) hold guard = tt
+    guard_here not_so (Renewing h k own w) hold guard = tt
     guard_here not_so (Retiring h k a b c) hold guard = tt
     guard_here not_so (Emptying k) hold guard = tt
     guard_here not_so (Keeping k lost) hold guard = tt
@@ -193,6 +196,7 @@ module _ (turn : Turn) (f : File) (n t : ℕ) (nx : Round) (m : ℕ) (works : tu
     clean_debt (Yielding h k) hold is = absurd (let a = hold.0 in omega arith)
     clean_debt (Searching k) hold is = hold.1
     clean_debt (Placing k w) hold is = hold.1
+    clean_debt (Renewing h k own w) hold is = hold.1
     clean_debt (Retiring h k a b c) hold is = hold.1
     clean_debt (Emptying k) hold is = hold.1
     clean_debt (Keeping k lost) hold is = hold.1
@@ -211,6 +215,7 @@ module _ (turn : Turn) (f : File) (n t : ℕ) (nx : Round) (m : ℕ) (works : tu
     now_marked (Yielding h k) hold is = absurd (let a = hold.0 in omega arith)
     now_marked (Searching k) hold is = absurd (let a = hold.0 in omega arith)
     now_marked (Placing k w) hold is = absurd (let a = hold.0 in omega arith)
+    now_marked (Renewing h k own w) hold is = absurd (let a = hold.0 in omega arith)
     now_marked (Retiring h k a b c) hold is = absurd (let a = hold.0 in omega arith)
     now_marked (Emptying k) hold is = absurd (let a = hold.0 in omega arith)
     now_marked (Keeping k lost) hold is = absurd (let a = hold.0 in omega arith)
@@ -225,6 +230,7 @@ module _ (turn : Turn) (f : File) (n t : ℕ) (nx : Round) (m : ℕ) (works : tu
     excused sw phase' (Yielding h k) = tt
     excused sw phase' (Searching k) = tt
     excused sw phase' (Placing k w) = tt
+    excused sw phase' (Renewing h k own w) = tt
     excused sw phase' (Retiring h k a b c) = tt
     excused sw phase' (Emptying k) = tt
     excused sw phase' (Keeping k lost) = tt

@@ -6,7 +6,7 @@ use Rattle.fx_lasting.proofs.Words.{Shared, slots_of, nodes_of, word_of, state_a
 use Rattle.fx_lasting.proofs.Words.{Phase, free, placed, seated, leaving, retired, emptied, kept, removed_in, Start, View, Work, HasNoFile, IsSeated}
 use Rattle.fx_lasting.proofs.Words.{action_of, refl, inside_behind, opens_inside}
 use Rattle.fx_lasting.proofs.node_lemmas.Choosing.{no_file, no_take, not_busy, holds_none}
-use Rattle.fx_lasting.proofs.Frames.{busy}
+use Rattle.fx_lasting.proofs.Frames.{busy, busy_alone}
 use Rattle.fx_lasting.proofs.Counts.{owed_found}
 use Rattle.fx_lasting.proofs.Histories.{same_shape}
 use Rattle.fx_lasting.proofs.Keeping.{word_at, slot_word, find_pass}
@@ -18,7 +18,7 @@ module _ {k : Start} {s : Shared} (r : Agrees k s) (all_idle : (i : ℕ) (u : Vi
 
   -- no pass works with a node
   nobody : (i : ℕ) {w : Work} → Does s.views i w → busy w ≡ 0
-  nobody i d = sym (ap busy d.2) ∙ not_busy (all_idle i d.0 d.1)
+  nobody i d = sym (ap busy d.2) ∙ (sym (busy_alone d.0.work) ∙ not_busy (all_idle i d.0 d.1))
 
   unheld : (n : ℕ) → end.holds n ≡ 0
   unheld n = r.holds n ∙ sum_zero_at (held_of n) s.views (λ i u e. ap (if_file n) (no_file (all_idle i u e)))

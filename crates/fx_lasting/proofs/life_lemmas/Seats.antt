@@ -7,7 +7,7 @@ use Rattle.fx_lasting.proofs.Words.{at_set, stands_at, sum_set, Contains, HasNoF
 use Rattle.fx_lasting.proofs.Words.{◌∷◌, ◌≢◌, set-set, OfEach, of_replaced, of_appended, seen_from_start, without_first, first_alone, AreReseated}
 use Rattle.fx_lasting.proofs.Words.{split, joined}
 use Rattle.fx_lasting.proofs.node_lemmas.Choosing.{no_file, no_take, not_busy, holds_none}
-use Rattle.fx_lasting.proofs.Frames.{busy, owner_map, owner_stays}
+use Rattle.fx_lasting.proofs.Frames.{busy_alone, busy, owner_map, owner_stays}
 use Rattle.fx_lasting.proofs.range_lemmas.Groups.{counts_same, visited_map}
 use Rattle.fx_lasting.proofs.Keeping.{IsKnown, word_at, slot_word, few_in_range}
 
@@ -50,7 +50,7 @@ module _ (k : Start) (s : Shared) (r : Agrees k s) (views : List View) (a : AreR
         (sym (by_work (taking n) refl)) (r.each_node n l);
     each_label = r.each_label;
     each_owner = λ n l. owner_map s.views views n (λ j d is o.
-        (o.0, a.others j o.0 o.1 (λ idle. let e : busy d ≡ 0 = ap busy (sym o.2 ∙ idle.0) in omega arith), o.2)) (r.phase n) (r.each_owner n l);
+        (o.0, a.others j o.0 o.1 (λ idle. let e : busy d ≡ 0 = ap busy (sym o.2) ∙ (sym (busy_alone o.0.work) ∙ ap busy idle.0) in omega arith), o.2)) (r.phase n) (r.each_owner n l);
     removed = r.removed;
     unborn = r.unborn;
     fresh = r.fresh;

@@ -1,5 +1,5 @@
 -- A pass finds a free node of its stock, takes its place, and lays a node to rest.
-use Rattle.fx_lasting.proofs.Words.{◌≡◌, ◌≢◌, ℕ, ◌+◌, ◌<◌, ◌≤◌, List, [], ◌∷◌, set, sym, refl, ap, ◌∙◌, subst, arith, Option, Some, None, none, some}
+use Rattle.fx_lasting.proofs.Words.{◌⊎◌, HoldsAt, Renewing, File, IsIn, changed_else, ◌≡◌, ◌≢◌, ℕ, ◌+◌, ◌<◌, ◌≤◌, List, [], ◌∷◌, set, sym, refl, ap, ◌∙◌, subst, arith, Option, Some, None, none, some}
 use Rattle.fx_lasting.proofs.Words.{keeps, takes, gives, rest, set_here, set_else, Closed, WorkAgrees, MayBeUnmarked, nodes_of, word_of, hold_word_of}
 use Rattle.fx_lasting.proofs.Words.{held_in, if_file, taken_of, taking, owed, Phase, free, placed, seated, leaving, retired, emptied, kept, owner}
 use Rattle.fx_lasting.proofs.Words.{file_in, removed_in, changed_here, Log, Work, Idle, Searching, Placing, Emptying, Seeks, Births, Rests, SeeksKeep}
@@ -7,7 +7,7 @@ use Rattle.fx_lasting.proofs.Words.{BirthsKeep, RestsKeep, birth_word, step, inl
 use Rattle.fx_lasting.proofs.Words.{Agrees, first_log, HasNoFile, HoldAgrees, IsAllowed, GuardAgrees, rested, IsInside, changed_at, IsInStock, Bool}
 use Rattle.fx_lasting.proofs.Words.{cond, le-ltb, get_or, HasItsPlace, Placement, as_written, Unlabelled}
 use Rattle.fx_lasting.proofs.Histories.{grows_none, each_changed}
-use Rattle.fx_lasting.proofs.Frames.{busy, does_now}
+use Rattle.fx_lasting.proofs.Frames.{alone_cases, busy, does_now}
 use Rattle.fx_lasting.proofs.Keeping.{Turn, turn_of, After, Homes, word_at, slot_word, Made, by_turn, its_log, its_work, its_stock, in_its_stock, in_range, tells, tells_less, w, end}
 use Rattle.fx_lasting.proofs.node_lemmas.NodeSteps.{after, node_kept, own_keeps, guards_else}
 use Rattle.fx_lasting.proofs.Places.{node_words, node_here, node_else, node_slot, node_hold, node_alike, node_list, node_label}
@@ -205,22 +205,44 @@ module _ (turn : Turn) where
 
   -- a rest, of a node whose file is closed, or which was placed in vain
   module _ (n : ℕ) (works : HasItsPlace v.work n) where
+    -- what the pass does: it may hold a file besides
+    its_work_is : (v.work ≡ Emptying n) ⊎ (((l : Placement) × (v.work ≡ Placing n l)) ⊎ ((f : File) × (held : ℕ) × (l : Placement) × (v.work ≡ Renewing f held n l)))
+    its_work_is = ⊎_elim
+        (λ e. inl e)
+        (λ e. ⊎_elim (λ is. inr (inl (e.0, is)))
+        (λ z. let same : z.2 ≡ n = cc (sym z.5) in inr (inr (z.0, z.1, z.3, z.4 ∙ ap (λ (i : ℕ). Renewing z.0 z.1 i z.3) same))) (alone_cases v.work e.1))
+        works
+
     its_node : (n < nodes_of v.start) × (owner (r.phase n) ≡ id + 1) × (file_in (r.phase n) ≡ None) × ((m : ℕ) → removed_in m (r.phase n) ≡ None)
         × ((p : ℕ) → MayBeUnmarked (slot_word st.words) p (r.phase n) → ⊥) × (sum_by (taken_of n) st.views ≡ 0) × (owed r.debt v.start.passes n ≡ 0)
         × (r.phase n ≢ free)
     its_node = ⊎_elim
         (λ e. let o = subst (WorkAgrees v.start r.phase id) e (its_work turn) in let z = in_phase turn o.0 o.1 in
         (o.0, ap owner o.1, ap file_in o.1, λ m. ap (removed_in m) o.1, λ p may. rw o.1 at may, z.untaken, z.unowed, λ bad. cc (sym o.1 ∙ bad)))
-        (λ e. let o = subst (WorkAgrees v.start r.phase id) e.1 (its_work turn) in let z = in_phase turn o.0 o.1 in
-        (o.0, ap owner o.1, ap file_in o.1, λ m. ap (removed_in m) o.1, λ p may. rw o.1 at may, z.untaken, z.unowed, λ bad. cc (sym o.1 ∙ bad))) works
+        (λ e. ⊎_elim (λ is. placed_node is.0 (subst (WorkAgrees v.start r.phase id) is.1 (its_work turn)))
+        (λ is. let both : HoldsAt v.start r.phase is.0 is.1 × IsIn v.start r.phase n (placed id is.2) = subst (WorkAgrees v.start r.phase id) is.3 (its_work turn) in
+        placed_node is.2 both.1) e) its_work_is
+      where
+        placed_node : (l : Placement) → IsIn v.start r.phase n (placed id l) → (n < nodes_of v.start) × (owner (r.phase n) ≡ id + 1) × (file_in (r.phase n) ≡ None)
+            × ((m : ℕ) → removed_in m (r.phase n) ≡ None) × ((p : ℕ) → MayBeUnmarked (slot_word st.words) p (r.phase n) → ⊥)
+            × (sum_by (taken_of n) st.views ≡ 0) × (owed r.debt v.start.passes n ≡ 0) × (r.phase n ≢ free)
+        placed_node l o = let z = in_phase turn o.0 o.1 in
+            (o.0, ap owner o.1, ap file_in o.1, λ m. ap (removed_in m) o.1, λ p may. rw o.1 at may, z.untaken, z.unowed, λ bad. cc (sym o.1 ∙ bad))
 
-    -- what the pass does has nothing to do with files
-    its_calm : (held_in v.work ≡ None) × (busy v.work ≡ n + 1) × ((m : ℕ) → taking m v.work ≡ 0)
-        × (word_at st.words (hold_word_of v.start x.number) ≡ 0) × (r.debt x.number ≡ 0)
+    -- what the pass does afterwards: nothing, or it may place this node again, or it holds what it
+    -- held
+    abbrev d : Work
+    d = rested v.work
+
+    its_calm : (busy v.work ≡ n + 1) × (word_at st.words (hold_word_of v.start x.number) ≡ 0) × (r.debt x.number ≡ 0)
+        × (held_in d ≡ held_in v.work) × ((m : ℕ) → taking m d ≡ taking m v.work) × IsAllowed x.stock x.listed d
     its_calm = let o = its_log turn in ⊎_elim
-        (λ (e : v.work ≡ Emptying n). let h = rw e at o.hold in (ap held_in e, ap busy e, λ m. ap (taking m) e, h.0, h.1))
-        (λ (e : (l : Placement) × (v.work ≡ Placing n l)). let h = rw e.1 at o.hold in
-        (ap held_in e.1, ap busy e.1, λ m. ap (taking m) e.1, h.0, h.1)) works
+        (λ (e : v.work ≡ Emptying n). let h = rw e at o.hold in rw e (refl, h.0, h.1, refl, λ m. refl, tt))
+        (λ y. ⊎_elim
+        (λ (e : (l : Placement) × (v.work ≡ Placing n l)). let h = rw e.1 at o.hold in let block = rw e.1 at o.allowed in
+        rw e.1 (refl, h.0, h.1, refl, λ m. refl, block))
+        (λ (e : (f : File) × (held : ℕ) × (l : Placement) × (v.work ≡ Renewing f held n l)). let h = rw e.3 at o.hold in
+        rw e.3 (refl, h.0, h.1, refl, λ m. refl, tt)) y) its_work_is
 
     abbrev homes₀ : Homes
     homes₀ = set st.homes n (some None)
@@ -228,75 +250,72 @@ module _ (turn : Turn) where
     abbrev words₀ : List ℕ
     words₀ = node_words turn n its_node.0 0
 
-    -- what the pass does afterwards: nothing, or it may place this node again
-    module _ (d : Work) (to : HasNoFile d) (allowed : IsAllowed x.stock x.listed d) (again : (m : ℕ) → d ≡ Searching m → m ≡ n) where
-      abbrev rest_after : After turn
-      rest_after = after turn n its_node.0 free r.history words₀ homes₀ r.debt d v.glance
+    abbrev rest_after : After turn
+    rest_after = after turn n its_node.0 free r.history words₀ homes₀ r.debt d v.glance
 
-      knows : WorkAgrees v.start (changed_at r.phase n free) id d × IsInside v.start d × GuardAgrees (slot_word words₀)
-          (changed_at r.phase n free) x.number (r.debt x.number) d × HoldAgrees 0 0 d
-      knows = ⊎_elim (λ (i : d ≡ Idle). rw i (tt, tt, tt, (refl, refl)))
-          (λ (z : (m : ℕ) × (d ≡ Searching m)). let same = again z.0 z.1 in let l : z.0 < nodes_of v.start = rw same its_node.0 in
-          rw z.1 ((l, changed_here r.phase n free z.0 same), l, tt, (refl, refl))) to
+    knows : WorkAgrees v.start (changed_at r.phase n free) id d × IsInside v.start d × GuardAgrees (slot_word words₀)
+        (changed_at r.phase n free) x.number (r.debt x.number) d × HoldAgrees 0 0 d
+    knows = ⊎_elim (λ (e : v.work ≡ Emptying n). rw e (tt, tt, tt, (refl, refl)))
+        (λ y. ⊎_elim
+        (λ (e : (l : Placement) × (v.work ≡ Placing n l)).
+        rw e.1 ((its_node.0, changed_here r.phase n free n refl), its_node.0, tt, (refl, refl)))
+        (λ (e : (f : File) × (held : ℕ) × (l : Placement) × (v.work ≡ Renewing f held n l)).
+        let both : HoldsAt v.start r.phase e.0 e.1 × IsIn v.start r.phase n (placed id e.2) = subst (WorkAgrees v.start r.phase id) e.3 (its_work turn) in
+        let o = both.0 in
+        let other : e.1 ≢ n = λ same. let bad : None ≡ Some e.0 = sym its_node.2 ∙ (ap (λ (i : ℕ). file_in (r.phase i)) (sym same) ∙ o.1) in cc bad in
+        rw e.3 ((o.0, ap file_in (changed_else r.phase n free e.1 other) ∙ o.1), o.0, tt, (refl, refl))) y) its_work_is
 
-      resting : Agrees v.start (end turn rest_after)
-      resting = let o = its_log turn in let q = its_node in let c = its_calm in let same = node_slot turn n q.0 0 in
-          node_kept turn n q.0 free r.history words₀ homes₀ r.debt d v.glance record {
-            words = length-set st.words (word_of v.start n) 0;
-            homes = length-set st.homes n (some None);
-            grows = grows_none x.number r.history;
-            legal = r.legal;
-            at = refl;
-            fresh = refl;
-            removed = λ m. r.removed m ∙ sym (each_changed (λ i z. removed_in m z ≡ removed_in m (r.phase i)) r.phase
-                (λ is. sym (ap (λ (i : ℕ). removed_in m (r.phase i)) is ∙ q.3 m)) (λ _. refl));
-            slot_words = same;
-            alike = node_alike turn n q.0 0;
-            lists = node_list turn n q.0 0;
-            node_words = λ m l other. node_else turn n q.0 0 m other;
-            label_else = λ m other. node_label turn n q.0 0 m;
-            label = tt;
-            home_else = λ m l other. set_else st.homes n m (some None) other;
-            owed_else = λ m other. refl;
-            taken_else = λ m other. no_take to m ∙ sym (c.2 m);
-            free_else = λ m other bad. let a = c.1 in other (omega arith);
-            may = inr (inr q.1);
-            its_stock = λ bad. absurd (q.7 bad);
-            at_slot = λ s f is. let bad : None ≡ Some f = sym q.2 ∙ ap file_in is in absurd (cc bad);
-            open_file = λ j u f other there holds is. let bad : None ≡ Some f = sym q.2 ∙ is in cc bad;
-            guards = λ p e other range. guards_else turn n q.0 free r.history words₀ homes₀ r.debt d v.glance same p e
-                (node_hold turn n q.0 0 p range.1) refl (λ may. q.4 p may);
-            node = let t = sum_set (taken_of n) st.views id v (w turn rest_after) here in let a = c.2 n in let b = q.5 in
-                let e = no_take to n in rw (node_here turn n q.0 0) record {
-                  counts = refl;
-                  at_home = set_here st.homes n (some None) (let a = r.shape.homes in let b = q.0 in omega arith);
-                  untaken = omega arith;
-                  unowed = q.6;
-                };
-            known = tt;
-            held = o.held ∙ (c.0 ∙ sym (no_file to));
-            allowed = allowed;
-            its_own = own_keeps turn n q.0 free r.history words₀ homes₀ r.debt d v.glance same refl
-                (rw (node_hold turn n q.0 0 x.number (in_range turn).1 ∙ c.3, c.4) knows.3) knows.2 knows.0;
-            holds = λ m. let a = ap (if_file m) c.0 in let b = ap (if_file m) (no_file to) in omega arith;
-          }
-
-    after_rest : HasNoFile (rested v.work) × IsAllowed x.stock x.listed (rested v.work) × ((m : ℕ) → rested v.work ≡ Searching m → m ≡ n)
-    after_rest = ⊎_elim (λ (e : v.work ≡ Emptying n). rw e (inl refl, tt, λ m bad. cc bad))
-        (λ (e : (l : Placement) × (v.work ≡ Placing n l)). let block = rw e.1 at (its_log turn).allowed in
-        rw e.1 (inr (n, refl), block, λ m is. let same : n ≡ m = cc is in sym same))
-        works
+    resting : Agrees v.start (end turn rest_after)
+    resting = let o = its_log turn in let q = its_node in let c = its_calm in let same = node_slot turn n q.0 0 in
+        node_kept turn n q.0 free r.history words₀ homes₀ r.debt d v.glance record {
+          words = length-set st.words (word_of v.start n) 0;
+          homes = length-set st.homes n (some None);
+          grows = grows_none x.number r.history;
+          legal = r.legal;
+          at = refl;
+          fresh = refl;
+          removed = λ m. r.removed m ∙ sym (each_changed (λ i z. removed_in m z ≡ removed_in m (r.phase i)) r.phase
+              (λ is. sym (ap (λ (i : ℕ). removed_in m (r.phase i)) is ∙ q.3 m)) (λ _. refl));
+          slot_words = same;
+          alike = node_alike turn n q.0 0;
+          lists = node_list turn n q.0 0;
+          node_words = λ m l other. node_else turn n q.0 0 m other;
+          label_else = λ m other. node_label turn n q.0 0 m;
+          label = tt;
+          home_else = λ m l other. set_else st.homes n m (some None) other;
+          owed_else = λ m other. refl;
+          taken_else = λ m other. c.4 m;
+          free_else = λ m other bad. let a = c.0 in other (omega arith);
+          may = inr (inr q.1);
+          its_stock = λ bad. absurd (q.7 bad);
+          at_slot = λ s f is. let bad : None ≡ Some f = sym q.2 ∙ ap file_in is in absurd (cc bad);
+          open_file = λ j u f other there holds is. let bad : None ≡ Some f = sym q.2 ∙ is in cc bad;
+          guards = λ p e other range. guards_else turn n q.0 free r.history words₀ homes₀ r.debt d v.glance same p e
+              (node_hold turn n q.0 0 p range.1) refl (λ may. q.4 p may);
+          node = let t = sum_set (taken_of n) st.views id v (w turn rest_after) here in let b = q.5 in
+              let e = c.4 n in rw (node_here turn n q.0 0) record {
+                counts = refl;
+                at_home = set_here st.homes n (some None) (let a = r.shape.homes in let b = q.0 in omega arith);
+                untaken = omega arith;
+                unowed = q.6;
+              };
+          known = tt;
+          held = o.held ∙ sym c.3;
+          allowed = c.5;
+          its_own = own_keeps turn n q.0 free r.history words₀ homes₀ r.debt d v.glance same refl
+              (rw (node_hold turn n q.0 0 x.number (in_range turn).1 ∙ c.1, c.2) knows.3) knows.2 knows.0;
+          holds = λ m. let a = ap (if_file m) c.3 in omega arith;
+        }
 
     pub rests : (slots : ℕ) (carried : List (ℕ × Option Closed)) → carried ≡ (n, None) ∷ []
         → Made turn carried (word_of v.start n) (λ _. 0) (λ _. Rests (step slots (word_of v.start n) 0 0 none) (v, carried) 0)
-    rests slots carried has = let d = rested v.work in let to = after_rest in (
-      w turn (rest_after d to.0 to.1 to.2),
+    rests slots carried has = (
+      w turn rest_after,
       gives,
       tt,
-      rw has (resting d to.0 to.1 to.2),
+      rw has resting,
       record {
-        stepped = tells turn (rest_after d to.0 to.1 to.2) refl carried (rest carried) [] (grows_none x.number r.history) r.legal refl
-            (knows d to.0 to.1 to.2).1;
+        stepped = tells turn rest_after refl carried (rest carried) [] (grows_none x.number r.history) r.legal refl knows.1;
         carried = refl;
       },
     )

@@ -1,5 +1,6 @@
 -- A stock has more nodes than the other passes can use, so one of them is free whenever its pass
 -- does nothing: no slot names a node of a stock.
+use Rattle.fx_lasting.proofs.Words.{Renewing, Placement, File, some-injective}
 use Rattle.fx_lasting.proofs.Words.{◌≡◌, ℕ, zero, suc, ◌+◌, ◌<◌, ◌≤◌, List, [], ◌∷◌, length, sym, refl, ap, ◌∙◌, subst, arith, some, get_elem?}
 use Rattle.fx_lasting.proofs.Words.{⊎_elim, ◌⊎◌, inl, inr, dite, ℕ_discrete, eqb, one_if, sum_by, sum_by-cons, sum_at, sum_le_at, bit_here, bit_else}
 use Rattle.fx_lasting.proofs.Words.{NodeAgrees, OwnerAgrees, HoldAgrees, Names, slots_of, nodes_of, word_of, hold_word_of, state_after_all, taken_of}
@@ -8,7 +9,8 @@ use Rattle.fx_lasting.proofs.Words.{Idle, Announced, Counted, Guarded, Owing, Yi
 use Rattle.fx_lasting.proofs.Words.{Shared, Start, ◌≢◌, get_or, set, at_set, sum_set, Contains, contains_head, at_slot, in_stock, StockAgrees}
 use Rattle.fx_lasting.proofs.Words.{name_of_file}
 use Rattle.fx_lasting.proofs.Counts.{owed_found}
-use Rattle.fx_lasting.proofs.Keeping.{word_at, slot_word, find_pass}
+use Rattle.fx_lasting.proofs.Keeping.{word_at, slot_word, find_pass, not_there}
+use Rattle.fx_lasting.proofs.Frames.{alone_cases}
 
 -- a sum over the numbers below n
 abbrev pub below : (ℕ → ℕ) → ℕ → ℕ
@@ -58,7 +60,8 @@ below_sum : {X : Type 0} (f : ℕ → X → ℕ) (xs : List X) (n : ℕ) → bel
 below_sum f xs zero = sym (sum_none xs)
 below_sum f xs (suc n) = let a = below_sum f xs n in let b = sum_plus (λ x. below (λ j. f j x) n) (f n) xs in omega arith
 
--- the node that a pass works with, plus 1, or 0
+-- the node that a pass works with, plus 1, or 0. A pass that places a file beside the one that it
+-- holds works with a node of its own stock too
 abbrev pub named_by : Work → ℕ
 named_by (Announced n) = n + 1
 named_by (Counted f n) = n + 1
@@ -66,6 +69,7 @@ named_by (Guarded f n) = n + 1
 named_by (Owing n) = n + 1
 named_by (Yielding f n) = n + 1
 named_by (Placing n w) = n + 1
+named_by (Renewing f n own w) = n + 1
 named_by (Retiring f n t nx m) = n + 1
 named_by (Emptying n) = n + 1
 named_by (Keeping n lost) = n + 1
@@ -102,11 +106,13 @@ module _ {k : Start} {st : Shared} (r : Agrees k st) where
   used_by : (n j : ℕ) (u : View) → get_elem? st.views j ≡ some u → named_by u.work ≡ n + 1 → 1 ≤ view_use n
   used_by n j u there is = let a = sum_at (uses n) st.views j u there in let b = bit_here (n + 1) (named_by u.work) is in omega arith
 
-  does_use : (n j : ℕ) {d : Work} → Does st.views j d → named_by d ≡ n + 1 → 1 ≤ view_use n
-  does_use n j o is = used_by n j o.0 o.1 (ap named_by o.2 ∙ is)
+  does_use : (n j : ℕ) {d : Work} → Does st.views j d → ((m : ℕ) (l : Placement) → d ≢ Placing m l) → named_by d ≡ n + 1 → 1 ≤ view_use n
+  does_use n j o other is = used_by n j o.0 o.1 (⊎_elim (λ its. ap named_by its) (λ z. absurd (other z.2 z.3 z.5)) (alone_cases o.0.work o.2) ∙ is)
 
   takes_use : (n : ℕ) (d : Work) → taking n d ≤ one_if (eqb (named_by d) (n + 1))
   takes_use n (Counted f m) = dite (ℕ_discrete m n) (λ same. let a = bit_here n m same in let b = bit_here (n + 1) (m + 1) (ap (λ (i : ℕ). i + 1) same) in omega arith)
+      (λ other. let a = bit_else n m other in omega arith)
+  takes_use n (Renewing f m own l) = dite (ℕ_discrete m n) (λ same. let a = bit_here n m same in let b = bit_here (n + 1) (m + 1) (ap (λ (i : ℕ). i + 1) same) in omega arith)
       (λ other. let a = bit_else n m other in omega arith)
   takes_use n _ = omega arith
 
@@ -119,30 +125,31 @@ module _ {k : Start} {st : Shared} (r : Agrees k st) where
   owes_use n word (Counted f m) o = absurd (let a = o.1 in omega arith)
   owes_use n word (Searching m) o = absurd (let a = o.1 in omega arith)
   owes_use n word (Placing m w) o = absurd (let a = o.1 in omega arith)
+  owes_use n word (Renewing g m own w) o = absurd (let a = o.1 in omega arith)
   owes_use n word (Retiring f m t nx z) o = absurd (let a = o.1 in omega arith)
   owes_use n word (Emptying m) o = absurd (let a = o.1 in omega arith)
   owes_use n word (Keeping m lost) o = absurd (let a = o.1 in omega arith)
 
   -- a pass works with a node that isn't free, unless a slot names it
-  used : (n : ℕ) → n < nodes_of k → ((s : ℕ) → r.where_is n ≢ at_slot s) → (ph : Phase) → r.phase n ≡ ph → (ph ≡ free → ⊥)
+  used : (n : ℕ) → n < nodes_of k → ((s : ℕ) → r.where_is n ≢ at_slot s) → ((j : ℕ) (l : Placement) → Does st.views j (Placing n l) → 1 ≤ view_use n) → (ph : Phase) → r.phase n ≡ ph → (ph ≡ free → ⊥)
       → NodeAgrees (state_after_all k r.history).at (slots_of k) (λ s. count_in (slot_word st.words s)) r.node_of r.next_number n
       (word_at st.words (word_of k n)) (sum_by (taken_of n) st.views) (owed r.debt k.passes n) (get_elem? st.homes n) ph
       → OwnerAgrees st.views n ph → 1 ≤ view_use n
-  used n l away free is not_free o own = absurd (not_free refl)
-  used n l away (placed j z) is not_free o own = let a = does_use n j own refl in omega arith
-  used n l away (seated s f) is not_free o own = let b = (r.each_slot s o.inside).names in
+  used n l away placed_use free is not_free o own = absurd (not_free refl)
+  used n l away placed_use (placed j z) is not_free o own = placed_use j z own
+  used n l away placed_use (seated s f) is not_free o own = let b = (r.each_slot s o.inside).names in
       let names = subst (Names r.node_of (slot_word st.words s)) o.there b in let e = o.file.its_node in let at = names.0 in
       let c = name_of_file (slot_word st.words s) n (omega arith) in let z = r.named s o.inside in let y = z.named in
       let same : z.node ≡ n = omega arith in absurd (away s (subst (λ (m : ℕ). r.where_is m ≡ at_slot s) same z.here))
-  used n l away (leaving j t nx m f) is not_free o own = let a = does_use n j own refl in omega arith
-  used n l away (retired f) is not_free o own = dite (ℕ_discrete (sum_by (taken_of n) st.views) 0)
+  used n l away placed_use (leaving j t nx m f) is not_free o own = let a = does_use n j own (λ m l bad. cc bad) refl in omega arith
+  used n l away placed_use (retired f) is not_free o own = dite (ℕ_discrete (sum_by (taken_of n) st.views) 0)
       (λ none. let z = owed_found r.debt k.passes n (let a = o.somebody in omega arith) in let y = find_pass r z.1 z.2 in
       let h = ((r.each_view y.0 y.1 y.3).logs y.2 y.4).hold in
       let h' = subst (λ (p : ℕ). HoldAgrees (word_at st.words (hold_word_of k p)) (r.debt p) y.1.work) y.5 h in
       let a = used_by n y.0 y.1 y.3 (owes_use n _ y.1.work (rw z.3 at h')) in omega arith)
       (λ some_taken. let a = sum_le_at (taken_of n) (uses n) st.views (λ i u e. takes_use n u.work) in omega arith)
-  used n l away (emptied j) is not_free o own = let a = does_use n j own refl in omega arith
-  used n l away (kept j lost) is not_free o own = let a = does_use n j own refl in omega arith
+  used n l away placed_use (emptied j) is not_free o own = let a = does_use n j own (λ m l bad. cc bad) refl in omega arith
+  used n l away placed_use (kept j lost) is not_free o own = let a = does_use n j own (λ m l bad. cc bad) refl in omega arith
 
   -- The nodes of a stock, while its pass looks for one
   module _ (id : ℕ) (v : View) (x : Log) (here : get_elem? st.views id ≡ some v) (one : v.logs ≡ x ∷ []) (still : named_by v.work ≡ 0) where
@@ -190,12 +197,36 @@ module _ {k : Start} {st : Shared} (r : Agrees k st) where
         let d = sum_set lengths st.views id v left here in let e = ap (length {A = Log}) one in let f = sum_le_at own_use lengths (set st.views id left) one_else in
         let g = r.whole in omega arith
 
+    -- a pass that holds a file besides places another stock's nodes: it isn't this one
+    module _ (m : ℕ) (low : m < length x.stock) (j : ℕ) (u : View) (there : get_elem? st.views j ≡ some u) (f : File) (held n : ℕ) (l : Placement)
+        (works : u.work ≡ Renewing f held n l) (same : n ≡ own m) where
+      by_log : (y : Log) → Contains u.logs y → ⊥
+      by_log y has = let its = rw works at ((r.each_view j u there).logs y has).allowed in
+          let named = (r.stocks j u y there has).here its.0 n its.1 in
+          let both : in_stock y.number its.0 ≡ in_stock x.number m = sym named ∙ (ap r.where_is same ∙ (own_here m low).1) in
+          let number : y.number ≡ x.number = cc both in dite (ℕ_discrete j id)
+          (λ (is : j ≡ id). let e : named_by v.work ≡ held + 1 = ap (λ (w : View). named_by w.work) (some-injective v u (sym here ∙ (ap (get_elem? st.views) (sym is) ∙ there)))
+          ∙ ap named_by works in omega (arith, e, still))
+          (λ (ne : j ≢ id). not_there r here one ne there y has number)
+
+      stray : ⊥
+      stray = go u.logs refl
+        where
+          go : (l : List Log) → u.logs ≡ l → ⊥
+          go [] none = let idle : u.work ≡ Idle = ((r.each_view j u there).empty none).0 in cc (sym idle ∙ works)
+          go (y ∷ ys) is = by_log y (subst (λ (l : List Log). Contains l y) (sym is) (contains_head y ys))
+
+    -- so who places a node of this stock uses it alone
+    placed_use : (m : ℕ) → m < length x.stock → (j : ℕ) (l : Placement) → Does st.views j (Placing (own m) l) → 1 ≤ view_use (own m)
+    placed_use m low j l o = ⊎_elim (λ its. used_by (own m) j o.0 o.1 (ap named_by its))
+        (λ z. let same : z.2 ≡ own m = cc (sym z.5) in absurd (stray m low j o.0 o.1 z.0 z.1 z.2 z.3 z.4 same)) (alone_cases o.0.work o.2)
+
     -- of as many nodes as there are passes one is free
     pub some_free : k.passes ≤ length x.stock → (entry : ℕ) × (entry < length x.stock) × (r.phase (own entry) ≡ free)
     some_free many = ⊎_elim (λ z. z)
         (λ none. absurd (
         let a = below_le (λ j. 1) (λ j. view_use (own j)) (length x.stock)
         (λ m l. let at = own_here m l in used (own m) at.0
-        (λ s bad. let e : in_stock x.number m ≡ at_slot s = sym at.1 ∙ bad in cc e) (r.phase (own m)) refl (none m l) (r.each_node (own m) at.0) (r.each_owner (own m) at.0)) in
+        (λ s bad. let e : in_stock x.number m ≡ at_slot s = sym at.1 ∙ bad in cc e) (λ j z. placed_use m l j z) (r.phase (own m)) refl (none m l) (r.each_node (own m) at.0) (r.each_owner (own m) at.0)) in
         let c = below_ones (length x.stock) in let e = below_sum (λ j. uses (own j)) st.views (length x.stock) in let f = few_used in omega arith))
         (found_below (λ j. r.phase (own j) ≡ free) (λ j. is_free (r.phase (own j))) (length x.stock))

@@ -1,5 +1,5 @@
 -- A pass stores the label of the file that it places, and loads that of the file that it holds.
-use Rattle.fx_lasting.proofs.Words.{◌≡◌, ◌≢◌, ℕ, ◌+◌, ◌<◌, ◌≤◌, List, [], set, sym, refl, ap, ◌∙◌, subst, arith, Option, Some, None, inr, ⊎_elim}
+use Rattle.fx_lasting.proofs.Words.{IsIn, ◌≡◌, ◌≢◌, ℕ, ◌+◌, ◌<◌, ◌≤◌, List, [], set, sym, refl, ap, ◌∙◌, subst, arith, Option, Some, None, inr, ⊎_elim}
 use Rattle.fx_lasting.proofs.Words.{none, keeps, step, length-set, get_or-set_other, get_or-set_same, Closed, File, Agrees, WorkAgrees, HoldsAt}
 use Rattle.fx_lasting.proofs.Words.{Labels, slots_of, nodes_of, slot_place, group_place, list_place, question_place, word_of, hold_word_of}
 use Rattle.fx_lasting.proofs.Words.{tag_word_of, number_word_of, held_in, if_file, taken_of, taking, HoldsOn, Phase, placed, owner, file_in}
@@ -19,7 +19,7 @@ use Rattle.fx_lasting.proofs.hold_lemmas.Unheld.{in_phase}
 
 -- the file that a pass holds
 held_file : {d : Work} {f : File} {n : ℕ} → HoldsOn d f n → held_in d ≡ Some f
-held_file holds = ⊎_elim (λ is. ap held_in is) (λ is. ap held_in is) holds
+held_file holds = ⊎_elim (λ is. ap held_in is) (λ z. ⊎_elim (λ is. ap held_in is) (λ is. ap held_in is.2) z) holds
 
 -- the file that a pass is about to install, and the tag that is written
 abbrev placement_in : Work → Placement
@@ -177,7 +177,8 @@ module _ (turn : Turn) where
   -- The pass holds the file of the node
   module _ (f : File) (n : ℕ) (holds : HoldsOn v.work f n) where
     held_at : (g : File) (m : ℕ) → HoldsOn v.work g m → HoldsAt v.start r.phase g m
-    held_at g m its = ⊎_elim (λ is. subst (WorkAgrees v.start r.phase id) is (its_work turn)) (λ is. subst (WorkAgrees v.start r.phase id) is (its_work turn)) its
+    held_at g m its = ⊎_elim (λ is. subst (WorkAgrees v.start r.phase id) is (its_work turn))
+        (λ z. ⊎_elim (λ is. subst (WorkAgrees v.start r.phase id) is (its_work turn)) (λ is. let both : HoldsAt v.start r.phase g m × IsIn v.start r.phase is.0 (placed id is.1) = subst (WorkAgrees v.start r.phase id) is.2 (its_work turn) in both.0) z) its
 
     its_file : HoldsAt v.start r.phase f n
     its_file = held_at f n holds

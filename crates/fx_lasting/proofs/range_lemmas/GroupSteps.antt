@@ -1,4 +1,5 @@
 -- Steps on the words that count full slots keep the rule.
+use Rattle.fx_lasting.proofs.Words.{Renewing}
 use Rattle.fx_lasting.proofs.Words.{◌≡◌, ◌≢◌, ℕ, ◌+◌, ◌-◌, ◌%◌, ◌^◌, ◌<◌, ◌≤◌, List, [], ◌∷◌, set, length, sym, refl, ap, ◌∙◌, subst, arith}
 use Rattle.fx_lasting.proofs.Words.{get_or-set_other, get_or-set_same, Option, IsSome, dite, some, none, one_if, eqb, eq-eqb, ne_eqb, ℕ_discrete}
 use Rattle.fx_lasting.proofs.Words.{get_elem?, keeps, step, sum_by, sum_at, Closed, File, Full, Event, pass_event, sum_set, bit_here, sum_le_at}
@@ -34,6 +35,7 @@ is_inside k phase seat (Guarded f n) o = o.0
 is_inside k phase seat (Yielding f n) o = o.0
 is_inside k phase seat (Searching n) o = o.0
 is_inside k phase seat (Placing n w) o = o.0
+is_inside k phase seat (Renewing f n own w) o = (o.0.0, o.1.0)
 is_inside k phase seat (Retiring f n t nx m) o = o.0
 is_inside k phase seat (Emptying n) o = o.0
 is_inside k phase seat (Keeping n lost) o = o.0

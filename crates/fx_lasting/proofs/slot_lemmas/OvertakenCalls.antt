@@ -1,18 +1,16 @@
 -- Tries that were overtaken, each by another event or by a meeting.
-use Rattle.std.proofs.Common.{◌≡◌, ℕ, ◌+◌, ◌<◌, ◌≤◌, List, [], ◌∷◌, ◌++◌, sym, refl, ap, ◌∙◌, subst, arith, cond, eqb, true, false, Bool, length, ⊎_elim, ◌⊎◌}
-use Rattle.std.specs.Prelude.{◌≢◌, ◌==◌, ◌&&◌, not, nat_lt, sum_by, count_by}
+use Rattle.std.proofs.Common.{◌≡◌, ℕ, ◌+◌, ◌<◌, ◌≤◌, List, [], ◌∷◌, refl, ap, ◌∙◌, subst, arith, cond, true, Bool, ⊎_elim}
+use Rattle.std.specs.Prelude.{◌≢◌, ◌==◌, ◌&&◌, not, sum_by}
 use Rattle.std.proofs.lemmas.Bool.{eq-eqb, ne_eqb, lt-ltb}
 use Rattle.std.proofs.lemmas.List.Sums.{sum_by-append, sum_by-cons}
-use Rattle.fx_plain.specs.History.{IsSeenBy, ◌▷◌, ◌▷▷◌}
+use Rattle.fx_plain.specs.History.{IsSeenBy, ◌▷◌}
 use Rattle.fx_plain.specs.declared.event.Action.{Action}
 use Rattle.fx_plain.specs.declared.event.Action.TheVariants.{Look, Release, Put, Clear, Take, Allocate, Full, Close}
 use Rattle.fx_plain.specs.declared.event.Event.{Event}
-use Rattle.fx_lasting.specs.slots.ByNode.{WasOvertaken, HasMet}
+use Rattle.fx_lasting.specs.slots.ByNode.{HasMet}
 use Rattle.fx_lasting.specs.Tables.{view_of, meetings}
 use Rattle.fx_lasting.specs.slots.Watches.{ActsAt, HasActed}
-use Rattle.fx_lasting.specs.declared.pass.LastingPass.{LastingPass}
-use Rattle.fx_lasting.specs.declared.view.Start.{Start}
-use Rattle.fx_lasting.specs.Retries.{is_at, others_at, Try, met_in, AllOvertaken, EachIsOvertakenByAnother, LostCallsAreOvertaken, RemovalsAreOvertaken, ReplacementsAreOvertaken}
+use Rattle.fx_lasting.specs.Retries.{is_at, others_at, Try, met_in, EachIsOvertakenByAnother, LostCallsAreOvertaken, RemovalsAreOvertaken, ReplacementsAreOvertaken}
 
 acts_is_at : (slot : ℕ) (a : Action) → ActsAt slot a → is_at slot a ≡ true
 acts_is_at slot (Look s found) at = eq-eqb s slot at

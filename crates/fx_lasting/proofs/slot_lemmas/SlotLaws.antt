@@ -1,25 +1,27 @@
 -- An installation, a clear, a take and an exchange keep the rule.
+use Rattle.fx_lasting.proofs.Words.{IsIn}
+use Rattle.fx_lasting.proofs.slot_lemmas.Installing.{Puts, put_after, put_agrees, put_tells}
 use Rattle.fx_lasting.proofs.Words.{◌≡◌, ◌≢◌, ℕ, ◌+◌, ◌^◌, ◌<◌, List, [], ◌∷◌, set, sym, refl, ap, ◌∙◌, subst, arith, Option, Some, None, none, some}
-use Rattle.fx_lasting.proofs.Words.{keeps, gives, rest, get_elem?, false, inl, inr, ◌⊎◌, eqb, Closed, File, numbered, Event, Action, Put, Clear, Take}
-use Rattle.fx_lasting.proofs.Words.{Allocate, ◌▷◌, State, with_removed, changed_at, changed_here, changed_else, pass_event, held_by, Agrees}
-use Rattle.fx_lasting.proofs.Words.{NodeAgrees, OwnerAgrees, WorkAgrees, IsHistory, state_after_all, slots_of, nodes_of, slot_place, word_of}
-use Rattle.fx_lasting.proofs.Words.{count_in, full_name_in, file_word_of, taken_of, taking, held_in, if_file, owed, sum_by, sum_set, Phase, placed, seated}
-use Rattle.fx_lasting.proofs.Words.{removed_in, Change, Idle, Placing, Removes, Installs, Exchanges, Stepped, IsOffCount, IsInRange, ClearsKeep}
+use Rattle.fx_lasting.proofs.Words.{keeps, gives, rest, get_elem?, false, inl, eqb, Closed, File, numbered, Event, Action, Put, Clear, Take}
+use Rattle.fx_lasting.proofs.Words.{Allocate, ◌▷◌, State, with_removed, changed_at, changed_else, pass_event, held_by, Agrees}
+use Rattle.fx_lasting.proofs.Words.{WorkAgrees, IsHistory, state_after_all, slots_of, nodes_of, slot_place}
+use Rattle.fx_lasting.proofs.Words.{count_in, full_name_in, file_word_of, taken_of, taking, held_in, if_file, sum_set, placed}
+use Rattle.fx_lasting.proofs.Words.{Change, Idle, Placing, Removes, Installs, Exchanges, Stepped, IsOffCount, IsInRange, ClearsKeep}
 use Rattle.fx_lasting.proofs.Words.{TakesOutKeep, InstallsKeep, ExchangesKeep, account, uncounted, group_of, range_at_start, Outside, Bool, true}
-use Rattle.fx_lasting.proofs.Words.{step, set_here, set_else, length-set, exchanged, IsInside, retiring_work, ◌*◌, ◌-◌, ◌≤◌, HasNoFile, Whereabouts}
-use Rattle.fx_lasting.proofs.Words.{IsInStock, as_stocked, as_swapped, first_log, Log, without_file, name_in, name_mask, bit_and, name_left}
-use Rattle.fx_lasting.proofs.Words.{no_file_left, no_takes_left, mask_leaves_name, mod-mul-add, le-mul_of_pos_right, Labels, Placement, written_in}
-use Rattle.fx_lasting.proofs.Words.{label_of, as_written, most_carried, takes_are_few, name_carried, full_name_carried, entry_carried, takes_carried}
-use Rattle.fx_lasting.proofs.Words.{heat_carried, either, put_back}
-use Rattle.fx_lasting.proofs.node_lemmas.StockMoves.{names_a_node, where_moved, stock_moved, moved_names, moved_slot, moved_stock, moved_stocks, one_entry}
-use Rattle.fx_lasting.proofs.Histories.{grows_one, legal_more, part_mine, held_mine, each_changed, same_shape}
+use Rattle.fx_lasting.proofs.Words.{step, exchanged, IsInside, retiring_work, ◌*◌, ◌-◌, ◌≤◌, HasNoFile}
+use Rattle.fx_lasting.proofs.Words.{IsInStock, as_swapped, first_log, without_file, name_in, name_mask, bit_and, name_left}
+use Rattle.fx_lasting.proofs.Words.{no_file_left, no_takes_left, mask_leaves_name, mod-mul-add, le-mul_of_pos_right, Placement}
+use Rattle.fx_lasting.proofs.Words.{label_of, as_written}
+use Rattle.fx_lasting.proofs.Words.{either, put_back}
+use Rattle.fx_lasting.proofs.node_lemmas.StockMoves.{names_a_node}
+use Rattle.fx_lasting.proofs.Histories.{grows_one, legal_more, part_mine, held_mine, same_shape}
 use Rattle.fx_lasting.proofs.Frames.{busy, owner_stays, node_same}
-use Rattle.fx_lasting.proofs.Keeping.{Turn, turn_of, After, word_at, slot_word, Made, by_turn, its_log, its_work, its_stock, in_range, tells, tells_stocked, w, end, Homes, asks_alike, few_slots}
-use Rattle.fx_lasting.proofs.range_lemmas.Groups.{counts_swap, removal_balances, removal_keeps, fill_balances, fill_keeps, in_range_so}
+use Rattle.fx_lasting.proofs.Keeping.{Turn, turn_of, After, word_at, slot_word, Made, by_turn, its_log, its_work, its_stock, in_range, tells, w, end, asks_alike, few_slots}
+use Rattle.fx_lasting.proofs.range_lemmas.Groups.{counts_swap, removal_balances, removal_keeps, in_range_so}
 use Rattle.fx_lasting.proofs.slot_lemmas.Sights.{sees_after, sees_kept, sees_slot}
-use Rattle.fx_lasting.proofs.Places.{slot_words, slot_here, slot_else, slot_back, slot_alike}
+use Rattle.fx_lasting.proofs.Places.{slot_else, slot_back, slot_alike}
 use Rattle.fx_lasting.proofs.hold_lemmas.Looking.{unnamed}
-use Rattle.fx_lasting.proofs.slot_lemmas.Swaps.{found, old_at, found_so, NotOf, not_old, old_named, d, swap_after, Swap, swap_kept}
+use Rattle.fx_lasting.proofs.slot_lemmas.Swaps.{found, old_at, found_so, old_named, d, swap_after, Swap, swap_kept}
 use Rattle.fx_lasting.proofs.hold_lemmas.Unheld.{in_phase}
 use Rattle.fx_lasting.proofs.node_lemmas.Choosing.{no_file, no_take, not_busy, holds_none}
 use Rattle.fx_lasting.proofs.Words.{ActsAt}
@@ -157,15 +159,18 @@ takes_out_keep k slots id i s m x has works inside off place = by_turn slots (λ
     (λ st r here is fits. removal_made Take taken (turn_of m x has.1 id st r here) s is.0 works is.1 slots m.1 fits)
 
 -- a number that none had before, and which says the node
-pub new_number : (turn : Turn) {n : ℕ} {l : Placement} → turn.v.work ≡ Placing n l → (m : ℕ) × (turn.r.next_number ≤ m) × (turn.r.node_of m ≡ n)
-new_number turn {n} {l} works = let r = turn.r in let nodes = nodes_of turn.v.start in
-    let low = (subst (WorkAgrees turn.v.start r.phase turn.id) works (its_work turn)).0 in (
-      r.next_number * nodes + n,
-      omega (arith, le-mul_of_pos_right {m = nodes} r.next_number (omega (arith, low))),
-      r.numbering (r.next_number * nodes + n) ∙ mod-mul-add r.next_number nodes n low,
-    )
+pub fresh_number : (turn : Turn) {n : ℕ} → n < nodes_of turn.v.start → (m : ℕ) × (turn.r.next_number ≤ m) × (turn.r.node_of m ≡ n)
+fresh_number turn {n} low = let r = turn.r in let nodes = nodes_of turn.v.start in (
+  r.next_number * nodes + n,
+  omega (arith, le-mul_of_pos_right {m = nodes} r.next_number (omega (arith, low))),
+  r.numbering (r.next_number * nodes + n) ∙ mod-mul-add r.next_number nodes n low,
+)
 
--- The slot gets the file that a pass places, under a number that none had before.
+pub new_number : (turn : Turn) {n : ℕ} {l : Placement} → turn.v.work ≡ Placing n l → (m : ℕ) × (turn.r.next_number ≤ m) × (turn.r.node_of m ≡ n)
+new_number turn works = fresh_number turn (subst (WorkAgrees turn.v.start turn.r.phase turn.id) works (its_work turn)).0
+
+-- The slot gets the file that a pass places under a number that none had before. The pass holds
+-- nothing.
 module _ (turn : Turn) (s : ℕ) (inside : s < slots_of turn.v.start) (old : Option File) (was : (state_after_all turn.v.start turn.r.history).at s ≡ old)
     (n lost : ℕ) (file : Closed) (works : turn.v.work ≡ Placing n (as_written lost (label_of file))) (small : file.entry < 2 ^ 8) (out : turn.v.change ≡ Outside)
     (number : ℕ) (late : turn.r.next_number ≤ number) (on_n : turn.r.node_of number ≡ n) (a : Action) where
@@ -180,33 +185,14 @@ module _ (turn : Turn) (s : ℕ) (inside : s < slots_of turn.v.start) (old : Opt
   abbrev h₂ : List Event
   h₂ = pass_event x a ∷ r.history
 
-  its : (n < nodes_of v.start) × (r.phase n ≡ placed id (as_written lost (label_of file)))
+  pub its : IsIn v.start r.phase n (placed id (as_written lost (label_of file)))
   its = subst (WorkAgrees v.start r.phase id) works (its_work turn)
 
-  abbrev new_word : ℕ
-  new_word = file_word_of n file.entry + lost
-
-  abbrev homes₁ : Homes
-  homes₁ = set st.homes n (some (Some file))
-
-  abbrev phase₁ : ℕ → Phase
-  phase₁ = changed_at r.phase n (seated s new_file)
-
-  -- the file's node goes from the stock to the slot
   pub its_entry : IsInStock x.stock n
   its_entry = rw works at (its_log turn).allowed
 
-  abbrev where₁ : ℕ → Whereabouts
-  where₁ = where_moved turn s inside n its_entry
-
-  abbrev stock₁ : List ℕ
-  stock₁ = stock_moved turn s inside n its_entry
-
-  abbrev c₂ : Change
-  c₂ = account (range_at_start v.start) s old
-
   abbrev pub installed : After turn
-  installed = swap_after turn s inside old was (found turn s inside) (refl, refl) h₂ new_word (Some new_file) homes₁ phase₁ (number + 1) c₂ where₁ stock₁
+  installed = put_after turn s inside old was (found turn s inside) (refl, refl) n lost file its its_entry small out number late on_n h₂
 
   -- what the action does
   pub record Effect : Type 0 where
@@ -219,117 +205,30 @@ module _ (turn : Turn) (s : ℕ) (inside : s < slots_of turn.v.start) (old : Opt
     pub held : held_by h₂ x.number ≡ held_by r.history x.number
     pub acts : ActsAt s a
 
-  removed_same : (m : ℕ) → removed_in m (phase₁ (r.node_of m)) ≡ removed_in m (r.phase (r.node_of m))
-  removed_same m = each_changed (λ q z. removed_in m z ≡ removed_in m (r.phase q)) r.phase
-      (λ at. sym (ap (λ (q : ℕ). removed_in m (r.phase q)) at ∙ ap (removed_in m) its.1)) (λ _. refl)
-
-  untaken : (m : ℕ) → taking m (d turn s inside old was (found turn s inside) (refl, refl)) ≡ 0
-  untaken m = go old
-    where
-      go : (o : Option File) → taking m (retiring_work v.start (found turn s inside) o) ≡ 0
-      go None = refl
-      go (Some f) = refl
-
   module _ (does : Effect) where
-    there_now : (state_after_all v.start h₂).at s ≡ Some new_file
-    there_now = ap (λ (z : State). z.at s) does.state ∙ changed_here before.at s (Some new_file) s refl
-
-    total_now : (m : ℕ) → sum_by (taken_of m) (set st.views id (w turn installed)) ≡ sum_by (taken_of m) st.views
-    total_now m = let t = sum_set (taken_of m) st.views id v (w turn installed) here in let b = ap (taking m) works in let c = untaken m in omega arith
-
-    few_lost : lost ≤ most_carried
-    few_lost = (in_phase turn its.0 its.1).few_lost
-
-    its_count : count_in new_word ≡ lost
-    its_count = takes_carried n file.entry lost few_lost
-
-    abbrev Node₁ : ℕ → Phase → Type 0
-    Node₁ m = NodeAgrees (state_after_all v.start h₂).at (slots_of v.start) (λ i. count_in (slot_word (slot_words turn s inside new_word) i)) r.node_of
-        (number + 1) m (word_at st.words (word_of v.start m)) (sum_by (taken_of m) (set st.views id (w turn installed)))
-        (owed r.debt v.start.passes m) (get_elem? homes₁ m)
-
-    node_here₁ : Node₁ n (seated s new_file)
-    node_here₁ = let o = in_phase turn its.0 its.1 in let c = o.counts in let u = o.untaken in let t = total_now n in
-        let z = ap count_in (slot_here turn s inside new_word) in let y = its_count in record {
-          file = record {
-            at_home = set_here st.homes n (some (Some file)) (let a = r.shape.homes in let b = its.0 in omega arith);
-            its_node = on_n;
-            used = omega arith;
-          };
-          counts = omega arith;
-          few = omega arith;
-          unowed = o.unowed;
-          inside = inside;
-          there = there_now;
-        }
-
-    node_else₁ : {m : ℕ} → m < nodes_of v.start → m ≢ n → NotOf r.node_of m old → Node₁ m (r.phase m)
-    node_else₁ {m} l other apart = node_same (slots_of v.start) r.node_of m (omega arith) refl (total_now m) refl
-        (set_else st.homes n m (some (Some file)) other) (r.phase m)
-        (λ i f is there. let away : i ≢ s = λ same. apart f (sym was ∙ (ap before.at (sym same) ∙ there)) (sym (in_phase turn l is).file.its_node) in
-        (ap (λ (z : State). z.at i) does.state ∙ changed_else before.at s (Some new_file) i away, ap count_in (slot_else turn s inside new_word i away)))
-        (r.each_node m l)
-
-    installs : Swap turn s inside old was (found turn s inside) (refl, refl) h₂ new_word (Some new_file) homes₁ phase₁ (number + 1) c₂ where₁ stock₁
-    installs = let o = its_log turn in let h = rw works at o.hold in let apart = not_old turn s inside old was its.1 (λ g bad. cc bad) in record {
+    puts : Puts turn s inside old was (found turn s inside) (refl, refl) n lost file its its_entry small out number late on_n h₂
+    puts = let o = its_log turn in let h = rw works at o.hold in record {
       grows = grows_one x.number r.history _ refl;
       legal = does.legal;
       acted = (r.history, pass_event x a, ([], refl), ([], refl), refl, does.acts);
-      fresh = changed_at before.fresh number false;
       holds = before.holds;
-      leads = does.state;
-      fresh_on = λ m l. changed_else before.fresh number false m (λ same. omega (arith, l, same)) ∙ r.fresh m (omega (arith, late, l));
+      state = does.state;
       held = does.held ∙ (o.held ∙ ap held_in works);
       let_go = λ m. let a = ap (if_file m) (ap held_in works) in omega arith;
       taken = λ f is. let a = ap (taking (r.node_of f.number)) works in omega arith;
-      homes = length-set st.homes n (some (Some file));
-      later = omega (arith, late);
-      removed_else = removed_same;
-      named_new = moved_names turn s inside n its_entry new_word (name_carried n file.entry lost small few_lost);
-      named_else = moved_slot turn s inside n its_entry;
-      stock = moved_stock turn s inside n its_entry;
-      stocks = moved_stocks turn s inside n its_entry;
-      names = (full_name_carried n file.entry lost small few_lost ∙ ap (λ (i : ℕ). i + 1) (sym on_n), entry_carried n file.entry lost small few_lost);
-      few_takes = let a = its_count in let b = takes_are_few v.start.passes lost few_lost in omega arith;
-      no_heat = heat_carried n file.entry lost few_lost;
-      seat = rw on_n (its.0, changed_here r.phase n (seated s new_file) n refl);
-      seat_apart = λ f is. let e : number ≡ f.number = (let z : new_file ≡ f = cc is in ap (λ (y : File). y.number) z) in
-          subst (λ (i : ℕ). NotOf r.node_of (r.node_of i) old) e (rw on_n apart);
-      kept = λ m. each_changed (λ m ph. (ph ≡ r.phase m) ⊎ ((l : Placement) × (r.phase m ≡ placed id l))) r.phase
-          (λ same. inr (as_written lost (label_of file), ap r.phase same ∙ its.1)) (λ other. inl refl);
-      labels = λ m l apart. each_changed (λ m ph. Labels v.start st.words m (written_in ph)) r.phase
-          (λ same. subst (λ (i : ℕ). Labels v.start st.words i (label_of file)) (sym same)
-          (subst (λ (ph : Phase). Labels v.start st.words n (written_in ph)) its.1 (r.each_label n its.0))) (λ other. r.each_label m l);
-      nodes = λ m l apart. each_changed Node₁ r.phase (λ same. subst (λ (i : ℕ). Node₁ i (seated s new_file)) (sym same) node_here₁)
-          (λ other. node_else₁ l other apart);
-      old_home = λ f is. set_else st.homes n (r.node_of f.number) (some (Some file)) (λ same. apart f is (sym same));
-      owners = λ m l apart. each_changed (OwnerAgrees (set st.views id (w turn installed))) r.phase (λ same. tt)
-          (λ other. owner_stays st.views id v (w turn installed) here m (λ bad. let b = ap busy works in other (omega arith)) (r.phase m) (r.each_owner m l));
+      untaken = λ m apart. ap (taking m) works;
+      works = ap busy works;
       no_hold = (h.0, h.1);
-      counts = counts_swap id (w turn installed) here r.counts s old (Some new_file) (few_slots turn) was (slot_alike turn s inside new_word)
-          (asks_alike turn installed refl) refl (fill_balances (range_at_start v.start) s old new_file out)
-          (fill_keeps id (w turn installed) here s old new_file was refl);
     }
 
     pub installation_agrees : Agrees v.start (end turn installed)
-    installation_agrees = swap_kept turn s inside old was (found turn s inside) (refl, refl) h₂ new_word (Some new_file) homes₁ phase₁ (number + 1) c₂ where₁ stock₁ installs
+    installation_agrees = put_agrees turn s inside old was (found turn s inside) (refl, refl) n lost file its its_entry small out number late on_n h₂ puts
 
     pub installation_tells : (carried homes : List (ℕ × Option Closed)) (e : ℕ) → get_elem? (first_log v.logs).stock e ≡ some n
-        → Stepped (as_swapped e (name_in (found turn s inside) - 1) (v, carried)) ([] ▷ a) (retiring_work v.start (found turn s inside) old) v.glance c₂
-        (w turn installed, homes)
-    installation_tells carried homes e is = subst (λ (z : List ℕ × ℕ). Stepped (as_stocked (set z.0 z.1 (name_in (found turn s inside) - 1)) (v, carried)) ([] ▷ a)
-        (retiring_work v.start (found turn s inside) old) v.glance c₂ (w turn installed, homes))
-        (λ i. (sym same_stock i, one_entry turn s inside n its_entry e (ap (λ (l : List ℕ). get_elem? l e) (sym same_stock) ∙ is) i))
-        (tells_stocked turn installed refl carried homes ([] ▷ a) (grows_one x.number r.history _ refl) does.legal
-        (part_mine r.history refl) (knows old refl))
-      where
-        same_stock : (first_log v.logs).stock ≡ x.stock
-        same_stock = ap (λ (l : List Log). (first_log l).stock) one
-
-        knows : (o : Option File) → old ≡ o → IsInside v.start (retiring_work v.start (found turn s inside) old)
-        knows None is = subst (λ (o : Option File). IsInside v.start (retiring_work v.start (found turn s inside) o)) (sym is) tt
-        knows (Some f) is = subst (λ (o : Option File). IsInside v.start (retiring_work v.start (found turn s inside) o)) (sym is)
-            (let n = (old_at turn s inside old was is).0 in let e = old_named turn s inside old was is in omega arith)
+        → Stepped (as_swapped e (name_in (found turn s inside) - 1) (v, carried)) ([] ▷ a) (retiring_work v.start (found turn s inside) old) v.glance
+        (account (range_at_start v.start) s old) (w turn installed, homes)
+    installation_tells = put_tells turn s inside old was (found turn s inside) (refl, refl) n lost file its its_entry small out number late on_n h₂ puts
+        ([] ▷ a) (part_mine r.history refl)
 
 abbrev pub file_carried : List (ℕ × Option Closed) → Option Closed
 file_carried [] = None

@@ -1,5 +1,5 @@
 -- A step on the word of a slot, whose file stays there.
-use Rattle.fx_lasting.proofs.Words.{inl, true, Deed, untouched, has_acted, has_heated, heat_in, ◌≡◌, ◌≢◌, ℕ, ◌+◌, ◌<◌, ◌≤◌, List, [], set, sym, refl}
+use Rattle.fx_lasting.proofs.Words.{alone_in, inl, true, Deed, untouched, has_acted, has_heated, heat_in, ◌≡◌, ◌≢◌, ℕ, ◌+◌, ◌<◌, ◌≤◌, List, [], set, sym, refl}
 use Rattle.fx_lasting.proofs.Words.{ap, ◌∙◌, subst, arith, Option, Some, None, Bool, held_by, File, Event, NodeAgrees, IsAllowed, SlotAgrees, Names}
 use Rattle.fx_lasting.proofs.Words.{Agrees, slots_of, nodes_of, IsHistory, state_after_all, held_in, held_of, taken_of, taking, Phase, free, placed}
 use Rattle.fx_lasting.proofs.Words.{seated, leaving, retired, emptied, kept, Work, Glance, ⊎_elim, ◌⊎◌, inr, dite, ℕ_discrete, slot_place, word_of}
@@ -67,7 +67,7 @@ module _ (turn : Turn) (s : ℕ) (inside : s < slots_of turn.v.start) (new : ℕ
         → word_at st.words (word_of v.start n) + count_in new ≡ birth_word + sum_by (taken_of n) (set st.views id (w turn slot_after))
     pub taken : (n : ℕ) → n < nodes_of v.start → ((f : File) → r.phase n ≢ seated s f) → taking n d ≡ taking n v.work
     -- the pass
-    pub owners : (d ≡ v.work) ⊎ (busy v.work ≡ 0)
+    pub owners : (alone_in d ≡ alone_in v.work) ⊎ (busy v.work ≡ 0)
     pub held : held_by h' x.number ≡ held_in d
     pub allowed : IsAllowed x.stock x.listed d
     pub its : Keeps turn slot_after id x.number d g

@@ -1,6 +1,6 @@
 -- A swap of a slot's word: a file leaves the slot, if there was one, and the slot gets another or
 -- none.
-use Rattle.fx_lasting.proofs.Words.{IsToVisit, new_round, inl, true, Whereabouts, at_slot, in_stock, NamesItsNode, StockAgrees, name_in, ◌≡◌, ◌≢◌, ℕ}
+use Rattle.fx_lasting.proofs.Words.{alone_in, IsToVisit, new_round, inl, true, Whereabouts, at_slot, in_stock, NamesItsNode, StockAgrees, name_in, ◌≡◌, ◌≢◌, ℕ}
 use Rattle.fx_lasting.proofs.Words.{suc, ◌+◌, ◌-◌, ◌^◌, ◌<◌, ◌≤◌, List, [], set, length, sym, refl, ap, ◌∙◌, subst, arith, Option, Some, None, get_elem?}
 use Rattle.fx_lasting.proofs.Words.{Bool, false, inr, ⊎_elim, ◌⊎◌, dite, ℕ_discrete, dec_le, eq-eqb, ne_eqb, File, Event, State, held_by}
 use Rattle.fx_lasting.proofs.Words.{with_removed, changed_at, changed_here, changed_else, Agrees, NodeAgrees, OwnerAgrees, WorkAgrees, SlotAgrees}
@@ -319,7 +319,7 @@ module _ (turn : Turn) (s : ℕ) (inside : s < slots_of turn.v.start) where
               (λ f is same. rw (same, out_here is) (old_node is)) (λ apart. rw (else_phase apart) (p.nodes n l apart)));
           owners = λ n l. by_old r.node_of old {n = n} (OwnerAgrees (set st.views id (w turn swap_after)) n (phase' n))
               (λ f is same. rw (same, out_here is) (does_now st.views id v (w turn swap_after)
-              (Retiring f (r.node_of f.number) (count_in counted) (new_round (first_visit v.start.passes counted)) 0) here (d_is f is)))
+              (Retiring f (r.node_of f.number) (count_in counted) (new_round (first_visit v.start.passes counted)) 0) here (ap alone_in (d_is f is))))
               (λ apart. rw (else_phase apart) (p.owners n l apart));
           labels = λ n l. by_old r.node_of old {n = n} (Labels v.start (slot_words turn s inside new_word) n (written_in (phase' n)))
               (λ f is same. rw (same, out_here is) (old_label is))

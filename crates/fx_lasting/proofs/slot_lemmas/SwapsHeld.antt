@@ -3,11 +3,11 @@
 use Rattle.fx_lasting.proofs.Words.{◌≡◌, ◌≢◌, ℕ, ◌+◌, ◌-◌, ◌<◌, List, [], ◌∷◌, set, sym, refl, ap, ◌∙◌, subst, arith, Option, Some, None, none, some}
 use Rattle.fx_lasting.proofs.Words.{keeps, get_elem?, inl, eqb, either, Closed, File, Event, Release, Take, ◌▷◌, State, changed_else, pass_event, Log}
 use Rattle.fx_lasting.proofs.Words.{Agrees, WorkAgrees, HoldsAt, IsHistory, part_of_pass, node_of_number, map, ◌++◌, state_after_all, slots_of, slot_place, count_in, heat_in}
-use Rattle.fx_lasting.proofs.Words.{full_name_in, name_in, entry_in, Names, seated, file_in, taken_of, taking, held_of, if_file, held_in, sum_at, sum_set, bit_here}
-use Rattle.fx_lasting.proofs.Words.{bit_else, one_less_at, Change, Counted, Stepped, IsOffCount, account, range_at_start, step, exchanged, IsInside}
+use Rattle.fx_lasting.proofs.Words.{full_name_in, name_in, entry_in, Names, taken_of, taking, held_in, sum_set, bit_here}
+use Rattle.fx_lasting.proofs.Words.{bit_else, Change, Counted, Stepped, IsOffCount, account, range_at_start, step, exchanged, IsInside}
 use Rattle.fx_lasting.proofs.Words.{retiring_work, Whereabouts, IsInStock, NamesItsNode, StockAgrees, at_slot, in_stock, as_stocked, as_swapped, first_log}
 use Rattle.fx_lasting.proofs.Words.{empty_word_of, empty_name_made, empty_file_made, empty_takes_made, without_file, name_left, no_file_left, no_takes_left}
-use Rattle.fx_lasting.proofs.Words.{SwapsHeld, TakesHeld, SwapsHeldKeep, TakesHeldKeep, one_less}
+use Rattle.fx_lasting.proofs.Words.{SwapsHeld, TakesHeld, SwapsHeldKeep, TakesHeldKeep}
 use Rattle.fx_lasting.proofs.node_lemmas.StockMoves.{names_a_node, where_moved, stock_moved, moved_names, moved_slot, moved_stock, moved_stocks, one_entry}
 use Rattle.fx_lasting.proofs.Histories.{Grows, grows_one, grows_more, legal_more, part_mine, held_mine, same_shape}
 use Rattle.fx_lasting.proofs.Frames.{busy, owner_stays, node_same}
@@ -15,8 +15,10 @@ use Rattle.fx_lasting.proofs.Keeping.{Turn, turn_of, After, Made, by_turn, its_l
 use Rattle.fx_lasting.proofs.range_lemmas.Groups.{counts_swap, removal_balances, removal_keeps}
 use Rattle.fx_lasting.proofs.Places.{slot_else, slot_back, slot_alike}
 use Rattle.fx_lasting.proofs.slot_lemmas.Sights.{sees_after, sees_kept, sees_slot}
-use Rattle.fx_lasting.proofs.slot_lemmas.Swaps.{found, old_at, old_named, names_old, swap_after, Swap, swap_kept}
-use Rattle.fx_lasting.proofs.hold_lemmas.Unheld.{in_phase, on_node}
+use Rattle.fx_lasting.proofs.slot_lemmas.Swaps.{found, swap_after, Swap, swap_kept}
+use Rattle.fx_lasting.proofs.hold_lemmas.Unheld.{in_phase}
+use Rattle.fx_lasting.proofs.slot_lemmas.HeldSlots.{there as held_there, on_n as held_on, some_takes as held_takes, less as held_less}
+use Rattle.fx_lasting.proofs.slot_lemmas.HeldSlots.{legal₀ as held_legal, let_go as held_let_go, knows as held_knows, by_number as held_by_number}
 
 module _ (turn : Turn) (s : ℕ) (inside : s < slots_of turn.v.start) (f : File) (n : ℕ) (works : turn.v.work ≡ Counted f n)
     (names_it : full_name_in (found turn s inside) ≡ n + 1) (off : IsOffCount turn.v.start s turn.v.change) where
@@ -31,42 +33,32 @@ module _ (turn : Turn) (s : ℕ) (inside : s < slots_of turn.v.start) (f : File)
   its : HoldsAt v.start r.phase f n
   its = subst (WorkAgrees v.start r.phase id) works (its_work turn)
 
+  takes_it : taking n v.work ≡ 1
+  takes_it = ap (taking n) works ∙ bit_here n n refl
+
   -- the file at the slot is the one that the pass holds
   pub there : before.at s ≡ Some f
-  there = go (before.at s) refl
-    where
-      go : (o : Option File) → before.at s ≡ o → o ≡ Some f
-      go None is = let e = names_old turn s inside None is in absurd (omega arith)
-      go (Some g) is = let at = old_at turn s inside (Some g) is refl in let e = old_named turn s inside (Some g) is refl in
-          let same : n ≡ r.node_of g.number = omega arith in sym (ap file_in (ap r.phase same ∙ at.1)) ∙ its.1
+  there = held_there turn s inside f n its takes_it (ap held_in works) names_it
 
   on_n : r.node_of f.number ≡ n
-  on_n = on_node turn its.0 its.1
-
-  sits : r.phase n ≡ seated s f
-  sits = ap r.phase (sym on_n) ∙ (old_at turn s inside (Some f) there refl).1
+  on_n = held_on turn s inside f n its takes_it (ap held_in works) names_it
 
   pub some_takes : 0 < count_in word
-  some_takes = let o = in_phase turn its.0 sits in let a = o.counts in let b = o.few in let c = sum_at (taken_of n) st.views id v here in
-      let e = ap (taking n) works ∙ bit_here n n refl in omega arith
+  some_takes = held_takes turn s inside f n its takes_it (ap held_in works) names_it
 
   pub less : (full_name_in (word - 1) ≡ full_name_in word) × (heat_in (word - 1) ≡ heat_in word) × (count_in (word - 1) + 1 ≡ count_in word)
       × (entry_in (word - 1) ≡ entry_in word)
-  less = one_less word some_takes
+  less = held_less turn s inside f n its takes_it (ap held_in works) names_it
 
   -- the pass releases the file, and empties the slot
   abbrev pub h₀ : List Event
   h₀ = pass_event x (Release f) ∷ r.history
 
+  legal₀ : IsHistory v.start h₀
+  legal₀ = held_legal turn s inside f n its takes_it (ap held_in works) names_it
+
   abbrev pub h₁ : List Event
   h₁ = pass_event x (Take s (Some f)) ∷ h₀
-
-  held_now : 0 < before.holds f.number
-  held_now = let a = ap (if_file f.number) (ap held_in works) in let b = bit_here f.number f.number refl in
-      omega (arith, r.holds f.number, sum_at (held_of f.number) st.views id v here, a, b)
-
-  legal₀ : IsHistory v.start h₀
-  legal₀ = legal_more v.start r.legal held_now ((its_log turn).held ∙ ap held_in works)
 
   pub legal₁ : IsHistory v.start h₁
   legal₁ = legal_more v.start legal₀ (let z = (same_shape v.start r.history).0 in (omega arith, sym there)) tt
@@ -101,7 +93,7 @@ module _ (turn : Turn) (s : ℕ) (inside : s < slots_of turn.v.start) (f : File)
         holds = (state_after_all v.start h₀).holds;
         leads = refl;
         fresh_on = r.fresh;
-        let_go = λ m. let a = one_less_at before.holds f.number m held_now in let b = ap (if_file m) (ap held_in works) in omega arith;
+        let_go = held_let_go turn s inside f n its takes_it (ap held_in works) names_it;
         held = held_mine (pass_event x (Take s (Some f))) h₀ refl ∙ held_mine (pass_event x (Release f)) r.history refl;
         homes = refl;
         later = omega arith;
@@ -139,13 +131,10 @@ module _ (turn : Turn) (s : ℕ) (inside : s < slots_of turn.v.start) (f : File)
       removal_agrees = swap_kept turn s inside (Some f) there (word - 1) (less.0, less.1) h₁ left None st.homes r.phase r.next_number c₁ where₁ stock₁ removes
 
   pub knows : IsInside v.start (retiring_work v.start (word - 1) (Some f))
-  knows = let a = less.0 in let b = its.0 in omega arith
-
-  pub named_there : Names r.node_of word (Some f)
-  named_there = names_old turn s inside (Some f) there
+  knows = held_knows turn s inside f n its takes_it (ap held_in works) names_it
 
   by_number : Names (node_of_number v.start) word (Some f)
-  by_number = (named_there.0 ∙ ap (λ (i : ℕ). i + 1) (r.numbering f.number), named_there.1)
+  by_number = held_by_number turn s inside f n its takes_it (ap held_in works) names_it
 
   own : part_of_pass x.number h₁ ≡ map (pass_event x) ([] ▷ Release f ▷ Take s (Some f)) ++ part_of_pass x.number r.history
   own = part_mine h₀ refl ∙ ap (λ (l : List Event). pass_event x (Take s (Some f)) ∷ l) (part_mine r.history refl)

@@ -1,8 +1,8 @@
-use Rattle.fx_lasting.proofs.Words.{⊎_elim, ◌≡◌, subst, Start, node_of_number}
+use Rattle.fx_lasting.proofs.Words.{◌≡◌, subst, Start, node_of_number}
 use Rattle.fx_lasting.proofs.Calling.{number_inside, number_word}
 use Rattle.fx_lasting.proofs.node_lemmas.Labelling.{reads_number_keep}
 use Rattle.fx_lasting.proofs.Passing.{holds_on}
-use Rattle.fx_lasting.proofs.Running.{its_inside}
+use Rattle.fx_lasting.proofs.Running.{held_inside}
 use Rattle.fx_lasting.proofs.table.LastingTable.number_of.Goals as goal
 
 pub load-requires : goal.load-requires
@@ -11,7 +11,7 @@ load-requires c =
     let s = c.requires.fits.seated in
     let holds = holds_on _ c.requires.held.1 in (
       s.table,
-      number_inside t (⊎_elim (λ is. its_inside s.at is) (λ is. its_inside s.at is) holds) c.number_place-place.ensures,
+      number_inside t (held_inside s.at holds) c.number_place-place.ensures,
       reads_number_keep _ _ _ _ c.args.hold.now.node c.requires.held.0 c.args.pass.now.seat.me _ s.at.pass holds
           (number_word t c.args.hold.now.node c.number_place-place.ensures),
     )

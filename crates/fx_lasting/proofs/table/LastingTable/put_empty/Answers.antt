@@ -1,4 +1,4 @@
-use Rattle.fx_lasting.proofs.Words.{◌<◌, nodes_of, ◌∷◌, inr, refl, sym, ap, ◌∙◌, subst, arith, [], Some, Closed, HasPlace, numbered, Start, Work}
+use Rattle.fx_lasting.proofs.Words.{alone_in, ◌<◌, nodes_of, ◌∷◌, inr, refl, sym, ap, ◌∙◌, subst, arith, [], Some, Closed, HasPlace, numbered, Start, Work}
 use Rattle.fx_lasting.proofs.Words.{Runs, rested, pass_in, true, false, no_use, one_number, SeesFile, Placing, label_of, as_written}
 use Rattle.fx_lasting.proofs.Calling.{begins_at}
 use Rattle.fx_lasting.proofs.slot_lemmas.ByNode.{adds_none, was_further}
@@ -101,7 +101,7 @@ take_out-requires c =
     record {
       table = c.try_slot.ensures.table ∙ (c.place-entry.ensures.table ∙ (c.sees_file.ensures.table ∙ f.seated.table));
       at = (c.args.pass.now.number, still_at_work f.seated.at run);
-      place = (c.args.file, record { work = inr (as_written c.place-entry.result.2 (label_of c.identity-identity.result), still.0.work); place = still.1 ∙ c.place-entry.ensures.place });
+      place = (c.args.file, record { work = inr (as_written c.place-entry.result.2 (label_of c.identity-identity.result), ap alone_in still.0.work); place = still.1 ∙ c.place-entry.ensures.place });
     }
 
 pub returns : goal.returns
@@ -119,7 +119,7 @@ returns c =
     let since = does_then sought.placed still.0 in
     let rests = subst (λ (z : Work). Runs m₃ [] (rested z) m₃.0.glance m₃.0.change 1 m₄) still.0.work end.rests in
     let run = at_rest fits (does_then (does_then saw.1 since) rests) in
-    let place : HasPlace c.place-entry.result.1 (Some c.args.file) m₃ = record { work = inr (as_written c.place-entry.result.2 (label_of c.identity-identity.result), still.0.work); place = still.1 ∙ c.place-entry.ensures.place } in
+    let place : HasPlace c.place-entry.result.1 (Some c.args.file) m₃ = record { work = inr (as_written c.place-entry.result.2 (label_of c.identity-identity.result), ap alone_in still.0.work); place = still.1 ∙ c.place-entry.ensures.place } in
     record {
       fits = still_pass s _ run (refl, refl)
           (end.table ∙ (c.try_slot.ensures.table ∙ (sought.table ∙ c.sees_file.ensures.table))) end.empty

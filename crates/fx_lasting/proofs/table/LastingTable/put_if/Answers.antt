@@ -1,4 +1,4 @@
-use Rattle.fx_lasting.proofs.Words.{◌-◌, ◌∷◌, inr, refl, sym, ap, ◌∙◌, subst, arith, [], ◌▷◌, Put, numbered, Some, Closed, HasPlace, false, Start}
+use Rattle.fx_lasting.proofs.Words.{alone_in, ◌-◌, ◌∷◌, inr, refl, sym, ap, ◌∙◌, subst, arith, [], ◌▷◌, Put, numbered, Some, Closed, HasPlace, false, Start}
 use Rattle.fx_lasting.proofs.Words.{Work, Runs, rested, full_name_in, count_in, retired_at, opening_of, view_of, pass_of, Adds, no_use, one_number}
 use Rattle.fx_lasting.proofs.Words.{Retired, Placing, label_of, as_written, set}
 use Rattle.fx_table.specs.declared.values.Doing.TheVariants.{Retiring as Retires}
@@ -117,7 +117,7 @@ take_out-requires c =
     record {
       table = c.try_replace.ensures.table ∙ (c.place-entry.ensures.table ∙ (c.see.ensures.table ∙ f.seated.table));
       at = (c.args.pass.now.number, still_at_work f.seated.at run);
-      place = (c.args.file, record { work = inr (as_written c.place-entry.result.2 (label_of c.args.file), run.work); place = failed.2 ∙ c.place-entry.ensures.place });
+      place = (c.args.file, record { work = inr (as_written c.place-entry.result.2 (label_of c.args.file), ap alone_in run.work); place = failed.2 ∙ c.place-entry.ensures.place });
     }
 
 pub returns-in-Err-try_replace : goal.returns-in-Err-try_replace
@@ -139,7 +139,7 @@ returns-in-Err-try_replace c =
     let rests = subst (λ (z : Work). Runs m₃ [] (rested z) m₃.0.glance m₃.0.change 1 m₄) tried.work end.rests in
     let run = at_rest fits (does_then tried rests) in
     let since = does_then (stands_then sought.placed failed.1) rests in
-    let place : HasPlace c.place-entry.result.1 (Some c.args.file) m₃ = record { work = inr (as_written c.place-entry.result.2 (label_of c.args.file), tried.work); place = failed.2 ∙ c.place-entry.ensures.place } in
+    let place : HasPlace c.place-entry.result.1 (Some c.args.file) m₃ = record { work = inr (as_written c.place-entry.result.2 (label_of c.args.file), ap alone_in tried.work); place = failed.2 ∙ c.place-entry.ensures.place } in
     record {
       fits = still_pass s _ run (refl, refl)
           (end.table ∙ (c.try_replace.ensures.table ∙ (sought.table ∙ c.see.ensures.table))) end.empty (refl, λ _. omega (arith, sought.entry, c.args.self.now.key.0))

@@ -1,4 +1,4 @@
-use Rattle.fx_lasting.proofs.Words.{◌∷◌, Closed, inr, refl, ap, ◌∙◌, sym, subst, arith, HasPlace, Some, Work, numbered, Runs, [], rested, no_use}
+use Rattle.fx_lasting.proofs.Words.{alone_in, ◌∷◌, Closed, inr, refl, ap, ◌∙◌, sym, subst, arith, HasPlace, Some, Work, numbered, Runs, [], rested, no_use}
 use Rattle.fx_lasting.proofs.Words.{one_number, Placing, label_of, as_written, ◌<◌, Start, nodes_of}
 use Rattle.fx_lasting.proofs.Running.{still_at_work, does_then}
 use Rattle.fx_lasting.proofs.Passing.{adds_swapped, swapped_pass, swapped_rest, adds_so, at_rest, still_pass, its_place, its_flag, may_install}
@@ -89,7 +89,7 @@ take_out-requires-clause-at c =
 
 pub take_out-requires-clause-place : goal.take_out-requires-clause-place
 take_out-requires-clause-place c = let still = c.scan.ensures.none c.in-None.is in
-    (c.args.file, record { work = inr (as_written c.place-entry.result.2 (label_of c.identity-identity.result), still.0.work); place = still.1 ∙ c.place-entry.ensures.place })
+    (c.args.file, record { work = inr (as_written c.place-entry.result.2 (label_of c.identity-identity.result), ap alone_in still.0.work); place = still.1 ∙ c.place-entry.ensures.place })
 
 pub returns-in-None : goal.returns-in-None
 returns-in-None c =
@@ -102,7 +102,7 @@ returns-in-None c =
     let run = at_rest fits (does_then before (subst (λ (w : Work). Runs m [] (rested w) m.0.glance m.0.change 1 c.take_out.new.seat.me)
     still.0.work c.take_out.ensures.rests)) in
     let place : HasPlace c.place-entry.result.1 (Some c.args.file) c.scan.new.seat.me =
-    record { work = inr (as_written c.place-entry.result.2 (label_of c.identity-identity.result), still.0.work); place = still.1 ∙ c.place-entry.ensures.place } in
+    record { work = inr (as_written c.place-entry.result.2 (label_of c.identity-identity.result), ap alone_in still.0.work); place = still.1 ∙ c.place-entry.ensures.place } in
     record {
       fits = still_pass s _ run (refl, refl)
           (c.take_out.ensures.table ∙ (c.scan.ensures.table ∙ c.place-entry.ensures.table))

@@ -1,0 +1,196 @@
+-- A slot gets the file that a pass places, whether the pass holds the slot's file or nothing.
+use Rattle.fx_lasting.proofs.Words.{IsIn, held_of, hold_word_of, part_of_pass, map, ◌++◌}
+use Rattle.fx_lasting.proofs.slot_lemmas.Swaps.{IsAlike}
+use Rattle.fx_lasting.proofs.slot_lemmas.Watching.{ActsThere}
+use Rattle.fx_lasting.proofs.Histories.{Grows}
+use Rattle.fx_lasting.proofs.Words.{◌≡◌, ◌≢◌, ℕ, ◌+◌, ◌^◌, ◌<◌, List, set, sym, refl, ap, ◌∙◌, subst, arith, Option, Some, None, some}
+use Rattle.fx_lasting.proofs.Words.{get_elem?, false, inl, inr, ◌⊎◌, Closed, File, numbered, Event, Action}
+use Rattle.fx_lasting.proofs.Words.{State, with_removed, changed_at, changed_here, changed_else, pass_event, held_by, Agrees}
+use Rattle.fx_lasting.proofs.Words.{NodeAgrees, OwnerAgrees, IsHistory, state_after_all, slots_of, nodes_of, word_of}
+use Rattle.fx_lasting.proofs.Words.{count_in, file_word_of, taken_of, taking, owed, sum_by, sum_set, Phase, placed, seated}
+use Rattle.fx_lasting.proofs.Words.{removed_in, Change, Stepped}
+use Rattle.fx_lasting.proofs.Words.{account, range_at_start, Outside}
+use Rattle.fx_lasting.proofs.Words.{set_here, set_else, length-set, IsInside, retiring_work, ◌-◌, ◌≤◌, Whereabouts}
+use Rattle.fx_lasting.proofs.Words.{IsInStock, as_stocked, as_swapped, first_log, Log, name_in}
+use Rattle.fx_lasting.proofs.Words.{Labels, Placement, written_in}
+use Rattle.fx_lasting.proofs.Words.{label_of, as_written, most_carried, takes_are_few, name_carried, full_name_carried, entry_carried, takes_carried}
+use Rattle.fx_lasting.proofs.Words.{heat_carried}
+use Rattle.fx_lasting.proofs.node_lemmas.StockMoves.{where_moved, stock_moved, moved_names, moved_slot, moved_stock, moved_stocks, one_entry}
+use Rattle.fx_lasting.proofs.Histories.{each_changed}
+use Rattle.fx_lasting.proofs.Frames.{busy, owner_stays, node_same}
+use Rattle.fx_lasting.proofs.Keeping.{Turn, After, word_at, slot_word, tells_stocked, w, end, Homes, asks_alike, few_slots}
+use Rattle.fx_lasting.proofs.range_lemmas.Groups.{counts_swap, fill_balances, fill_keeps}
+use Rattle.fx_lasting.proofs.Places.{slot_words, slot_here, slot_else, slot_alike}
+use Rattle.fx_lasting.proofs.slot_lemmas.Swaps.{found, old_at, NotOf, not_old, old_named, d, swap_after, Swap, swap_kept}
+use Rattle.fx_lasting.proofs.hold_lemmas.Unheld.{in_phase}
+
+-- The slot gets the file that a pass places, under a number that none had before. What was there is
+-- removed, with the takes of the word `counted`: the one that was there, or that one without the
+-- take of the pass itself.
+module _ (turn : Turn) (s : ℕ) (inside : s < slots_of turn.v.start) (old : Option File) (was : (state_after_all turn.v.start turn.r.history).at s ≡ old)
+    (counted : ℕ) (alike : IsAlike turn s inside counted) (n lost : ℕ) (file : Closed)
+    (its : IsIn turn.v.start turn.r.phase n (placed turn.id (as_written lost (label_of file)))) (its_entry : IsInStock turn.x.stock n)
+    (small : file.entry < 2 ^ 8) (out : turn.v.change ≡ Outside) (number : ℕ) (late : turn.r.next_number ≤ number) (on_n : turn.r.node_of number ≡ n)
+    (h₂ : List Event) where
+  open turn use {st, v, r, id, x, here, one}
+
+  abbrev before : State
+  before = state_after_all v.start r.history
+
+  abbrev new_file : File
+  new_file = numbered number file
+
+  abbrev new_word : ℕ
+  new_word = file_word_of n file.entry + lost
+
+  abbrev homes₁ : Homes
+  homes₁ = set st.homes n (some (Some file))
+
+  abbrev phase₁ : ℕ → Phase
+  phase₁ = changed_at r.phase n (seated s new_file)
+
+  -- the file's node goes from the stock to the slot
+  abbrev where₁ : ℕ → Whereabouts
+  where₁ = where_moved turn s inside n its_entry
+
+  abbrev stock₁ : List ℕ
+  stock₁ = stock_moved turn s inside n its_entry
+
+  abbrev c₂ : Change
+  c₂ = account (range_at_start v.start) s old
+
+  abbrev pub put_after : After turn
+  put_after = swap_after turn s inside old was counted alike h₂ new_word (Some new_file) homes₁ phase₁ (number + 1) c₂ where₁ stock₁
+
+  -- what the events of the step do, and what the pass did before
+  pub record Puts : Type 0 where
+    pub grows : Grows x.number r.history h₂
+    pub legal : IsHistory v.start h₂
+    pub acted : ActsThere x.number s r.history h₂
+    pub holds : ℕ → ℕ
+    pub state : state_after_all v.start h₂ ≡ record before {
+      at = changed_at before.at s (Some new_file);
+      removed = with_removed before.removed old;
+      fresh = changed_at before.fresh number false;
+      holds = holds;
+    }
+    pub held : held_by h₂ x.number ≡ None
+    pub let_go : (m : ℕ) → holds m + held_of m v ≡ before.holds m
+    pub taken : (f : File) → old ≡ Some f → count_in counted + taking (r.node_of f.number) v.work ≡ count_in (found turn s inside)
+    pub untaken : (m : ℕ) → NotOf r.node_of m old → taking m v.work ≡ 0
+    pub works : busy v.work ≡ n + 1
+    pub no_hold : (word_at st.words (hold_word_of v.start x.number) ≡ 0) × (r.debt x.number ≡ 0)
+
+  removed_same : (m : ℕ) → removed_in m (phase₁ (r.node_of m)) ≡ removed_in m (r.phase (r.node_of m))
+  removed_same m = each_changed (λ q z. removed_in m z ≡ removed_in m (r.phase q)) r.phase
+      (λ at. sym (ap (λ (q : ℕ). removed_in m (r.phase q)) at ∙ ap (removed_in m) its.1)) (λ _. refl)
+
+  untaken : (m : ℕ) → taking m (d turn s inside old was counted alike) ≡ 0
+  untaken m = go old
+    where
+      go : (o : Option File) → taking m (retiring_work v.start counted o) ≡ 0
+      go None = refl
+      go (Some f) = refl
+
+  module _ (does : Puts) where
+    there_now : (state_after_all v.start h₂).at s ≡ Some new_file
+    there_now = ap (λ (z : State). z.at s) does.state ∙ changed_here before.at s (Some new_file) s refl
+
+    total_now : (m : ℕ) → NotOf r.node_of m old → sum_by (taken_of m) (set st.views id (w turn put_after)) ≡ sum_by (taken_of m) st.views
+    total_now m apart = let t = sum_set (taken_of m) st.views id v (w turn put_after) here in let b = does.untaken m apart in let c = untaken m in omega arith
+
+    its_apart : NotOf r.node_of n old
+    its_apart = not_old turn s inside old was its.1 (λ g bad. cc bad)
+
+    few_lost : lost ≤ most_carried
+    few_lost = (in_phase turn its.0 its.1).few_lost
+
+    its_count : count_in new_word ≡ lost
+    its_count = takes_carried n file.entry lost few_lost
+
+    abbrev Node₁ : ℕ → Phase → Type 0
+    Node₁ m = NodeAgrees (state_after_all v.start h₂).at (slots_of v.start) (λ i. count_in (slot_word (slot_words turn s inside new_word) i)) r.node_of
+        (number + 1) m (word_at st.words (word_of v.start m)) (sum_by (taken_of m) (set st.views id (w turn put_after)))
+        (owed r.debt v.start.passes m) (get_elem? homes₁ m)
+
+    node_here₁ : Node₁ n (seated s new_file)
+    node_here₁ = let o = in_phase turn its.0 its.1 in let c = o.counts in let u = o.untaken in let t = total_now n its_apart in
+        let z = ap count_in (slot_here turn s inside new_word) in let y = its_count in record {
+          file = record {
+            at_home = set_here st.homes n (some (Some file)) (let a = r.shape.homes in let b = its.0 in omega arith);
+            its_node = on_n;
+            used = omega arith;
+          };
+          counts = omega arith;
+          few = omega arith;
+          unowed = o.unowed;
+          inside = inside;
+          there = there_now;
+        }
+
+    node_else₁ : {m : ℕ} → m < nodes_of v.start → m ≢ n → NotOf r.node_of m old → Node₁ m (r.phase m)
+    node_else₁ {m} l other apart = node_same (slots_of v.start) r.node_of m (omega arith) refl (total_now m apart) refl
+        (set_else st.homes n m (some (Some file)) other) (r.phase m)
+        (λ i f is there. let away : i ≢ s = λ same. apart f (sym was ∙ (ap before.at (sym same) ∙ there)) (sym (in_phase turn l is).file.its_node) in
+        (ap (λ (z : State). z.at i) does.state ∙ changed_else before.at s (Some new_file) i away, ap count_in (slot_else turn s inside new_word i away)))
+        (r.each_node m l)
+
+    installs : Swap turn s inside old was counted alike h₂ new_word (Some new_file) homes₁ phase₁ (number + 1) c₂ where₁ stock₁
+    installs = record {
+      grows = does.grows;
+      legal = does.legal;
+      acted = does.acted;
+      fresh = changed_at before.fresh number false;
+      holds = does.holds;
+      leads = does.state;
+      fresh_on = λ m l. changed_else before.fresh number false m (λ same. omega (arith, l, same)) ∙ r.fresh m (omega (arith, late, l));
+      held = does.held;
+      let_go = does.let_go;
+      taken = does.taken;
+      homes = length-set st.homes n (some (Some file));
+      later = omega (arith, late);
+      removed_else = removed_same;
+      named_new = moved_names turn s inside n its_entry new_word (name_carried n file.entry lost small few_lost);
+      named_else = moved_slot turn s inside n its_entry;
+      stock = moved_stock turn s inside n its_entry;
+      stocks = moved_stocks turn s inside n its_entry;
+      names = (full_name_carried n file.entry lost small few_lost ∙ ap (λ (i : ℕ). i + 1) (sym on_n), entry_carried n file.entry lost small few_lost);
+      few_takes = let a = its_count in let b = takes_are_few v.start.passes lost few_lost in omega arith;
+      no_heat = heat_carried n file.entry lost few_lost;
+      seat = rw on_n (its.0, changed_here r.phase n (seated s new_file) n refl);
+      seat_apart = λ f is. let e : number ≡ f.number = (let z : new_file ≡ f = cc is in ap (λ (y : File). y.number) z) in
+          subst (λ (i : ℕ). NotOf r.node_of (r.node_of i) old) e (rw on_n its_apart);
+      kept = λ m. each_changed (λ m ph. (ph ≡ r.phase m) ⊎ ((l : Placement) × (r.phase m ≡ placed id l))) r.phase
+          (λ same. inr (as_written lost (label_of file), ap r.phase same ∙ its.1)) (λ other. inl refl);
+      labels = λ m l apart. each_changed (λ m ph. Labels v.start st.words m (written_in ph)) r.phase
+          (λ same. subst (λ (i : ℕ). Labels v.start st.words i (label_of file)) (sym same)
+          (subst (λ (ph : Phase). Labels v.start st.words n (written_in ph)) its.1 (r.each_label n its.0))) (λ other. r.each_label m l);
+      nodes = λ m l apart. each_changed Node₁ r.phase (λ same. subst (λ (i : ℕ). Node₁ i (seated s new_file)) (sym same) node_here₁)
+          (λ other. node_else₁ l other apart);
+      old_home = λ f is. set_else st.homes n (r.node_of f.number) (some (Some file)) (λ same. its_apart f is (sym same));
+      owners = λ m l apart. each_changed (OwnerAgrees (set st.views id (w turn put_after))) r.phase (λ same. tt)
+          (λ other. owner_stays st.views id v (w turn put_after) here m (λ bad. let b = does.works in other (omega arith)) (r.phase m) (r.each_owner m l));
+      no_hold = does.no_hold;
+      counts = counts_swap id (w turn put_after) here r.counts s old (Some new_file) (few_slots turn) was (slot_alike turn s inside new_word)
+          (asks_alike turn put_after refl) refl (fill_balances (range_at_start v.start) s old new_file out)
+          (fill_keeps id (w turn put_after) here s old new_file was refl);
+    }
+
+    pub put_agrees : Agrees v.start (end turn put_after)
+    put_agrees = swap_kept turn s inside old was counted alike h₂ new_word (Some new_file) homes₁ phase₁ (number + 1) c₂ where₁ stock₁ installs
+
+    pub put_tells : (xs : List Action) → part_of_pass x.number h₂ ≡ map (pass_event x) xs ++ part_of_pass x.number r.history → (carried homes : List (ℕ × Option Closed)) (e : ℕ) → get_elem? (first_log v.logs).stock e ≡ some n
+        → Stepped (as_swapped e (name_in (found turn s inside) - 1) (v, carried)) xs (retiring_work v.start counted old) v.glance c₂
+        (w turn put_after, homes)
+    put_tells xs own carried homes e is = subst (λ (z : List ℕ × ℕ). Stepped (as_stocked (set z.0 z.1 (name_in (found turn s inside) - 1)) (v, carried)) xs
+        (retiring_work v.start counted old) v.glance c₂ (w turn put_after, homes))
+        (λ i. (sym same_stock i, one_entry turn s inside n its_entry e (ap (λ (l : List ℕ). get_elem? l e) (sym same_stock) ∙ is) i))
+        (tells_stocked turn put_after refl carried homes xs does.grows does.legal own (knows old refl))
+      where
+        same_stock : (first_log v.logs).stock ≡ x.stock
+        same_stock = ap (λ (l : List Log). (first_log l).stock) one
+
+        knows : (o : Option File) → old ≡ o → IsInside v.start (retiring_work v.start counted old)
+        knows None is = subst (λ (o : Option File). IsInside v.start (retiring_work v.start counted o)) (sym is) tt
+        knows (Some f) is = subst (λ (o : Option File). IsInside v.start (retiring_work v.start counted o)) (sym is)
+            (let n = (old_at turn s inside old was is).0 in let e = old_named turn s inside old was is in let same = alike.0 in omega arith)
