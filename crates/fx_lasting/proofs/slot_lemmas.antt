@@ -17,6 +17,8 @@ pub mod Overtaking
 pub mod OvertakenCalls
 pub mod ByNode
 pub mod HeldTries
+pub mod RenewalTries
+pub mod RenewalEnds
 pub mod EmptySlots
 pub mod ByKey
 pub mod KeyLemmas

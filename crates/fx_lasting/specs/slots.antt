@@ -4,6 +4,7 @@ pub mod AtEmpty
 pub mod ByKey
 pub mod ByNode
 pub mod Deeds
+pub mod PutAlone
 pub mod PutSteps
 pub mod SwapSteps
 pub mod Watches

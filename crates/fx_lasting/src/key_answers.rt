@@ -62,6 +62,28 @@ pub struct KeyRemoval {
     pub released: Option<OpenFile>,
 }
 
+/// The change that a replacement by key by one pass made. It must be consumed: the compiler rejects
+/// a program that drops one.
+pub enum PutByKey {
+    /// The slot has the new file. The file of the key is to be retired.
+    Replaced(Retired),
+    /// Nothing was changed. The new file comes back.
+    Missed(KeyFault, OpenFile),
+    /// Nothing was changed: the slot had a file and is hot. The new file comes back. A replacement
+    /// by two passes is to be made.
+    Hot(OpenFile),
+}
+
+/// The result of a replacement by key by one pass. It must be consumed: the compiler rejects a
+/// program that drops one.
+pub struct KeyReplacement {
+    /// The change that was made.
+    pub put: PutByKey,
+    /// A file that the pass's release was the last to use, to be closed. It is `None` if the file
+    /// of the key was replaced.
+    pub released: Option<OpenFile>,
+}
+
 /// The change that a replacement by key made. It must be consumed: the compiler rejects a program
 /// that drops one.
 pub enum PutOverKey {

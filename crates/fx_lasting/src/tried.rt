@@ -1,4 +1,4 @@
-//! The result of one try to install a file at any slot.
+//! The results of one try to install a file at any slot, and of the steps of a replacement by key.
 use fx_base::OpenFile;
 
 /// The result of one try to install a file at an empty slot of the allocation range. It must be
@@ -10,4 +10,24 @@ pub enum TriedPut {
     Full(OpenFile),
     /// Neither was found: other passes were changing the range. The file comes back.
     Again(OpenFile),
+}
+
+// The state of a slot, for a pass that loaded its word to take what a cold slot names.
+pub(crate) enum Aim {
+    // The slot is empty.
+    Empty,
+    // It has a file, and is cold.
+    Cold,
+    // It has a file, and is hot.
+    Hot,
+}
+
+// The hold of a pass that took what the slot of a key names.
+pub(crate) enum Taken {
+    // The file of the key, on this node.
+    Its(u32),
+    // Nothing: the slot is empty.
+    Nothing,
+    // The file of this node, which isn't that of the key.
+    Other(u32),
 }

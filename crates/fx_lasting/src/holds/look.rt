@@ -82,7 +82,7 @@ impl LastingTable {
     }
 
     // Heats the slot if the word that the pass found had its takes, in at most one step.
-    fn heat(&self, seat: &mut Seat<Option<OpenFile>, View>, slot: u32, word: u64)
+    pub(crate) fn heat(&self, seat: &mut Seat<Option<OpenFile>, View>, slot: u32, word: u64)
         requires table { seat.old.table_id ≡ self.now.table.shared.table_id }
         requires at { (number : ℕ) × IsAtWork self.now.table.shared.key number seat.old.me }
         requires listed { IsOnList seat.old.me }

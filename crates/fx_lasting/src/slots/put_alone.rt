@@ -1,0 +1,320 @@
+//! The replacement by key that one pass makes. The pass places the new file, then takes the file at
+//! the slot and compares its number, so no other file is on that node. Its own take ends with the
+//! step that puts the new file there: the retirement counts one take less, and nothing is dropped.
+//! So the pass keeps the old file's node, as after a replacement by slot.
+//!
+//! The file of a hot slot isn't taken. The call leaves it, and a second pass has to hold it during
+//! the replacement (`slots/by_key.rt`).
+ghost use Rattle.std.specs.Prelude.{◌≡◌, ◌≢◌, ℕ, ◌+◌, ◌<◌, ◌≤◌, [], true, false, Some};
+ghost use Rattle.fx_base.specs.declared.open_file.Closed.{Closed};
+ghost use Rattle.fx_plain.specs.declared.event.File.{File};
+ghost use Rattle.fx_table.specs.Calls.{Adds, no_use};
+ghost use Rattle.fx_table.specs.Pass.{IsIdle};
+ghost use Rattle.fx_table.specs.declared.values.Doing.TheVariants.{Idle as DoesNothing};
+ghost use Rattle.fx_lasting.specs.AtWork.{IsAtWork, MayPlace};
+ghost use Rattle.fx_lasting.specs.Effects.{IsOnList};
+ghost use Rattle.fx_lasting.specs.Ends.{LetsFileGo};
+ghost use Rattle.fx_lasting.specs.Fields.{full_name_in};
+ghost use Rattle.fx_lasting.specs.Passes.{held_in};
+ghost use Rattle.fx_lasting.specs.slots.PutAlone.{AimedAt, HoldsBeside, IsBeside, PutsAlone, TriedRenewal, TriedReplaceHeld};
+ghost use Rattle.fx_lasting.specs.Tables.{view_of, meetings, steps_taken, opening_of_table, IsPassOfTable, IsSeatOfTable};
+ghost use Rattle.fx_lasting.specs.declared.view.Change.TheVariants.{Outside};
+ghost use Rattle.fx_lasting.specs.declared.view.Glance.TheVariants.{None as Nothing, Cold};
+ghost use Rattle.fx_lasting.specs.declared.view.Placement.{Placement};
+ghost use Rattle.fx_lasting.specs.declared.view.Work.TheVariants.{Placing, Renewing};
+
+use crate::answers::Miss;
+use crate::fields::{file_node_of, file_word, is_hot_at, list_bit};
+use crate::key::Key;
+use crate::key_answers::{KeyFault, KeyReplacement, PutByKey};
+use crate::kinds::{Aiming, Listing, ReadingNumber, ReplacingHeld, TakingBeside};
+use crate::life::layout::{list_place, slot_place};
+use crate::pass::LastingPass;
+use crate::slots::by_key::fault_of;
+use crate::slots::by_node::{named_by, removed_by};
+use crate::table::LastingTable;
+use crate::tried::{Aim, Taken};
+use crate::view::View;
+use atomic_table::Seat;
+use fx_base::{Closed, OpenFile};
+
+impl LastingTable {
+    /// Installs a file in place of the file of a key, under a number that no file has had
+    /// (io_uring_prep_openat(3), `io_uring_prep_openat_direct`), for an idle pass (`is_idle`) that
+    /// installs files (`numbers_left`). It makes at most 16 atomic steps more than the table has
+    /// passes. The replaced file is the one that the pass found by the key, and is to be retired.
+    /// Otherwise the slot is left as it is, the new file comes back, and the pass is idle again.
+    /// The answer is `Again` only if another pass was at the slot after the look-up. It is `Hot`
+    /// only if the slot had a file at a moment of the call (that the slot is hot then is tested): a
+    /// replacement by two passes ([`LastingTable::put_over_key`]) is to be made.
+    #[inline(always)]
+    pub fn put_key_alone(&self, pass: &mut LastingPass, key: Key, file: OpenFile) -> KeyReplacement
+        requires fits { IsPassOfTable self.now pass.old }
+        requires idle { IsIdle (view_of pass.old) }
+        requires numbers { 0 < (view_of pass.old).numbers_left }
+        ensures fits { IsPassOfTable self.now pass.new }
+        ensures placed { PutsAlone self.now.table.shared.key pass.old key file result.put
+            result.released pass.new }
+        ensures steps { let passes = self.now.passes in
+            steps_taken pass.new ≤ steps_taken pass.old + (passes + 16) }
+    {
+        if self.size <= key.slot {
+            return KeyReplacement {
+                put: PutByKey::Missed(KeyFault::NoSlot, file),
+                released: None,
+            };
+        }
+        self.enlist(pass);
+        match self.aim(&mut pass.seat, key.slot) {
+            Aim::Cold => self.renew(pass, key, file),
+            Aim::Empty => KeyReplacement {
+                put: PutByKey::Missed(KeyFault::Empty, file),
+                released: None,
+            },
+            Aim::Hot => KeyReplacement {
+                put: PutByKey::Hot(file),
+                released: None,
+            },
+        }
+    }
+
+    // Lists an idle pass that isn't listed, in at most one step.
+    #[inline(always)]
+    fn enlist(&self, pass: &mut LastingPass)
+        requires fits { IsPassOfTable self.now pass.old }
+        requires idle { IsIdle (view_of pass.old) }
+        ensures fits { IsPassOfTable self.now pass.new }
+        ensures adds { Adds (opening_of_table self.now) (view_of pass.old) [] DoesNothing no_use
+            (view_of pass.new) }
+        ensures listed { pass.new.listed ≡ true }
+        ensures number { pass.new.number ≡ pass.old.number }
+        ensures steps { steps_taken pass.new ≤ steps_taken pass.old + 1 }
+        ensures met { meetings pass.old ≤ meetings pass.new }
+    {
+        if pass.listed {
+            return;
+        }
+        let shared = &self.table.shared;
+        let place = list_place(pass.number);
+        shared.fetch_add::<Listing>(&mut pass.seat, place, list_bit(pass.number));
+        pass.listed = true;
+    }
+
+    // Loads the slot's word, in one step. What a cold slot names is to be taken.
+    #[inline(always)]
+    fn aim(&self, seat: &mut Seat<Option<OpenFile>, View>, slot: u32) -> Aim
+        requires table { seat.old.table_id ≡ self.now.table.shared.table_id }
+        requires at { (number : ℕ) × IsAtWork self.now.table.shared.key number seat.old.me }
+        requires unheld { held_in seat.old.me.0.work ≡ None }
+        requires nothing { seat.old.me.0.glance ≡ Nothing }
+        requires slot { slot < self.now.size }
+        ensures table { seat.new.table_id ≡ seat.old.table_id }
+        ensures places { seat.new.me.1 ≡ seat.old.me.1 }
+        ensures aimed { AimedAt self.now.table.shared.key slot seat.old.me result seat.new.me }
+    {
+        let word = self.table.shared.load::<Aiming>(seat, slot_place(slot));
+        let Some(node) = file_node_of(word) else {
+            return Aim::Empty;
+        };
+        if is_hot_at(word, node) {
+            Aim::Hot
+        } else {
+            Aim::Cold
+        }
+    }
+
+    // Replaces the file of the key, for an idle listed pass that has aimed at its cold slot, in at
+    // most 14 steps more than the table has passes.
+    #[inline(always)]
+    fn renew(&self, pass: &mut LastingPass, key: Key, file: OpenFile) -> KeyReplacement
+        requires seated { IsSeatOfTable self.now pass.old }
+        requires idle { pass.old.idle ≡ true }
+        requires may { MayPlace pass.old.keeps pass.old.stock.items pass.old.next_entry
+            pass.old.seat.me.0.work }
+        requires listed { IsOnList pass.old.seat.me }
+        requires cold { pass.old.seat.me.0.glance ≡ Cold key.slot }
+        requires slot { key.slot < self.now.size }
+        requires installs { pass.old.number ≤ self.now.installing }
+        ensures fits { IsPassOfTable self.now pass.new }
+        ensures placed { PutsAlone self.now.table.shared.key pass.old key file result.put
+            result.released pass.new }
+        ensures steps { let passes = self.now.passes in
+            steps_taken pass.new ≤ steps_taken pass.old + (passes + 14) }
+        ensures met { meetings pass.old ≤ meetings pass.new }
+    {
+        let stock = pass.stock.as_slice();
+        let start = pass.next_entry;
+        let identity = file.identity();
+        let seat = &mut pass.seat;
+        let (entry, own, lost) = self.place(seat, pass.number, stock, start, pass.keeps, file);
+        pass.next_entry = entry;
+        pass.keeps = false;
+        let node = match self.hold_beside(&mut pass.seat, key, own) {
+            Taken::Its(node) => node,
+            Taken::Nothing => {
+                let file = self.take_out(&mut pass.seat, own);
+                return KeyReplacement {
+                    put: PutByKey::Missed(KeyFault::Empty, file),
+                    released: None,
+                };
+            }
+            Taken::Other(node) => {
+                let (file, released) = self.unplace(&mut pass.seat, own, node);
+                return KeyReplacement {
+                    put: PutByKey::Missed(KeyFault::Other, file),
+                    released,
+                };
+            }
+        };
+        match self.try_renewal(&mut pass.seat, key.slot, node, own, lost, identity) {
+            Ok(found) => {
+                pass.stock[entry as usize] = node;
+                pass.next_visit = self.first_visit(found);
+                pass.idle = false;
+                KeyReplacement {
+                    put: PutByKey::Replaced(removed_by(found, node)),
+                    released: None,
+                }
+            }
+            Err(miss) => {
+                let (file, released) = self.unplace(&mut pass.seat, own, node);
+                KeyReplacement {
+                    put: PutByKey::Missed(fault_of(miss), file),
+                    released,
+                }
+            }
+        }
+    }
+
+    // Takes what the slot of the key names, beside the file that the pass has placed on its own
+    // node, and compares its number, in at most three steps. Returns what it holds.
+    #[inline(always)]
+    fn hold_beside(&self, seat: &mut Seat<Option<OpenFile>, View>, key: Key, own: u32) -> Taken
+        requires table { seat.old.table_id ≡ self.now.table.shared.table_id }
+        requires at { (number : ℕ) × IsAtWork self.now.table.shared.key number seat.old.me }
+        requires listed { IsOnList seat.old.me }
+        requires placing { (placement : Placement) × (seat.old.me.0.work ≡ Placing own placement) }
+        requires cold { seat.old.me.0.glance ≡ Cold key.slot }
+        requires slot { key.slot < self.now.size }
+        ensures table { seat.new.table_id ≡ seat.old.table_id }
+        ensures places { seat.new.me.1 ≡ seat.old.me.1 }
+        ensures holds { (placement : Placement) → seat.old.me.0.work ≡ Placing own placement
+            → HoldsBeside self.now.table.shared.key key own placement seat.old.me result
+            seat.new.me }
+    {
+        let shared = &self.table.shared;
+        let word = shared.fetch_add::<TakingBeside>(seat, slot_place(key.slot), 1);
+        self.heat(seat, key.slot, word);
+        let Some(node) = file_node_of(word) else {
+            return Taken::Nothing;
+        };
+        let place = self.number_place(node);
+        let number = shared.load::<ReadingNumber>(seat, place);
+        if names(key, number) {
+            Taken::Its(node)
+        } else {
+            Taken::Other(node)
+        }
+    }
+
+    // Puts the file that the pass places on its own node at the slot while the slot's word names
+    // the other node, whose file the pass holds by a take, in at most five steps. The hold ends
+    // then. Returns the word that it found, without the pass's own take.
+    #[inline(always)]
+    fn try_renewal(
+        &self,
+        seat: &mut Seat<Option<OpenFile>, View>,
+        slot: u32,
+        node: u32,
+        own: u32,
+        lost: u64,
+        file: Closed,
+    ) -> Result<u64, Miss>
+        requires table { seat.old.table_id ≡ self.now.table.shared.table_id }
+        requires at { (number : ℕ) × IsAtWork self.now.table.shared.key number seat.old.me }
+        requires beside { IsBeside node own lost file seat.old.me }
+        requires slot { slot < self.now.size }
+        requires change { seat.old.me.0.change ≡ Outside }
+        ensures table { seat.new.table_id ≡ seat.old.table_id }
+        ensures tried { TriedRenewal self.now.table.shared.key slot node own file seat.old.me result
+            seat.new.me }
+    {
+        let word = match self.see(seat, slot, node) {
+            Ok(word) => word,
+            Err(miss) => return Err(miss),
+        };
+        self.try_replace_held(seat, slot, node, word, own, lost, file)
+    }
+
+    // Puts the file there as `try_renewal` does, from a word that it saw, in at most four steps.
+    #[inline(always)]
+    fn try_replace_held(
+        &self,
+        seat: &mut Seat<Option<OpenFile>, View>,
+        slot: u32,
+        node: u32,
+        word: u64,
+        own: u32,
+        lost: u64,
+        file: Closed,
+    ) -> Result<u64, Miss>
+        requires table { seat.old.table_id ≡ self.now.table.shared.table_id }
+        requires at { (number : ℕ) × IsAtWork self.now.table.shared.key number seat.old.me }
+        requires beside { IsBeside node own lost file seat.old.me }
+        requires slot { slot < self.now.size }
+        requires change { seat.old.me.0.change ≡ Outside }
+        requires named { full_name_in word ≡ node + 1 }
+        ensures table { seat.new.table_id ≡ seat.old.table_id }
+        ensures tried { TriedReplaceHeld self.now.table.shared.key slot node own file seat.old.me
+            result seat.new.me }
+    {
+        let shared = &self.table.shared;
+        let place = slot_place(slot);
+        let new = file_word(own, file.entry) + lost;
+        let mut expected = word;
+        for _ in 0..4u32 {
+            let seen = shared.compare_exchange::<ReplacingHeld>(seat, place, expected, new);
+            if seen == expected {
+                return Ok(seen - 1);
+            }
+            match named_by(seen, node) {
+                Ok(again) => expected = again,
+                Err(miss) => return Err(miss),
+            }
+        }
+        Err(Miss::Again)
+    }
+
+    // Takes the file that the pass places out of its own node's place, and releases the file of the
+    // other node, which the pass holds by a take, in at most three steps. Returns both files; the
+    // released one if it was retired and no other pass uses it.
+    #[inline(never)]
+    fn unplace(
+        &self,
+        seat: &mut Seat<Option<OpenFile>, View>,
+        own: u32,
+        node: u32,
+    ) -> (OpenFile, Option<OpenFile>)
+        requires table { seat.old.table_id ≡ self.now.table.shared.table_id }
+        requires at { (number : ℕ) × IsAtWork self.now.table.shared.key number seat.old.me }
+        requires beside { (lost : ℕ) × (file : Closed) × IsBeside node own lost file seat.old.me }
+        ensures table { seat.new.table_id ≡ seat.old.table_id }
+        ensures file { (lost : ℕ) → (file : Closed) → IsBeside node own lost file seat.old.me
+            → result.0 ≡ file }
+        ensures released { (f : File) → held_in seat.old.me.0.work ≡ Some f
+            → LetsFileGo seat.old.me f 3 result.1 seat.new.me }
+        ensures places { seat.new.me.1 ≡ [] }
+    {
+        let file = self.take_out(seat, own);
+        let released = self.let_go(seat, node);
+        (file, released)
+    }
+}
+
+// Returns whether the key names a file with this number.
+fn names(key: Key, number: u64) -> bool
+    ensures yes { result ≡ true → (key.number ≢ 0) × (number ≡ key.number) }
+    ensures no { result ≡ false → key.number ≢ 0 → number ≢ key.number }
+{
+    key.number == number && number != 0
+}
