@@ -1,6 +1,6 @@
 -- The workers of a new table: a pass of the table for each, in their order, and a second pass for
 -- each of the first ones.
-use Rattle.std.proofs.Common.{◌≡◌, ℕ, zero, suc, ◌+◌, ◌-◌, arith, length-append, List, [], ◌∷◌, ◌++◌, All, MatchOption, Option, Some, None, ap, subst, slice_index_or, refl, sym, ◌∙◌, length, map, reverse, take, drop}
+use Rattle.std.proofs.Common.{◌≡◌, ℕ, zero, suc, ◌+◌, arith, length-append, List, [], ◌∷◌, ◌++◌, All, MatchOption, Option, Some, None, ap, subst, slice_index_or, refl, sym, ◌∙◌, length, map, reverse, take, drop}
 use Rattle.std.proofs.lemmas.List.{map-append, append_assoc, reverse-append, length-map, length-drop, length-take, take-append-drop}
 use Rattle.std.proofs.lemmas.List.Elements.{All-cons, All-drop, All-head, All-map, All-nil, All-push, All-same, All-tail, All-take, All-weaker}
 use Rattle.std.specs.Option.{option_to_list}
@@ -14,8 +14,7 @@ use Rattle.fx_lasting.specs.Tables.{IsPassOfTable, first_passes, opening_of_tabl
 use Rattle.fx_lasting.specs.declared.pass.LastingPass.{LastingPass}
 use Rattle.fx_lasting.specs.declared.table.LastingTable.{LastingTable}
 use Rattle.std.specs.List.{range_with_len}
-use Rattle.fx_server.specs.FileNumbers.{first_numbers, numbers_of_all}
-use Rattle.fx_server.specs.declared.file_numbers.FileNumbers.{FileNumbers}
+use Rattle.fx_server.specs.FileNumbers.{numbers_of_all}
 use Rattle.fx_server.specs.Opened.{AreDealt, AreOpened, holder_at, holders_of_all, workers_in}
 use Rattle.fx_server.specs.Workers.{DoesAsHeld, HolderIsIdle, IsGood, its_pass, its_table}
 use Rattle.fx_server.specs.declared.shared.Shared.{Shared}

@@ -1,12 +1,13 @@
 -- Each call installs files with the worker's own numbers, each for one file.
-use Rattle.std.proofs.Common.{◌≡◌, ◌≢◌, ◌⊎◌, inl, inr, ℕ, ℤ, suc, ◌<◌, ◌≤◌, ◌++◌, List, [], ◌∷◌, map, Option, Some, None, Result, Ok, Err, refl, sym, ap, subst, ◌∙◌, arith}
+use Rattle.std.proofs.Common.{◌≡◌, ◌≢◌, ◌⊎◌, inl, inr, ℕ, suc, ◌≤◌, List, [], ◌∷◌, map, Option, Some, None, Result, Ok, Err, refl, sym, ap, subst, ◌∙◌, arith}
 use Rattle.fx_base.specs.Identity.{Identity}
 use Rattle.fx_plain.specs.History.{◌▷◌, ◌▷▷◌}
 use Rattle.fx_plain.specs.Laws.{IsInstalled, installed_by}
 use Rattle.fx_plain.specs.declared.event.Action.{Action}
 use Rattle.fx_plain.specs.declared.event.Event.{Event}
 use Rattle.fx_plain.specs.declared.event.File.{File}
-use Rattle.fx_table.specs.Calls.{Adds, LookedUp, PlacedFile, ReleasesFile, Use}
+use Rattle.fx_plain.specs.declared.event.Action.TheVariants.{Release}
+use Rattle.fx_table.specs.Calls.{Adds, LookedUp, ReleasesFile, Use}
 use Rattle.fx_table.specs.Opening.{Opening}
 use Rattle.fx_table.specs.Pass.{PassView, event_of}
 use Rattle.fx_table.specs.declared.values.Doing.{Doing}
@@ -16,16 +17,15 @@ use Rattle.fx_table.specs.declared.values.LookFault.TheVariants.{Empty as EmptyS
 use Rattle.fx_table.specs.declared.values.Retired.{Retired}
 use Rattle.fx_lasting.specs.slots.ByKey.{FailsByKey, HeldByKey, LookedByKey}
 use Rattle.fx_lasting.specs.nodes.Labels.{number_of_mark}
-use Rattle.fx_lasting.specs.Tables.{opening_of, view_of}
+use Rattle.fx_lasting.specs.Tables.{opening_of}
 use Rattle.fx_lasting.specs.declared.key.Key.{Key}
 use Rattle.fx_lasting.specs.declared.key_answers.KeyFault.{KeyFault}
 use Rattle.fx_lasting.specs.declared.key_answers.KeyFault.TheVariants as fault
 use Rattle.fx_lasting.specs.declared.life.layout.TheConstants.{MOST_INSTALLING}
-use Rattle.fx_lasting.specs.declared.pass.LastingPass.{LastingPass}
 use Rattle.fx_lasting.specs.declared.view.Start.{Start}
-use Rattle.fx_server.specs.FileNumbers.{after_draw, after_draws, after_keep, first_numbers, number_drawn, without_kept}
+use Rattle.fx_server.specs.FileNumbers.{after_draw, after_keep, number_drawn, without_kept}
 use Rattle.fx_server.specs.Files.{file_with}
-use Rattle.fx_server.specs.FilesNumbers.{DrawsItsNumbers, HaveDrawnNumbers, InstallsNothing, KeepsItsNumbers, WasDrawn, number_of_file}
+use Rattle.fx_server.specs.FilesNumbers.{DrawsItsNumbers, InstallsNothing, WasDrawn, number_of_file}
 use Rattle.fx_server.specs.Workers.{RetiresAs, its_pass}
 use Rattle.fx_server.specs.declared.answers.Removal.{Removal}
 use Rattle.fx_server.specs.declared.answers.Removal.TheVariants.{Closed, InUse, Nothing}
@@ -65,6 +65,22 @@ same_none v w same f it = subst (λ (p : PassView). IsInstalled p.own f) same it
 
 pub both_none : (a b c : List Event) → AddsNone a b → AddsNone b c → AddsNone a c
 both_none a b c one two f it = one f (two f it)
+
+pub none_then : (a b c : List Event) (new : File) → AddsNone a b → AddsOne b c new → AddsOne a c new
+none_then a b c new one two f it = elim (two f it) [
+  | inl was ↦ inl (one f was)
+  | inr is ↦ inr is
+]
+
+-- a release, and an installation after it
+pub added_after : (o : Opening) (v : PassView) (g : File) (a : Action) (doing : Doing) (use' : Use) (w : PassView) (new : File) → Adds o v ([] ▷ Release g ▷ a) doing use' w
+    → installed_by a ≡ Some new → AddsOne v.own w.own new
+added_after o v g a doing use' w new adds is f it = step (subst (λ (own : List Event). IsInstalled own f) adds.own it)
+  where
+    step : IsInstalled (v.own ▷ event_of v (Release g) ▷ event_of v a) f → IsInstalled v.own f ⊎ (f ≡ new)
+    step (inl (inl was)) = inl was
+    step (inl (inr bad)) = let none : None ≡ Some f = bad in cc
+    step (inr its) = let e : Some f ≡ Some new = sym its ∙ is in inr cc
 
 pub one_then : (a b c : List Event) (new : File) → AddsOne a b new → AddsNone b c → AddsOne a c new
 one_then a b c new one two f it = one f (two f it)

@@ -1,8 +1,7 @@
 -- A removal or a replacement by key that is done has made the event that ends the key.
-use Rattle.std.proofs.Common.{◌≡◌, inl, inr, ℕ, ℤ, ◌++◌, List, [], ◌∷◌, map, Option, Some, None, Ok, Result, refl, sym, ap, subst, ◌∙◌}
+use Rattle.std.proofs.Common.{◌≡◌, inl, inr, ℕ, ◌++◌, List, [], ◌∷◌, map, Option, Some, None, Ok, Result, refl, sym, ap, subst, ◌∙◌}
 use Rattle.fx_base.specs.Identity.{Identity}
 use Rattle.fx_plain.specs.History.{◌▷◌, ◌▷▷◌}
-use Rattle.fx_plain.specs.declared.event.Action.{Action}
 use Rattle.fx_plain.specs.declared.event.Action.TheVariants.{Close, Look, Put, Release, Take}
 use Rattle.fx_plain.specs.declared.event.Event.{Event}
 use Rattle.fx_plain.specs.declared.event.File.{File}
@@ -11,17 +10,17 @@ use Rattle.fx_table.specs.Opening.{Opening}
 use Rattle.fx_table.specs.declared.values.Hold.{Hold}
 use Rattle.fx_lasting.specs.Tables.{opening_of, view_of}
 use Rattle.fx_lasting.specs.declared.key_answers.TakenByKey.TheVariants.{Hot}
+use Rattle.fx_lasting.specs.declared.key_answers.PutByKey.TheVariants.{Hot as IsHot}
+use Rattle.fx_server.specs.Files.{file_with}
 use Rattle.fx_lasting.specs.declared.pass.LastingPass.{LastingPass}
 use Rattle.fx_table.proofs.Words.{append_assoc}
 use Rattle.fx_table.specs.Pass.{PassView, event_of}
 use Rattle.fx_table.specs.declared.values.Retired.{Retired}
 use Rattle.fx_lasting.specs.slots.ByKey.{IsKeyOf}
 use Rattle.fx_lasting.specs.declared.key.Key.{Key}
-use Rattle.fx_server.specs.Answers.{RemovesAs, ReplacesAs}
-use Rattle.fx_server.specs.ByKey.{RemovesByKey, ReplacesByKeyNext, ReplacesFileOf, TakesKeyAlone}
-use Rattle.fx_server.specs.EndsOfKeys.{DoneRemovalsEndKeys, DoneReplacementsEndKeys, EndsKey, HasEnded, file_leaving}
+use Rattle.fx_server.specs.ByKey.{PutsKeyAlone, RemovesByKey, ReplacesByKey, ReplacesByKeyNext, TakesKeyAlone}
+use Rattle.fx_server.specs.EndsOfKeys.{DoneRemovalsEndKeys, DoneReplacementsEndKeys, HasEnded, file_leaving}
 use Rattle.fx_server.specs.Workers.{RetiresAs, its_opening, its_pass, its_start}
-use Rattle.fx_server.specs.declared.answers.CoreOutcome.{CoreOutcome}
 use Rattle.fx_server.specs.declared.answers.Placed.{Placed}
 use Rattle.fx_server.specs.declared.answers.Removal.{Removal}
 use Rattle.fx_server.specs.declared.answers.Removal.TheVariants.{Closed, InUse, Nothing}
@@ -93,11 +92,22 @@ removal_ends w w' key removal freed released (inr it) =
     ended w w' key (event_of (view_of it.hot) (Take key.slot (Some taken.holder.file))) grown.earlier taken.holder.file it.both.between it.both.retired removal
     grown.number refl taken.holder.its_key (taken.adds.own ∙ ap (λ (own : List Event). own ▷ event_of (view_of it.hot) (Take key.slot (Some taken.holder.file))) grown.own) it.both.retires
 
-replacement_ends : (w w' : TableWorker) (key : Key) (tag number : ℕ) (removal : Removal) (freed released : Option ℕ) → ReplacesFileOf w key tag number removal freed released w'
-    → HasEnded key w w'
-replacement_ends w w' key tag number removal freed released it =
-    let placed = it.puts.placed in
-    ended w w' key (event_of (its_pass w) (Put key.slot placed.new (Some placed.holder.file))) [] placed.holder.file it.between it.retired removal refl refl placed.holder.its_key placed.adds.own it.retires
+-- the pass found the slot hot, and left it as it was
+grown_full : (w : TableWorker) (key : Key) (file : Identity) (hot : LastingPass) → PutsKeyAlone w key file (IsHot file) None None hot → Grown (its_pass w) (view_of hot)
+grown_full w key file hot found = let adds = found.puts.1.adds in record { earlier = []; own = adds.own; number = adds.number }
+
+replacement_ends : (w w' : TableWorker) (key : Key) (tag number : ℕ) (removal : Removal) (freed released : Option ℕ)
+    → ReplacesByKey w key tag number (Ok removal) freed released w' → HasEnded key w w'
+replacement_ends w w' key tag number removal freed released (inl it) =
+    let r = it.puts.puts in
+    let look = grown_look (opening_of (its_start w)) (its_pass w) r.between key.slot r.hold None r.held.looked in
+    ended w w' key (event_of r.between (Put key.slot r.new (Some r.old))) (look.earlier ▷ event_of r.between (Release r.old)) r.old (view_of it.between) it.retired removal
+    look.number refl r.its_key (r.adds.own ∙ ap (λ (own : List Event). own ▷ event_of r.between (Release r.old) ▷ event_of r.between (Put key.slot r.new (Some r.old))) look.own) it.retires
+replacement_ends w w' key tag number removal freed released (inr it) =
+    let placed = it.both.puts.placed in
+    let grown = grown_full w key (file_with tag number) it.hot it.found in
+    ended w w' key (event_of (view_of it.hot) (Put key.slot placed.new (Some placed.holder.file))) grown.earlier placed.holder.file it.both.between it.both.retired removal
+    grown.number refl placed.holder.its_key (placed.adds.own ∙ ap (λ (own : List Event). own ▷ event_of (view_of it.hot) (Put key.slot placed.new (Some placed.holder.file))) grown.own) it.both.retires
 
 pub done_removals : DoneRemovalsEndKeys
 done_removals w w' key answer out removal done is =

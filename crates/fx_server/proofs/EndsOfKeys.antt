@@ -1,6 +1,6 @@
 -- A file that was removed is at no slot again, and so a key ends once.
-use Rattle.std.proofs.Common.{◌≡◌, ◌≢◌, ◌==◌, ◌⊎◌, inl, inr, ℕ, ℤ, ◌<◌, ◌++◌, List, [], ◌∷◌, map, Bool, true, false, Option, Some, None, Ok, Result, refl, sym, ap, subst, ◌∙◌, arith}
-use Rattle.fx_plain.specs.History.{◌▷◌, ◌▷▷◌, AllowsAll, IsLegal, action_of, state_after}
+use Rattle.std.proofs.Common.{◌≡◌, ◌≢◌, ◌⊎◌, inl, inr, ℕ, ◌<◌, ◌++◌, List, [], ◌∷◌, map, true, false, Option, Some, None, refl, sym, ap, ◌∙◌, arith}
+use Rattle.fx_plain.specs.History.{AllowsAll, action_of, state_after}
 use Rattle.fx_plain.specs.Laws.{IsInstalled, IsStart, installed_by}
 use Rattle.fx_plain.specs.State.{State}
 use Rattle.fx_plain.specs.Step.{Allows, after, changed_at}
@@ -8,7 +8,7 @@ use Rattle.fx_plain.specs.declared.event.Action.{Action}
 use Rattle.fx_plain.specs.declared.event.Action.TheVariants.{Allocate, Clear, Close, Full, Look, Put, Release, Take}
 use Rattle.fx_plain.specs.declared.event.Event.{Event}
 use Rattle.fx_plain.specs.declared.event.File.{File}
-use Rattle.fx_server.specs.EndsOfKeys.{EndsKey, HaveTheirOwnKeys, KeysEndOnce, file_leaving}
+use Rattle.fx_server.specs.EndsOfKeys.{KeysEndOnce, file_leaving}
 
 -- each file at a slot has a number that no other slot's file has, and that no new file gets
 pub record AreApart (st : State) : Type 0 where

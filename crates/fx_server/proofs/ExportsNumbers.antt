@@ -1,12 +1,11 @@
 -- Each export keeps the numbers of its worker's files.
-use Rattle.std.proofs.Common.{◌≡◌, ◌⊎◌, inl, inr, ℕ, ℤ, ◌++◌, List, [], ◌∷◌, Option, Some, None, Result, Ok, Err, refl, sym, ap, subst, ◌∙◌}
+use Rattle.std.proofs.Common.{◌≡◌, inl, inr, ℕ, List, Option, Some, None, Result, Ok, Err, refl, sym, ap, subst, ◌∙◌}
 use Rattle.fx_base.specs.Identity.{Identity}
-use Rattle.fx_plain.specs.History.{◌▷◌}
 use Rattle.fx_plain.specs.Laws.{IsInstalled}
 use Rattle.fx_plain.specs.declared.event.Action.TheVariants.{Allocate, Put}
 use Rattle.fx_plain.specs.declared.event.Event.{Event}
 use Rattle.fx_plain.specs.declared.event.File.{File}
-use Rattle.fx_table.specs.Calls.{Placed as PlacedAtSlot, PlacedFile, Taken}
+use Rattle.fx_table.specs.Calls.{PlacedFile}
 use Rattle.fx_table.specs.Opening.{Opening}
 use Rattle.fx_table.specs.Pass.{PassView}
 use Rattle.fx_table.specs.declared.values.Hold.{Hold}
@@ -17,17 +16,15 @@ use Rattle.fx_lasting.specs.declared.key.Key.{Key}
 use Rattle.fx_lasting.specs.declared.key_answers.KeyFault.{KeyFault}
 use Rattle.fx_lasting.specs.declared.key_answers.KeyFault.TheVariants as fault
 use Rattle.fx_lasting.specs.slots.Alone.{TakesAlone}
-use Rattle.fx_lasting.specs.declared.key_answers.TakenByKey.{TakenByKey}
 use Rattle.fx_lasting.specs.declared.key_answers.TakenByKey.TheVariants.{Hot, Missed as Failed}
+use Rattle.fx_lasting.specs.declared.key_answers.PutByKey.TheVariants.{Hot as IsHot}
 use Rattle.fx_lasting.specs.declared.pass.LastingPass.{LastingPass}
 use Rattle.fx_lasting.specs.declared.view.Start.{Start}
-use Rattle.fx_server.specs.Answers.{FindsAs, GetsAs, GetsAtAs, InsertsAs, PutsEmptyAs, ReleasesAs, RemovesAs, RemovesAtAs, ReplacesAs, ReplacesAtAs, StaysInTable}
-use Rattle.fx_server.specs.ByKey.{FindsByKey, HasHolder, LeavesAlone, LooksKey, PutsNoKey, RemovesByKey, RemovesByOne, RemovesByTwo, RemovesHot, RemovesNoKey, RemovesNone, ReplacesByKey, ReplacesByKeyNext, TakesKeyAlone, key_refusal}
+use Rattle.fx_server.specs.ByKey.{PutsKeyAlone, ReplacesByTwo, ReplacesFileOf, ReplacesNone, FindsByKey, HasHolder, LooksKey, PutsNoKey, RemovesByKey, RemovesByOne, RemovesByTwo, RemovesNoKey, RemovesNone, ReplacesByKey, ReplacesByKeyNext, TakesKeyAlone, key_refusal}
 use Rattle.fx_server.specs.Files.{file_with}
-use Rattle.fx_server.specs.FilesNumbers.{DrawsItsNumbers, ExportsKeepNumbers, InstallsNothing, KeepsItsNumbers}
+use Rattle.fx_server.specs.FilesNumbers.{ExportsKeepNumbers, InstallsNothing, KeepsItsNumbers, number_of_file}
 use Rattle.fx_server.specs.Installing.{FindsNext, PutsAnyNext, PutsEmptyKept, PutsNext, having_spent}
-use Rattle.fx_server.specs.Workers.{Finds, FindsSlot, LooksAt, PutsAny, PutsEmpty, Puts, ReleasesHeld, RemovesFrom, RetiresAny, RetiresAs, hold_in, its_opening, its_pass, its_start}
-use Rattle.fx_server.specs.declared.answers.CoreOutcome.{CoreOutcome}
+use Rattle.fx_server.specs.Workers.{Finds, FindsSlot, PutsAny, PutsEmpty, Puts, ReleasesHeld, RemovesFrom, RetiresAny, hold_in, its_opening, its_pass, its_start}
 use Rattle.fx_server.specs.declared.answers.FoundFile.{FoundFile}
 use Rattle.fx_server.specs.declared.answers.Placed.{Placed}
 use Rattle.fx_server.specs.declared.answers.PlacedAt.{PlacedAt}
@@ -35,7 +32,7 @@ use Rattle.fx_server.specs.declared.answers.Removal.{Removal}
 use Rattle.fx_server.specs.declared.answers.ServerRefusal.{ServerRefusal}
 use Rattle.fx_server.specs.declared.answers.ServerRefusal.TheVariants.{Again, BadArgument, Busy, Empty, Full as NoFree, Idle, NoMemory, NoSlot, Reader, Stale}
 use Rattle.fx_server.specs.declared.worker.TableWorker.{TableWorker}
-use Rattle.fx_server.proofs.DrawnByCalls.{AddsNone, AddsOne, added_none, added_one, both_none, fails_none, held_none, installs, installs_kept, keeps, key_none, looked_none, number_of_new, one_then, released_none, retired_none, same_none, spends, stays}
+use Rattle.fx_server.proofs.DrawnByCalls.{AddsNone, AddsOne, added_after, added_none, added_one, none_then, both_none, fails_none, held_none, installs, installs_kept, keeps, key_none, looked_none, number_of_new, one_then, released_none, retired_none, same_none, spends, stays}
 
 -- the events of a worker's own pass
 abbrev its : TableWorker → List Event
@@ -140,20 +137,6 @@ replace_fails w w' key tag number why freed released (puts, tries) =
     let both = fails_none (its_start w) (view_of puts.holder.before) (its_pass w) key why puts.out puts.back (view_of puts.holder.after) (its_pass w') puts.placed.1 in
     record { none = both.1; holder = holder_more w w' puts.holder both.0 }
 
-replace_unchanged : (w w' : TableWorker) (key : Key) (tag number : ℕ) (reason : ServerRefusal) (freed released : Option ℕ) → ReplacesByKey w key tag number (Err reason) freed released w'
-    → Unchanged w w'
-replace_unchanged w w' key tag number NoSlot freed released it = replace_fails w w' key tag number fault.NoSlot freed released it
-replace_unchanged w w' key tag number Empty freed released it = replace_fails w w' key tag number fault.Empty freed released it
-replace_unchanged w w' key tag number Stale freed released it = replace_fails w w' key tag number fault.Other freed released it
-replace_unchanged w w' key tag number Again freed released it = replace_fails w w' key tag number fault.Again freed released it
-replace_unchanged w w' key tag number Busy freed released it = as_it_was w w' it.2.1
-replace_unchanged w w' key tag number Reader freed released (f, r, inl (none, is)) = as_it_was w w' is
-replace_unchanged w w' key tag number Reader freed released (f, r, inr (none, is)) = as_it_was w w' is
-replace_unchanged w w' key tag number Idle freed released it = absurd it
-replace_unchanged w w' key tag number NoFree freed released it = absurd it
-replace_unchanged w w' key tag number BadArgument freed released it = absurd it
-replace_unchanged w w' key tag number NoMemory freed released it = absurd it
-
 remove_fails : (w w' : TableWorker) (key : Key) (why : KeyFault) (freed released : Option ℕ) → RemovesNoKey w key why freed released w' → Unchanged w w'
 remove_fails w w' key why freed released (takes, tries) =
     let both = fails_none (its_start w) (view_of takes.holder.before) (its_pass w) key why takes.out takes.back (view_of takes.holder.after) (its_pass w') takes.taken in
@@ -221,6 +204,74 @@ remove_unchanged w w' key (Err NoFree) freed released it = absurd it
 remove_unchanged w w' key (Err BadArgument) freed released it = absurd it
 remove_unchanged w w' key (Err NoMemory) freed released it = absurd it
 
+two_keep : (w w' : TableWorker) (key : Key) (tag number : ℕ) (why : KeyFault) (freed released : Option ℕ)
+    → ReplacesByTwo w key tag number (Err (key_refusal why)) freed released w' → Unchanged w w'
+two_keep w w' key tag number fault.NoSlot freed released it = replace_fails w w' key tag number fault.NoSlot freed released it
+two_keep w w' key tag number fault.Empty freed released it = replace_fails w w' key tag number fault.Empty freed released it
+two_keep w w' key tag number fault.Other freed released it = replace_fails w w' key tag number fault.Other freed released it
+two_keep w w' key tag number fault.Again freed released it = replace_fails w w' key tag number fault.Again freed released it
+
+-- a pass that found the slot hot
+full_none : (w : TableWorker) (key : Key) (file : Identity) (hot : LastingPass) → PutsKeyAlone w key file (IsHot file) None None hot → AddsNone (its w) (view_of hot).own
+full_none w key file hot found = added_none (opening_of (its_start w)) (its_pass w) _ _ _ (view_of hot) found.puts.1.adds tt
+
+none_replaced : (w w' : TableWorker) (key : Key) (tag number : ℕ) (why : KeyFault) (freed released : Option ℕ) → ReplacesNone w key tag number why freed released w' → Unchanged w w'
+none_replaced w w' key tag number why freed released (inl it) =
+    record { none = alone_none (its_start w) w.pass key why None it.puts.back w'.pass it.puts.puts.1; holder = holder_same w w' it.holder }
+none_replaced w w' key tag number why freed released (inr it) =
+    let un = two_keep (record w { pass = it.hot }) w' key tag number why freed released it.both in
+    record { none = both_none (its w) (view_of it.hot).own (its w') (full_none w key (file_with tag number) it.hot it.found) un.none; holder = un.holder }
+
+replace_unchanged : (w w' : TableWorker) (key : Key) (tag number : ℕ) (reason : ServerRefusal) (freed released : Option ℕ) → ReplacesByKey w key tag number (Err reason) freed released w'
+    → Unchanged w w'
+replace_unchanged w w' key tag number NoSlot freed released it = none_replaced w w' key tag number fault.NoSlot freed released it
+replace_unchanged w w' key tag number Empty freed released it = none_replaced w w' key tag number fault.Empty freed released it
+replace_unchanged w w' key tag number Stale freed released it = none_replaced w w' key tag number fault.Other freed released it
+replace_unchanged w w' key tag number Again freed released it = none_replaced w w' key tag number fault.Again freed released it
+replace_unchanged w w' key tag number Busy freed released it = as_it_was w w' it.2.1
+replace_unchanged w w' key tag number Reader freed released (f, r, inl (none, is)) = as_it_was w w' is
+replace_unchanged w w' key tag number Reader freed released (f, r, inr (none, is)) = as_it_was w w' is
+replace_unchanged w w' key tag number Idle freed released it = absurd it
+replace_unchanged w w' key tag number NoFree freed released it = absurd it
+replace_unchanged w w' key tag number BadArgument freed released it = absurd it
+replace_unchanged w w' key tag number NoMemory freed released it = absurd it
+
+-- a replacement makes one file
+record Renewed (w w' : TableWorker) (tag number : ℕ) : Type 0 where
+  new : File
+  one : AddsOne (its w) (its w') new
+  its_number : number_of_file new ≡ number
+  holder : InstallsNothing w.holder → InstallsNothing w'.holder
+
+two_replaces : (w w' : TableWorker) (key : Key) (tag number : ℕ) (removal : Removal) (freed released : Option ℕ) → ReplacesFileOf w key tag number removal freed released w'
+    → Renewed w w' tag number
+two_replaces w w' key tag number removal freed released file = let put = file.puts.placed in let h = file.puts.holder in record {
+  new = put.new;
+  one = one_then (its w) file.between.own (its w') put.new (added_one (opening_of (its_start w)) (its_pass w) (Put key.slot put.new (Some put.holder.file)) _ _ file.between put.new put.adds refl)
+      (retired_none (its_opening w) file.between file.retired removal (its_pass w') file.retires);
+  its_number = number_of_new put.new tag number put.is_new;
+  holder = holder_more w w' h (held_none (its_start w) (view_of h.before) key put.hold file.puts.out file.puts.back (view_of h.after) put.holder);
+}
+
+renewed : (w w' : TableWorker) (key : Key) (tag number : ℕ) (removal : Removal) (freed released : Option ℕ) → ReplacesByKey w key tag number (Ok removal) freed released w'
+    → Renewed w w' tag number
+renewed w w' key tag number removal freed released (inl it) = let r = it.puts.puts in record {
+  new = r.new;
+  one = none_then (its w) r.between.own (its w') r.new (looked_none (opening_of (its_start w)) (its_pass w) key.slot (Ok r.hold) None r.between r.held.looked)
+      (one_then r.between.own (view_of it.between).own (its w') r.new
+      (added_after (opening_of (its_start w)) r.between r.old (Put key.slot r.new (Some r.old)) _ _ (view_of it.between) r.new r.adds refl)
+      (retired_none (its_opening w) (view_of it.between) it.retired removal (its_pass w') it.retires));
+  its_number = number_of_new r.new tag number r.is_new;
+  holder = holder_same w w' it.holder;
+}
+renewed w w' key tag number removal freed released (inr it) =
+    let two = two_replaces (record w { pass = it.hot }) w' key tag number removal freed released it.both in record {
+      new = two.new;
+      one = none_then (its w) (view_of it.hot).own (its w') two.new (full_none w key (file_with tag number) it.hot it.found) two.one;
+      its_number = two.its_number;
+      holder = two.holder;
+    }
+
 remove_at_none : (w w' : TableWorker) (slot : ℕ) (result : Result Removal ServerRefusal) → RemovesFrom w slot result w' → AddsNone (its w) (its w')
 remove_at_none w w' slot (Ok removal) it = both_none (its w) it.between.own (its w') (added_none (its_opening w) (its_pass w) _ _ _ it.between it.taken.2 (refl, tt))
     (retired_none (its_opening w) it.between it.retired removal (its_pass w') it.retires)
@@ -280,12 +331,8 @@ replaces_at w w' slot tag (Err reason) it holder installing place some low d =
 
 replaces : (w w' : TableWorker) (key : Key) (tag : ℕ) (result : Result Placed ServerRefusal) (freed released : Option ℕ) → ReplacesByKeyNext w key tag result freed released w' → KeepsItsNumbers w w'
 replaces w w' key tag (Ok placed) freed released it installing place some low d =
-    let file = it.1 in let put = file.puts.placed in let h = file.puts.holder in
-    installs installing place some low w w' d
-    (holder_more w w' h (held_none (its_start w) (view_of h.before) key put.hold file.puts.out file.puts.back (view_of h.after) put.holder) d.holder) put.new
-    (one_then (its w) file.between.own (its w') put.new (added_one (opening_of (its_start w)) (its_pass w) (Put key.slot put.new (Some put.holder.file)) _ _ file.between put.new put.adds refl)
-    (retired_none (its_opening w) file.between file.retired placed.removal (its_pass w') file.retires))
-    (number_of_new put.new tag placed.number put.is_new ∙ it.0.0) it.0.1
+    let made = renewed w w' key tag placed.number placed.removal freed released it.1 in
+    installs installing place some low w w' d (made.holder d.holder) made.new made.one (made.its_number ∙ it.0.0) it.0.1
 replaces w w' key tag (Err reason) freed released it installing place some low d =
     let un = replace_unchanged w w' key tag w.numbers.next reason freed released it.1 in
     stays installing place some low w w' d (un.holder d.holder) un.none it.0

@@ -1,21 +1,12 @@
 -- Each number but 0 is that of one file, and each call keeps that.
-use Rattle.std.proofs.Common.{◌≡◌, ◌≢◌, ◌==◌, ◌⊎◌, inl, inr, ℕ, zero, suc, ◌<◌, ◌≤◌, ◌++◌, List, [], ◌∷◌, map, Bool, true, false, Option, Some, None, refl, sym, ap, subst, ◌∙◌, arith}
-use Rattle.fx_base.specs.Identity.{Identity}
-use Rattle.fx_plain.specs.History.{◌▷◌, ◌▷▷◌, part_of_pass}
-use Rattle.fx_plain.specs.Laws.{IsInstalled, installed_by}
-use Rattle.fx_plain.specs.declared.event.Action.{Action}
+use Rattle.std.proofs.Common.{◌≡◌, ◌≢◌, inl, inr, ℕ, ◌<◌, ◌≤◌, List, [], ◌∷◌, sym, subst, ◌∙◌, arith}
+use Rattle.fx_plain.specs.History.{part_of_pass}
+use Rattle.fx_plain.specs.Laws.{IsInstalled}
 use Rattle.fx_plain.specs.declared.event.Event.{Event}
 use Rattle.fx_plain.specs.declared.event.File.{File}
-use Rattle.fx_table.specs.Pass.{PassView, event_of}
 use Rattle.fx_lasting.specs.declared.life.layout.TheConstants.{MOST_INSTALLING}
-use Rattle.fx_lasting.specs.declared.pass.LastingPass.{LastingPass}
-use Rattle.fx_server.specs.EndsOfKeys.{HaveTheirOwnKeys}
-use Rattle.fx_server.specs.FileNumbers.{after_draw, after_draws, after_keep, first_numbers, number_drawn, without_kept}
-use Rattle.fx_server.specs.FilesNumbers.{DrawsItsNumbers, FilesHaveTheirOwnNumbers, HaveDrawnNumbers, InstallsNothing, WasDrawn, number_of_file}
-use Rattle.fx_server.specs.Files.{file_with}
-use Rattle.fx_server.specs.Workers.{its_pass}
-use Rattle.fx_server.specs.declared.file_numbers.FileNumbers.{FileNumbers}
-use Rattle.fx_server.specs.declared.worker.TableWorker.{TableWorker}
+use Rattle.fx_server.specs.FileNumbers.{number_drawn}
+use Rattle.fx_server.specs.FilesNumbers.{FilesHaveTheirOwnNumbers}
 use Rattle.fx_server.proofs.FileNumbers.{numbers_once}
 
 -- a file of a history was installed by some pass

@@ -1,16 +1,16 @@
 -- A worker of a table that was just opened has installed nothing.
-use Rattle.std.proofs.Common.{◌≡◌, inl, ℕ, zero, suc, ◌+◌, ◌<◌, ◌++◌, List, [], ◌∷◌, All, Option, Some, None, refl, sym, ap, subst, ◌∙◌, arith, drop, length, map, slice_index_or}
+use Rattle.std.proofs.Common.{◌≡◌, inl, ℕ, zero, suc, ◌+◌, ◌<◌, ◌++◌, List, [], ◌∷◌, All, refl, sym, ap, subst, ◌∙◌, arith, drop, length, map, slice_index_or}
 use Rattle.std.specs.List.{range_with_len}
 use Rattle.std.proofs.lemmas.List.Elements.{All-cons, All-head, All-nil, All-same, All-tail}
 use Rattle.fx_plain.specs.Laws.{IsInstalled}
 use Rattle.fx_plain.specs.declared.event.Event.{Event}
 use Rattle.fx_plain.specs.declared.event.File.{File}
-use Rattle.fx_table.specs.Pass.{PassView, new_pass, new_passes_from}
-use Rattle.fx_lasting.specs.Tables.{as_first, first_passes, view_of}
+use Rattle.fx_table.specs.Pass.{PassView, new_pass}
+use Rattle.fx_lasting.specs.Tables.{as_first, view_of}
 use Rattle.fx_lasting.specs.declared.pass.LastingPass.{LastingPass}
-use Rattle.fx_server.specs.FileNumbers.{after_draws, first_numbers, numbers_of_all, without_kept}
-use Rattle.fx_server.specs.FilesNumbers.{DrawsItsNumbers, InstallsNothing, OpenedWorkersDrawTheirNumbers, WasDrawn}
-use Rattle.fx_server.specs.Opened.{AreOpened, holder_at, holders_of_all}
+use Rattle.fx_server.specs.FileNumbers.{first_numbers, without_kept}
+use Rattle.fx_server.specs.FilesNumbers.{InstallsNothing, OpenedWorkersDrawTheirNumbers}
+use Rattle.fx_server.specs.Opened.{holder_at}
 use Rattle.fx_server.specs.Workers.{its_pass}
 use Rattle.fx_server.specs.declared.file_numbers.FileNumbers.{FileNumbers}
 use Rattle.fx_server.specs.declared.worker.TableWorker.{TableWorker}

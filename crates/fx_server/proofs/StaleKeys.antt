@@ -1,13 +1,13 @@
 -- A call by key that says `Stale`: the slot had another file at a moment of the call.
 use Rattle.fx_table.proofs.Calls.{follows_shown, seen_further}
-use Rattle.fx_table.proofs.Words.{◌≡◌, ◌≢◌, ◌⊎◌, ⊎_elim, inl, inr, ℕ, ◌++◌, List, [], ◌∷◌, map, refl, sym, ap, subst, ◌∙◌, append_assoc, dite, ℕ_discrete, eq-eqb, ne_eqb, Option, Some, Result}
-use Rattle.std.proofs.Common.{None, Ok, Err, ℤ}
+use Rattle.fx_table.proofs.Words.{◌≡◌, inl, inr, ℕ, ◌++◌, List, [], ◌∷◌, map, refl, sym, ap, subst, ◌∙◌, append_assoc, dite, ℕ_discrete, eq-eqb, ne_eqb, Option, Some, Result}
+use Rattle.std.proofs.Common.{None, Ok, Err}
 use Rattle.fx_base.specs.Identity.{Identity}
-use Rattle.fx_plain.specs.History.{◌▷◌, ◌▷▷◌, AllowsAll, IsSeenBy, action_of, part_of_pass, state_after}
+use Rattle.fx_plain.specs.History.{◌▷◌, AllowsAll, IsSeenBy, action_of, part_of_pass, state_after}
 use Rattle.fx_plain.specs.State.{State}
 use Rattle.fx_plain.specs.Step.{Allows}
 use Rattle.fx_plain.specs.declared.event.Action.{Action}
-use Rattle.fx_plain.specs.declared.event.Action.TheVariants.{Close, Look, Release}
+use Rattle.fx_plain.specs.declared.event.Action.TheVariants.{Close, Look}
 use Rattle.fx_plain.specs.declared.event.Event.{Event}
 use Rattle.fx_plain.specs.declared.event.File.{File}
 use Rattle.fx_table.specs.Calls.{Adds, LookedUp, ReleasesFile, Use, one_look}
@@ -17,9 +17,9 @@ use Rattle.fx_table.specs.declared.values.Doing.{Doing}
 use Rattle.fx_table.specs.declared.values.Doing.TheVariants.{Holding}
 use Rattle.fx_table.specs.declared.values.Hold.{Hold}
 use Rattle.fx_lasting.specs.slots.ByNode.{FitsMiss, IsOn, WasSo}
-use Rattle.fx_lasting.specs.slots.ByKey.{FailsByKey, HeldByKey, HoldsAtKey, IsKeyOf, LeftIt, LookedByKey, fault_for}
+use Rattle.fx_lasting.specs.slots.ByKey.{FailsByKey, HeldByKey, LookedByKey, fault_for}
 use Rattle.fx_lasting.specs.Passes.{state_at_start}
-use Rattle.fx_lasting.specs.Tables.{IsPassOfTable, opening_of, view_of}
+use Rattle.fx_lasting.specs.Tables.{opening_of, view_of}
 use Rattle.fx_lasting.specs.declared.answers.Miss.{Miss}
 use Rattle.fx_lasting.specs.declared.answers.Miss.TheVariants as miss
 use Rattle.fx_lasting.specs.declared.key.Key.{Key}
@@ -28,14 +28,13 @@ use Rattle.fx_lasting.specs.declared.pass.LastingPass.{LastingPass}
 use Rattle.fx_lasting.specs.declared.view.Start.{Start}
 use Rattle.fx_lasting.specs.slots.Alone.{TakesAlone}
 use Rattle.fx_lasting.specs.declared.key_answers.TakenByKey.TheVariants.{Missed as Failed}
-use Rattle.fx_server.specs.ByKey.{FindsByKey, HasHolder, RemovesByKey, RemovesNone, ReplacesByKeyNext}
-use Rattle.fx_server.specs.StaleKeys.{HadAnother, HasSeen, IsAnother, StaleKeysHadAnother}
+use Rattle.fx_server.specs.ByKey.{FindsByKey, HasHolder, RemovesByKey, RemovesNone, ReplacesByKeyNext, ReplacesNone}
+use Rattle.fx_server.specs.StaleKeys.{HadAnother, IsAnother, StaleKeysHadAnother}
 use Rattle.fx_server.specs.Workers.{HolderIsIdle, IsGood, its_pass, its_start, its_table}
 use Rattle.fx_server.specs.declared.answers.FoundFile.{FoundFile}
 use Rattle.fx_server.specs.declared.answers.Placed.{Placed}
 use Rattle.fx_server.specs.declared.answers.Removal.{Removal}
 use Rattle.fx_server.specs.declared.answers.ServerRefusal.{ServerRefusal}
-use Rattle.fx_server.specs.declared.answers.ServerRefusal.TheVariants.{Stale}
 use Rattle.fx_server.specs.declared.worker.TableWorker.{TableWorker}
 
 -- a history, split at its last event of a pass
@@ -155,23 +154,31 @@ module _ (w w' : TableWorker) (key : Key) (good : IsGood w) where
         (left_other (its_start w) key v it.holder.between (its_pass w') it.hold.node it.left.miss it.left.same it.left.was);
   }
 
+  -- the pass alone left the slot as it was
+  by_alone : (out back : Option Identity) → TakesAlone (its_start w) w.pass key (Failed Other) out back w'.pass → HadAnother w key w'
+  by_alone out back (inl looked) = by_pass out back looked
+  by_alone out back (inr left) = record {
+    before = (its_pass w).front;
+    after = (its_pass w').front;
+    from = inl refl;
+    until = inl refl;
+    was = had_after (its_start w) key (its_pass w) (its_pass w') (its_pass w') left.hold out back left.holder
+        (left_other (its_start w) key (its_pass w) left.holder.between (its_pass w') left.hold.node left.miss left.same left.was);
+  }
+
   -- a removal by the pass alone, or by two passes from a hot slot
   by_removal : (freed released : Option ℕ) → RemovesNone w key Other freed released w' → HadAnother w key w'
-  by_removal freed released (inl leaves) = alone leaves.takes.takes
-    where
-      alone : TakesAlone (its_start w) w.pass key (Failed Other) leaves.takes.out leaves.takes.back w'.pass → HadAnother w key w'
-      alone (inl looked) = by_pass leaves.takes.out leaves.takes.back looked
-      alone (inr left) = record {
-        before = (its_pass w).front;
-        after = (its_pass w').front;
-        from = inl refl;
-        until = inl refl;
-        was = had_after (its_start w) key (its_pass w) (its_pass w') (its_pass w') left.hold leaves.takes.out leaves.takes.back left.holder
-            (left_other (its_start w) key (its_pass w) left.holder.between (its_pass w') left.hold.node left.miss left.same left.was);
-      }
+  by_removal freed released (inl leaves) = by_alone leaves.takes.out leaves.takes.back leaves.takes.takes
   by_removal freed released (inr it) =
       let takes = it.both.0 in let h = takes.holder in
       by_holder (view_of it.hot) (record { before = h.before; after = h.after; was = h.was; is = h.is }) takes.out takes.back takes.taken
+
+  -- a replacement, in the same way
+  by_replacement : (tag number : ℕ) (freed released : Option ℕ) → ReplacesNone w key tag number Other freed released w' → HadAnother w key w'
+  by_replacement tag number freed released (inl keeps) = by_alone None keeps.puts.back keeps.puts.puts.1
+  by_replacement tag number freed released (inr it) =
+      let puts = it.both.0 in let h = puts.holder in
+      by_holder (view_of it.hot) (record { before = h.before; after = h.after; was = h.was; is = h.is }) puts.out puts.back puts.placed.1
 
 pub stale_keys : StaleKeysHadAnother
 stale_keys = record {
@@ -183,5 +190,5 @@ stale_keys = record {
       by_removal w w' key good done.call.freed done.call.released removed;
   replaces = λ w w' key tag answer out done good is.
       let placed = subst (λ (r : Result Placed ServerRefusal). ReplacesByKeyNext w key tag r done.call.freed done.call.released w') is done.placed in
-      by_holder w w' key good (its_pass w) placed.1.0.holder placed.1.0.out placed.1.0.back placed.1.0.placed.1;
+      by_replacement w w' key good tag w.numbers.next done.call.freed done.call.released placed.1;
 }

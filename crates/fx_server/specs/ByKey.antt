@@ -1,5 +1,5 @@
 -- The calls of a worker by key: the slot of a file and its number. A second pass of the worker, its
--- holder, holds the file of the key during a replacement, and during a removal from a hot slot.
+-- holder, holds the file of the key during a replacement at a hot slot, and a removal from one.
 use Rattle.std.specs.Prelude.{◌≡◌, ◌⊎◌, ◌&&◌, ℕ, false, Option, Some, None, is_none, Result, Ok}
 use Rattle.std.specs.Prelude.{Err}
 use Rattle.fx_base.specs.Identity.{Identity}
@@ -12,6 +12,10 @@ use Rattle.fx_lasting.specs.Tables.{view_of}
 use Rattle.fx_lasting.specs.declared.key.Key.{Key}
 use Rattle.fx_lasting.specs.declared.key_answers.KeyFault.{KeyFault}
 use Rattle.fx_lasting.specs.declared.key_answers.KeyFault.TheVariants as fault
+use Rattle.fx_lasting.specs.slots.PutAlone.{PutsAlone}
+use Rattle.fx_lasting.specs.declared.key_answers.PutByKey.{PutByKey}
+use Rattle.fx_lasting.specs.declared.key_answers.PutByKey.TheVariants.{Replaced as Renewed}
+use Rattle.fx_lasting.specs.declared.key_answers.PutByKey.TheVariants.{Missed as Kept, Hot as IsHot}
 use Rattle.fx_lasting.specs.declared.key_answers.PutOverKey.{PutOverKey}
 use Rattle.fx_lasting.specs.declared.key_answers.PutOverKey.TheVariants.{Replaced, Missed}
 use Rattle.fx_lasting.specs.declared.key_answers.TakenByKey.{TakenByKey}
@@ -209,19 +213,76 @@ PutsNoKey w key tag number why freed released w' =
     w' (its_pass w'))
     × TriesKey (its_start w) (view_of puts.holder.before) key why puts.out w.pass w'.pass
 
+-- a replacement by key by both passes of the worker
+abbrev pub ReplacesByTwo : TableWorker → Key → (tag number : ℕ) → Result Removal ServerRefusal
+    → (freed released : Option ℕ) → TableWorker → Type 0
+ReplacesByTwo w key tag number (Ok removal) freed released w' =
+    ReplacesFileOf w key tag number removal freed released w'
+ReplacesByTwo w key tag number (Err NoSlot) freed released w' =
+    PutsNoKey w key tag number fault.NoSlot freed released w'
+ReplacesByTwo w key tag number (Err Empty) freed released w' =
+    PutsNoKey w key tag number fault.Empty freed released w'
+ReplacesByTwo w key tag number (Err Stale) freed released w' =
+    PutsNoKey w key tag number fault.Other freed released w'
+ReplacesByTwo w key tag number (Err Again) freed released w' =
+    PutsNoKey w key tag number fault.Again freed released w'
+ReplacesByTwo w key tag number (Err Reader) freed released w' = w.holder ≡ None
+ReplacesByTwo w key tag number (Err _) freed released w' = ⊥
+
+-- a replacement by key by the worker's pass alone, which is `p` afterwards
+pub record PutsKeyAlone (w : TableWorker) (key : Key) (file : Identity) (put : PutByKey)
+    (freed released : Option ℕ) (p : LastingPass) : Type 0 where
+  pub back : Option Identity
+  pub tags : LastUses freed released None back
+  pub puts : PutsAlone (its_start w) w.pass key file put back p
+
+-- the file of the key was replaced by the worker's pass alone by one with this tag and number, and
+-- retired
+pub record ReplacesByOne (w : TableWorker) (key : Key) (tag number : ℕ) (removal : Removal)
+    (freed released : Option ℕ) (w' : TableWorker) : Type 0 where
+  pub retired : Retired
+  pub between : LastingPass
+  pub puts : PutsKeyAlone w key (file_with tag number) (Renewed retired) freed released between
+  pub retires : RetiresAs (its_opening w) (view_of between) retired removal (its_pass w')
+  pub holder : w'.holder ≡ w.holder
+
+-- the worker's pass alone left the slot as it was
+pub record KeepsAlone (w : TableWorker) (key : Key) (tag number : ℕ) (why : KeyFault)
+    (freed released : Option ℕ) (w' : TableWorker) : Type 0 where
+  pub puts : PutsKeyAlone w key (file_with tag number) (Kept why (file_with tag number)) freed
+      released w'.pass
+  pub holder : w'.holder ≡ w.holder
+
+-- the slot was hot, and the worker's pass left it as it was; then both passes made a replacement
+pub record ReplacesHot (w : TableWorker) (key : Key) (tag number : ℕ)
+    (result : Result Removal ServerRefusal) (freed released : Option ℕ) (w' : TableWorker)
+    : Type 0 where
+  pub hot : LastingPass
+  pub found : PutsKeyAlone w key (file_with tag number) (IsHot (file_with tag number)) None None hot
+  pub both : ReplacesByTwo (record w { pass = hot }) key tag number result freed released w'
+
+-- the slot was left as it was, for this reason: `Again` only if another pass was at the slot after
+-- the look-up
+abbrev pub ReplacesNone : TableWorker → Key → (tag number : ℕ) → KeyFault
+    → (freed released : Option ℕ) → TableWorker → Type 0
+ReplacesNone w key tag number why freed released w' =
+    KeepsAlone w key tag number why freed released w'
+    ⊎ ReplacesHot w key tag number (Err (key_refusal why)) freed released w'
+
 -- a replacement by key
 abbrev pub ReplacesByKey : TableWorker → Key → (tag number : ℕ) → Result Removal ServerRefusal
     → (freed released : Option ℕ) → TableWorker → Type 0
 ReplacesByKey w key tag number (Ok removal) freed released w' =
-    ReplacesFileOf w key tag number removal freed released w'
+    ReplacesByOne w key tag number removal freed released w'
+    ⊎ ReplacesHot w key tag number (Ok removal) freed released w'
 ReplacesByKey w key tag number (Err NoSlot) freed released w' =
-    PutsNoKey w key tag number fault.NoSlot freed released w'
+    ReplacesNone w key tag number fault.NoSlot freed released w'
 ReplacesByKey w key tag number (Err Empty) freed released w' =
-    PutsNoKey w key tag number fault.Empty freed released w'
+    ReplacesNone w key tag number fault.Empty freed released w'
 ReplacesByKey w key tag number (Err Stale) freed released w' =
-    PutsNoKey w key tag number fault.Other freed released w'
+    ReplacesNone w key tag number fault.Other freed released w'
 ReplacesByKey w key tag number (Err Again) freed released w' =
-    PutsNoKey w key tag number fault.Again freed released w'
+    ReplacesNone w key tag number fault.Again freed released w'
 ReplacesByKey w key tag number (Err Busy) freed released w' =
     (freed ≡ None) × (released ≡ None) × IsBusy w w'
 ReplacesByKey w key tag number (Err Reader) freed released w' = (freed ≡ None) × (released ≡ None)

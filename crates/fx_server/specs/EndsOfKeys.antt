@@ -1,5 +1,5 @@
 -- The end of a key: one event of one pass removes or replaces its file.
-use Rattle.std.specs.Prelude.{◌≡◌, ◌≢◌, ℕ, ℤ, ◌++◌, List, Option, Some, None, Ok}
+use Rattle.std.specs.Prelude.{◌≡◌, ◌≢◌, ℕ, ℤ, List, Option, Some, None, Ok}
 use Rattle.fx_plain.specs.History.{◌▷◌, ◌▷▷◌, IsLegal}
 use Rattle.fx_plain.specs.Laws.{IsInstalled, IsStart}
 use Rattle.fx_plain.specs.State.{State}

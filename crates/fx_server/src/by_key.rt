@@ -1,13 +1,16 @@
 //! The calls by key: the slot of a file and its number.
-ghost use Rattle.std.specs.Prelude.{◌≡◌, None, Err};
-ghost use Rattle.fx_server.specs.ByKey.{FindsByKey, RemovesByKey, RemovesByTwo, ReplacesByKey, ReplacesByKeyNext, key_of};
+ghost use Rattle.std.specs.Prelude.{◌≡◌, ◌<◌, None, Err};
+ghost use Rattle.fx_server.specs.ByKey.{FindsByKey, RemovesByKey, RemovesByTwo, ReplacesByKey, ReplacesByKeyNext, ReplacesByTwo, key_of};
 ghost use Rattle.fx_server.specs.ByKey.{key_refusal};
-ghost use Rattle.fx_server.specs.Workers.{IsGood};
+ghost use Rattle.fx_server.specs.Workers.{IsGood, its_pass};
 
 use crate::answers::{LookAnswer, PlaceAnswer, Placed, RemoveAnswer, ServerRefusal};
 use crate::shared::file_with;
 use crate::worker::{TableWorker, not_found, not_removed, note, retire, tag_of};
-use fx_lasting::{Key, KeyFault, KeyLook, KeyPut, KeyRemoval, KeyTaken, PutOverKey, TakenByKey};
+use fx_lasting::{
+    Key, KeyFault, KeyLook, KeyPut, KeyRemoval, KeyReplacement, KeyTaken, PutByKey, PutOverKey,
+    TakenByKey,
+};
 
 impl TableWorker {
     /// Looks up the file of a key. The worker holds it until `release`.
@@ -126,10 +129,11 @@ impl TableWorker {
     }
 
     /// Replaces the file of a key by one with this tag and the worker's next number. The worker's
-    /// second pass holds the old file meanwhile. Returns what became of it, and the number.
+    /// pass holds the old file meanwhile, and its hold ends with the replacement. At a hot slot its
+    /// second pass does. Returns what became of the old file, and the number.
     ///
     /// # Errors
-    /// As of `remove`.
+    /// As of `remove`, but `Again` never for a closed file.
     #[inline(always)]
     pub fn replace(&mut self, slot: u32, number: u64, tag: u64) -> PlaceAnswer
         requires good { IsGood self.old }
@@ -172,13 +176,56 @@ impl TableWorker {
         if self.held.is_some() {
             return not_removed(ServerRefusal::Busy);
         }
-        let Some(holder) = &mut self.holder else {
+        if self.holder.is_none() {
             return not_removed(ServerRefusal::Reader);
-        };
+        }
         let table = &self.shared.table;
         if !table.installs(&self.pass) {
             return not_removed(ServerRefusal::Reader);
         }
+        let file = file_with(tag, next);
+        let KeyReplacement { put, released } = table.put_key_alone(
+            &mut self.pass,
+            Key { slot, number },
+            file,
+        );
+        let released = tag_of(released);
+        let removal = match put {
+            PutByKey::Replaced(retired) => Ok(retire(table, &mut self.pass, retired)),
+            PutByKey::Missed(fault, file) => {
+                file.discard();
+                Err(key_refusal(fault))
+            }
+            PutByKey::Hot(file) => {
+                file.discard();
+                return self.replace_hot(slot, number, tag, next);
+            }
+        };
+        RemoveAnswer {
+            removal,
+            freed: None,
+            released,
+        }
+    }
+
+    // Replaces the file of a key at a hot slot by one with this tag and this number. The second
+    // pass holds the old file meanwhile.
+    #[inline(never)]
+    fn replace_hot(&mut self, slot: u32, number: u64, tag: u64, next: u64) -> RemoveAnswer
+        requires good { IsGood self.old }
+        requires idle { self.old.held ≡ None }
+        requires installs { 0 < (its_pass self.old).numbers_left }
+        ensures good { IsGood self.new }
+        ensures table { self.new.shared ≡ self.old.shared }
+        ensures held { self.new.held ≡ self.old.held }
+        ensures numbers { self.new.numbers ≡ self.old.numbers }
+        ensures placed { ReplacesByTwo self.old (key_of slot number) tag next result.removal
+            result.freed result.released self.new }
+    {
+        let Some(holder) = &mut self.holder else {
+            return not_removed(ServerRefusal::Reader);
+        };
+        let table = &self.shared.table;
         let file = file_with(tag, next);
         let KeyPut {
             put,

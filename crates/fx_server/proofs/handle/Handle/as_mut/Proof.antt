@@ -6,7 +6,7 @@ use seplogic.Ra.Ura.{Ura}
 use base.Fraction.{full_share}
 use base.Logic.{ent, sep, never, fst∗}
 use base.Fml.{GName, Fml, ftrue, fsep, flft}
-use mir.Syntax.{named, mut}
+use mir.Syntax.{named}
 use mir.Val.{Val, vptr}
 use mir.Raw.{raw as bare}
 use contract.Running.{tables}
@@ -19,7 +19,6 @@ use denote.Exit.{no}
 use denote.Follow.{follows, Part, lends_Part}
 use denote.Laws.{shows}
 use denote.Memory.{cell_at, lone, mem, part_at, part_of}
-use denote.RattleType.{RattleType}
 use denote.RawPtr.{Ptr, block_ptr, in_a_block, null_ptr}
 use denote.Ref.{MutRef, mut_vals, mut_Tells}
 use denote.Signature.{plain, mut_ref_to}
