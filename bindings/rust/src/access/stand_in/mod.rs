@@ -104,6 +104,30 @@ impl Worker {
         })
     }
 
+    // Replaces the file of a key. The pass holds it meanwhile, and its hold ends with the
+    // replacement. At a hot slot the second pass holds it.
+    fn replace(&mut self, slot: u32, number: u64, tag: u64, out: &mut Outcome) -> i64 {
+        if let Some(refusal) = self.refuses(None, true) {
+            return refusal;
+        }
+        let next = self.number;
+        let Worker { table, pass, .. } = self;
+        if slot as usize >= table.size {
+            return NO_SLOT;
+        }
+        let Some((changed, released)) = table.put_key(pass, slot as usize, number, tag, next)
+        else {
+            return self.by_key(slot, number, out, |table, pass, node| {
+                table.put_if(pass, slot as usize, node, tag, next)
+            });
+        };
+        out.released = released.unwrap_or(0);
+        match changed {
+            Ok(word) => self.retire(word, out),
+            Err(miss) => code_of(miss),
+        }
+    }
+
     // Makes a change by key while the second pass holds the file of the key.
     fn by_key(
         &mut self,
@@ -308,10 +332,7 @@ pub(crate) unsafe fn yacht_core_replace(
 ) -> i64 {
     let (mut it, out) = unsafe { (worker(handle), &mut *out) };
     *out = Outcome::default();
-    let next = it.number;
-    let done = it.by_key(slot, number, out, |table, pass, node| {
-        table.put_if(pass, slot as usize, node, tag, next)
-    });
+    let done = it.replace(slot, number, tag, out);
     if done >= 0 {
         out.number = it.draw();
     }

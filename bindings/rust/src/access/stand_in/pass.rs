@@ -247,6 +247,52 @@ impl Table {
         found
     }
 
+    /// Installs a file at a cold slot in place of the file with the number `its`, which the pass
+    /// holds by a take meanwhile. Returns the word that it found without the pass's own take, and
+    /// the tag of a file that the pass was the last to use. Returns `None` if the slot is hot.
+    pub(crate) fn put_key(
+        &self,
+        pass: &mut Pass,
+        slot: usize,
+        its: u64,
+        tag: u64,
+        number: u64,
+    ) -> Option<(Result<u64, Miss>, Option<u64>)> {
+        if !pass.listed {
+            self.list(pass.number)
+                .fetch_add(bit_of(pass.number), SeqCst);
+            pass.listed = true;
+        }
+        let word = self.slot(slot).load(SeqCst);
+        if node_in(word).is_none() {
+            return Some((Err(Miss::Empty), None));
+        }
+        if is_hot(word) {
+            return None;
+        }
+        let own = self.place(pass, tag, number);
+        let Some((node, _)) = self.take_at(slot) else {
+            self.take_out(named_in(own));
+            return Some((Err(Miss::Empty), None));
+        };
+        let found = if self.number(node).load(SeqCst) == its && its != 0 {
+            named_by(self.slot(slot).load(SeqCst), node)
+                .and_then(|word| self.exchange(slot, node, word, own))
+        } else {
+            Err(Miss::Other)
+        };
+        match found {
+            Ok(word) => {
+                pass.stock[pass.entry] = node;
+                Some((Ok(word - 1), None))
+            }
+            Err(miss) => {
+                self.take_out(named_in(own));
+                Some((Err(miss), self.let_go(node)))
+            }
+        }
+    }
+
     // Exchanges the word of a slot while it names the node. Returns the word that was there.
     fn exchange(&self, slot: usize, node: usize, word: u64, own: u64) -> Result<u64, Miss> {
         let mut expected = word;

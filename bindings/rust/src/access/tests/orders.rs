@@ -256,7 +256,7 @@ fn no_order_of_steps_is_wrong() {
     Family::steps(16, 1, &[LOOK, PUT]).has(148);
     Family::steps(1, 1, &[LOOK, REMOVE]).has(311);
     Family::steps(16, 1, &[REMOVE_KEY; 2]).has(3891);
-    Family::steps(16, 1, &[REMOVE_KEY, REPLACE_KEY]).has(3269);
+    Family::steps(16, 1, &[REMOVE_KEY, REPLACE_KEY]).has(3021);
     Family::steps(16, 0, &[INSERT; 2]).has(269);
     Family::steps(16, 1, &[INSERT, REMOVE]).has(285);
 }
@@ -265,7 +265,7 @@ fn no_order_of_steps_is_wrong() {
 #[test]
 #[ignore = "slow unless it is optimized"]
 fn no_order_of_many_steps_is_wrong() {
-    Family::steps(0, 1, &[REMOVE_KEY, REPLACE_KEY]).has(24_802);
+    Family::steps(0, 1, &[REMOVE_KEY, REPLACE_KEY]).has(52_715);
     Family::steps(0, 1, &[LOOK, LOOK, PUT]).has(221_651);
     Family::steps(0, 1, &[LOOK, PUT, REMOVE]).has(22_518);
     Family::steps(1, 1, &[LOOK, LOOK, REMOVE]).has(28_231);
