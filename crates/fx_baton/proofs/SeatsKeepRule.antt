@@ -5,9 +5,9 @@ use Rattle.fx_baton.proofs.Words.{some, some-injective, some-ne-none, get_elem?,
 use Rattle.fx_baton.proofs.Words.{removed_at, Node, numbers_for, contains_none, Idle, Log, View, Start, IsKept, IsLog, IsView, leaving_count}
 use Rattle.fx_baton.proofs.Words.{begin_of, first_view, new_log, contains_map, length, ⊎_elim, length-append, sum_by-append, Splits, Joins, Task}
 use Rattle.fx_baton.proofs.Words.{Shared, logs_of, holds_by, removals_by, file_in_hand, IsHome, IsAway, view_without_first, view_of_first}
-use Rattle.fx_baton.proofs.Words.{joined_view, empty_view, ◌+◌, rules, TableId, Seat, PassView, IsFront, new_pass, HasDrawnInTurn, BatonPass, Seated}
+use Rattle.fx_baton.proofs.Words.{joined_view, empty_view, rules, TableId, Seat, PassView, IsFront, new_pass, HasDrawnInTurn, BatonPass, Seated}
 use Rattle.fx_baton.proofs.Words.{opening_of, chains_of_pass, first_front, first_own, view_of, is_idle, IsPassOf, dealt, IsNewPass, Leaving}
-use Rattle.fx_baton.proofs.Words.{counted_once, IsAnew, AreReseated, split, joined, none-some, take, drop, first_left, last_left, activity_of}
+use Rattle.fx_baton.proofs.Words.{counted_once, IsAnew, AreReseated, split, joined, none-some, take, first_left, activity_of}
 use Rattle.fx_baton.proofs.Words.{set, ⊎_elim, sym}
 use Rattle.fx_seen.proofs.Views.{OfEach, of_one, of_replaced, of_appended}
 use Rattle.fx_table.proofs.Calls.{seen_from_start}
@@ -62,13 +62,13 @@ module _ (k : Start) (c : Contents) (begins : state_of c ≡ begin_of k) (sound 
 
 -- A seat is split off, and one is joined back.
 -- a seat that does nothing, and lacks the table
-abbrev IsIdle : View → Type 0
+abbrev pub IsIdle : View → Type 0
 IsIdle v = (v.doing ≡ Idle) × (v.loan ≡ None)
 
-abbrev logs : View → List Log
+abbrev pub logs : View → List Log
 logs v = v.logs
 
-abbrev start : View → Start
+abbrev pub start : View → Start
 start v = v.start
 
 -- the rule holds where passes are in other seats that do nothing
@@ -86,7 +86,7 @@ module _ (k : Start) (s : Shared) (r : IsKept k s) (views : List View) (a : AreR
   free : (i : ℕ) (u : View) → get_elem? views i ≡ some u → (get_elem? s.views i ≡ some u → u.loan ≡ None) → u.loan ≡ None
   free i u e old = ⊎_elim (λ (new : IsAnew logs start k IsIdle s.views u). new.idle.1) old (a.each i u e)
 
-  reseated : IsKept k (record s { views = views })
+  pub reseated : IsKept k (record s { views = views })
   reseated = record {
     history = r.history;
     contents = r.contents;
@@ -127,14 +127,6 @@ pub may_join : (k : Start) (id : ℕ) (v : View) → v.doing ≡ Idle → v.loan
 may_join k id v idle free begun other w w_idle w_free s r at apart there = reseated k s r _ (joined logs start k IsIdle s.views id v at (idle, free)
     other w (joined_view v w) empty_view apart there (w_idle, w_free) (idle, free) refl begun (refl, refl) refl)
     (of_replaced (IsKnown r.history) (set s.views id (joined_view v w)) (of_replaced (IsKnown r.history) s.views r.known id (joined_view v w) (r.known id v at)) other empty_view (seen_from_start r.history))
-
--- The passes that are dealt out.
-pub rest_is_dealt : {k : Start} {p : ℕ} → p ≤ k.passes → view_without_first (dealt k p) ≡ dealt k (p + 1)
-rest_is_dealt {k} {p} l = ap (λ (z : List Log). record (dealt k p) { logs = drop 1 z }) (first_left new_log p k.passes l)
-
--- the last pass alone
-pub last_is_dealt : {k : Start} {p : ℕ} → p ≡ k.passes → dealt k p ≡ view_of_first (dealt k p)
-last_is_dealt {k} {p} e = ap (λ (z : List Log). record (dealt k p) { logs = z }) (last_left new_log p k.passes e)
 
 -- the pass of a seat that has the first of them
 module _ (id : TableId) (k : Start) (p n : ℕ) (low : 1 ≤ p) (high : p ≤ k.passes) (all : n ≡ k.passes) (seat : Seat Contents View) (x : BatonPass)

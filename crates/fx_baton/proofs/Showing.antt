@@ -1,13 +1,13 @@
 -- A pass shows what it has seen, and another pass learns it: the rule holds afterwards. Neither is
 -- an atomic step.
-use Rattle.fx_baton.proofs.Words.{◌≡◌, ℕ, List, [], ◌∷◌, ◌++◌, length, sym, refl, ap, ◌∙◌, subst, arith, inl, inr, ⊎_elim, some, get_elem?, set}
-use Rattle.fx_baton.proofs.Words.{set_again, set_else, at_set, State, Contents, state_of, IsSeenBy, Event, seen_again, Contains, contains_none, contains_only}
-use Rattle.fx_baton.proofs.Words.{sum_by-append, sum_by, Log, View, Start, Shared, logs_of, holds_by, removals_by, IsLog, IsView, IsHome, IsAway, IsKept}
-use Rattle.fx_baton.proofs.Words.{Splits, ◌≢◌, None, Some, none-some, Idle, BatonPass, TableId, Seat, IsPassOf, IsFront, PassView, HasDrawnInTurn, opening_of}
+use Rattle.fx_baton.proofs.Words.{◌≡◌, ℕ, List, [], ◌∷◌, ◌++◌, length, sym, refl, ap, ◌∙◌, subst, inl, inr, ⊎_elim, some, get_elem?, set}
+use Rattle.fx_baton.proofs.Words.{set_again, set_else, at_set, Contents, state_of, IsSeenBy, Event, seen_again, contains_none, contains_only}
+use Rattle.fx_baton.proofs.Words.{Log, View, Start, Shared, logs_of, IsLog, IsView, IsHome, IsAway, IsKept}
+use Rattle.fx_baton.proofs.Words.{Splits, ◌≢◌, None, none-some, BatonPass, TableId, Seat, IsPassOf, IsFront, PassView, HasDrawnInTurn, opening_of}
 use Rattle.fx_baton.proofs.Words.{first_front, first_own, view_of, Seated, IsLegal, begin_of, part_of_pass, some-injective}
-use Rattle.atomic_table.proofs.Lists.{at_snoc, at_longer}
-use Rattle.fx_baton.specs.Rule.{view_with}
 use Rattle.fx_baton.specs.Showing.{front_in, shown_view, HasLearned}
+use Rattle.fx_table.proofs.Seats.{appended}
+use Rattle.fx_baton.proofs.SeatsKeepRule.{IsIdle, logs, start, reseated}
 use Rattle.fx_baton.proofs.StepsKeepRule.{IsKnown, Turns, keeps_rule}
 use Rattle.fx_seen.proofs.Views.{of_appended}
 use Rattle.fx_table.proofs.SumLemmas.{contains_alone}
@@ -16,61 +16,13 @@ use Rattle.fx_baton.proofs.Passing.{ends_there}
 use Rattle.fx_table.specs.Showing.{Learns}
 use Rattle.fx_seen.specs.Kept.{MayLearn}
 
--- a seat without passes that shows a history joins the others
-module _ (k : Start) (s : Shared) (r : IsKept k s) (h : List Event) (seen : IsSeenBy h r.history) where
-  abbrev u : View
-  u = view_with h
-
-  abbrev views' : List View
-  views' = s.views ++ u ∷ []
-
-  beside : IsKept k record { words = s.words; homes = s.homes; views = views' }
-  beside = record {
-    history = r.history;
-    contents = r.contents;
-    legal = r.legal;
-    sound = r.sound;
-    place = ⊎_elim
-        (λ (home : IsHome r.contents s). inl (
-          home.0,
-          home.1,
-          λ i x e. ⊎_elim (λ old. home.2 i x old)
-              (λ (new : u ≡ x). ap (λ (z : View). z.loan) (sym new)) (at_snoc s.views u x i e),
-        ))
-        (λ (away : IsAway r.contents r.history s).
-        inr record {
-          words = away.words;
-          homes = away.homes;
-          holder = away.holder;
-          view = away.view;
-          at = at_longer s.views (u ∷ []) away.holder away.view away.at;
-          loan = away.loan;
-          whole = away.whole;
-          others = λ i x n e. ⊎_elim (λ old. away.others i x n old) (λ (new : u ≡ x). ap (λ (z : View). z.loan) (sym new)) (at_snoc s.views u x i e);
-        })
-        r.place;
-    views = λ i x e. ⊎_elim (λ old. r.views i x old)
-        (λ (new : u ≡ x). subst (IsView k r.history r.contents) new record {
-          logs = λ y c. absurd (contains_none y c);
-          file = λ f is. let no : None ≡ Some f = is in absurd (cc no);
-          empty = λ _. (refl, refl);
-          start = inl refl;
-        }) (at_snoc s.views u x i e);
-    known = of_appended (IsKnown r.history) s.views r.known u seen;
-    numbers = λ p. let a = sum_by-append (λ (z : View). logs_of p z.logs) s.views (u ∷ []) in let b = r.numbers p in omega arith;
-    count = let a = sum_by-append (λ (z : View). length z.logs) s.views (u ∷ []) in let b = r.count in omega arith;
-    few = r.few;
-    authors = r.authors;
-    held = λ n. let a = sum_by-append (λ (z : View). holds_by n z.doing) s.views (u ∷ []) in let b = r.held n in omega arith;
-    leaves = λ n. let a = sum_by-append (λ (z : View). removals_by n z.doing) s.views (u ∷ []) in let b = r.leaves n in omega arith;
-  }
-
 -- a seat with one pass may show what the pass has seen
 pub may_show : (k : Start) (id : ℕ) (v : View) {x : Log} → v.logs ≡ x ∷ [] → Splits (IsKept k) id v v (shown_view v)
 may_show k id v {x} one s r at =
     let seen : IsSeenBy (front_in v.logs) r.history = subst (λ (l : List Log). IsSeenBy (front_in l) r.history) (sym one) ((r.views id v at).logs x (contains_alone one)).seen in
     subst (λ (l : List View). IsKept k record { words = s.words; homes = s.homes; views = l ++ shown_view v ∷ [] }) (sym (set_again s.views id v at))
-    (beside k s r (front_in v.logs) seen)
+    (reseated k s r _ (appended logs start k IsIdle s.views (shown_view v) (refl, refl) refl)
+    (of_appended (IsKnown r.history) s.views r.known (shown_view v) seen))
 
 -- a seat with one pass that doesn't have the table may learn the whole history
 module _ (k : Start) (id : ℕ) (v w : View) (x : Log) (one : v.logs ≡ x ∷ []) (free : v.loan ≡ None) (s : Shared) (r : IsKept k s)

@@ -8,7 +8,7 @@ use Rattle.std.proofs.lemmas.Grind.{common_steps}
 use Rattle.fx_plain.specs.Laws.{IsStart}
 use Rattle.fx_plain.specs.Reopening.{IsTableAtRest}
 use Rattle.fx_plain.proofs.Prepared.{opens_inside, opening_is_start}
-use Rattle.fx_table.proofs.SumLemmas.{contains_head, contains_tail, sum_map, sum_only, sum_reverse, sum_two, sum_set}
+use Rattle.fx_table.proofs.SumLemmas.{contains_none, contains_head, contains_tail, sum_map, sum_only, sum_reverse, sum_two, sum_set}
 
 -- a table that doesn't last has fresh numbers up to the last chain's last
 pub start_is : (o : Opening) → o.lasts ≡ false → start_of o ≡ opening (state_of o.contents) (numbers_for o.chains)
@@ -99,6 +99,19 @@ module _ {V L S : Type 0} (logs : V → List L) (start : V → S) (k : S) (Idle 
     pub by_logs : (f : List L → ℕ) → f [] ≡ 0 → ((xs ys : List L) → f (xs ++ ys) ≡ f xs + f ys)
         → sum_by (λ u. f (logs u)) views' ≡ sum_by (λ u. f (logs u)) views
     pub by_work : (f : V → ℕ) → ((u : V) → Idle u → f u ≡ 0) → sum_by f views' ≡ sum_by f views
+
+  -- a seat without passes comes after the others
+  pub appended : (views : List V) (u : V) → Idle u → logs u ≡ [] → AreReseated views (views ++ u ∷ [])
+  appended views u idle empty = record {
+    each = λ j w e. ⊎_elim (λ old. inr old) (λ is. inl (subst (IsAnew views) is record {
+      idle = idle;
+      its = λ x h. absurd (contains_none x (subst (λ (l : List L). Contains l x) empty h));
+      begun = inl empty;
+    })) (at_snoc views u w j e);
+    others = λ j w e busy. at_longer views (u ∷ []) j w e;
+    by_logs = λ f none more. omega (arith, sum_by-append (λ (w : V). f (logs w)) views (u ∷ []), ap f empty, none);
+    by_work = λ f none. omega (arith, sum_by-append f views (u ∷ []), none u idle);
+  }
 
   module _ (views : List V) (id : ℕ) (v : V) (at : get_elem? views id ≡ some v) (idle : Idle v) where
     -- a seat that isn't idle is another one
