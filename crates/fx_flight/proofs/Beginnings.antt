@@ -4,6 +4,7 @@ use Rattle.fx_flight.proofs.Words.{append-nil, append_assoc, ℕ, length-append,
 use Rattle.fx_flight.proofs.Words.{Contains-append_cases, Identity, RingState, Place, Happening, FileClosed, Moment, Logged, Accesses, FlightSetting}
 use Rattle.fx_flight.proofs.Words.{WasLogged, log_of, taken_in, IsFlight, MayFollow, HasFlight, IsLegalLog}
 use Rattle.fx_flight.specs.Events.{first_of_call}
+use Rattle.fx_flight.specs.Whole.{IsLegalByWholeUpdates, IsWhole}
 
 -- a list in two ways as two parts, the second part of the longer one not empty
 mid_of : {X : Type 0} (front rest xs ys : List X) → xs ++ ys ≡ front ++ rest → length front ≤ length xs
@@ -27,23 +28,31 @@ lasts (a ∷ xs) (b ∷ ys) {x} {y} is =
     let same : (xs ≡ ys) × (x ≡ y) = lasts xs ys tail in
     ((λ i. head i ∷ same.0 i), same.1)
 
--- the flight of the beginning of a log
-cut : (s : FlightSetting) (flight : List Moment) (front rest : List Happening) → IsFlight s flight → log_of flight ≡ front ++ rest
-    → (part : List Moment) × IsFlight s part × (log_of part ≡ front)
-cut s [] [] rest is same = ([], tt, refl)
-cut s [] (e ∷ front) rest is same = absurd (cc)
-cut s (Accesses x ∷ flight) front rest is same = cut s flight front rest is.0 same
-cut s (Logged e ∷ flight) front [] is same = (Logged e ∷ flight, is, same ∙ append-nil front)
-cut s (Logged e ∷ flight) front (r ∷ rest) is same =
+-- the flight of the beginning of a log: what each beginning of a flight keeps holds of it
+cut : (P : List Moment → Type 0) → ((m : Moment) (flight : List Moment) → P (m ∷ flight) → P flight) → (flight : List Moment)
+    (front rest : List Happening) → P flight → log_of flight ≡ front ++ rest
+    → (part : List Moment) × P part × (log_of part ≡ front)
+cut P before [] [] rest is same = ([], is, refl)
+cut P before [] (e ∷ front) rest is same = absurd (cc)
+cut P before (Accesses x ∷ flight) front rest is same = cut P before flight front rest (before (Accesses x) flight is) same
+cut P before (Logged e ∷ flight) front [] is same = (Logged e ∷ flight, is, same ∙ append-nil front)
+cut P before (Logged e ∷ flight) front (r ∷ rest) is same =
     let long = sym (length-append (log_of flight) (e ∷ [])) ∙ (ap length same ∙ length-append front (r ∷ rest)) in
     let (mid, part) = mid_of front (r ∷ rest) (log_of flight) (e ∷ []) same (omega arith) in
-    cut s flight front mid is.0 part
+    cut P before flight front mid (before (Logged e) flight is) part
 
 pub beginning : (first : ℕ → Place) (old : RingState) (front rest : List Happening) → HasFlight first old (front ++ rest) → HasFlight first old front
 beginning first old front rest h =
     let s : FlightSetting = record { old = old; first = first; answers = h.answers } in
-    let (part, is, same) = cut s h.flight front rest h.is h.same in
+    let (part, is, same) = cut (IsFlight s) (λ m flight is. is.0) h.flight front rest h.is h.same in
     record { answers = h.answers; flight = part; is = is; same = same }
+
+pub whole_beginning : (old : RingState) (front rest : List Happening) → IsLegalByWholeUpdates old (front ++ rest) → IsLegalByWholeUpdates old front
+whole_beginning old front rest (h, whole) =
+    let s : FlightSetting = record { old = old; first = first_of_call; answers = h.answers } in
+    let (part, (is, parted), same) = cut (λ flight. IsFlight s flight × IsWhole s flight) (λ m flight both. (both.0.0, both.1.0)) h.flight front rest
+    (h.is, whole refl) h.same in
+    (record { answers = h.answers; flight = part; is = is; same = same }, λ _. parted)
 
 -- an event of a log is in its flight
 pub logged : (flight : List Moment) (e : Happening) → Contains (log_of flight) e → WasLogged flight e

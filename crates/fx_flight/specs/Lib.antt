@@ -2,3 +2,4 @@ pub mod Events
 pub mod Faults
 pub mod Flight
 pub mod Laws
+pub mod Whole

@@ -2,6 +2,7 @@
 
 ghost use Rattle.fx_flight.specs.Laws.{EachAnsweredChainIsDone, EachBeginningIsLegal, EachCallIsInItsTime};
 ghost use Rattle.fx_flight.specs.Laws.{EachClosedFileWasRemoved, EachOrderIsAFlight, NoSecondClose};
+ghost use Rattle.fx_flight.specs.Whole.{EachBeginningIsLegalByWholeUpdates, EachLogOfWholeUpdatesIsLegal};
 
 /// States that each beginning of a legal log is legal. So a log that isn't legal has a first event
 /// with which no flight is left.
@@ -35,4 +36,14 @@ pub fn no_second_close()
 /// States that in a flight no file is closed before an access took it from its slot.
 pub fn each_closed_file_was_removed()
     ensures { EachClosedFileWasRemoved }
+{}
+
+/// States that a log that is legal by whole updates is legal.
+pub fn each_log_of_whole_updates_is_legal()
+    ensures { EachLogOfWholeUpdatesIsLegal }
+{}
+
+/// States that each beginning of a log that is legal by whole updates is legal by whole updates.
+pub fn each_beginning_is_legal_by_whole_updates()
+    ensures { EachBeginningIsLegalByWholeUpdates }
 {}
