@@ -60,9 +60,10 @@ def severs(words, answer):
 
 
 class Search:
-    """A search of all orders of the accesses of a log."""
+    """A search of all orders of the accesses of a log. With `is_whole` nothing comes between the accesses of an update."""
 
-    def __init__(self, lines):
+    def __init__(self, lines, is_whole=False):
+        self.is_whole = is_whole
         self.calls, self.done, self.points, self.size = {}, {}, [], 0
         self.found, self.freed = {}, {}
         for at, line in enumerate(lines):
@@ -110,11 +111,14 @@ class Search:
         first = min([at, *open_members])
         if first == NEVER:
             return True
-        if first == at and self.may_come(table, point, closed):
+        is_amid = self.is_whole and any(entries for _, entries in places.values())
+        if first == at and not is_amid and self.may_come(table, point, closed):
             _, word, words = self.points[point]
             if self.rest(table, places, point + 1, closed | ({words[0]} if word == "closed" else set())):
                 return True
         steps = ((call, *place) for call, place in places.items() if place[0] < len(self.calls[call][1]) and self.calls[call][0] < first)
+        if is_amid:
+            steps = ((call, *place) for call, place in places.items() if place[1])
         return any(self.step(table, places, point, closed, *it) for it in steps)
 
     def may_come(self, table, point, closed):
@@ -142,8 +146,8 @@ class Search:
         return False
 
 
-def is_legal(lines):
-    return Search(lines).is_legal()
+def is_legal(lines, is_whole=False):
+    return Search(lines, is_whole).is_legal()
 
 
 def request(rng, size):
@@ -223,6 +227,20 @@ class Play:
                 self.lines.append("settled")
 
 
+class PlayOfUpdates(Play):
+    """The same at two slots, of at most three calls: updates of both slots, and reads and looks."""
+
+    def __init__(self, rng):
+        super().__init__(rng)
+        self.size, self.lines[0], self.table = 2, "call 1 sparse 2", Table(2)
+        self.todo = self.todo[:3]
+
+    def call(self, number):
+        entries, slot = [self.rng.choice(["-1", "0", "1", "2"]) for _ in range(2)], self.rng.randrange(2)
+        update, reads = f"update 0 {','.join(entries)}", [f"read {slot} 0 1 hardlink", f"read {1 - slot} 0 1"]
+        return number, self.rng.choice([[update], [update], [f"look {slot}"], reads])
+
+
 def move(rng, lines, at, first, end):
     """Moves a line to a place from `first` up to and without `end`."""
     if first < end:
@@ -253,11 +271,11 @@ def spoil(rng, lines):
     return lines
 
 
-def logs(seed, count):
+def logs(seed, count, play=Play):
     """Yields random logs: each third one as it happened, and else spoiled one to three times."""
     rng = random.Random(seed)
     for nth in range(count):
-        lines = Play(rng).log()
+        lines = play(rng).log()
         for _ in range(rng.choice([1, 2, 3]) if nth % 3 else 0):
             lines = spoil(rng, lines)
         yield nth % 3 == 0, lines
