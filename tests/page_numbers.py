@@ -331,8 +331,8 @@ def lacks_source(path, row, reason):
         names = path, f"../{os.path.basename(path)}"
         return None if any(it in read(reason.removeprefix(RUN_BY)) for it in names) else f"{reason.removeprefix(RUN_BY)} doesn't name the page"
     if EXPRESSION.search(row):
-        named = set(NUMBER.findall(" ".join(EXPRESSION.findall(row))))
-        others = [it for it in NUMBER.findall(EXPRESSION.sub(" ", row)) if is_long(it) and it not in named]
+        named = {it.replace(",", "") for it in NUMBER.findall(" ".join(EXPRESSION.findall(row)))}
+        others = [it for it in NUMBER.findall(EXPRESSION.sub(" ", row)) if is_long(it) and it.replace(",", "") not in named]
         return f"{others} are beside computed numbers" if others else None
     return "nothing is said of where the number comes from" if reason in ("", "?") else None
 
