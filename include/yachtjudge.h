@@ -239,7 +239,8 @@ enum {
     YACHT_RULE_THEN = 15,     /* the orders of two steps make one: premise, other */
     YACHT_RULE_FINDS_CLOSED = 16, /* a look found a file that was closed before: first, second */
     YACHT_RULE_CLOSES_TWICE = 17, /* a file was closed twice: first, second */
-    YACHT_RULE_CLOSES_HELD = 18   /* a file was closed while a look held it: first, second */
+    YACHT_RULE_CLOSES_HELD = 18,  /* a file was closed while a look held it: first, second */
+    YACHT_RULE_CANT_ANSWER = 19   /* a request can't have its answer: first, second */
 };
 
 /* A step of a reason: by its rule, the point `from` comes before the point `to` in each flight. The

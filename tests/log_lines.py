@@ -157,6 +157,7 @@ REMOVERS = ["call 4 close 0\ndone 4.1 0\n", "call 5 open b at 0\ndone 5.1 0\n"]
 WHY_STALE = """    2.1.0 was gone from slot 0 after close 3, which answered 0, since open 2 had installed 2.1.0 at line 6 and close 3 was called at line 7
     look 5 found 2.1.0 at slot 0; but 2.1.0 was gone from slot 0 after close 3, close 3 was answered at line 8 and look 5 was called at line 9
 """
+WHY_WRONG = "    open 2 answered 7 at line 6, which such a request never answers\n"
 WHY_EARLY = "    look 3 held 2.1.0 from line 8 on, and it was closed by line 11\n"
 FILES = {"right": OPENED, "wrong": OPENED.replace("done 2.1 0", "done 2.1 7"), "none": "x\n", "stale": f"{STALE}free 5\nsettled\n".replace("call 3", MORE),
          "early": f"{HEAD}{EARLIER}{HELD}{''.join(REMOVERS)}closed 2.1.0 a\nfree 3\n"}
@@ -171,7 +172,7 @@ ARGUMENTS = [
     (["--memory", "x", "right"], USAGE, "a limit is a number from 0 to 4294967295, not x"),
     (["--shorten", "right", "wrong"], USAGE, "--shorten takes one log"),
     (["--shorten", "right"], LEGAL, "right: legal"),
-    (["--shorten", "wrong"], NOT_LEGAL, f"^{HEAD}call 2 open a at 0\ndone 2.1 7\n.*wrong: not legal: line 6: done 2.1 7\n$"),
+    (["--shorten", "wrong"], NOT_LEGAL, f"^{HEAD}call 2 open a at 0\ndone 2.1 7\n.*wrong: not legal: line 6: done 2.1 7\n{WHY_WRONG}$"),
     (["--shorten", "stale"], NOT_LEGAL, f"^{STALE}.*stale: not legal: line 10: done 5.1 0 2.1.0\n{WHY_STALE}$"),
     (["--full-reason", "--shorten", "stale"], NOT_LEGAL, f"^{STALE}.*stale: not legal: line 10: done 5.1 0 2.1.0\n{WHY_STALE}$"),
     (["--shorten", "early"], NOT_LEGAL, f"^{HEAD}{HELD}({'|'.join(REMOVERS)})closed 2.1.0 a\n.*early: not legal: line 11: closed 2.1.0 a\n{WHY_EARLY}$"),

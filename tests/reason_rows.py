@@ -30,6 +30,10 @@ done 8.1 0 2.1.0
 closed 2.1.0 a
 call 9 look 2
 done 9.1 -9
+call 10 close 0 link ; open b any link ; update 1 0,0
+done 10.1 1
+done 10.2 -125
+done 10.3 2
 """
 A, B = (2, 1, 0), (4, 1, 0)
 OPENED, LOOKED, UPDATED, FOUND, CLOSED, READ = (5, 6), (7, 8), (9, 10), (11, 12), (16, 17), (18, 19)
@@ -78,7 +82,7 @@ PUT_A_GONE_B = chain(installs_a, of_lines(6, 11), begins_found, finds_b)
 PUT_B_FOUND = [step("follows", FOUND, PUT_B, access(12))]
 # steps that come first, the last one, which follows, and others in its place, which don't
 ROWS = [
-    ([], of_lines(5, 6), [of_lines(6, 5), of_lines(6, 6), of_lines(4, 5), of_lines(1, 5), of_lines(25, 26), of_lines(0, 5),
+    ([], of_lines(5, 6), [of_lines(6, 5), of_lines(6, 6), of_lines(4, 5), of_lines(1, 5), of_lines(29, 30), of_lines(0, 5),
                           step("events", (5, 6), event(5), event(6), is_strict=False), step("events", (5, 6), event(5), event(7))]),
     ([], step("begins", OPENED, event(5), access(6)),
      [step("begins", (5, 8), event(5), access(8)), step("begins", OPENED, event(5), access(6, 1), 1), step("begins", (6, 6), event(6), access(6)),
@@ -135,6 +139,12 @@ ROWS = [
     ([], step("closes-held", (12, 20), event(20), event(20)),
      [step("closes-held", (8, 14), event(14), event(14)), step("closes-held", (12, 14), event(14), event(14)), step("closes-held", (22, 14), event(14), event(14)),
       step("closes-held", (10, 20), event(20), event(20))]),
+    ([], step("cant-answer", (26, 27), event(27), event(27)),
+     [step("cant-answer", CLOSED, event(17), event(17)), step("cant-answer", READ, event(19), event(19)), step("cant-answer", (24, 25), event(25), event(25)),
+      step("cant-answer", (16, 27), event(27), event(27)), step("cant-answer", (26, 27), event(26), event(27)),
+      step("cant-answer", (26, 28), event(28), event(28))]),
+    # an update past the last slot
+    ([], step("cant-answer", (26, 29), event(29), event(29)), [step("cant-answer", UPDATED, event(10), event(10))]),
     ([], of_lines(5, 6), [step("knows", (5, 6), event(5), event(6))]),
 ]
 

@@ -134,6 +134,24 @@ class Log:
         return [(int(request[3]), (*place, 0))] if int(request[3]) < self.size else []
 
 
+    def may_answer(self, request, result):
+        """Returns whether a request of a chain may have a result, whatever it finds."""
+        kind, slot = request[0], int(request[1]) if request[0] != "open" else 0
+        if kind in ("update", "regupdate"):
+            entries = list(map(int, request[2].split(",")))
+            is_bad = any(not -2 <= it < len(self.names) for it in entries)
+            return result == (-22 if slot + len(entries) > self.size else -9 if is_bad else len(entries))
+        if kind == "read":
+            return result == -9 or result >= 0 and slot < self.size
+        if kind == "close":
+            return result in (0, -9) if slot < self.size else result == -22
+        if request[1] not in self.names:
+            return result == -2
+        if request[2] == "any":
+            return result == -23 or result >= 0
+        return result == (0 if int(request[3]) < self.size else -22)
+
+
 def mark_of(word):
     return tuple(map(int, word.split(".")))
 
@@ -264,6 +282,13 @@ class Reason:
         look, file = self.log.found_at(lines[0])
         want(lines[0] < lines[1] and self._closed(lines[1]) == file, "another file was closed, or before the look")
         want(f"free {look}" not in self.log.lines[: lines[1]] and not self.log.is_of_pipes, "the look doesn't hold the file")
+        return (EVENT, lines[1]), (EVENT, lines[1]), True
+
+    def _cant_answer(self, lines, access, premises):
+        call, member, result, _ = self.log.answer_at(lines[1])
+        want(self.log.call_at(lines[0]) == call and self.log.chain(call)[0][0] != "look", "another call is answered, or a look")
+        want(result != -12 and (result != CANCELED or member == 1), "a member may lack memory, or be canceled after another one")
+        want(not self.log.may_answer(self.log.chain(call)[member - 1], result), "the request may have this answer")
         return (EVENT, lines[1]), (EVENT, lines[1]), True
 
 

@@ -129,3 +129,7 @@ class Words:
     def _closes_held(self, it: Step) -> str:
         file = name_of(self._events[it.lines[1]].mark)
         return f"{self._who(it.lines[0])} held {file} from line {it.lines[0]} on, and it was closed by line {it.lines[1]}"
+
+    def _cant_answer(self, it: Step) -> str:
+        result = self._log.answers[self._events[it.lines[1]].call, self._events[it.lines[1]].member].result
+        return f"{self._who(it.lines[1])} answered {result} at line {it.lines[1]}, which such a request never answers"

@@ -14,7 +14,7 @@ if TYPE_CHECKING:
 
 # the rules and the kinds of points, in the order of their numbers from 1
 RULES = ["events", "begins", "ends", "calls", "installs", "places", "follows", "finds", "closes", "settles", "empties", "precedes", "displaces",
-         "outlives", "then", "finds-closed", "closes-twice", "closes-held"]
+         "outlives", "then", "finds-closed", "closes-twice", "closes-held", "cant-answer"]
 POINTS = ["event", "access", "put", "gone"]
 # for each rule the number of its events, whether it names an access, and the number of its premises
 SHAPES = {
@@ -22,6 +22,7 @@ SHAPES = {
     "places": (2, True, 0), "follows": (2, False, 0), "finds": (2, False, 0), "closes": (1, False, 0), "settles": (1, False, 2),
     "empties": (2, True, 1), "precedes": (2, True, 1), "displaces": (0, False, 2), "outlives": (0, False, 2), "then": (0, False, 2),
     "finds-closed": (2, False, 0), "closes-twice": (2, False, 0), "closes-held": (2, False, 0),
+    "cant-answer": (2, False, 0),
 }
 
 

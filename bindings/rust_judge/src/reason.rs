@@ -67,9 +67,11 @@ pub enum Rule {
     ClosesTwice,
     /// A contradiction: a file was closed while a look held it.
     ClosesHeld,
+    /// A contradiction: a request can't have its answer, whatever it finds.
+    CantAnswer,
 }
 
-const RULES: [Rule; 18] = [
+const RULES: [Rule; 19] = [
     Rule::Events,
     Rule::Begins,
     Rule::Ends,
@@ -88,6 +90,7 @@ const RULES: [Rule; 18] = [
     Rule::FindsClosed,
     Rule::ClosesTwice,
     Rule::ClosesHeld,
+    Rule::CantAnswer,
 ];
 
 /// A step of a reason: a point comes before another one in each flight. `first`, `second`,

@@ -19,7 +19,7 @@ use Rattle.check_certificate.specs.declared.certificate.Point.TheVariants.{Event
 use Rattle.check_certificate.specs.declared.certificate.Point.TheVariants.{Access as At}
 use Rattle.check_certificate.specs.declared.certificate.PointOrder.{PointOrder}
 use Rattle.check_certificate.specs.declared.evidence.Evidence.{Evidence}
-use Rattle.check_certificate.specs.declared.evidence.Evidence.TheVariants.{Made, Empties, Installs, Finds}
+use Rattle.check_certificate.specs.declared.evidence.Evidence.TheVariants.{Made, Empties, Installs, Finds, Never}
 use Rattle.fx_flight.proofs.Beginnings.{logged}
 use Rattle.fx_flight.proofs.InTime.{in_log}
 use Rattle.fx_flight.specs.Laws.{IsCallOf}
@@ -62,6 +62,7 @@ pair_of p q is = let same : p ≡ q = cc in (ap (λ (r : ℕ × Option Identity)
 left_so : (t : Table) (a : Access) (evidence : Evidence) (slot : ℕ) (left : Option Identity) → IsEvident a evidence → left_at evidence ≡ Some (slot, left) → Permits t a
     → (table_with t a).at slot ≡ left
 left_so t a Made slot left is so may = absurd (cc)
+left_so t a Never slot left is so may = absurd is
 left_so t a (Empties own) slot left is so may =
     let p = pair_of (own, None) (slot, left) so in subst (λ k. (table_with t a).at k ≡ None) p.0 (is t may) ∙ p.1
 left_so t a (Installs own file) slot left is so may =
@@ -319,6 +320,10 @@ module _ (b : LogBeginning) where
       let freed = may.unheld id
       (is_earlier answer close (LookAnswered id (Some file)) (FileClosed file) first second low submissions registrations sound legal clock times x) in
       absurd (held (rw (front_is x.front (FileClosed file) x.rest close x.parts x.few) (rw x.same at (in_log x.earlier (Freed id) freed))))
+
+  pub cant_answer : (call answer : ℕ) → IsAccessMade b call answer 0 Never → IsForced b (strict_from (Event answer) (Event answer))
+  cant_answer call answer made submissions registrations sound legal clock times =
+      let x = said b submissions registrations sound legal clock times call answer 0 Never made in absurd x.is
 
 -- a point that comes before itself refutes the beginning
 pub refuted : (b : LogBeginning) (o : PointOrder) → o.strict ≡ true → o.from ≡ o.to → IsForced b o → IsContradicted b

@@ -8,3 +8,4 @@ pub mod Leaving
 pub mod Orders
 pub mod Forcing
 pub mod Showing
+pub mod Impossible

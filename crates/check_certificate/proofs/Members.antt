@@ -1,5 +1,5 @@
 -- The accesses of a member, or of a look, whose answer is in a flight, and their times.
-use Rattle.check_certificate.proofs.Words.{◌≡◌, ◌⊎◌, ℕ, zero, ◌+◌, ◌-◌, List, [], ◌∷◌, ◌++◌, length, take, refl, sym, ap, ◌∙◌, arith, inl, inr, suc}
+use Rattle.check_certificate.proofs.Words.{◌≡◌, ◌⊎◌, ℕ, zero, ◌+◌, ◌-◌, ◌<◌, List, [], ◌∷◌, ◌++◌, length, take, refl, sym, ap, ◌∙◌, arith, inl, inr, suc}
 use Rattle.check_certificate.proofs.Words.{⊎_elim, append_assoc, append-nil, length-append, Option, Some, None, slice_get, subst, Moment, Logged, Accesses}
 use Rattle.check_certificate.proofs.Words.{Access, IsAccessAt, AreTimesOf, AreAccessTimes, Asked, Place}
 use Rattle.check_certificate.proofs.Words.{Completed, IsChainDone, IsRequestDone, FlightSetting, MayFollow, FileEntry, RingState, either_way, severs}
@@ -33,7 +33,7 @@ module _ (catalogue : List FileEntry) (size : ℕ) where
     pub mine : List Access
     pub rest : List Access
     pub accesses : own ≡ front ++ (mine ++ rest)
-    pub done : (c ≡ refusal c.place ECANCELED) ⊎ IsRequestDone catalogue size c.place request.operation mine c
+    pub done : ((c ≡ refusal c.place ECANCELED) × (0 < n)) ⊎ IsRequestDone catalogue size c.place request.operation mine c
 
   pub member_part : (place : Place) (requests : List Asked) (own : List Access) (earlier : List Completed) (c : Completed) (n : ℕ)
       → length earlier ≡ n → IsChainDone catalogue size place (take (suc n) requests) own (earlier ++ c ∷ []) → MemberPart requests own n c
@@ -57,7 +57,7 @@ module _ (catalogue : List FileEntry) (size : ℕ) where
         mine = [];
         rest = [];
         accesses = sym (append-nil own);
-        done = inl cut.2;
+        done = inl (cut.2, omega arith);
       })
       (λ _ y. let part = member_part (next_member place) requests x.1 earlier c n long (rw tail at y) in
       record {
@@ -67,7 +67,7 @@ module _ (catalogue : List FileEntry) (size : ℕ) where
         mine = part.mine;
         rest = part.rest;
         accesses = x.4 ∙ (ap (λ l. x.0 ++ l) part.accesses ∙ sym (append_assoc x.0 part.front (part.mine ++ part.rest)));
-        done = part.done;
+        done = ⊎_elim (λ y. inl (y.0, omega arith)) (λ y. inr y) part.done;
       }) x.7
 
 -- Accesses by their numbers.
@@ -139,7 +139,7 @@ module _ (old : RingState) (answers : ℕ → List Completed) where
           request = part.request;
           asked = ap (slice_get may.0) (sym number) ∙ part.asked;
           accesses = part.mine;
-          done = part.done;
+          done = ⊎_elim (λ y. inl (y.0, let few = y.1 in omega arith)) (λ y. inr y) part.done;
           made = times.1;
         },
       )

@@ -81,7 +81,7 @@ module _ (catalogue : List FileEntry) (place : Place) (is : IsCatalogue catalogu
 pub evident_member : (catalogue : List FileEntry) (size : ℕ) (c : Completed) (request : Asked) (k : ℕ) (intent : Intent) → IsCatalogue catalogue
     → IsIntent catalogue size c.place request.operation k (Some intent) → (c ≡ refusal c.place ECANCELED → ⊥) → (c ≡ refusal c.place ENOMEM → ⊥)
     → IsEvidentByMember catalogue size c request k (evidence_of intent c.res)
-evident_member catalogue size c request k intent is intended running fed accesses (inl canceled) = absurd (running canceled)
+evident_member catalogue size c request k intent is intended running fed accesses (inl canceled) = absurd (running canceled.0)
 evident_member catalogue size c request k intent is intended running fed accesses (inr done) =
     both_options {R = IsEvidentOf accesses k (evidence_of intent c.res)} (refusal_of catalogue size request.operation)
     (λ mine at_table. ⊎_elim

@@ -1,25 +1,23 @@
 -- Evidence in the answers of a log for accesses.
-use Rattle.std.specs.Prelude.{◌≡◌, ◌⊎◌, ℕ, ◌-◌, ℤ, pos, negsuc, List, length, slice_get, Option}
+use Rattle.std.specs.Prelude.{◌≡◌, ℕ, ◌-◌, ℤ, pos, negsuc, List, length, slice_get, Option}
 use Rattle.std.specs.Prelude.{Some, None}
-use Rattle.fx_base.specs.declared.errno.Errno.TheVariants.{ECANCELED}
 use Rattle.fx_base.specs.Catalogue.{FileEntry, IsCatalogue}
 use Rattle.fx_base.specs.Identity.{Identity}
-use Rattle.fx_chain.specs.Completed.{Completed, refusal}
+use Rattle.fx_chain.specs.Completed.{Completed}
 use Rattle.fx_chain.specs.Operation.{Asked}
 use Rattle.fx_chain.specs.declared.intent.Intent.{Intent}
 use Rattle.fx_chain.specs.declared.intent.Intent.TheVariants.{Look, Put, Clear, Take, Allocate}
 use Rattle.fx_order.specs.Access.{Table, Permits, table_with}
-use Rattle.fx_order.specs.Requests.{IsRequestDone}
 use Rattle.fx_order.specs.declared.access.Access.{Access}
 use Rattle.fx_order.specs.declared.access.Access.TheVariants.{Looks}
 use Rattle.fx_flight.specs.Events.{Happening, Called, Answered, LookCalled, LookAnswered}
 use Rattle.fx_flight.specs.Flight.{IsLookDone}
 use Rattle.check_certificate.specs.Forced.{log_of_beginning}
-use Rattle.check_certificate.specs.Times.{IsPut}
+use Rattle.check_certificate.specs.Times.{IsPut, IsMemberDoneBy}
 use Rattle.check_certificate.specs.declared.beginning.LogBeginning.{LogBeginning}
 use Rattle.check_certificate.specs.declared.evidence.Evidence.{Evidence}
 use Rattle.check_certificate.specs.declared.evidence.Evidence.TheVariants.{Made, Empties, Installs}
-use Rattle.check_certificate.specs.declared.evidence.Evidence.TheVariants.{Finds}
+use Rattle.check_certificate.specs.declared.evidence.Evidence.TheVariants.{Finds, Never}
 
 -- it is so of this access
 abbrev pub IsEvident : Access → Evidence → Type 0
@@ -27,6 +25,7 @@ IsEvident a Made = Unit {0}
 IsEvident a (Empties slot) = (table : Table) → Permits table a → (table_with table a).at slot ≡ None
 IsEvident a (Installs slot file) = IsPut a slot file
 IsEvident a (Finds slot file) = a ≡ Looks slot (Some file)
+IsEvident a Never = ⊥
 
 -- there is an access with this number, and it is so of that
 abbrev pub IsEvidentOf : List Access → ℕ → Evidence → Type 0
@@ -36,9 +35,7 @@ IsEvidentOf accesses k evidence =
 -- it is so of an access of a member, whatever accesses it made
 abbrev pub IsEvidentByMember : List FileEntry → ℕ → Completed → Asked → ℕ → Evidence → Type 0
 IsEvidentByMember catalogue size c request k evidence =
-    (accesses : List Access)
-    → (c ≡ refusal c.place ECANCELED)
-    ⊎ IsRequestDone catalogue size c.place request.operation accesses c
+    (accesses : List Access) → IsMemberDoneBy catalogue size c request accesses
     → IsEvidentOf accesses k evidence
 
 -- and of a look
@@ -77,6 +74,7 @@ left_at Made = None
 left_at (Empties slot) = Some (slot, None)
 left_at (Installs slot file) = Some (slot, Some file)
 left_at (Finds slot file) = Some (slot, Some file)
+left_at Never = None
 
 -- an open at any slot by its result
 abbrev pub allocated_by : Identity → ℤ → Evidence

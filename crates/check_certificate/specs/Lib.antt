@@ -1,3 +1,4 @@
 pub mod Times
 pub mod Forced
 pub mod Evidence
+pub mod Answers

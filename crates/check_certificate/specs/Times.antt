@@ -1,7 +1,8 @@
 -- The times of the points of a flight: the number of moments before each.
-use Rattle.std.specs.Prelude.{◌≡◌, ◌⊎◌, ℕ, ◌-◌, ◌≤◌, List, ◌∷◌, ◌++◌, length, slice_get}
+use Rattle.std.specs.Prelude.{◌≡◌, ◌⊎◌, ℕ, ◌-◌, ◌<◌, ◌≤◌, List, ◌∷◌, ◌++◌, length, slice_get}
 use Rattle.std.specs.Prelude.{Option, Some}
 use Rattle.fx_base.specs.declared.errno.Errno.TheVariants.{ECANCELED}
+use Rattle.fx_base.specs.Catalogue.{FileEntry}
 use Rattle.fx_base.specs.Identity.{Identity}
 use Rattle.fx_chain.specs.Completed.{Completed, refusal}
 use Rattle.fx_chain.specs.Operation.{Asked}
@@ -43,6 +44,12 @@ abbrev pub AreTimesOf : List Moment → ℕ → List Access → (ℕ → ℕ) �
 AreTimesOf flight id accesses times =
     (k : ℕ) (a : Access) → slice_get accesses k ≡ Some a → IsAccessAt flight id a (times k)
 
+-- a member of a chain is canceled, and isn't the first one; or it makes these accesses
+abbrev pub IsMemberDoneBy : List FileEntry → ℕ → Completed → Asked → List Access → Type 0
+IsMemberDoneBy catalogue size c request accesses =
+    ((c ≡ refusal c.place ECANCELED) × (1 < c.place.member))
+    ⊎ IsRequestDone catalogue size c.place request.operation accesses c
+
 -- a member of a chain whose answer comes next made its accesses at these times
 pub record AreMemberTimes (s : FlightSetting) (flight : List Moment) (id : ℕ) (c : Completed)
     (times : ℕ → ℕ) : Type 0 where
@@ -51,8 +58,7 @@ pub record AreMemberTimes (s : FlightSetting) (flight : List Moment) (id : ℕ) 
   pub request : Asked
   pub asked : slice_get requests (c.place.member - 1) ≡ Some request
   pub accesses : List Access
-  pub done : (c ≡ refusal c.place ECANCELED)
-      ⊎ IsRequestDone s.old.catalogue s.old.size c.place request.operation accesses c
+  pub done : IsMemberDoneBy s.old.catalogue s.old.size c request accesses
   pub made : AreTimesOf flight id accesses times
 
 -- and a look

@@ -184,4 +184,11 @@ pub enum Step {
         /// The position of the close.
         close: usize,
     },
+    /// A contradiction: a request can't have its answer, whatever its accesses find.
+    CantAnswer {
+        /// The position of the call.
+        call: usize,
+        /// The position of the answer.
+        answer: usize,
+    },
 }

@@ -9,6 +9,7 @@ ghost use Rattle.check_certificate.specs.Evidence.{IsAccessMade, IsEvidentByMemb
 ghost use Rattle.check_certificate.specs.Evidence.{IsEvidentByLook, IsShownBy, left_at, slot_count};
 ghost use Rattle.check_certificate.specs.Evidence.{evidence_of};
 
+use crate::answers::is_impossible;
 use crate::beginning::LogBeginning;
 use fx_base::{Closed as File, Errno};
 use fx_chain::{Completion, Intent, Request, intent_of};
@@ -25,6 +26,8 @@ pub(crate) enum Evidence {
     Installs(u32, File),
     /// The access finds the file at the slot.
     Finds(u32, File),
+    /// There is no such answer.
+    Never,
 }
 
 impl Evidence {
@@ -34,7 +37,7 @@ impl Evidence {
         ensures { result ≡ left_at self }
     {
         match self {
-            Evidence::Made => None,
+            Evidence::Made | Evidence::Never => None,
             Evidence::Empties(slot) => Some((slot, None)),
             Evidence::Installs(slot, file) | Evidence::Finds(slot, file) => Some((
                 slot,
@@ -84,10 +87,13 @@ impl LogBeginning<'_> {
             → IsEvidentByMember self.now.catalogue.now (slot_count self.now) (completed_of c.now)
             (asked_of request.now) access evidence) }
     {
+        let size = self.size()?;
+        if is_impossible(self.catalogue, size, request, c) {
+            return Some(Evidence::Never);
+        }
         if c.is_refusal(c.place, Errno::ECANCELED) || c.is_refusal(c.place, Errno::ENOMEM) {
             return None;
         }
-        let size = self.size()?;
         let intent = intent_of(self.catalogue, size, c.place, request, access)?;
         Some(evidence_of(intent, c))
     }

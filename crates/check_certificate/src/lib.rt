@@ -5,6 +5,7 @@
 //! [`is_refuted`] checks them. Begin reading at `certificate.rt` and `specs/Times.antt`.
 #![tactic(auto)]
 
+mod answers;
 mod beginning;
 mod certificate;
 mod evidence;
@@ -12,5 +13,6 @@ mod premises;
 mod refuted;
 mod rules;
 
+pub use answers::is_impossible;
 pub use certificate::{Point, PointOrder, Step};
 pub use refuted::is_refuted;

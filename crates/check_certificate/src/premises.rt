@@ -6,6 +6,7 @@ ghost use Rattle.check_certificate.specs.declared.certificate.Point.TheVariants.
 
 use crate::beginning::{LogBeginning, call_of};
 use crate::certificate::{Point, PointOrder};
+use crate::evidence::Evidence;
 use crate::rules::ordered;
 use fx_base::Closed as File;
 
@@ -210,5 +211,16 @@ impl LogBeginning<'_> {
             return None;
         }
         Some(ordered(Point::Event(close), Point::Event(close)))
+    }
+
+    /// Returns a contradiction if a request can't have its answer.
+    pub(crate) fn cant_answer(&self, call: usize, answer: usize) -> Option<PointOrder>
+        ensures { IfSome result (IsForced self.now) }
+    {
+        let evidence = self.made(call, answer, 0)?;
+        match evidence {
+            Evidence::Never => Some(ordered(Point::Event(answer), Point::Event(answer))),
+            _ => None,
+        }
     }
 }

@@ -107,6 +107,7 @@ impl LogBeginning<'_> {
             Step::FindsClosed { close, answer } => self.finds_closed(close, answer),
             Step::ClosesTwice { first, second } => self.closes_twice(first, second),
             Step::ClosesHeld { answer, close } => self.closes_held(answer, close),
+            Step::CantAnswer { call, answer } => self.cant_answer(call, answer),
         }
     }
 

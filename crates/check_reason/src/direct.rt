@@ -2,14 +2,22 @@
 
 use crate::assembly::ReasonStep;
 use crate::reading::Reading;
-use check_certificate::{Point, PointOrder, Step};
+use check_certificate::{Point, PointOrder, Step, is_impossible};
 use fx_base::Closed as File;
+use fx_chain::Completion;
 use fx_flight::LogEvent;
 
 // Returns the contradiction of a look that finds a file at a position.
 fn by_found(log: &Reading<'_>, answer: usize, file: File) -> Option<Step> {
     let close = log.close_of(0, file)?;
     (close < answer).then_some(Step::FindsClosed { close, answer })
+}
+
+// Returns the contradiction of the answer of a request at a position.
+fn by_answer(log: &Reading<'_>, answer: usize, c: &Completion) -> Option<Step> {
+    let call = log.call(c.place.submission)?.at;
+    let request = log.request(c.place)?;
+    is_impossible(log.catalogue, log.size, request, c).then_some(Step::CantAnswer { call, answer })
 }
 
 // Checks whether the hold of a look ends before a position.
@@ -52,6 +60,7 @@ pub(crate) fn direct(log: &Reading<'_>) -> Option<ReasonStep> {
             file: Some(file),
         } => by_found(log, last, *file)?,
         LogEvent::Closed(file) => by_closed(log, last, *file)?,
+        LogEvent::Done(c) => by_answer(log, last, c)?,
         _ => return None,
     };
     let order = PointOrder {

@@ -58,20 +58,24 @@ fn steps_of(alloc: Global, steps: &[ReasonStep]) -> Result<Vec<Step>, NoMemory> 
     Ok(all)
 }
 
-// Proposes a certificate of the beginning. It is empty if the search finds none.
-fn search(log: &Reading<'_>) -> Result<Vec<ReasonStep>, NoMemory> {
-    if let Some(step) = direct(log) {
+// Proposes a certificate of the beginning: first the contradiction of its last event, then one from
+// each window, until a window is the whole log. It is empty if the search finds none.
+fn search(log: &Reading<'_>, attempt: usize) -> Result<Vec<ReasonStep>, NoMemory> {
+    let Some(last) = attempt.checked_sub(1) else {
         let mut steps = Vec::new(log.alloc);
-        steps.push(step)?;
-        return Ok(steps);
-    }
-    for width in &WIDTHS {
-        let steps = propose(log, *width)?;
-        if !steps.is_empty() || *width >= log.events.len() {
-            return Ok(steps);
+        if let Some(step) = direct(log) {
+            steps.push(step)?;
         }
+        return Ok(steps);
+    };
+    let is_whole = WIDTHS
+        .iter()
+        .take(last)
+        .any(|width| *width >= log.events.len());
+    match WIDTHS.get(last) {
+        Some(width) if !is_whole => propose(log, *width),
+        _ => Ok(Vec::new(log.alloc)),
     }
-    Ok(Vec::new(log.alloc))
 }
 
 /// Looks for the reason why the first `count` events of a log have no flight, from a table with
@@ -100,10 +104,12 @@ pub fn explain(
         return Ok(None);
     }
     let log = Reading::of(alloc, catalogue, size, &events[..count])?;
-    let steps = search(&log)?;
-    let certificate = steps_of(alloc, &steps)?;
-    if !is_refuted(alloc, catalogue, slots, events, count, &certificate)? {
-        return Ok(None);
+    for attempt in 0..WIDTHS.len() + 1 {
+        let steps = search(&log, attempt)?;
+        let certificate = steps_of(alloc, &steps)?;
+        if !steps.is_empty() && is_refuted(alloc, catalogue, slots, events, count, &certificate)? {
+            return Ok(Some(LogReason { count, steps }));
+        }
     }
-    Ok(Some(LogReason { count, steps }))
+    Ok(None)
 }

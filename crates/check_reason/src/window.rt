@@ -129,7 +129,10 @@ impl Window {
             self.positions.push(shown.answer)?;
         }
         self.positions.push(call.at)?;
-        let close = log.close_of(self.from, file);
+        let close = log.close_of(call.at, file);
+        if let Some(close) = close {
+            self.positions.push(close)?;
+        }
         self.files.push(WindowFile {
             file,
             slot,

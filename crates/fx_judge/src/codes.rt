@@ -178,3 +178,6 @@ pub const RULE_CLOSES_TWICE: u32 = 17;
 
 /// A contradiction: a file was closed while a look held it.
 pub const RULE_CLOSES_HELD: u32 = 18;
+
+/// A contradiction: a request can't have its answer.
+pub const RULE_CANT_ANSWER: u32 = 19;

@@ -1,10 +1,10 @@
 //! The steps of a reason as C reads them: of fixed size, with positions of events.
 
 use crate::codes::{
-    POINT_ACCESS, POINT_EVENT, POINT_GONE, POINT_PUT, RULE_BEGINS, RULE_CALLS, RULE_CLOSES,
-    RULE_CLOSES_HELD, RULE_CLOSES_TWICE, RULE_DISPLACES, RULE_EMPTIES, RULE_ENDS, RULE_EVENTS,
-    RULE_FINDS, RULE_FINDS_CLOSED, RULE_FOLLOWS, RULE_INSTALLS, RULE_OUTLIVES, RULE_PLACES,
-    RULE_PRECEDES, RULE_SETTLES, RULE_THEN,
+    POINT_ACCESS, POINT_EVENT, POINT_GONE, POINT_PUT, RULE_BEGINS, RULE_CALLS, RULE_CANT_ANSWER,
+    RULE_CLOSES, RULE_CLOSES_HELD, RULE_CLOSES_TWICE, RULE_DISPLACES, RULE_EMPTIES, RULE_ENDS,
+    RULE_EVENTS, RULE_FINDS, RULE_FINDS_CLOSED, RULE_FOLLOWS, RULE_INSTALLS, RULE_OUTLIVES,
+    RULE_PLACES, RULE_PRECEDES, RULE_SETTLES, RULE_THEN,
 };
 use check_certificate::{Point, Step};
 use check_reason::ReasonStep;
@@ -37,7 +37,7 @@ pub struct YachtPoint {
 #[repr(C)]
 #[derive(Drop)]
 pub struct YachtStep {
-    /// One of `RULE_EVENTS` to `RULE_CLOSES_HELD`.
+    /// One of `RULE_EVENTS` to `RULE_CANT_ANSWER`.
     pub rule: u32,
     /// 1 if `from` comes before `to`; 0 if it comes before or at the same time.
     pub is_strict: u32,
@@ -194,6 +194,7 @@ fn applied_by(step: &Step) -> Applied {
         Step::FindsClosed { close, answer } => of_events(RULE_FINDS_CLOSED, close, answer),
         Step::ClosesTwice { first, second } => of_events(RULE_CLOSES_TWICE, first, second),
         Step::ClosesHeld { answer, close } => of_events(RULE_CLOSES_HELD, answer, close),
+        Step::CantAnswer { call, answer } => of_events(RULE_CANT_ANSWER, call, answer),
     }
 }
 

@@ -22,6 +22,21 @@ fn place_of(id: u32) -> Place {
     }
 }
 
+// Appends a call of one request, and its answer.
+fn answered<H: Host>(
+    rt: &H,
+    log: &mut Vec<LogEvent>,
+    id: u32,
+    request: Request,
+    res: i32,
+) -> Result<(), NoMemory> {
+    let mut chain = Vec::new(rt.alloc());
+    chain.push(request)?;
+    log.push(LogEvent::Call { id, chain })?;
+    let (place, got) = (place_of(id), Vec::new(rt.alloc()));
+    Ok(log.push(LogEvent::Done(Completion { place, res, got }))?)
+}
+
 // Appends a call of one request, and its answer 0.
 fn call<H: Host>(
     rt: &H,
@@ -29,11 +44,7 @@ fn call<H: Host>(
     id: u32,
     request: Request,
 ) -> Result<(), NoMemory> {
-    let mut chain = Vec::new(rt.alloc());
-    chain.push(request)?;
-    log.push(LogEvent::Call { id, chain })?;
-    let (place, res, got) = (place_of(id), 0, Vec::new(rt.alloc()));
-    Ok(log.push(LogEvent::Done(Completion { place, res, got }))?)
+    answered(rt, log, id, request, 0)
 }
 
 // Appends a look of slot 0 that finds the file of call 1.
@@ -192,6 +203,23 @@ fn refutes_closes<H: Host>(rt: &H, step: Step, count: usize) -> Result<bool, NoM
     look(&mut log, 3)?;
     log.push(LogEvent::Closed(opened_by(1)))?;
     refutes(rt, &log, count, &[step])
+}
+
+// Checks whether a log is refuted by the answer of its only call, a close of slot 0.
+fn cant_answer<H: Host>(rt: &H, res: i32) -> Result<bool, NoMemory> {
+    let mut log = Vec::new(rt.alloc());
+    answered(rt, &mut log, 1, close(0), res)?;
+    refutes(rt, &log, 2, &[Step::CantAnswer { call: 0, answer: 1 }])
+}
+
+#[test]
+fn impossible_answers_refute(rt: HostRuntime) {
+    for res in [1, -2, -23, -125] {
+        assert!(rt; cant_answer(&rt, res) == Ok(true));
+    }
+    for res in [0, -9, -12] {
+        assert!(rt; cant_answer(&rt, res) == Ok(false));
+    }
 }
 
 #[test]

@@ -11,3 +11,7 @@ returns c = λ is. rw c.evidence_of.ensures (evident_member c.args.self.now.cata
     (asked_of c.args.request.now) c.args.access c.in_ok-intent.intent is (rw c.in_ok-size.ensures at c.in_ok-intent.ensures)
     (λ so. false≢true (sym c.if-is_refusal.false ∙ c.is_refusal.ensures.1 so))
     (λ so. false≢true (sym c.if-is_refusal-2.false ∙ c.is_refusal-else-is_refusal.ensures.1 so)))
+
+pub returns-then-is_impossible : goal.returns-then-is_impossible
+returns-then-is_impossible c = λ is accesses done.
+    absurd ((rw c.in_ok-size.ensures at (c.is_impossible.ensures c.if-is_impossible.true is)) accesses done)

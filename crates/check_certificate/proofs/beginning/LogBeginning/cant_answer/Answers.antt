@@ -1,0 +1,8 @@
+use Rattle.check_certificate.proofs.Words.{subst, sym}
+use Rattle.check_certificate.proofs.Forcing.{cant_answer}
+use Rattle.check_certificate.specs.Forced.{IsForced}
+use Rattle.check_certificate.proofs.beginning.LogBeginning.cant_answer.Goals as goal
+
+pub returns-in-Never : goal.returns-in-Never
+returns-in-Never c = subst (IsForced c.args.self.now) (sym c.ordered.ensures)
+    (cant_answer c.args.self.now c.args.call c.args.answer (rw c.in-Never.is at c.in_ok-evidence.ensures))
