@@ -256,6 +256,12 @@ def lasting(name, other="sharded-slab keys"):
     return on_threads("bench/tables.txt", name, "lasting", other)
 
 
+def counted(row):
+    """Returns the ratios of the table of a submission to the others in a row."""
+    others = "counted words", "arc-swap load", "arc-swap load_full", "crossbeam-epoch", "std's Mutex"
+    return " ".join(f"{ratio('bench/counted.txt', row, 'counted', it):.2f}" for it in others)
+
+
 def span(path, pattern, own, other):
     """Returns the least and the greatest ratio of the rows whose titles a pattern begins."""
     those = sorted({ratio(path, row, own, other) for row, _ in kept(path) if re.match(pattern, row)})
@@ -290,7 +296,7 @@ def whole(path, pattern):
     return round(float(found(path, pattern)))
 
 
-FUNCTIONS = (answer, bits, busy, calls, constant_of, crate, date, entries, found, gate, lasting, liburing, line, lines, linux, measured, narrow, number, of_runs,
+FUNCTIONS = (answer, bits, busy, calls, constant_of, counted, crate, date, entries, found, gate, lasting, liburing, line, lines, linux, measured, narrow, number, of_runs,
              on_four_threads, python, ratio, round, span, status, tails, version, whole, width, width_of_slots)
 SOURCES = Sources({it.__name__: it for it in FUNCTIONS})
 
