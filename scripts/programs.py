@@ -122,7 +122,7 @@ def verdict(fixcheck, script, text, *options):
     """The status, the lines and the message of fixcheck, asked of a text, which it reads from standard
     input. In the message `script` replaces the script's path."""
     with kept_script(script) as path:
-        status, said, message = run([fixcheck, *options, path, "-"], text)
+        status, said, message = run([fixcheck, *options, path, "-"], text, given_time(120))
     return status, said.splitlines(), message.replace(path, "script")
 
 
