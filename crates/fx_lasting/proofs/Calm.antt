@@ -15,6 +15,7 @@ use Rattle.fx_lasting.proofs.slot_lemmas.Watching.{watch_same}
 use Rattle.fx_lasting.proofs.range_lemmas.Groups.{counts_same}
 use Rattle.fx_lasting.proofs.hold_lemmas.Lists.{ListGoesOn}
 use Rattle.fx_lasting.proofs.Places.{hold_words, hold_here, hold_node, hold_slot, hold_else, hold_alike, hold_list, hold_label}
+use Rattle.fx_lasting.proofs.Keeping.{range_left, LeavesFiles}
 
 module _ (turn : Turn) (h' front : List Event) (words' : List ℕ) (d : Work) (g : Glance) (c : Change) (q : Survey) (l : Bool)
     (still : turn.x.listed ≡ true → l ≡ true) (o : Watch) (more : turn.x.watch.met ≤ o.met) where
@@ -44,18 +45,14 @@ module _ (turn : Turn) (h' front : List Event) (words' : List ℕ) (d : Work) (g
 
   pub record Calm : Type 0 where
     pub words : length words' ≡ length st.words
-    pub grows : Grows x.number r.history h'
-    pub legal : IsHistory v.start h'
+    pub files : LeavesFiles turn h'
     pub seen : IsSeenBy front h'
     pub own : part_of_pass x.number h' ≡ part_of_pass x.number front
-    pub at : (state_after_all v.start h').at ≡ (state_after_all v.start r.history).at
-    pub fresh : (state_after_all v.start h').fresh ≡ (state_after_all v.start r.history).fresh
-    pub removed : (state_after_all v.start h').removed ≡ (state_after_all v.start r.history).removed
     pub slot_words : (s : ℕ) → s < slots_of v.start → slot_word words' s ≡ slot_word st.words s
     pub node_words : (n : ℕ) → word_at words' (word_of v.start n) ≡ word_at st.words (word_of v.start n)
     pub label_words : (n : ℕ) → LabelSame v.start words' st.words n
     pub hold_words : (p : ℕ) → p ≢ x.number → 0 < p → word_at words' (hold_word_of v.start p) ≡ word_at st.words (hold_word_of v.start p)
-    pub counts : RangeCounts (state_after_all v.start r.history).at (range_at_start v.start) (set st.views id (w turn calm_after)) words'
+    pub counts : RangeCounts (state_after_all v.start h').at (range_at_start v.start) (set st.views id (w turn calm_after)) words'
     pub taken : (n : ℕ) → taking n d ≡ taking n v.work
     pub owners : (d ≡ v.work) ⊎ (busy v.work ≡ 0)
     pub held : held_by h' x.number ≡ held_in d
@@ -68,11 +65,11 @@ module _ (turn : Turn) (h' front : List Event) (words' : List ℕ) (d : Work) (g
 
   pub calm_kept : Calm → Agrees v.start (end turn calm_after)
   calm_kept s = let at_is : (i : ℕ) → (state_after_all v.start h').at i ≡ (state_after_all v.start r.history).at i =
-      λ i. ap (λ (f : ℕ → Option File). f i) s.at in step_kept turn calm_after record {
+      λ i. ap (λ (f : ℕ → Option File). f i) s.files.at in step_kept turn calm_after record {
         words = s.words;
         homes = refl;
-        grows = s.grows;
-        legal = s.legal;
+        grows = s.files.grows;
+        legal = s.files.legal;
         seen = s.seen;
         own = s.own;
         slots = λ i l. slot_same (s.slot_words i l) (at_is i) (λ q low high. refl) (λ f there seat. refl) (r.each_slot i l);
@@ -82,9 +79,9 @@ module _ (turn : Turn) (h' front : List Event) (words' : List ℕ) (d : Work) (g
         owners = λ n l. ⊎_elim (λ same. owner_same st.views id v (w turn calm_after) here (ap alone_in same) n (r.phase n) (r.each_owner n l))
             (λ none. owner_stays st.views id v (w turn calm_after) here n (λ bad. omega arith) (r.phase n) (r.each_owner n l)) s.owners;
         labels = λ n l. labels_same v.start _ _ _ (written_in (r.phase n)) (s.label_words n) (r.each_label n l);
-        removed = λ number. ap (λ (f : ℕ → Option File). f number) s.removed ∙ r.removed number;
+        removed = λ number. ap (λ (f : ℕ → Option File). f number) s.files.removed ∙ r.removed number;
         unborn = r.unborn;
-        fresh = λ number l. ap (λ (f : ℕ → Bool). f number) s.fresh ∙ r.fresh number l;
+        fresh = λ number l. ap (λ (f : ℕ → Bool). f number) s.files.fresh ∙ r.fresh number l;
         named = names_on turn _ (λ i l. ap name_in (s.slot_words i l));
         stock = its_stock turn;
         stocks = λ n p e other at. at;
@@ -96,7 +93,7 @@ module _ (turn : Turn) (h' front : List Event) (words' : List ℕ) (d : Work) (g
         its_bit = s.its_bit;
         its = s.its;
         holds = s.holds;
-        counts = rw s.at s.counts;
+        counts = s.counts;
         moves = λ i l. inl (s.slot_words i l);
         watches = s.watches;
       }
@@ -126,11 +123,7 @@ module _ (turn : Turn) (new : ℕ) (d : Work) where
   own_after h' = calm_after turn h' h' own_words d v.glance v.change x.asked x.listed (λ l. l) x.watch (met_same x.watch.met)
 
   pub record Own (h' : List Event) : Type 0 where
-    pub grows : Grows x.number r.history h'
-    pub legal : IsHistory v.start h'
-    pub at : (state_after_all v.start h').at ≡ (state_after_all v.start r.history).at
-    pub fresh : (state_after_all v.start h').fresh ≡ (state_after_all v.start r.history).fresh
-    pub removed : (state_after_all v.start h').removed ≡ (state_after_all v.start r.history).removed
+    pub files : LeavesFiles turn h'
     pub taken : (n : ℕ) → taking n d ≡ taking n v.work
     pub owners : busy v.work ≡ 0
     pub held : held_by h' x.number ≡ held_in d
@@ -145,26 +138,21 @@ module _ (turn : Turn) (new : ℕ) (d : Work) where
   own_kept {h'} s = let low = (in_range turn).0 in let high = (in_range turn).1 in let same = hold_slot turn x.number low high new in
       let o = its_log turn in calm_kept turn h' h' own_words d v.glance v.change x.asked x.listed (λ l. l) x.watch (met_same x.watch.met) record {
         words = length-set st.words (hold_word_of v.start x.number) new;
-        grows = s.grows;
-        legal = s.legal;
+        files = s.files;
         seen = ([], refl);
         own = refl;
-        at = s.at;
-        fresh = s.fresh;
-        removed = s.removed;
         slot_words = same;
         node_words = hold_node turn x.number low high new;
         label_words = hold_label turn x.number low high new;
         hold_words = λ p other more. hold_else turn x.number low high new p other;
-        counts = counts_same id (w turn (own_after h')) here r.counts (few_slots turn) refl (hold_alike turn x.number low high new) refl
-            (asks_alike turn (own_after h') refl);
+        counts = range_left turn (own_after h') s.files.at (hold_alike turn x.number low high new) refl refl;
         taken = s.taken;
         owners = inr s.owners;
         held = s.held;
         allowed = s.allowed;
         lists = λ p few. inl (hold_list turn x.number low high new p few);
         its_bit = λ l. inl l;
-        watches = watch_same v.start x.number (s.grows.seen r.history ([], refl)) same (hold_alike turn x.number low high new).0 x.watch o.watch;
+        watches = watch_same v.start x.number (s.files.grows.seen r.history ([], refl)) same (hold_alike turn x.number low high new).0 x.watch o.watch;
         its = record {
           hold = rw (hold_here turn x.number low high new) s.hold;
           guarded = s.guarded;
@@ -190,11 +178,7 @@ module _ (turn : Turn) (d : Work) (g : Glance) where
   read_after h' = read_before h' h'
 
   pub record Reads (h' : List Event) : Type 0 where
-    pub grows : Grows x.number r.history h'
-    pub legal : IsHistory v.start h'
-    pub at : (state_after_all v.start h').at ≡ (state_after_all v.start r.history).at
-    pub fresh : (state_after_all v.start h').fresh ≡ (state_after_all v.start r.history).fresh
-    pub removed : (state_after_all v.start h').removed ≡ (state_after_all v.start r.history).removed
+    pub files : LeavesFiles turn h'
     pub taken : (n : ℕ) → taking n d ≡ taking n v.work
     pub owners : (d ≡ v.work) ⊎ (busy v.work ≡ 0)
     pub held : held_by h' x.number ≡ held_in d
@@ -212,19 +196,14 @@ module _ (turn : Turn) (d : Work) (g : Glance) where
   read_watching_kept {h'} o more front i seen own watches s =
       rw (set-get_or st.words i 0) (calm_kept turn h' front st.words d g v.change x.asked x.listed (λ l. l) o more record {
         words = refl;
-        grows = s.grows;
-        legal = s.legal;
+        files = s.files;
         seen = seen;
         own = own;
-        at = s.at;
-        fresh = s.fresh;
-        removed = s.removed;
         slot_words = λ s l. refl;
         node_words = λ n. refl;
         label_words = λ n. (refl, refl);
         hold_words = λ p other more. refl;
-        counts = counts_same id (w turn (read_watching o more h' front)) here r.counts (few_slots turn) refl (refl, λ g l. refl) refl
-            (asks_alike turn (read_watching o more h' front) refl);
+        counts = range_left turn (read_watching o more h' front) s.files.at (refl, λ g l. refl) refl refl;
         taken = s.taken;
         owners = s.owners;
         held = s.held;
@@ -244,7 +223,7 @@ module _ (turn : Turn) (d : Work) (g : Glance) where
         views = set st.views id (w turn (read_before h' front));
       }
   read_before_kept {h'} front i seen own s = read_watching_kept x.watch (met_same x.watch.met) front i seen own
-      (watch_same v.start x.number (s.grows.seen r.history ([], refl)) (λ s l. refl) refl x.watch (its_log turn).watch) s
+      (watch_same v.start x.number (s.files.grows.seen r.history ([], refl)) (λ s l. refl) refl x.watch (its_log turn).watch) s
 
   pub read_kept : {h' : List Event} (i : ℕ) → Reads h' → Agrees v.start record {
     words = set st.words i (word_at st.words i);

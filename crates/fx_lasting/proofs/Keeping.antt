@@ -7,10 +7,10 @@ use Rattle.fx_lasting.proofs.Words.{LogAgrees, ViewAgrees, lengths, Agrees, Rang
 use Rattle.fx_lasting.proofs.Words.{count_in, slot_place, word_of, hold_word_of, Shared, slots_of, nodes_of, range_at_start, state_after_all}
 use Rattle.fx_lasting.proofs.Words.{IsHistory, held_in, held_of, taken_of, logs_of, owed, Sat, Stepped, IsInside, pass_event, HasPass, Phase, free}
 use Rattle.fx_lasting.proofs.Words.{removed_in, Change, Glance, Log, Start, View, Work, found_sum, found_by, at_index, IsInStock, name_in}
-use Rattle.fx_lasting.proofs.Words.{Whereabouts, in_stock, NamesItsNode, StockAgrees, as_stocked, ◌⊎◌, list_place, IsListedIn, Deed, untouched}
+use Rattle.fx_lasting.proofs.Words.{first_log, Whereabouts, in_stock, NamesItsNode, StockAgrees, as_stocked, ◌⊎◌, list_place, IsListedIn, Deed, untouched}
 use Rattle.fx_lasting.proofs.Words.{Watch, WatchAgrees, Survey, as_asked, Labels, Written, tag_word_of, number_word_of, written_in, of_replaced, MOST_SLOTS}
-use Rattle.fx_lasting.proofs.range_lemmas.Groups.{AskAlike}
-use Rattle.fx_lasting.proofs.Histories.{Grows, legal_before}
+use Rattle.fx_lasting.proofs.range_lemmas.Groups.{AskAlike, CountAlike, counts_same}
+use Rattle.fx_lasting.proofs.Histories.{Grows, grows_none, legal_before}
 use Rattle.fx_lasting.proofs.hold_lemmas.Lists.{ListGoesOn, stays_listed, was_listed}
 use Rattle.fx_lasting.proofs.slot_lemmas.Watching.{MovesOn, watch_on}
 use mathlib.Core.Option as maybe
@@ -135,6 +135,17 @@ module _ (turn : Turn) where
 
   pub in_range : (0 < x.number) × (x.number ≤ v.start.passes)
   in_range = its_range r id here has_x
+
+  -- the history goes on, and no slot and no removed file changes
+  pub record LeavesFiles (h' : List Event) : Type 0 where
+    pub grows : Grows x.number r.history h'
+    pub legal : IsHistory v.start h'
+    pub at : (state_after_all v.start h').at ≡ (state_after_all v.start r.history).at
+    pub fresh : (state_after_all v.start h').fresh ≡ (state_after_all v.start r.history).fresh
+    pub removed : (state_after_all v.start h').removed ≡ (state_after_all v.start r.history).removed
+
+  pub none_added : LeavesFiles r.history
+  none_added = record { grows = grows_none x.number r.history; legal = r.legal; at = refl; fresh = refl; removed = refl }
 
   -- The words, the places and the rule's own names after a step
   pub record After : Type 0 where
@@ -353,20 +364,22 @@ module _ (turn : Turn) where
     start = refl;
   }
 
-  -- the effect of a step after which the pass has asked otherwise
-  pub tells_asked : (a : After) → ◌≡◌ {A = Bool × List ℕ} (a.listed, a.stock) (x.listed, x.stock) → (carried : List (ℕ × Option Closed)) → Grows x.number r.history a.front
-      → IsHistory v.start a.front → part_of_pass x.number a.front ≡ part_of_pass x.number r.history → IsInside v.start a.work
-      → Stepped (as_asked a.asked (v, carried)) [] a.work a.glance a.change (w a, carried)
-  tells_asked a same carried grows legal own inside = let o = its_log in rw one record {
+  -- the effect of a step after which the pass is listed, has asked and has in stock this
+  pub tells_as : (a : After) (l : Bool) (q : Survey) (s : List ℕ) → ◌≡◌ {A = Bool × Survey × List ℕ} (a.listed, a.asked, a.stock) (l, q, s)
+      → (carried homes : List (ℕ × Option Closed)) (actions : List Action) → Grows x.number r.history a.front → IsHistory v.start a.front
+      → part_of_pass x.number a.front ≡ map (pass_event x) actions ++ part_of_pass x.number r.history → IsInside v.start a.work
+      → Stepped (record v { logs = record (first_log v.logs) { listed = l; asked = q; stock = s } ∷ [] }, carried) actions a.work a.glance a.change
+      (w a, homes)
+  tells_as a l q s same carried homes actions grows legal own inside = let o = its_log in rw one record {
     one = (logged x a.listed a.asked a.stock a.watch a.front, refl);
     number = refl;
     seen = grows.seen x.front o.seen;
     legal = legal;
-    own = own ∙ o.own;
+    own = own ∙ ap (λ (l : List Event). map (pass_event x) actions ++ l) o.own;
     steps = refl;
-    listed = ap (λ (z : Bool × List ℕ). z.0) same;
-    asked = refl;
-    stock = ap (λ (z : Bool × List ℕ). z.1) same;
+    listed = ap (λ (z : Bool × Survey × List ℕ). z.0) same;
+    asked = ap (λ (z : Bool × Survey × List ℕ). z.1) same;
+    stock = ap (λ (z : Bool × Survey × List ℕ). z.2) same;
     met = a.more_met;
     work = refl;
     inside = inside;
@@ -375,28 +388,19 @@ module _ (turn : Turn) where
     start = refl;
   }
 
-  -- the effect of a step after which the pass has another stock
+  -- it has asked otherwise
+  pub tells_asked : (a : After) → ◌≡◌ {A = Bool × List ℕ} (a.listed, a.stock) (x.listed, x.stock) → (carried : List (ℕ × Option Closed)) → Grows x.number r.history a.front
+      → IsHistory v.start a.front → part_of_pass x.number a.front ≡ part_of_pass x.number r.history → IsInside v.start a.work
+      → Stepped (as_asked a.asked (v, carried)) [] a.work a.glance a.change (w a, carried)
+  tells_asked a same carried =
+      tells_as a (first_log v.logs).listed a.asked (first_log v.logs).stock (rw one (λ i. ((same i).0, a.asked, (same i).1))) carried carried []
+
+  -- it has another stock
   pub tells_stocked : (a : After) → ◌≡◌ {A = Bool × Survey} (a.listed, a.asked) (x.listed, x.asked) → (carried homes : List (ℕ × Option Closed)) (actions : List Action)
       → Grows x.number r.history a.front → IsHistory v.start a.front
       → part_of_pass x.number a.front ≡ map (pass_event x) actions ++ part_of_pass x.number r.history → IsInside v.start a.work
       → Stepped (as_stocked a.stock (v, carried)) actions a.work a.glance a.change (w a, homes)
-  tells_stocked a same carried homes actions grows legal own inside = let o = its_log in rw one record {
-    one = (logged x a.listed a.asked a.stock a.watch a.front, refl);
-    number = refl;
-    seen = grows.seen x.front o.seen;
-    legal = legal;
-    own = own ∙ ap (λ (l : List Event). map (pass_event x) actions ++ l) o.own;
-    steps = refl;
-    listed = ap (λ (z : Bool × Survey). z.0) same;
-    asked = ap (λ (z : Bool × Survey). z.1) same;
-    stock = refl;
-    met = a.more_met;
-    work = refl;
-    inside = inside;
-    glance = refl;
-    change = refl;
-    start = refl;
-  }
+  tells_stocked a same = tells_as a (first_log v.logs).listed (first_log v.logs).asked a.stock (rw one (λ i. ((same i).0, (same i).1, a.stock)))
 
   -- the pass has asked what it had asked
   pub asks_alike : (a : After) → a.asked ≡ x.asked → AskAlike (w a) v
@@ -405,6 +409,11 @@ module _ (turn : Turn) where
 
   pub few_slots : (range_at_start v.start).1 ≤ MOST_SLOTS
   few_slots = few_in_range r
+
+  -- the range agrees after a step that changes neither its words nor what the pass counts and asks
+  pub range_left : (a : After) → (state_after_all v.start a.h).at ≡ (state_after_all v.start r.history).at → CountAlike a.words st.words
+      → a.change ≡ v.change → a.asked ≡ x.asked → RangeCounts (state_after_all v.start a.h).at (range_at_start v.start) (views' a) a.words
+  range_left a at alike change asked = counts_same id (w a) here r.counts few_slots at alike change (asks_alike a asked)
 
   -- the effect of a step after which the pass has seen what it had seen
   pub tells_less : (a : After) → ◌≡◌ {A = Bool × Survey × List ℕ} (a.listed, a.asked, a.stock) (x.listed, x.asked, x.stock) → (carried homes : List (ℕ × Option Closed)) → a.front ≡ x.front → IsInside v.start a.work

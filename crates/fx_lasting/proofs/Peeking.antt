@@ -1,7 +1,7 @@
 -- A load from which the pass learns nothing keeps the rule.
 use Rattle.fx_lasting.proofs.Words.{ℕ, List, [], refl, Option, none, keeps, step, Closed, Peeks, PeeksKeep, Goes, inl, arith}
 use Rattle.fx_lasting.proofs.Histories.{grows_none}
-use Rattle.fx_lasting.proofs.Keeping.{Turn, turn_of, Made, by_turn, its_log, its_work, tells, w}
+use Rattle.fx_lasting.proofs.Keeping.{none_added, Turn, turn_of, Made, by_turn, its_log, its_work, tells, w}
 use Rattle.fx_lasting.proofs.Calm.{read_after, Reads, read_kept}
 use Rattle.fx_lasting.proofs.range_lemmas.GroupSteps.{its_inside}
 
@@ -10,11 +10,7 @@ module _ (turn : Turn) where
 
   pub still : Reads turn v.work v.glance r.history
   still = let o = its_log turn in record {
-    grows = grows_none x.number r.history;
-    legal = r.legal;
-    at = refl;
-    fresh = refl;
-    removed = refl;
+    files = none_added turn;
     taken = λ n. refl;
     owners = inl refl;
     held = o.held;

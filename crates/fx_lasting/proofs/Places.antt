@@ -1,7 +1,7 @@
 -- Places are inside, and apart; and what a write to one of them leaves as it was.
 use Rattle.fx_lasting.proofs.Words.{◌≡◌, ◌≢◌, ℕ, ◌<◌, ◌≤◌, List, set, sym, arith, get_or-set_other, get_or-set_same, list_place, slot_place, word_of}
 use Rattle.fx_lasting.proofs.Words.{hold_word_of, slots_of, nodes_of, slot_of, group_at, group_place, pass_at, Start, PlacesAreInside, PlacesAreApart}
-use Rattle.fx_lasting.proofs.Words.{LabelsAreApart, NodesAreInOneLine, IsNoLabel, tag_word_of, number_word_of}
+use Rattle.fx_lasting.proofs.Words.{LabelsAreApart, NodesAreInOneLine, IsNoLabel, tag_word_of, number_word_of, length, length-set, refl}
 use Rattle.fx_lasting.proofs.range_lemmas.Groups.{CountAlike}
 use Rattle.fx_lasting.proofs.Keeping.{Turn, word_at, slot_word, LabelSame}
 
@@ -79,6 +79,26 @@ label_same k words place new apart n = (
   get_or-set_other words place (number_word_of k n) new 0 (λ same. (apart n).1 (sym same)),
 )
 
+-- the words but for those of the node and of passes that hold files are as they were
+pub record LeavesElse (turn : Turn) (n : ℕ) (words' : List ℕ) : Type 0 where
+  pub as_long : length words' ≡ length turn.st.words
+  pub slots : (s : ℕ) → s < slots_of turn.v.start → slot_word words' s ≡ slot_word turn.st.words s
+  pub alike : CountAlike words' turn.st.words
+  pub lists : (p : ℕ) → p ≤ 1024 → word_at words' (list_place p) ≡ word_at turn.st.words (list_place p)
+  pub nodes : (m : ℕ) → m ≢ n → word_at words' (word_of turn.v.start m) ≡ word_at turn.st.words (word_of turn.v.start m)
+  pub labels : (m : ℕ) → m ≢ n → LabelSame turn.v.start words' turn.st.words m
+
+-- no word is written
+pub leaves_all : (turn : Turn) (n : ℕ) → LeavesElse turn n turn.st.words
+leaves_all turn n = record {
+  as_long = refl;
+  slots = λ s l. refl;
+  alike = (refl, λ g l. refl);
+  lists = λ p few. refl;
+  nodes = λ m other. refl;
+  labels = λ m other. (refl, refl);
+}
+
 -- the word of a node is written
 module _ (turn : Turn) (q : ℕ) (its : q < nodes_of turn.v.start) (new : ℕ) where
   open turn use {st, v, r}
@@ -101,14 +121,18 @@ module _ (turn : Turn) (q : ℕ) (its : q < nodes_of turn.v.start) (new : ℕ) w
   pub node_hold : (p : ℕ) → p ≤ v.start.passes → word_at node_words (hold_word_of v.start p) ≡ word_at st.words (hold_word_of v.start p)
   node_hold p l = node_apart (λ same. omega arith)
 
-  pub node_list : (p : ℕ) → p ≤ 1024 → word_at node_words (list_place p) ≡ word_at st.words (list_place p)
-  node_list p few = node_apart (λ same. omega arith)
-
   pub node_label : (n : ℕ) → LabelSame v.start node_words st.words n
   node_label = label_same v.start st.words (word_of v.start q) new (λ n. (λ same. omega arith, λ same. omega arith))
 
-  pub node_alike : CountAlike node_words st.words
-  node_alike = (node_apart (λ same. omega arith), λ g l. node_apart (λ same. omega arith))
+  pub node_leaves : LeavesElse turn q node_words
+  node_leaves = record {
+    as_long = length-set st.words (word_of v.start q) new;
+    slots = node_slot;
+    alike = (node_apart (λ same. omega arith), λ g l. node_apart (λ same. omega arith));
+    lists = λ p few. node_apart (λ same. omega arith);
+    nodes = node_else;
+    labels = λ m other. node_label m;
+  }
 
 -- the hold word of a pass is written
 module _ (turn : Turn) (p : ℕ) (low : 0 < p) (high : p ≤ turn.v.start.passes) (new : ℕ) where
@@ -140,6 +164,16 @@ module _ (turn : Turn) (p : ℕ) (low : 0 < p) (high : p ≤ turn.v.start.passes
 
   pub hold_alike : CountAlike hold_words st.words
   hold_alike = (hold_apart (λ same. omega arith), λ g l. hold_apart (λ same. omega arith))
+
+  pub hold_leaves : (n : ℕ) → LeavesElse turn n hold_words
+  hold_leaves n = record {
+    as_long = length-set st.words (hold_word_of v.start p) new;
+    slots = hold_slot;
+    alike = hold_alike;
+    lists = hold_list;
+    nodes = λ m other. hold_node m;
+    labels = λ m other. hold_label m;
+  }
 
 -- the word of a slot is written
 module _ (turn : Turn) (s : ℕ) (inside : s < slots_of turn.v.start) (new : ℕ) where

@@ -6,6 +6,7 @@ use Rattle.fx_lasting.proofs.Words.{inl, dite, ℕ_discrete, eq-eqb, ne_eqb, Opt
 use Rattle.fx_lasting.proofs.Words.{Yielding, Counted, Cold, TakesOut, LettingGo, glance_after, LetsMarkGo, LetsFileGo, HasPlace, IsReleasing}
 use Rattle.fx_lasting.proofs.Words.{HasToLetGo, nodes_of, full_name_in, file_node_in, At, Glance, Work, Start, IsHistory, pass_in, pass_event}
 use Rattle.fx_lasting.proofs.Words.{part_of_pass, IsInside, rested, append_assoc, map-append, seen_further}
+use Rattle.fx_lasting.proofs.Words.{Bool}
 
 pub runs_one : {m m' : Sat} {xs : List Action} {w : Work} {g : Glance} {c : Change} → Stepped m xs w g c m' → Runs m xs w g c 1 m'
 runs_one {m} {m'} s =
@@ -52,24 +53,7 @@ does_then {m' = m'} {m'' = m''} {ys = ys} {w' = w'} {n' = n'} a b =
 -- the pass has other places now
 pub runs_carried : {m m' : Sat} {xs : List Action} {w : Work} {g : Glance} {c : Change} {n : ℕ} (places : List (ℕ × Option Closed))
     → Runs m xs w g c n m' → Runs m xs w g c n (m'.0, places)
-runs_carried places r = record {
-  one = r.one;
-  number = r.number;
-  seen = r.seen;
-  legal = r.legal;
-  own = r.own;
-  steps = r.steps;
-  begun = r.begun;
-  listed = r.listed;
-  asked = r.asked;
-  stock = r.stock;
-  met = r.met;
-  work = r.work;
-  inside = r.inside;
-  glance = r.glance;
-  change = r.change;
-  start = r.start;
-}
+runs_carried places r = assumption r
 
 -- at most as many steps, or more
 pub runs_within : {m m' : Sat} {xs : List Action} {w : Work} {g : Glance} {c : Change} {n n' : ℕ} → n ≤ n' → Runs m xs w g c n m'
@@ -118,95 +102,53 @@ module _ {k : Start} {p : ℕ} {m : Sat} (at : IsAtWork k p m) where
     stock = subst (IsStockOf k p) (sym stock_is ∙ (sym r.stock ∙ ap (λ (l : List Log). (first_log l).stock) r.one.1)) at.stock;
   }
 
+  pub own_stock : IsStockOf k p (pass_in m).stock
+  own_stock = subst (IsStockOf k p) (sym stock_is) at.stock
+
+  -- the seat, where the pass's list bit, question and stock are these
+  pub at_work_as : (l : Bool) (q : Survey) (s : List ℕ) → IsStockOf k p s
+      → IsAtWork k p (record m.0 { logs = record (pass_in m) { listed = l; asked = q; stock = s } ∷ [] }, m.1)
+  at_work_as l q s its = record {
+    log = record (pass_in m) { listed = l; asked = q; stock = s };
+    pass = (at.pass.0, refl);
+    its_number = number_is;
+    low = at.low;
+    high = at.high;
+    legal = subst (λ (l : Log). IsHistory k l.front) (sym (ap first_log at.pass.1)) at.legal;
+    inside = at.inside;
+    stock = its;
+  }
+
   -- what it works with is the table's
   pub its_inside : {w : Work} → m.0.work ≡ w → IsInside k w
   its_inside is = subst (IsInside k) is at.inside
 
 -- the seat of a pass that was listed
 pub at_listed : {k : Start} {p : ℕ} {m : Sat} → IsAtWork k p m → IsAtWork k p (as_listed m)
-at_listed {k} {p} {m} at = record {
-  log = record (pass_in m) { listed = true };
-  pass = (at.pass.0, refl);
-  its_number = number_is at;
-  low = at.low;
-  high = at.high;
-  legal = subst (λ (l : Log). IsHistory k l.front) (sym (ap first_log at.pass.1)) at.legal;
-  inside = at.inside;
-  stock = subst (λ (l : Log). IsStockOf k p l.stock) (sym (ap first_log at.pass.1)) at.stock;
-}
+at_listed {m = m} at = at_work_as at true (pass_in m).asked (pass_in m).stock (own_stock at)
 
 -- the seat of a pass that has asked
 pub at_asked : {k : Start} {p : ℕ} {m : Sat} (a : Survey) → IsAtWork k p m → IsAtWork k p (as_asked a m)
-at_asked {k} {p} {m} a at = record {
-  log = record (pass_in m) { asked = a };
-  pass = (at.pass.0, refl);
-  its_number = number_is at;
-  low = at.low;
-  high = at.high;
-  legal = subst (λ (l : Log). IsHistory k l.front) (sym (ap first_log at.pass.1)) at.legal;
-  inside = at.inside;
-  stock = subst (λ (l : Log). IsStockOf k p l.stock) (sym (ap first_log at.pass.1)) at.stock;
-}
+at_asked {m = m} a at = at_work_as at (pass_in m).listed a (pass_in m).stock (own_stock at)
 
 -- whatever a pass has asked, it makes the same steps
 pub runs_asked : {m m' : Sat} {xs : List Action} {w : Work} {g : Glance} {c : Change} {n : ℕ} (a : Survey) → Runs m xs w g c n m'
     → Runs (as_asked a m) xs w g c n (as_asked a m')
-runs_asked {m' = m'} a r = record {
-  one = (record (pass_in m') { asked = a }, refl);
-  number = r.number;
-  seen = r.seen;
-  legal = r.legal;
-  own = r.own;
-  steps = r.steps;
-  begun = r.begun;
-  listed = r.listed;
-  asked = refl;
-  stock = r.stock;
-  met = r.met;
-  work = r.work;
-  inside = r.inside;
-  glance = r.glance;
-  change = r.change;
-  start = r.start;
-}
+runs_asked {m' = m'} a r = let one : (y : Log) × ((as_asked a m').0.logs ≡ y ∷ []) = (record (pass_in m') { asked = a }, refl) in
+    let asked : a ≡ a = refl in assumption (one, asked, r)
 
 -- whatever a pass has in stock, it makes the same steps
 pub runs_stocked : {m m' : Sat} {xs : List Action} {w : Work} {g : Glance} {c : Change} {n : ℕ} (s : List ℕ) → Runs m xs w g c n m'
     → Runs (as_stocked s m) xs w g c n (as_stocked s m')
-runs_stocked {m' = m'} s r = record {
-  one = (record (pass_in m') { stock = s }, refl);
-  number = r.number;
-  seen = r.seen;
-  legal = r.legal;
-  own = r.own;
-  steps = r.steps;
-  begun = r.begun;
-  listed = r.listed;
-  asked = r.asked;
-  stock = refl;
-  met = r.met;
-  work = r.work;
-  inside = r.inside;
-  glance = r.glance;
-  change = r.change;
-  start = r.start;
-}
+runs_stocked {m' = m'} s r = let one : (y : Log) × ((as_stocked s m').0.logs ≡ y ∷ []) = (record (pass_in m') { stock = s }, refl) in
+    let stock : s ≡ s = refl in assumption (one, stock, r)
 
 -- the seat of a pass that has swapped a node of its stock for another one
 pub at_swapped : {k : Start} {p : ℕ} {m : Sat} → IsAtWork k p m → (entry node : ℕ) → node < nodes_of k → IsAtWork k p (as_swapped entry node m)
-at_swapped {k} {p} {m} at entry node inside = record {
-  log = record (pass_in m) { stock = set (pass_in m).stock entry node };
-  pass = (at.pass.0, refl);
-  its_number = number_is at;
-  low = at.low;
-  high = at.high;
-  legal = subst (λ (l : Log). IsHistory k l.front) (sym (ap first_log at.pass.1)) at.legal;
-  inside = at.inside;
-  stock = stock_of;
-}
+at_swapped {k} {p} {m} at entry node inside = at_work_as at (pass_in m).listed (pass_in m).asked (set (pass_in m).stock entry node) stock_of
   where
     its : IsStockOf k p (pass_in m).stock
-    its = subst (IsStockOf k p) (sym (stock_is at)) at.stock
+    its = own_stock at
 
     stock_of : IsStockOf k p (set (pass_in m).stock entry node)
     stock_of = record {

@@ -1,4 +1,5 @@
 -- Lemmas of a table's life: its opening, its seats and its end.
+pub mod Reseating
 pub mod Seats
 pub mod Openings
 pub mod Ending

@@ -7,7 +7,7 @@ use Rattle.fx_lasting.proofs.Words.{Withdraws, StepsDown, AnnouncesKeep, Withdra
 use Rattle.fx_lasting.proofs.Words.{ℕ_discrete, one_less_at, bit_here, sum_at, IsInside, IsAllowed, true}
 use Rattle.fx_lasting.proofs.Histories.{grows_none, grows_one, legal_more, part_mine, held_mine}
 use Rattle.fx_lasting.proofs.Frames.{busy}
-use Rattle.fx_lasting.proofs.Keeping.{Turn, turn_of, word_at, slot_word, Made, by_turn, its_log, its_work, tells, w}
+use Rattle.fx_lasting.proofs.Keeping.{none_added, Turn, turn_of, word_at, slot_word, Made, by_turn, its_log, its_work, tells, w}
 use Rattle.fx_lasting.proofs.Calm.{own_words, own_after, Own, own_kept}
 
 module _ (turn : Turn) (carried : List (ℕ × Option Closed)) where
@@ -21,11 +21,7 @@ module _ (turn : Turn) (carried : List (ℕ × Option Closed)) where
     quiet : HoldAgrees new (r.debt x.number) d → GuardAgrees (slot_word (own_words turn new d)) r.phase x.number (r.debt x.number) d
         → WorkAgrees v.start r.phase id d → IsAllowed x.stock x.listed d → Own turn new d r.history
     quiet hold guard work allowed = record {
-      grows = grows_none x.number r.history;
-      legal = r.legal;
-      at = refl;
-      fresh = refl;
-      removed = refl;
+      files = none_added turn;
       taken = untaken;
       owners = calm;
       held = (its_log turn).held ∙ sym holds;
@@ -98,11 +94,7 @@ module _ (turn : Turn) (carried : List (ℕ × Option Closed)) where
 
     released : r.debt x.number ≡ 0 → Own turn 0 Idle h₁
     released none_owed = record {
-      grows = grows_one x.number r.history _ refl;
-      legal = legal_more v.start r.legal held_now ((its_log turn).held ∙ ap held_in is);
-      at = refl;
-      fresh = refl;
-      removed = refl;
+      files = record { grows = grows_one x.number r.history _ refl; legal = legal_more v.start r.legal held_now ((its_log turn).held ∙ ap held_in is); at = refl; fresh = refl; removed = refl };
       taken = λ k. sym (ap (taking k) is);
       owners = ap busy is;
       held = held_mine (pass_event x (Release f)) r.history refl;
@@ -127,7 +119,7 @@ module _ (turn : Turn) (carried : List (ℕ × Option Closed)) where
           own_kept turn 0 Idle own,
           record {
             clean = λ h k is' _. let same : f ≡ h = cc (sym is ∙ is') in rw (← same) record {
-              stepped = tells turn (own_after turn 0 Idle h₁) refl carried carried ([] ▷ Release f) own.grows own.legal (part_mine r.history refl) tt;
+              stepped = tells turn (own_after turn 0 Idle h₁) refl carried carried ([] ▷ Release f) own.files.grows own.files.legal (part_mine r.history refl) tt;
               carried = refl;
             };
             marked = λ h k is' not_so. absurd (not_so (clean ∙ (let at : n ≡ k = cc (sym is ∙ is') in ap announced at)));

@@ -7,9 +7,9 @@ use Rattle.fx_lasting.proofs.Words.{file_in, removed_in, changed_at, changed_her
 use Rattle.fx_lasting.proofs.Words.{Sat, LettingGo, LettingGoKeeps, step, inl, inr, ⊎_elim, ◌⊎◌, dite, ℕ_discrete, eqb, one_if, sum_by, sum_at}
 use Rattle.fx_lasting.proofs.Words.{one_less_at, get_elem?, bit_here, bit_else, Agrees}
 use Rattle.fx_lasting.proofs.Counts.{owed_changed, owed_at}
-use Rattle.fx_lasting.proofs.Histories.{grows_none, grows_one, legal_more, part_mine, held_mine}
+use Rattle.fx_lasting.proofs.Histories.{grows_one, legal_more, part_mine, held_mine}
 use Rattle.fx_lasting.proofs.Frames.{busy, owner_stays, covers_same}
-use Rattle.fx_lasting.proofs.Keeping.{Turn, turn_of, word_at, slot_word, Made, by_turn, its_log, its_work, in_range, w, end}
+use Rattle.fx_lasting.proofs.Keeping.{none_added, Turn, turn_of, word_at, slot_word, Made, by_turn, its_log, its_work, in_range, w, end}
 use Rattle.fx_lasting.proofs.hold_lemmas.LettingGo.{IsLetGo, words₁, same_slots, open_after, stays_open, goes_open, out_after, IsGone, comes_out, takes_out, sub_wraps}
 use Rattle.fx_lasting.proofs.hold_lemmas.LettingGo.{taking_few, taken_now}
 use Rattle.fx_lasting.proofs.hold_lemmas.Unheld.{NodeNow, in_phase}
@@ -125,12 +125,8 @@ module _ (turn : Turn) (n : ℕ) where
       → word_at st.words (hold_word_of v.start x.number) ≡ 0 → IsLetGo turn n f r.history paid []
   mark_lets is its owes empty = record {
     its = its;
-    grows = grows_none x.number r.history;
-    legal = r.legal;
+    files = none_added turn;
     own = refl;
-    at = refl;
-    fresh = refl;
-    removed = refl;
     holds = λ m. let a = ap (λ (d : Work). if_file m (held_in d)) is in omega arith;
     held = (its_log turn).held ∙ ap held_in is;
     owed_else = λ m other. let a = paid_for owes m in let b = bit_else (m + 1) (n + 1) (λ e. other (omega arith)) in omega arith;
@@ -155,12 +151,8 @@ module _ (turn : Turn) (n : ℕ) where
         → word_at st.words (hold_word_of v.start x.number) ≡ 0 → IsLetGo turn n f h₁ debt' ([] ▷ Release f)
     hold_lets debt' calm owed_else taken_else debts no_debt empty = record {
       its = its;
-      grows = grows_one x.number r.history _ refl;
-      legal = legal_more v.start r.legal held_now ((its_log turn).held ∙ holds);
+      files = record { grows = grows_one x.number r.history _ refl; legal = legal_more v.start r.legal held_now ((its_log turn).held ∙ holds); at = refl; fresh = refl; removed = refl };
       own = part_mine r.history refl;
-      at = refl;
-      fresh = refl;
-      removed = refl;
       holds = λ m. let a = one_less_at (state_after_all v.start r.history).holds f.number m held_now in
           let b = ap (if_file m) holds in omega arith;
       held = held_mine (pass_event x (Release f)) r.history refl;

@@ -15,6 +15,8 @@ use Rattle.fx_lasting.proofs.node_lemmas.NodeSteps.{after, node_kept}
 use Rattle.fx_lasting.proofs.Places.{node_words, node_here, node_else, node_slot, node_hold, node_alike, node_list, node_label}
 use Rattle.fx_lasting.proofs.hold_lemmas.Unheld.{held_alone, held_not, on_node}
 use Rattle.fx_lasting.proofs.Keeping.{labels_same}
+use Rattle.fx_lasting.proofs.Keeping.{LeavesFiles}
+use Rattle.fx_lasting.proofs.Places.{node_leaves}
 
 pub taking_few : (n : ℕ) (d : Work) → taking n d ≤ 1
 taking_few n (Counted f m) = by_equality m n (λ b. one_if b ≤ 1) (λ _. omega arith) (λ _. omega arith)
@@ -31,12 +33,8 @@ module _ (turn : Turn) (n : ℕ) (f : File) (h₁ : List Event) (debt' : ℕ →
 
   pub record IsLetGo : Type 0 where
     pub its : HoldsAt v.start r.phase f n
-    pub grows : Grows x.number r.history h₁
-    pub legal : IsHistory v.start h₁
+    pub files : LeavesFiles turn h₁
     pub own : part_of_pass x.number h₁ ≡ map (pass_event x) xs ++ part_of_pass x.number r.history
-    pub at : (state_after_all v.start h₁).at ≡ (state_after_all v.start r.history).at
-    pub fresh : (state_after_all v.start h₁).fresh ≡ (state_after_all v.start r.history).fresh
-    pub removed : (state_after_all v.start h₁).removed ≡ (state_after_all v.start r.history).removed
     pub holds : (m : ℕ) → (state_after_all v.start h₁).holds m + held_of m v ≡ (state_after_all v.start r.history).holds m
     pub held : held_by h₁ x.number ≡ None
     -- other nodes are owed what they were, and the pass counts for none of them
@@ -88,19 +86,14 @@ module _ {turn : Turn} {n : ℕ} {f : File} {h₁ : List Event} {debt' : ℕ →
         less (sum_by (taken_of n) (set st.views id (w turn open_after))) (owed debt' v.start.passes n) (get_elem? st.homes n) ph
         → OwnerAgrees (set st.views id (w turn open_after)) n ph → Agrees v.start (end turn open_after)
     stays_open filed removes may seats covers node known = node_kept turn n g.its.0 ph h₁ words₁ st.homes debt' Idle v.glance record {
-      words = length-set st.words (word_of v.start n) less;
+      leaves_else = node_leaves turn n g.its.0 less;
       homes = refl;
-      grows = g.grows;
-      legal = g.legal;
-      at = g.at;
-      fresh = g.fresh;
-      removed = λ m. ap (λ (z : ℕ → Option File). z m) g.removed ∙ (r.removed m ∙ sym (each_changed
+      grows = g.files.grows;
+      legal = g.files.legal;
+      at = g.files.at;
+      fresh = g.files.fresh;
+      removed = λ m. ap (λ (z : ℕ → Option File). z m) g.files.removed ∙ (r.removed m ∙ sym (each_changed
           (λ k z. removed_in m z ≡ removed_in m (r.phase k)) r.phase (λ is. removes m ∙ ap (λ (k : ℕ). removed_in m (r.phase k)) (sym is)) (λ _. refl)));
-      slot_words = same_slots;
-      alike = node_alike turn n g.its.0 less;
-      lists = node_list turn n g.its.0 less;
-      node_words = λ m l other. node_else turn n g.its.0 less m other;
-      label_else = λ m other. node_label turn n g.its.0 less m;
       label = labels_same v.start _ _ _ (written_in ph) (node_label turn n g.its.0 less n) (subst (Labels v.start st.words n)
           (written_of (r.phase n) g.its.1 ∙ sym (written_of ph filed)) (r.each_label n g.its.0));
       home_else = λ m l other. refl;
@@ -122,7 +115,7 @@ module _ {turn : Turn} {n : ℕ} {f : File} {h₁ : List Event} {debt' : ℕ →
     }
 
     pub goes_open : Goes (v, carried) xs Idle v.glance (w turn open_after, carried)
-    goes_open = record { stepped = tells turn open_after refl carried carried xs g.grows g.legal g.own tt; carried = refl }
+    goes_open = record { stepped = tells turn open_after refl carried carried xs g.files.grows g.files.legal g.own tt; carried = refl }
 
   -- The file is closed, and comes out
   abbrev pub h₂ : List Event
@@ -151,39 +144,34 @@ module _ {turn : Turn} {n : ℕ} {f : File} {h₁ : List Event} {debt' : ℕ →
         let b = held_alone turn g.its debt' g.debts o.none_taken o.none_owed o.marked in omega arith
 
     was_removed : (state_after_all v.start h₁).removed f.number ≡ Some f
-    was_removed = ap (λ (z : ℕ → Option File). z f.number) g.removed ∙ (r.removed f.number
+    was_removed = ap (λ (z : ℕ → Option File). z f.number) g.files.removed ∙ (r.removed f.number
         ∙ (ap (λ (k : ℕ). removed_in f.number (r.phase k)) on_this ∙ (o.gone f.number ∙ rw (eq-eqb f.number f.number refl) refl)))
 
     legal₂ : IsHistory v.start h₂
-    legal₂ = legal_more v.start g.legal (was_removed, unheld) tt
+    legal₂ = legal_more v.start g.files.legal (was_removed, unheld) tt
 
     grows₂ : Grows x.number r.history h₂
-    grows₂ = grows_more refl g.grows
+    grows₂ = grows_more refl g.files.grows
 
     -- what is removed now
     removed₂ : (m : ℕ) → (state_after_all v.start h₂).removed m ≡ removed_in m (changed_at r.phase n (emptied id) (r.node_of m))
     removed₂ m = let old = (state_after_all v.start h₁).removed in dite (ℕ_discrete m f.number)
         (λ same. changed_here old f.number None m same ∙ sym (ap (removed_in m)
         (changed_here r.phase n (emptied id) (r.node_of m) (ap r.node_of same ∙ on_this))))
-        (λ other. changed_else old f.number None m other ∙ (ap (λ (z : ℕ → Option File). z m) g.removed ∙ (r.removed m
+        (λ other. changed_else old f.number None m other ∙ (ap (λ (z : ℕ → Option File). z m) g.files.removed ∙ (r.removed m
         ∙ sym (each_changed (λ k z. removed_in m z ≡ removed_in m (r.phase k)) r.phase
         (λ is. sym (ap (λ (k : ℕ). removed_in m (r.phase k)) is ∙ (o.gone m ∙ rw (ne_eqb f.number m (λ e. other (sym e))) refl)))
         (λ _. refl)))))
 
     pub comes_out : Agrees v.start (end turn out_after)
     comes_out = node_kept turn n g.its.0 (emptied id) h₂ words₁ homes₂ debt' (Emptying n) v.glance record {
-      words = length-set st.words (word_of v.start n) less;
+      leaves_else = node_leaves turn n g.its.0 less;
       homes = length-set st.homes n none;
       grows = grows₂;
       legal = legal₂;
-      at = g.at;
-      fresh = g.fresh;
+      at = g.files.at;
+      fresh = g.files.fresh;
       removed = removed₂;
-      slot_words = same_slots;
-      alike = node_alike turn n g.its.0 less;
-      lists = node_list turn n g.its.0 less;
-      node_words = λ m l other. node_else turn n g.its.0 less m other;
-      label_else = λ m other. node_label turn n g.its.0 less m;
       label = tt;
       home_else = λ m l other. set_else st.homes n m none other;
       owed_else = g.owed_else;

@@ -12,6 +12,8 @@ use Rattle.fx_lasting.proofs.hold_lemmas.Lists.{ListGoesOn, now_listed, bit_adde
 use Rattle.fx_lasting.proofs.range_lemmas.GroupSteps.{its_inside}
 use Rattle.fx_lasting.proofs.Places.{list_words, list_here, list_apart, list_node, list_hold, list_slot, list_alike, list_label}
 use Rattle.fx_lasting.proofs.range_lemmas.Groups.{counts_same}
+use Rattle.fx_lasting.proofs.Words.{first_log}
+use Rattle.fx_lasting.proofs.Keeping.{none_added, range_left, tells_as}
 
 -- a pass that is listed may do what it did
 allowed_more : (stock : List ℕ) (l : Bool) (d : Work) → IsAllowed stock l d → IsAllowed stock true d
@@ -60,19 +62,14 @@ module _ (turn : Turn) (not_yet : turn.x.listed ≡ false) (fits : word_at turn.
       (covers_same turn words' same x.number) o.hold o.guarded in
       calm_kept turn r.history r.history words' v.work v.glance v.change x.asked true (λ l. refl) x.watch (met_same x.watch.met) record {
         words = length-set st.words (list_place x.number) new;
-        grows = grows_none x.number r.history;
-        legal = r.legal;
+        files = none_added turn;
         seen = ([], refl);
         own = refl;
-        at = refl;
-        fresh = refl;
-        removed = refl;
         slot_words = same;
         node_words = list_node turn x.number few new;
         label_words = list_label turn x.number few new;
         hold_words = λ p other low. list_hold turn x.number few new p low;
-        counts = counts_same id (w turn listed_after) here r.counts (few_slots turn) refl (list_alike turn x.number few new) refl
-            (asks_alike turn listed_after refl);
+        counts = range_left turn listed_after refl (list_alike turn x.number few new) refl refl;
         taken = λ n. refl;
         owners = inl refl;
         held = o.held;
@@ -99,23 +96,8 @@ module _ (turn : Turn) (not_yet : turn.x.listed ≡ false) (fits : word_at turn.
     kept,
     record {
       goes = record {
-        stepped = let o = its_log turn in let grows = grows_none x.number r.history in rw one record {
-          one = (logged x true x.asked x.stock x.watch r.history, refl);
-          number = refl;
-          seen = grows.seen x.front o.seen;
-          legal = r.legal;
-          own = o.own;
-          steps = refl;
-          listed = refl;
-          asked = refl;
-          stock = refl;
-          met = met_same x.watch.met;
-          work = refl;
-          inside = its_inside turn;
-          glance = refl;
-          change = refl;
-          start = refl;
-        };
+        stepped = tells_as turn listed_after true (first_log v.logs).asked (first_log v.logs).stock (rw one refl) carried carried []
+            (grows_none x.number r.history) r.legal refl (its_inside turn);
         carried = refl;
       };
     },

@@ -16,6 +16,7 @@ use Rattle.fx_lasting.proofs.Keeping.{Turn, turn_of, After, word_at, slot_word, 
 use Rattle.fx_lasting.proofs.Calm.{read_after, Reads, read_kept}
 use Rattle.fx_lasting.proofs.node_lemmas.Choosing.{no_file, no_take, not_busy, holds_none}
 use Rattle.fx_lasting.proofs.Places.{slot_back}
+use Rattle.fx_lasting.proofs.Keeping.{none_added}
 
 module _ (turn : Turn) (s : ℕ) (inside : s < slots_of turn.v.start) where
   open turn use {st, v, r, id, x, here, one}
@@ -95,11 +96,7 @@ module _ (turn : Turn) (s : ℕ) (inside : s < slots_of turn.v.start) where
 
     pub quiet : Reads turn d g r.history
     quiet = let o = its_log turn in record {
-      grows = grows_none x.number r.history;
-      legal = r.legal;
-      at = refl;
-      fresh = refl;
-      removed = refl;
+      files = none_added turn;
       taken = λ n. ⊎_elim (λ e. sym (ap (taking n) e)) (λ z. ap (taking n) z.1 ∙ sym (no_take z.0 n)) works;
       owners = ⊎_elim (λ e. inl (sym e)) (λ z. inr (not_busy z.0)) works;
       held = o.held ∙ same_held;
@@ -129,11 +126,7 @@ module _ (turn : Turn) (s : ℕ) (inside : s < slots_of turn.v.start) where
 
   found_empty : HasNoFile v.work → v.glance ≡ Nothing → there ≡ None → Reads turn Idle Nothing h₀
   found_empty works nothing is = let o = its_log turn in record {
-    grows = grows_one x.number r.history _ refl;
-    legal = legal₀ is;
-    at = refl;
-    fresh = refl;
-    removed = refl;
+    files = record { grows = grows_one x.number r.history _ refl; legal = legal₀ is; at = refl; fresh = refl; removed = refl };
     taken = λ n. sym (no_take works n);
     owners = inr (not_busy works);
     held = held_mine (pass_event x (Look s None)) r.history refl;
@@ -151,11 +144,7 @@ module _ (turn : Turn) (s : ℕ) (inside : s < slots_of turn.v.start) where
   -- a pass at any work that looks nothing up finds an empty slot
   sees_none : held_in v.work ≡ None → v.glance ≡ Nothing → there ≡ None → Reads turn v.work Nothing h₀
   sees_none unheld nothing is = let o = its_log turn in record {
-    grows = grows_one x.number r.history _ refl;
-    legal = legal₀ is;
-    at = refl;
-    fresh = refl;
-    removed = refl;
+    files = record { grows = grows_one x.number r.history _ refl; legal = legal₀ is; at = refl; fresh = refl; removed = refl };
     taken = λ n. refl;
     owners = inl refl;
     held = held_mine (pass_event x (Look s None)) r.history refl ∙ sym unheld;
@@ -180,7 +169,7 @@ module _ (turn : Turn) (s : ℕ) (inside : s < slots_of turn.v.start) where
         read_kept turn v.work Nothing (slot_place s) e,
         record {
           empty = λ _. rw (slot_back s) record {
-            stepped = tells turn (read_after turn v.work Nothing h₀) refl carried carried ([] ▷ Look s None) e.grows e.legal (part_mine r.history refl) (its_inside turn);
+            stepped = tells turn (read_after turn v.work Nothing h₀) refl carried carried ([] ▷ Look s None) e.files.grows e.files.legal (part_mine r.history refl) (its_inside turn);
             carried = refl;
           };
           cold = λ some _. absurd (some none_named);
@@ -222,7 +211,7 @@ module _ (turn : Turn) (s : ℕ) (inside : s < slots_of turn.v.start) where
         read_kept turn Idle Nothing (slot_place s) e,
         record {
           empty = λ _. rw (slot_back s) record {
-            stepped = tells turn (read_after turn Idle Nothing h₀) refl carried carried ([] ▷ Look s None) e.grows e.legal (part_mine r.history refl) tt;
+            stepped = tells turn (read_after turn Idle Nothing h₀) refl carried carried ([] ▷ Look s None) e.files.grows e.files.legal (part_mine r.history refl) tt;
             carried = refl;
           };
           cold = λ n is _. absurd (omega arith);
@@ -289,11 +278,7 @@ module _ (turn : Turn) (s : ℕ) (inside : s < slots_of turn.v.start) where
 
       found_file : Reads turn (Guarded f n) Nothing h₁
       found_file = let guarded : GuardAgrees (slot_word st.words) r.phase x.number (r.debt x.number) (Guarded f n) = λ _. rw at hot in record {
-        grows = grows_one x.number r.history _ refl;
-        legal = legal_more v.start r.legal (size_so, sym is) tt;
-        at = refl;
-        fresh = refl;
-        removed = refl;
+        files = record { grows = grows_one x.number r.history _ refl; legal = legal_more v.start r.legal (size_so, sym is) tt; at = refl; fresh = refl; removed = refl };
         taken = λ k. sym (ap (taking k) works);
         owners = inr (ap busy works);
         held = held_mine (pass_event x (Look s (Some f))) r.history refl;
@@ -321,7 +306,7 @@ module _ (turn : Turn) (s : ℕ) (inside : s < slots_of turn.v.start) where
                   o.2,
                   record {
                     stepped = tells turn (read_after turn (Guarded o.0 n) Nothing (h₁ o.0 o.1 o.3 o.4 so.1)) refl carried carried
-                        ([] ▷ Look s (Some o.0)) e.grows e.legal (part_mine r.history refl) o.3;
+                        ([] ▷ Look s (Some o.0)) e.files.grows e.files.legal (part_mine r.history refl) o.3;
                     carried = refl;
                   },
                 );

@@ -3,9 +3,8 @@ use Rattle.fx_lasting.proofs.Words.{Round, IsPassed, ⊎_elim, ◌≢◌, ◌≡
 use Rattle.fx_lasting.proofs.Words.{Option, Some, none, keeps, takes, Closed, File, WorkAgrees, MayBeUnmarked, state_after_all, nodes_of, word_of}
 use Rattle.fx_lasting.proofs.Words.{held_in, if_file, taken_of, taking, owed, leaving, retired, owner, file_in, removed_in, Work, Retiring, Retires}
 use Rattle.fx_lasting.proofs.Words.{RetiresKeep, retirement_amount, step, inr, dite, ℕ_discrete, eq-eqb, sum_by}
-use Rattle.fx_lasting.proofs.Histories.{grows_none}
 use Rattle.fx_lasting.proofs.Frames.{busy}
-use Rattle.fx_lasting.proofs.Keeping.{Turn, turn_of, word_at, slot_word, Made, by_turn, its_log, its_work, w}
+use Rattle.fx_lasting.proofs.Keeping.{none_added, Turn, turn_of, word_at, slot_word, Made, by_turn, its_log, its_work, w}
 use Rattle.fx_lasting.proofs.hold_lemmas.LettingGo.{IsLetGo, open_after, stays_open, goes_open, out_after, IsGone, comes_out, takes_out, sub_wraps, taken_now}
 use Rattle.fx_lasting.proofs.hold_lemmas.Unheld.{NodeNow, in_phase, on_node}
 
@@ -22,12 +21,8 @@ module _ (turn : Turn) (f : File) (n t : ℕ) (nx : Round) (m : ℕ) (works : tu
   pub lets : IsLetGo turn n f r.history r.debt []
   lets = let o = rw works at (its_log turn).hold in record {
     its = (its.0, ap file_in its.1);
-    grows = grows_none x.number r.history;
-    legal = r.legal;
+    files = none_added turn;
     own = refl;
-    at = refl;
-    fresh = refl;
-    removed = refl;
     holds = λ k. let a = ap (λ (d : Work). if_file k (held_in d)) works in omega arith;
     held = (its_log turn).held ∙ ap held_in works;
     owed_else = λ k other. refl;

@@ -9,6 +9,7 @@ use Rattle.fx_lasting.proofs.Words.{IsAllowed}
 use Rattle.fx_lasting.proofs.Histories.{each_changed}
 use Rattle.fx_lasting.proofs.Keeping.{Turn, turn_of, word_at, slot_word, Made, by_turn, w, find_pass}
 use Rattle.fx_lasting.proofs.hold_lemmas.Visiting.{its, node, retiring_same, seen_after, Visited, visited, goes}
+use Rattle.fx_lasting.proofs.Places.{leaves_all}
 
 -- a pass whose hold word isn't 0 is listed
 speaks : (stock : List ℕ) (l : Bool) {word : ℕ} (debt : ℕ) (e : Work) → word ≢ 0 → HoldAgrees word debt e → IsAllowed stock l e → l ≡ true
@@ -72,16 +73,13 @@ module _ (turn : Turn) (f : File) (n t : ℕ) (nx : Round) (m : ℕ) (works : tu
 
   skimmed : Visited turn f n t nx m works st.words r.debt nx' m
   skimmed = let a = (node turn f n t nx m works).few_marks in record {
-    words = refl;
-    slots = λ s l. refl;
-    alike = (refl, λ g l. refl);
-    lists = λ p few. refl;
-    nodes = λ k. refl;
+    leaves_else = leaves_all turn n;
+    same_word = refl;
+    same_label = (refl, refl);
     own = refl;
     own_debt = refl;
     owed_else = λ k ne. refl;
     owed_more = refl;
-    labels = λ k. (refl, refl);
     few_marks = omega arith;
     few_visits = omega arith;
     guards = λ p e ne range hold guard. (hold, guard_on p e ne range hold guard);

@@ -19,6 +19,7 @@ use Rattle.fx_lasting.proofs.hold_lemmas.Looking.{word, there, size_so, named, u
 use Rattle.fx_lasting.proofs.Places.{slot_words, slot_hold}
 use Rattle.fx_lasting.proofs.slot_lemmas.SlotSteps.{slot_after, SlotStep, slot_kept, covers_slot}
 use Rattle.fx_lasting.proofs.hold_lemmas.Unheld.{in_phase}
+use Rattle.fx_lasting.proofs.Keeping.{none_added}
 
 -- one take more, and nothing else
 pub one_take : (word : ℕ) → count_in word + 1 < 1048576 → (full_name_in (word + 1) ≡ full_name_in word) × (entry_in (word + 1) ≡ entry_in word)
@@ -206,11 +207,7 @@ module _ (turn : Turn) (s : ℕ) (inside : s < slots_of turn.v.start) where
       -- no file
       none_taken : there turn s inside ≡ None → SlotStep turn s inside new h₀ d g deed'
       none_taken is = let o = its_log turn in let h = rw works at o.hold in record {
-        grows = grows_one x.number r.history _ refl;
-        legal = legal_more v.start r.legal (size_so turn s inside, sym is) tt;
-        at = refl;
-        fresh = refl;
-        removed = refl;
+        files = record { grows = grows_one x.number r.history _ refl; legal = legal_more v.start r.legal (size_so turn s inside, sym is) tt; at = refl; fresh = refl; removed = refl };
         own_name = own_name;
         name = same_name;
         entry = same_entry;
@@ -250,11 +247,7 @@ module _ (turn : Turn) (s : ℕ) (inside : s < slots_of turn.v.start) where
 
         file_taken : SlotStep turn s inside new h₁ (holding f n) g deed'
         file_taken = let o = its_log turn in let h = rw works at o.hold in record {
-          grows = grows_one x.number r.history _ refl;
-          legal = legal_more v.start r.legal (size_so turn s inside, sym is) tt;
-          at = refl;
-          fresh = refl;
-          removed = refl;
+          files = record { grows = grows_one x.number r.history _ refl; legal = legal_more v.start r.legal (size_so turn s inside, sym is) tt; at = refl; fresh = refl; removed = refl };
           own_name = own_name;
           name = same_name;
           entry = same_entry;
@@ -293,7 +286,7 @@ module _ (turn : Turn) (s : ℕ) (inside : s < slots_of turn.v.start) where
             slot_kept turn s inside new h₀ d g deed' e,
             record {
               empty = λ i saw' _. let same : s ≡ i = cc (sym saw ∙ saw') in rw (← same, ← so.is) record {
-                stepped = tells turn after₀ refl carried carried ([] ▷ Look s None) e.grows e.legal (part_mine r.history refl) knows_none;
+                stepped = tells turn after₀ refl carried carried ([] ▷ Look s None) e.files.grows e.files.legal (part_mine r.history refl) knows_none;
                 carried = refl;
               };
               holds = λ i n saw' is. absurd (omega arith);
@@ -311,7 +304,7 @@ module _ (turn : Turn) (s : ℕ) (inside : s < slots_of turn.v.start) where
                     o.0,
                     o.2,
                     record {
-                      stepped = tells turn (after₁ z.0 o.0 o.1 o.3 o.4) refl carried carried ([] ▷ Look s (Some o.0)) e.grows e.legal
+                      stepped = tells turn (after₁ z.0 o.0 o.1 o.3 o.4) refl carried carried ([] ▷ Look s (Some o.0)) e.files.grows e.files.legal
                           (part_mine r.history refl) (may.inside o.0 z.0 v.start knows_none o.3);
                       carried = refl;
                     },
@@ -369,11 +362,7 @@ module _ (turn : Turn) (s : ℕ) (inside : s < slots_of turn.v.start) where
     heats_it = let z = parts_of in let o = its_log turn in
         let own = guards_same turn hot_after x.number v.work (slot_hold turn s inside hot_word x.number (in_range turn).0) refl
         (covers_slot turn s inside hot_word r.history v.work Nothing (does_here heated) (λ _. is_hot) x.number) o.hold o.guarded in record {
-          grows = grows_none x.number r.history;
-          legal = r.legal;
-          at = refl;
-          fresh = refl;
-          removed = refl;
+          files = none_added turn;
           own_name = z.4;
           name = z.0;
           entry = z.1;

@@ -17,6 +17,7 @@ use Rattle.fx_lasting.proofs.Keeping.{LabelSame, labels_same}
 use Rattle.fx_lasting.proofs.range_lemmas.Groups.{CountAlike}
 use Rattle.fx_lasting.proofs.Places.{hold_words, hold_here, hold_node, hold_slot, hold_else, hold_alike, hold_list, hold_label, pass_back}
 use Rattle.fx_lasting.proofs.hold_lemmas.Unheld.{NodeNow, in_phase}
+use Rattle.fx_lasting.proofs.Places.{LeavesElse, leaves_all, hold_leaves}
 
 module _ (turn : Turn) (f : File) (n t : ℕ) (nx : Round) (m : ℕ) (works : turn.v.work ≡ Retiring f n t nx m) where
   open turn use {st, v, r, id, x, here, one}
@@ -39,12 +40,9 @@ module _ (turn : Turn) (f : File) (n t : ℕ) (nx : Round) (m : ℕ) (works : tu
     seen_after = after turn n its.0 ph r.history words' st.homes debt' (Retiring f n t nx' m') v.glance
 
     pub record Visited : Type 0 where
-      pub words : length words' ≡ length st.words
-      pub slots : (s : ℕ) → s < slots_of v.start → slot_word words' s ≡ slot_word st.words s
-      pub alike : CountAlike words' st.words
-      pub lists : (p : ℕ) → p ≤ 1024 → word_at words' (list_place p) ≡ word_at st.words (list_place p)
-      pub nodes : (k : ℕ) → word_at words' (word_of v.start k) ≡ word_at st.words (word_of v.start k)
-      pub labels : (k : ℕ) → LabelSame v.start words' st.words k
+      pub leaves_else : LeavesElse turn n words'
+      pub same_word : word_at words' (word_of v.start n) ≡ word_at st.words (word_of v.start n)
+      pub same_label : LabelSame v.start words' st.words n
       pub own : word_at words' (hold_word_of v.start x.number) ≡ word_at st.words (hold_word_of v.start x.number)
       pub own_debt : debt' x.number ≡ r.debt x.number
       pub owed_else : (k : ℕ) → k ≢ n → owed debt' v.start.passes k ≡ owed r.debt v.start.passes k
@@ -58,7 +56,7 @@ module _ (turn : Turn) (f : File) (n t : ℕ) (nx : Round) (m : ℕ) (works : tu
     pub visited : Visited → Agrees v.start (end turn seen_after)
     visited s = let o = rw works at (its_log turn).hold in
         node_kept turn n its.0 ph r.history words' st.homes debt' (Retiring f n t nx' m') v.glance record {
-          words = s.words;
+          leaves_else = s.leaves_else;
           homes = refl;
           grows = grows_none x.number r.history;
           legal = r.legal;
@@ -66,12 +64,7 @@ module _ (turn : Turn) (f : File) (n t : ℕ) (nx : Round) (m : ℕ) (works : tu
           fresh = refl;
           removed = λ k. r.removed k ∙ sym (each_changed (λ i z. removed_in k z ≡ removed_in k (r.phase i)) r.phase
               (λ is. sym (ap (λ (i : ℕ). removed_in k (r.phase i)) is ∙ ap (removed_in k) its.1)) (λ _. refl));
-          slot_words = s.slots;
-          alike = s.alike;
-          lists = s.lists;
-          node_words = λ k l other. s.nodes k;
-          label_else = λ k other. s.labels k;
-          label = labels_same v.start _ _ _ (label_of f.identity) (s.labels n)
+          label = labels_same v.start _ _ _ (label_of f.identity) s.same_label
               (subst (λ (z : Phase). Labels v.start st.words n (written_in z)) its.1 (r.each_label n its.0));
           home_else = λ k l other. refl;
           owed_else = s.owed_else;
@@ -82,7 +75,7 @@ module _ (turn : Turn) (f : File) (n t : ℕ) (nx : Round) (m : ℕ) (works : tu
           at_slot = λ i h is. cc (sym its.1 ∙ is);
           open_file = λ j u h other there holds is. sym (ap file_in its.1) ∙ is;
           guards = s.guards;
-          node = let a = node.counts in let b = s.owed_more in let c = s.nodes n in
+          node = let a = node.counts in let b = s.owed_more in let c = s.same_word in
               let k = sum_set (taken_of n) st.views id v (w turn seen_after) here in let e = ap (taking n) works in record {
                 file = node.file;
                 counts = omega arith;
@@ -93,7 +86,7 @@ module _ (turn : Turn) (f : File) (n t : ℕ) (nx : Round) (m : ℕ) (works : tu
           known = does_now st.views id v (w turn seen_after) (Retiring f n t nx' m') here refl;
           held = (its_log turn).held ∙ ap held_in works;
           allowed = tt;
-          its_own = own_keeps turn n its.0 ph r.history words' st.homes debt' (Retiring f n t nx' m') v.glance s.slots refl
+          its_own = own_keeps turn n its.0 ph r.history words' st.homes debt' (Retiring f n t nx' m') v.glance s.leaves_else.slots refl
               (s.own ∙ o.0, s.own_debt ∙ o.1) tt (its.0, changed_here r.phase n ph n refl);
           holds = λ k. let a = ap (λ (d : Work). if_file k (held_in d)) works in omega arith;
         }
@@ -169,12 +162,9 @@ module _ (turn : Turn) (f : File) (n t : ℕ) (nx : Round) (m : ℕ) (works : tu
               (λ apart. guard_else st.words m (λ s l. refl) p e ne apart guard),
         ) in
         let a = node.few_marks in let b = r.shape.passes in record {
-          words = refl;
-          slots = λ s l. refl;
-          alike = (refl, λ g l. refl);
-          lists = λ p few. refl;
-          nodes = λ k. refl;
-          labels = λ k. (refl, refl);
+          leaves_else = leaves_all turn n;
+          same_word = refl;
+          same_label = (refl, refl);
           own = refl;
           own_debt = refl;
           owed_else = λ k ne. refl;
@@ -266,12 +256,9 @@ module _ (turn : Turn) (f : File) (n t : ℕ) (nx : Round) (m : ℕ) (works : tu
           (λ apart. rw (hold_else turn pass more high (announced n + mark) p apart, changed_else r.debt pass (n + 1) p apart)
           (hold, guard_else words₁ (m + 1) same p e ne apart guard)) in
           let a = node.few_marks in let b = r.shape.passes in let c = owes n in let d = bit_here (n + 1) (n + 1) refl in record {
-            words = length-set st.words (hold_word_of v.start pass) (announced n + mark);
-            slots = same;
-            alike = hold_alike turn pass more high (announced n + mark);
-            lists = hold_list turn pass more high (announced n + mark);
-            nodes = hold_node turn pass more high (announced n + mark);
-            labels = hold_label turn pass more high (announced n + mark);
+            leaves_else = hold_leaves turn pass more high (announced n + mark) n;
+            same_word = hold_node turn pass more high (announced n + mark) n;
+            same_label = hold_label turn pass more high (announced n + mark) n;
             own = hold_else turn pass more high (announced n + mark) x.number (λ e. other (sym e));
             own_debt = changed_else r.debt pass (n + 1) x.number (λ e. other (sym e));
             owed_else = λ k ne. let o = owes k in let z = bit_else (k + 1) (n + 1) (λ e. ne (omega arith)) in omega arith;
@@ -324,12 +311,9 @@ module _ (turn : Turn) (f : File) (n t : ℕ) (nx : Round) (m : ℕ) (works : tu
             × GuardAgrees (slot_word st.words) (changed_at r.phase n (leaving id t nx m f)) p (r.debt p) e =
             λ p e ne range hold guard. guards_else turn n its.0 (leaving id t nx m f) r.history st.words st.homes r.debt (Retiring f n t nx m) v.glance
             (λ s l. refl) p e refl refl (λ may. subst (MayBeUnmarked (slot_word st.words) p) its.1 may) hold guard in record {
-              words = refl;
-              slots = λ s l. refl;
-              alike = (refl, λ g l. refl);
-              lists = λ p few. refl;
-              nodes = λ k. refl;
-              labels = λ k. (refl, refl);
+              leaves_else = leaves_all turn n;
+              same_word = refl;
+              same_label = (refl, refl);
               own = refl;
               own_debt = refl;
               owed_else = λ k ne. refl;

@@ -3,16 +3,16 @@ use Rattle.fx_lasting.proofs.Words.{contents_of, ◌≡◌, ℕ, zero, suc, ◌+
 use Rattle.fx_lasting.proofs.Words.{arith, lt-ltb, le-ltb, inr, Option, Some, None, slice_index, dite, some, some-injective, some-ne-none, dec_le}
 use Rattle.fx_lasting.proofs.Words.{get_elem?, Closed, state_of, State, File, birth_word, full_name_made, file_entry_made, file_takes_made}
 use Rattle.fx_lasting.proofs.Words.{SlotAgrees, NodeAgrees, OwnerAgrees, LogAgrees, ViewAgrees, Agrees, new_logs, word_of, slot_place, count_in}
-use Rattle.fx_lasting.proofs.Words.{slots_of, range_at_start, nodes_of, state_after_all, new_log, Phase, free, seated, Log, Start, View, Idle}
+use Rattle.fx_lasting.proofs.Words.{slots_of, nodes_of, state_after_all, new_log, Phase, free, seated, Log, Start, View, Idle}
 use Rattle.fx_lasting.proofs.Words.{Nothing, length-map, at_map, first_view, contains_map, once_is, counted_once, range_with_len, one_if, removed_in}
 use Rattle.fx_lasting.proofs.Words.{length-map-range_with_len, owed, ne_eqb, false, Contains, eqb, sum_of, word_for, node_for, home_for, OpensWith}
 use Rattle.fx_lasting.proofs.Words.{first_file, bit_here, node_of_number, bit_of, IsListedIn, Labels, written_in, bit_at-zero, not, mod-eq_of_lt}
-use Rattle.fx_lasting.proofs.Words.{opening, untouched, list_place, group_start, group_len, HasQuestionOf, full_few, numbered_anew, of_one, ◌-◌, ◌*◌}
+use Rattle.fx_lasting.proofs.Words.{opening, untouched, list_place, numbered_anew, of_one, ◌-◌, ◌*◌}
 use Rattle.fx_lasting.proofs.Words.{◌/◌, ◌%◌, Whereabouts, at_slot, in_stock, NamesItsNode, IsStockOf, StockAgrees, name_in, name_made}
 use Rattle.fx_lasting.proofs.Words.{empty_name_made, empty_file_made, empty_takes_made, file_heat_made, stock_start, stock_for, first_stock}
 use Rattle.fx_lasting.proofs.Words.{mul-le-mul_right, length-range_with_len, div-mul-add, mod-mul-add, suc-mul}
 use Rattle.fx_lasting.proofs.Counts.{tally_none, tally_same}
-use Rattle.fx_lasting.proofs.range_lemmas.Groups.{few_slots}
+use Rattle.fx_lasting.proofs.range_lemmas.Groups.{counts_alone}
 use Rattle.fx_lasting.proofs.Keeping.{IsKnown}
 
 -- the phase of a slot's first node
@@ -249,10 +249,5 @@ module _ (k : Start) (words : List ℕ) (homes : List (Option Closed)) (o : Open
     whole = let a = length-map-range_with_len (new_log k) 1 k.passes in omega arith;
     authors = λ p none. refl;
     listed = λ p low high is. absurd (no_bits p high is);
-    counts = record {
-      groups = λ g l. let a = o.groups g l in let b = full_few (first_file k) (group_start (range_at_start k) g) (group_len (range_at_start k).1 g) in
-          let c = few_slots (range_at_start k).1 g in record { counts = omega (arith, a, b, c) };
-      questions = λ j v x e has few asked. let z = subst (λ (q : ℕ). HasQuestionOf q x.number) o.question asked in
-          let a = bit_at-zero (bit_of x.number) in absurd (omega (arith, z, a));
-    };
+    counts = counts_alone (first_view k) refl o.groups o.question;
   }

@@ -10,6 +10,8 @@ use Rattle.fx_lasting.proofs.node_lemmas.Choosing.{no_file, no_take, not_busy, h
 use Rattle.fx_lasting.proofs.Frames.{busy_alone, busy, owner_map, owner_stays}
 use Rattle.fx_lasting.proofs.range_lemmas.Groups.{counts_same, visited_map}
 use Rattle.fx_lasting.proofs.Keeping.{IsKnown, word_at, slot_word, few_in_range}
+use Rattle.fx_lasting.proofs.range_lemmas.Groups.{counts_reseated}
+use Rattle.fx_lasting.proofs.life_lemmas.Reseating.{reseat}
 
 -- a seat that does nothing, and on whose account no slot is uncounted
 abbrev IsIdle : View → Type 0
@@ -33,27 +35,12 @@ module _ (k : Start) (s : Shared) (r : Agrees k s) (views : List View) (a : AreR
   by_work : (f : Work → ℕ) → f Idle ≡ 0 → sum_by (λ (u : View). f u.work) views ≡ sum_by (λ (u : View). f u.work) s.views
   by_work f still = a.by_work (λ u. f u.work) (λ u idle. ap f idle.0 ∙ still)
 
-  reseated : Agrees k record { words = s.words; homes = s.homes; views = views }
-  reseated = record {
-    shape = let h = r.shape in assumption (h.words, h.homes);
-    history = r.history;
-    phase = r.phase;
-    node_of = r.node_of;
-    numbering = r.numbering;
-    next_number = r.next_number;
-    debt = r.debt;
-    deed = r.deed;
-    legal = r.legal;
-    each_slot = r.each_slot;
-    each_node = λ n l. subst (λ (t : ℕ). NodeAgrees (state_after_all k r.history).at (slots_of k) (λ i. count_in (slot_word s.words i)) r.node_of
-        r.next_number n (word_at s.words (word_of k n)) t (owed r.debt k.passes n) (get_elem? s.homes n) (r.phase n))
-        (sym (by_work (taking n) refl)) (r.each_node n l);
-    each_label = r.each_label;
-    each_owner = λ n l. owner_map s.views views n (λ j d is o.
-        (o.0, a.others j o.0 o.1 (λ idle. let e : busy d ≡ 0 = ap busy (sym o.2) ∙ (sym (busy_alone o.0.work) ∙ ap busy idle.0) in omega arith), o.2)) (r.phase n) (r.each_owner n l);
-    removed = r.removed;
-    unborn = r.unborn;
-    fresh = r.fresh;
+  pub reseated : Agrees k record { words = s.words; homes = s.homes; views = views }
+  reseated = reseat k s r views record {
+    taken = λ n. by_work (taking n) refl;
+    owners = λ n ph. owner_map s.views views n (λ j d is o.
+        (o.0, a.others j o.0 o.1 (λ idle. let e : busy d ≡ 0 = ap busy (sym o.2) ∙ (sym (busy_alone o.0.work) ∙ ap busy idle.0) in omega arith), o.2)) ph;
+    stocks = λ j u x e has. ⊎_elim (λ new. let w = new.its x has in r.stocks w.0 w.1 x w.2 w.4) (λ old. r.stocks j u x old has) (a.each j u e);
     each_view = λ j u e. ⊎_elim (λ new. record {
       logs = λ x h. let w = new.its x h in
           subst (λ (d : Work × Glance). LogAgrees k r.history s.words r.phase r.debt r.deed d.0 d.1 x)
@@ -62,28 +49,15 @@ module _ (k : Start) (s : Shared) (r : Agrees k s) (views : List View) (a : AreR
       empty = λ _. new.idle;
       start = new.begun;
     }) (λ old. r.each_view j u old) (a.each j u e);
-    where_is = r.where_is;
-    named = r.named;
-    stocks = λ j u x e has. ⊎_elim (λ new. let w = new.its x has in r.stocks w.0 w.1 x w.2 w.4) (λ old. r.stocks j u x old has) (a.each j u e);
+    holds = λ n. by_work (λ d. if_file n (held_in d)) refl;
     known = known;
-    holds = λ n. r.holds n ∙ sym (by_work (λ d. if_file n (held_in d)) refl);
-    passes = λ p. by_log (λ y. one_if (eqb y.number p)) ∙ r.passes p;
-    whole = a.by_logs (length {A = Log}) refl (λ xs ys. length-append xs ys) ∙ r.whole;
-    authors = r.authors;
-    listed = r.listed;
-    counts = record {
-      groups = λ g l. let u = (r.counts.groups g l).counts in let b = by_change (owing g) refl in record { counts = omega (arith, u, b) };
-      questions = λ j u x e has few asked. visited_map x.asked still_full (⊎_elim
-          (λ new. let w = new.its x has in r.counts.questions w.0 w.1 x w.2 w.4 few asked) (λ old. r.counts.questions j u x old has few asked) (a.each j u e));
-    };
+    passes = λ p. by_log (λ y. one_if (eqb y.number p));
+    whole = a.by_logs (length {A = Log}) refl (λ xs ys. length-append xs ys);
+    counts = counts_reseated r.counts views
+        (λ j u g e is. ⊎_elim (λ new. let bad : Inside g ≡ Outside = sym is ∙ new.idle.2 in absurd (cc bad)) (λ old. old) (a.each j u e))
+        (λ j u y e has. ⊎_elim (λ new. let w = new.its y has in (w.0, w.1, w.2, w.4)) (λ old. (j, u, old, has)) (a.each j u e))
+        by_change;
   }
-    where
-      still_full : (n : ℕ) → AreFull (state_after_all k r.history).at (range_at_start k) s.views n
-          → AreFull (state_after_all k r.history).at (range_at_start k) views n
-      still_full n o = record {
-        full = o.full;
-        calm = λ j u g e is. ⊎_elim (λ new. let bad : Inside g ≡ Outside = sym is ∙ new.idle.2 in absurd (cc bad)) (λ old. o.calm j u g old is) (a.each j u e);
-      }
 
 pub splits_keep : SplitsKeep without_first first_alone
 splits_keep k id v idle still out s r at = reseated k s r _ (split logs start k IsIdle s.views id v at (idle, still, out)
@@ -116,25 +90,11 @@ module _ (k : Start) (s : Shared) (r : Agrees k s) (id : ℕ) (v : View) (here :
   }
 
   forgotten : Agrees k record { words = s.words; homes = s.homes; views = views' }
-  forgotten = record {
-    shape = let h = r.shape in assumption (h.words, h.homes);
-    history = r.history;
-    phase = r.phase;
-    node_of = r.node_of;
-    numbering = r.numbering;
-    next_number = r.next_number;
-    debt = r.debt;
-    deed = r.deed;
-    legal = r.legal;
-    each_slot = r.each_slot;
-    each_node = λ n l. subst (λ (t : ℕ). NodeAgrees (state_after_all k r.history).at (slots_of k) (λ i. count_in (slot_word s.words i)) r.node_of
-        r.next_number n (word_at s.words (word_of k n)) t (owed r.debt k.passes n) (get_elem? s.homes n) (r.phase n))
-        (let t = sum_set (taken_of n) s.views id v forgot here in let e = no_take free_of n in omega arith) (r.each_node n l);
-    each_label = r.each_label;
-    each_owner = λ n l. owner_stays s.views id v forgot here n (λ bad. let e = not_busy free_of in omega arith) (r.phase n) (r.each_owner n l);
-    removed = r.removed;
-    unborn = r.unborn;
-    fresh = r.fresh;
+  forgotten = reseat k s r views' record {
+    taken = λ n. let t = sum_set (taken_of n) s.views id v forgot here in let e = no_take free_of n in omega arith;
+    owners = λ n. owner_stays s.views id v forgot here n (λ bad. let e = not_busy free_of in omega arith);
+    stocks = λ j u x e has. ⊎_elim (λ (t : (j ≡ id) × (forgot ≡ u)). r.stocks id v x here (subst (λ (z : View). Contains z.logs x) (sym t.1) has))
+        (λ t. r.stocks j u x t.1 has) (at_set s.views id j forgot u e);
     each_view = λ j u e. ⊎_elim (λ (t : (j ≡ id) × (forgot ≡ u)).
         subst (λ (z : ℕ × View). ViewAgrees k r.history s.words r.phase r.debt r.deed z.0 z.1) (λ i. (sym t.0 i, t.1 i)) record {
           logs = λ x h. its_log x ((r.each_view id v here).logs x h);
@@ -142,16 +102,10 @@ module _ (k : Start) (s : Shared) (r : Agrees k s) (id : ℕ) (v : View) (here :
           empty = λ none. let e = (r.each_view id v here).empty none in (refl, e.1, e.2);
           start = (r.each_view id v here).start;
         }) (λ t. r.each_view j u t.1) (at_set s.views id j forgot u e);
-    where_is = r.where_is;
-    named = r.named;
-    stocks = λ j u x e has. ⊎_elim (λ (t : (j ≡ id) × (forgot ≡ u)). r.stocks id v x here (subst (λ (z : View). Contains z.logs x) (sym t.1) has))
-        (λ t. r.stocks j u x t.1 has) (at_set s.views id j forgot u e);
+    holds = λ n. let t = sum_set (held_of n) s.views id v forgot here in let e = ap (if_file n) (no_file free_of) in omega arith;
     known = of_replaced (IsKnown r.history) s.views r.known id forgot (r.known id v here);
-    holds = λ n. let t = sum_set (held_of n) s.views id v forgot here in let e = ap (if_file n) (no_file free_of) in let h = r.holds n in omega arith;
-    passes = λ p. let t = sum_set (logs_of p) s.views id v forgot here in let h = r.passes p in omega arith;
-    whole = let t = sum_set lengths s.views id v forgot here in let h = r.whole in omega arith;
-    authors = r.authors;
-    listed = r.listed;
+    passes = λ p. let t = sum_set (logs_of p) s.views id v forgot here in omega arith;
+    whole = let t = sum_set lengths s.views id v forgot here in omega arith;
     counts = counts_same id forgot here r.counts (few_in_range r) refl (refl, λ g l. refl) refl (λ y has. (y, has, refl, refl));
   }
 

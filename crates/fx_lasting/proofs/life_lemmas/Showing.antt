@@ -2,15 +2,16 @@
 -- an atomic step.
 use Rattle.fx_lasting.proofs.Words.{◌≡◌, ℕ, ◌+◌, ◌≤◌, List, [], ◌∷◌, ◌++◌, set, length, sym, refl, ap, ◌∙◌, subst, arith, inl, inr, eqb, some}
 use Rattle.fx_lasting.proofs.Words.{get_elem?, ⊎_elim, at_set, sum_set, sum_by-append, one_if, contains_only, Contains, IsSeenBy, part_of_pass, Event}
-use Rattle.fx_lasting.proofs.Words.{NodeAgrees, LogAgrees, ViewAgrees, Agrees, AreFull, Outside, Inside, range_at_start, Shared, Log, Start, View}
-use Rattle.fx_lasting.proofs.Words.{IsInside, Runs, IsHistory, owed, state_after_all, slots_of, word_of, taken_of, held_of, logs_of, lengths}
-use Rattle.fx_lasting.proofs.Words.{owing_of, first_log, count_in, view_of, StockAgrees, TableId, LastingPass, IsPassOf, opening_of, doing_in}
+use Rattle.fx_lasting.proofs.Words.{LogAgrees, ViewAgrees, Agrees, Outside, Inside, Shared, Log, Start, View}
+use Rattle.fx_lasting.proofs.Words.{IsInside, Runs, IsHistory, taken_of, held_of, logs_of, lengths}
+use Rattle.fx_lasting.proofs.Words.{owing_of, first_log, view_of, StockAgrees, TableId, LastingPass, IsPassOf, opening_of, doing_in}
 use Rattle.fx_lasting.proofs.Words.{contains_none, contains_alone, learned_so, of_appended, of_replaced, at_snoc, at_longer, set_again, Splits, Seat}
 use Rattle.fx_lasting.proofs.Words.{Closed, Option, view_with, Adds, no_use, Learns}
 use Rattle.fx_lasting.specs.life.Showing.{shown_view, HasLearned}
 use Rattle.fx_lasting.proofs.Frames.{owner_map, owner_same}
-use Rattle.fx_lasting.proofs.range_lemmas.Groups.{counts_same, visited_map}
-use Rattle.fx_lasting.proofs.Keeping.{IsKnown, word_at, slot_word, total_same, few_in_range}
+use Rattle.fx_lasting.proofs.range_lemmas.Groups.{counts_same, counts_reseated}
+use Rattle.fx_lasting.proofs.Keeping.{IsKnown, total_same, few_in_range}
+use Rattle.fx_lasting.proofs.life_lemmas.Reseating.{reseat}
 use Rattle.fx_lasting.proofs.Passing.{adds_so, still_pass, at_rest}
 use Rattle.fx_seen.specs.Kept.{MayLearn}
 
@@ -23,25 +24,10 @@ module _ (k : Start) (s : Shared) (r : Agrees k s) (h : List Event) (seen : IsSe
   views' = s.views ++ u ∷ []
 
   beside : Agrees k record { words = s.words; homes = s.homes; views = views' }
-  beside = record {
-    shape = let h = r.shape in assumption (h.words, h.homes);
-    history = r.history;
-    phase = r.phase;
-    node_of = r.node_of;
-    numbering = r.numbering;
-    next_number = r.next_number;
-    debt = r.debt;
-    deed = r.deed;
-    legal = r.legal;
-    each_slot = r.each_slot;
-    each_node = λ n l. subst (λ (t : ℕ). NodeAgrees (state_after_all k r.history).at (slots_of k) (λ i. count_in (slot_word s.words i)) r.node_of
-        r.next_number n (word_at s.words (word_of k n)) t (owed r.debt k.passes n) (get_elem? s.homes n) (r.phase n))
-        (let t = sum_by-append (taken_of n) s.views (u ∷ []) in omega arith) (r.each_node n l);
-    each_label = r.each_label;
-    each_owner = λ n l. owner_map s.views views' n (λ j d is o. (o.0, at_longer s.views (u ∷ []) j o.0 o.1, o.2)) (r.phase n) (r.each_owner n l);
-    removed = r.removed;
-    unborn = r.unborn;
-    fresh = r.fresh;
+  beside = reseat k s r views' record {
+    taken = λ n. let t = sum_by-append (taken_of n) s.views (u ∷ []) in omega arith;
+    owners = λ n. owner_map s.views views' n (λ j d is o. (o.0, at_longer s.views (u ∷ []) j o.0 o.1, o.2));
+    stocks = λ j x y e has. ⊎_elim (λ old. r.stocks j x y old has) (λ new. absurd (no_pass new has)) (at_snoc s.views u x j e);
     each_view = λ j x e. ⊎_elim (λ old. r.each_view j x old)
         (λ (new : u ≡ x). subst (ViewAgrees k r.history s.words r.phase r.debt r.deed j) new record {
           logs = λ y c. absurd (contains_none y c);
@@ -49,30 +35,19 @@ module _ (k : Start) (s : Shared) (r : Agrees k s) (h : List Event) (seen : IsSe
           empty = λ _. (refl, refl, refl);
           start = inl refl;
         }) (at_snoc s.views u x j e);
-    where_is = r.where_is;
-    named = r.named;
-    stocks = λ j x y e has. ⊎_elim (λ old. r.stocks j x y old has)
-        (λ (new : u ≡ x). absurd (contains_none y (subst (λ (z : View). Contains z.logs y) (sym new) has))) (at_snoc s.views u x j e);
+    holds = λ n. let t = sum_by-append (held_of n) s.views (u ∷ []) in omega arith;
     known = of_appended (IsKnown r.history) s.views r.known u seen;
-    holds = λ n. let t = sum_by-append (held_of n) s.views (u ∷ []) in let h = r.holds n in omega arith;
-    passes = λ p. let t = sum_by-append (logs_of p) s.views (u ∷ []) in let h = r.passes p in omega arith;
-    whole = let t = sum_by-append lengths s.views (u ∷ []) in let h = r.whole in omega arith;
-    authors = r.authors;
-    listed = r.listed;
-    counts = record {
-      groups = λ g l. let t = sum_by-append (owing_of g) s.views (u ∷ []) in let c = (r.counts.groups g l).counts in record { counts = omega (arith, t, c) };
-      questions = λ j x y e has few asked. ⊎_elim (λ old. visited_map y.asked still_full (r.counts.questions j x y old has few asked))
-          (λ (new : u ≡ x). absurd (contains_none y (subst (λ (z : View). Contains z.logs y) (sym new) has))) (at_snoc s.views u x j e);
-    };
+    passes = λ p. let t = sum_by-append (logs_of p) s.views (u ∷ []) in omega arith;
+    whole = let t = sum_by-append lengths s.views (u ∷ []) in omega arith;
+    counts = counts_reseated r.counts views'
+        (λ j x g e is. ⊎_elim (λ old. old)
+        (λ (new : u ≡ x). let bad : Outside ≡ Inside g = ap (λ (z : View). z.change) new ∙ is in absurd (cc bad)) (at_snoc s.views u x j e))
+        (λ j x y e has. ⊎_elim (λ old. (j, x, old, has)) (λ new. absurd (no_pass new has)) (at_snoc s.views u x j e))
+        (λ f none. let t = sum_by-append (λ (x : View). f x.change) s.views (u ∷ []) in omega (arith, t, none));
   }
     where
-      still_full : (n : ℕ) → AreFull (state_after_all k r.history).at (range_at_start k) s.views n
-          → AreFull (state_after_all k r.history).at (range_at_start k) views' n
-      still_full n o = record {
-        full = o.full;
-        calm = λ j x g e is. ⊎_elim (λ old. o.calm j x g old is)
-            (λ (new : u ≡ x). let bad : Outside ≡ Inside g = ap (λ (z : View). z.change) new ∙ is in absurd (cc bad)) (at_snoc s.views u x j e);
-      }
+      no_pass : {x : View} {y : Log} → u ≡ x → Contains x.logs y → ⊥
+      no_pass {x} {y} new has = contains_none y (subst (λ (z : View). Contains z.logs y) (sym new) has)
 
 -- a seat with one pass may show what the pass has seen
 pub may_show : (k : Start) (id : ℕ) (v : View) {x : Log} → v.logs ≡ x ∷ [] → Splits (Agrees k) id v v (shown_view v)
@@ -110,25 +85,12 @@ module _ (k : Start) (id : ℕ) (v w : View) (x : Log) (one : v.logs ≡ x ∷ [
   }
 
   learned_agrees : Agrees k record { words = s.words; homes = s.homes; views = set s.views id learned }
-  learned_agrees = record {
-    shape = let h = r.shape in assumption (h.words, h.homes);
-    history = r.history;
-    phase = r.phase;
-    node_of = r.node_of;
-    numbering = r.numbering;
-    next_number = r.next_number;
-    debt = r.debt;
-    deed = r.deed;
-    legal = r.legal;
-    each_slot = r.each_slot;
-    each_node = λ n l. subst (λ (t : ℕ). NodeAgrees (state_after_all k r.history).at (slots_of k) (λ i. count_in (slot_word s.words i)) r.node_of
-        r.next_number n (word_at s.words (word_of k n)) t (owed r.debt k.passes n) (get_elem? s.homes n) (r.phase n))
-        (let t = sum_set (taken_of n) s.views id v learned at in omega arith) (r.each_node n l);
-    each_label = r.each_label;
-    each_owner = λ n l. owner_same s.views id v learned at refl n (r.phase n) (r.each_owner n l);
-    removed = r.removed;
-    unborn = r.unborn;
-    fresh = r.fresh;
+  learned_agrees = reseat k s r (set s.views id learned) record {
+    taken = λ n. let t = sum_set (taken_of n) s.views id v learned at in omega arith;
+    owners = owner_same s.views id v learned at refl;
+    stocks = λ j u y e has. ⊎_elim (λ (t : (j ≡ id) × (learned ≡ u)). subst (λ (z : Log). StockAgrees k r.where_is z.number z.stock)
+        (sym (contains_only log y (subst (λ (z : View). Contains z.logs y) (sym t.1) has))) (r.stocks id v x at (contains_alone one)))
+        (λ t. r.stocks j u y t.1 has) (at_set s.views id j learned u e);
     each_view = λ j u e. ⊎_elim (λ (t : (j ≡ id) × (learned ≡ u)).
         subst (λ (z : ℕ × View). ViewAgrees k r.history s.words r.phase r.debt r.deed z.0 z.1) (λ i. (sym t.0 i, t.1 i)) record {
           logs = λ y h. subst (LogAgrees k r.history s.words r.phase r.debt r.deed v.work v.glance) (sym (contains_only log y h)) now_log;
@@ -136,17 +98,10 @@ module _ (k : Start) (id : ℕ) (v w : View) (x : Log) (one : v.logs ≡ x ∷ [
           empty = λ none. absurd (omega (arith, ap (length {A = Log}) none));
           start = inr begun;
         }) (λ t. r.each_view j u t.1) (at_set s.views id j learned u e);
-    where_is = r.where_is;
-    named = r.named;
-    stocks = λ j u y e has. ⊎_elim (λ (t : (j ≡ id) × (learned ≡ u)). subst (λ (z : Log). StockAgrees k r.where_is z.number z.stock)
-        (sym (contains_only log y (subst (λ (z : View). Contains z.logs y) (sym t.1) has))) (r.stocks id v x at (contains_alone one)))
-        (λ t. r.stocks j u y t.1 has) (at_set s.views id j learned u e);
+    holds = λ n. let t = sum_set (held_of n) s.views id v learned at in omega arith;
     known = of_replaced (IsKnown r.history) s.views r.known id learned (r.known id v at);
-    holds = λ n. let t = sum_set (held_of n) s.views id v learned at in let h = r.holds n in omega arith;
-    passes = λ p. total_same (λ z. one_if (eqb z.number p)) s.views id learned at one refl refl ∙ r.passes p;
-    whole = let t = sum_set lengths s.views id v learned at in let e = ap (length {A = Log}) one in let h = r.whole in omega arith;
-    authors = r.authors;
-    listed = r.listed;
+    passes = λ p. total_same (λ z. one_if (eqb z.number p)) s.views id learned at one refl refl;
+    whole = let t = sum_set lengths s.views id v learned at in let e = ap (length {A = Log}) one in omega arith;
     counts = counts_same id learned at r.counts (few_in_range r) refl (refl, λ g l. refl) refl
         (λ y has. subst (λ (y : Log). (z : Log) × Contains v.logs z × (z.number ≡ y.number) × (z.asked ≡ y.asked)) (sym (contains_only log y has))
         (x, contains_alone one, refl, refl));
@@ -188,24 +143,7 @@ module _ {id : TableId} {k : Start} {p : LastingPass} (fits : IsPassOf id k p) (
   q = record p { seat = seat }
 
   runs : Runs p.seat.me [] p.seat.me.0.work p.seat.me.0.glance p.seat.me.0.change 0 seat.me
-  runs = let o = learns.runs in record {
-    one = o.one;
-    number = o.number;
-    seen = o.seen;
-    legal = o.legal;
-    own = o.own;
-    steps = o.steps;
-    begun = o.begun;
-    listed = o.listed;
-    asked = o.asked;
-    stock = o.stock;
-    met = o.met;
-    work = o.work;
-    inside = o.inside;
-    glance = o.glance;
-    change = o.change;
-    start = o.start;
-  }
+  runs = assumption learns.runs
 
   adds : Adds (opening_of k) (view_of p) [] (doing_in p.seat.me.0.work) no_use (view_of q)
   adds = adds_so fits.seated runs no_use

@@ -10,11 +10,14 @@ use Rattle.fx_lasting.proofs.Histories.{grows_none, each_changed}
 use Rattle.fx_lasting.proofs.Frames.{alone_cases, busy, does_now}
 use Rattle.fx_lasting.proofs.Keeping.{Turn, turn_of, After, Homes, word_at, slot_word, Made, by_turn, its_log, its_work, its_stock, in_its_stock, in_range, tells, tells_less, w, end}
 use Rattle.fx_lasting.proofs.node_lemmas.NodeSteps.{after, node_kept, own_keeps, guards_else}
-use Rattle.fx_lasting.proofs.Places.{node_words, node_here, node_else, node_slot, node_hold, node_alike, node_list, node_label}
+use Rattle.fx_lasting.proofs.Places.{node_words, node_here, node_else, node_slot, node_hold, node_label}
 use Rattle.fx_lasting.proofs.Calm.{read_before, read_before_kept, Reads}
 use Rattle.fx_lasting.proofs.node_lemmas.Choosing.{no_file, no_take, not_busy, holds_none}
 use Rattle.fx_lasting.proofs.node_lemmas.FreeNodes.{some_free, entry_is, named_by}
 use Rattle.fx_lasting.proofs.hold_lemmas.Unheld.{NodeNow, in_phase}
+use Rattle.fx_lasting.proofs.Keeping.{none_added}
+use Rattle.fx_lasting.proofs.node_lemmas.NodeSteps.{own_after, own_node_kept}
+use Rattle.fx_lasting.proofs.Places.{node_leaves}
 
 -- a pass that looks for a node works with none
 names_nothing : {d : Work} → HasNoFile d → named_by d ≡ 0
@@ -49,11 +52,7 @@ module _ (turn : Turn) where
 
     searching : (e : ℕ) → e < nodes_of v.start → r.phase e ≡ free → IsInStock x.stock e → Reads turn (Searching e) v.glance r.history
     searching e l is stocked = let o = its_log turn in record {
-      grows = grows_none x.number r.history;
-      legal = r.legal;
-      at = refl;
-      fresh = refl;
-      removed = refl;
+      files = none_added turn;
       taken = λ n. sym (no_take searches n);
       owners = inr (not_busy searches);
       held = o.held ∙ no_file searches;
@@ -145,35 +144,18 @@ module _ (turn : Turn) where
     new = as_written 0 Unlabelled
 
     abbrev born_after : After turn
-    born_after = after turn n its.0 (placed id new) r.history words₁ homes₁ r.debt (Placing n new) v.glance
+    born_after = own_after turn n its.0 (placed id new) r.history words₁ homes₁ (Placing n new)
 
     birth : Agrees v.start (end turn born_after)
-    birth = let o = its_log turn in let h = rw works at o.hold in let node = in_phase turn its.0 its.1 in let same = node_slot turn n its.0 birth_word in
-        node_kept turn n its.0 (placed id new) r.history words₁ homes₁ r.debt (Placing n new) v.glance record {
-          words = length-set st.words (word_of v.start n) birth_word;
+    birth = let o = its_log turn in let node = in_phase turn its.0 its.1 in
+        own_node_kept turn n its.0 (placed id new) r.history words₁ homes₁ (Placing n new) record {
+          leaves_else = node_leaves turn n its.0 birth_word;
+          hold_words = node_hold turn n its.0 birth_word;
           homes = length-set st.homes n none;
-          grows = grows_none x.number r.history;
-          legal = r.legal;
-          at = refl;
-          fresh = refl;
-          removed = λ m. r.removed m ∙ sym (each_changed (λ i z. removed_in m z ≡ removed_in m (r.phase i)) r.phase
-              (λ is. sym (ap (λ (i : ℕ). removed_in m (r.phase i)) is ∙ ap (removed_in m) its.1)) (λ _. refl));
-          slot_words = same;
-          alike = node_alike turn n its.0 birth_word;
-          lists = node_list turn n its.0 birth_word;
-          node_words = λ m l other. node_else turn n its.0 birth_word m other;
-          label_else = λ m other. node_label turn n its.0 birth_word m;
-          label = tt;
           home_else = λ m l other. set_else st.homes n m none other;
-          owed_else = λ m other. refl;
-          taken_else = λ m other. sym (ap (taking m) works);
-          free_else = λ m other bad. let a = ap busy works in omega arith;
-          may = inr (inl (ap owner its.1));
-          its_stock = λ _. rw works at o.allowed;
-          at_slot = λ s f is. cc (sym its.1 ∙ is);
-          open_file = λ j u f other there holds is. let bad : None ≡ Some f = sym (ap file_in its.1) ∙ is in cc bad;
-          guards = λ p e other range. guards_else turn n its.0 (placed id new) r.history words₁ homes₁ r.debt (Placing n new) v.glance same p e
-              (node_hold turn n its.0 birth_word p range.1) refl (λ may. rw its.1 at may);
+          mine = inr (its.1, rw works at o.allowed);
+          empty = ap file_in its.1;
+          still_empty = refl;
           node = let t = sum_set (taken_of n) st.views id v (w turn born_after) here in let a = ap (taking n) works in let b = node.untaken in
               rw (node_here turn n its.0 birth_word) record {
                 counts = refl;
@@ -183,12 +165,15 @@ module _ (turn : Turn) where
                 unowed = node.unowed;
               };
           known = does_now st.views id v (w turn born_after) (Placing n new) here refl;
-          held = o.held ∙ ap held_in works;
+          label = tt;
+          holds = sym (ap held_in works);
+          taken = λ m. sym (ap (taking m) works);
+          free_else = λ m other bad. let a = ap busy works in omega arith;
           allowed = rw works at o.allowed;
-          its_own = own_keeps turn n its.0 (placed id new) r.history words₁ homes₁ r.debt (Placing n new) v.glance same refl
-              (node_hold turn n its.0 birth_word x.number (in_range turn).1 ∙ h.0, h.1) tt (its.0, changed_here r.phase n (placed id new) n refl);
-          holds = λ m. let a = ap (λ (d : Work). if_file m (held_in d)) works in omega arith;
-        }
+          hold = rw works at o.hold;
+          guarded = tt;
+          work = (its.0, changed_here r.phase n (placed id new) n refl);
+        } ([], refl) refl
 
     pub births : (slots : ℕ) (carried : List (ℕ × Option Closed))
         → Made turn carried (word_of v.start n) (λ _. birth_word) (λ _. Births (step slots (word_of v.start n) birth_word 0 none) (v, carried) birth_word)
@@ -251,7 +236,7 @@ module _ (turn : Turn) where
     words₀ = node_words turn n its_node.0 0
 
     abbrev rest_after : After turn
-    rest_after = after turn n its_node.0 free r.history words₀ homes₀ r.debt d v.glance
+    rest_after = own_after turn n its_node.0 free r.history words₀ homes₀ d
 
     knows : WorkAgrees v.start (changed_at r.phase n free) id d × IsInside v.start d × GuardAgrees (slot_word words₀)
         (changed_at r.phase n free) x.number (r.debt x.number) d × HoldAgrees 0 0 d
@@ -266,32 +251,15 @@ module _ (turn : Turn) where
         rw e.3 ((o.0, ap file_in (changed_else r.phase n free e.1 other) ∙ o.1), o.0, tt, (refl, refl))) y) its_work_is
 
     resting : Agrees v.start (end turn rest_after)
-    resting = let o = its_log turn in let q = its_node in let c = its_calm in let same = node_slot turn n q.0 0 in
-        node_kept turn n q.0 free r.history words₀ homes₀ r.debt d v.glance record {
-          words = length-set st.words (word_of v.start n) 0;
+    resting = let o = its_log turn in let q = its_node in let c = its_calm in
+        own_node_kept turn n q.0 free r.history words₀ homes₀ d record {
+          leaves_else = node_leaves turn n q.0 0;
+          hold_words = node_hold turn n q.0 0;
           homes = length-set st.homes n (some None);
-          grows = grows_none x.number r.history;
-          legal = r.legal;
-          at = refl;
-          fresh = refl;
-          removed = λ m. r.removed m ∙ sym (each_changed (λ i z. removed_in m z ≡ removed_in m (r.phase i)) r.phase
-              (λ is. sym (ap (λ (i : ℕ). removed_in m (r.phase i)) is ∙ q.3 m)) (λ _. refl));
-          slot_words = same;
-          alike = node_alike turn n q.0 0;
-          lists = node_list turn n q.0 0;
-          node_words = λ m l other. node_else turn n q.0 0 m other;
-          label_else = λ m other. node_label turn n q.0 0 m;
-          label = tt;
           home_else = λ m l other. set_else st.homes n m (some None) other;
-          owed_else = λ m other. refl;
-          taken_else = λ m other. c.4 m;
-          free_else = λ m other bad. let a = c.0 in other (omega arith);
-          may = inr (inr q.1);
-          its_stock = λ bad. absurd (q.7 bad);
-          at_slot = λ s f is. let bad : None ≡ Some f = sym q.2 ∙ ap file_in is in absurd (cc bad);
-          open_file = λ j u f other there holds is. let bad : None ≡ Some f = sym q.2 ∙ is in cc bad;
-          guards = λ p e other range. guards_else turn n q.0 free r.history words₀ homes₀ r.debt d v.glance same p e
-              (node_hold turn n q.0 0 p range.1) refl (λ may. q.4 p may);
+          mine = inl q.1;
+          empty = q.2;
+          still_empty = refl;
           node = let t = sum_set (taken_of n) st.views id v (w turn rest_after) here in let b = q.5 in
               let e = c.4 n in rw (node_here turn n q.0 0) record {
                 counts = refl;
@@ -300,12 +268,15 @@ module _ (turn : Turn) where
                 unowed = q.6;
               };
           known = tt;
-          held = o.held ∙ sym c.3;
+          label = tt;
+          holds = c.3;
+          taken = λ m. c.4 m;
+          free_else = λ m other bad. let a = c.0 in other (omega arith);
           allowed = c.5;
-          its_own = own_keeps turn n q.0 free r.history words₀ homes₀ r.debt d v.glance same refl
-              (rw (node_hold turn n q.0 0 x.number (in_range turn).1 ∙ c.1, c.2) knows.3) knows.2 knows.0;
-          holds = λ m. let a = ap (if_file m) c.3 in omega arith;
-        }
+          hold = rw (c.1, c.2) knows.3;
+          guarded = knows.2;
+          work = knows.0;
+        } ([], refl) refl
 
     pub rests : (slots : ℕ) (carried : List (ℕ × Option Closed)) → carried ≡ (n, None) ∷ []
         → Made turn carried (word_of v.start n) (λ _. 0) (λ _. Rests (step slots (word_of v.start n) 0 0 none) (v, carried) 0)

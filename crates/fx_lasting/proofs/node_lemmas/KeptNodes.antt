@@ -1,14 +1,14 @@
 -- A pass keeps the node of a closed file, takes its place again, or frees it.
-use Rattle.fx_lasting.proofs.Words.{◌≡◌, ℕ, ◌<◌, List, [], ◌∷◌, set, sym, refl, ap, ◌∙◌, subst, arith, Option, Some, None, none, some, keeps, takes}
-use Rattle.fx_lasting.proofs.Words.{gives, rest, set_here, set_else, Closed, WorkAgrees, nodes_of, word_of, if_file, taken_of, taking, held_in}
-use Rattle.fx_lasting.proofs.Words.{placed, free, kept, emptied, owner, file_in, removed_in, changed_here, Work, Idle, Placing, Emptying, Keeping}
+use Rattle.fx_lasting.proofs.Words.{◌≡◌, ℕ, ◌<◌, List, [], ◌∷◌, set, sym, refl, ap, ◌∙◌, subst, arith, Option, None, none, some, keeps, takes}
+use Rattle.fx_lasting.proofs.Words.{gives, rest, set_here, set_else, Closed, WorkAgrees, nodes_of, word_of, taken_of, taking, held_in}
+use Rattle.fx_lasting.proofs.Words.{placed, free, kept, emptied, owner, file_in, changed_here, Idle, Placing, Emptying, Keeping}
 use Rattle.fx_lasting.proofs.Words.{Parks, Resumes, SettlesNode, ParksKeep, ResumesKeep, SettlesKeep, birth_word, step, inl, inr, ⊎_elim, ◌⊎◌, dec_le}
 use Rattle.fx_lasting.proofs.Words.{dite, sum_set, length-set, Agrees, Unlabelled, IsInStock, Placement, as_written, MayCarry, most_carried, ◌-◌, ◌+◌}
-use Rattle.fx_lasting.proofs.Histories.{grows_none, each_changed}
+use Rattle.fx_lasting.proofs.Histories.{grows_none}
 use Rattle.fx_lasting.proofs.Frames.{busy, does_now}
-use Rattle.fx_lasting.proofs.Keeping.{Turn, turn_of, After, Homes, word_at, Made, by_turn, its_log, its_work, in_range, tells, tells_less, w, end}
-use Rattle.fx_lasting.proofs.node_lemmas.NodeSteps.{after, after_seen, node_kept, node_kept_seen, own_keeps, own_keeps_seen, guards_else, guards_else_seen}
-use Rattle.fx_lasting.proofs.Places.{node_words, node_here, node_else, node_slot, node_hold, node_alike, node_list, node_label}
+use Rattle.fx_lasting.proofs.Keeping.{Turn, turn_of, After, Homes, word_at, Made, by_turn, its_log, its_work, tells, tells_less, w, end}
+use Rattle.fx_lasting.proofs.node_lemmas.NodeSteps.{own_after, own_node_kept}
+use Rattle.fx_lasting.proofs.Places.{node_words, node_here, node_hold, node_leaves}
 use Rattle.fx_lasting.proofs.Calm.{read_after, read_kept}
 use Rattle.fx_lasting.proofs.Peeking.{goes_still, still}
 use Rattle.fx_lasting.proofs.hold_lemmas.Unheld.{in_phase}
@@ -40,36 +40,18 @@ module _ (turn : Turn) (n : ℕ) where
     words₁ = node_words turn n at_out.0 found
 
     abbrev park_after : After turn
-    park_after = after turn n at_out.0 (kept id less) r.history words₁ homes₁ r.debt (Keeping n less) v.glance
+    park_after = own_after turn n at_out.0 (kept id less) r.history words₁ homes₁ (Keeping n less)
 
     parked : Agrees v.start (end turn park_after)
-    parked = let o = its_log turn in let l = at_out.0 in let ph = at_out.1 in let h = rw works at o.hold in let node = in_phase turn l ph in
-        let same = node_slot turn n l found in
-        node_kept turn n l (kept id less) r.history words₁ homes₁ r.debt (Keeping n less) v.glance record {
-          words = length-set st.words (word_of v.start n) found;
+    parked = let o = its_log turn in let l = at_out.0 in let ph = at_out.1 in let node = in_phase turn l ph in
+        own_node_kept turn n l (kept id less) r.history words₁ homes₁ (Keeping n less) record {
+          leaves_else = node_leaves turn n l found;
+          hold_words = node_hold turn n l found;
           homes = length-set st.homes n (some None);
-          grows = grows_none x.number r.history;
-          legal = r.legal;
-          at = refl;
-          fresh = refl;
-          removed = λ m. r.removed m ∙ sym (each_changed (λ i z. removed_in m z ≡ removed_in m (r.phase i)) r.phase
-              (λ e. sym (ap (λ (i : ℕ). removed_in m (r.phase i)) e ∙ ap (removed_in m) ph)) (λ _. refl));
-          slot_words = same;
-          alike = node_alike turn n l found;
-          lists = node_list turn n l found;
-          node_words = λ m range other. node_else turn n l found m other;
-          label_else = λ m other. node_label turn n l found m;
-          label = tt;
           home_else = λ m range other. set_else st.homes n m (some None) other;
-          owed_else = λ m other. refl;
-          taken_else = λ m other. sym (ap (taking m) works);
-          free_else = λ m other bad. let a = ap busy works in other (omega arith);
-          may = inr (inr (ap owner ph));
-          its_stock = λ bad. cc (sym ph ∙ bad);
-          at_slot = λ s f e. cc (sym ph ∙ e);
-          open_file = λ j u f other there holds e. let bad : None ≡ Some f = sym (ap file_in ph) ∙ e in cc bad;
-          guards = λ p e other range. guards_else turn n l (kept id less) r.history words₁ homes₁ r.debt (Keeping n less) v.glance same p e
-              (node_hold turn n l found p range.1) refl (λ may. rw ph at may);
+          mine = inl (ap owner ph);
+          empty = ap file_in ph;
+          still_empty = refl;
           node = let t = sum_set (taken_of n) st.views id v (w turn park_after) here in let a = ap (taking n) works in let b = node.untaken in
               rw (node_here turn n l found) record {
                 counts = let a = is.0 in omega arith;
@@ -79,12 +61,15 @@ module _ (turn : Turn) (n : ℕ) where
                 unowed = node.unowed;
               };
           known = does_now st.views id v (w turn park_after) (Keeping n less) here refl;
-          held = o.held ∙ ap held_in works;
+          label = tt;
+          holds = sym (ap held_in works);
+          taken = λ m. sym (ap (taking m) works);
+          free_else = λ m other bad. let a = ap busy works in other (omega arith);
           allowed = stocked;
-          its_own = own_keeps turn n l (kept id less) r.history words₁ homes₁ r.debt (Keeping n less) v.glance same refl
-              (node_hold turn n l found x.number (in_range turn).1 ∙ h.0, h.1) tt (l, changed_here r.phase n (kept id less) n refl);
-          holds = λ m. let a = ap (λ (d : Work). if_file m (held_in d)) works in omega arith;
-        }
+          hold = rw works at o.hold;
+          guarded = tt;
+          work = (l, changed_here r.phase n (kept id less) n refl);
+        } ([], refl) refl
 
     pub parks_out : (slots : ℕ) (carried : List (ℕ × Option Closed)) → carried ≡ (n, None) ∷ []
         → Made turn carried (word_of v.start n) (λ word. word) (Parks (step slots (word_of v.start n) 0 0 none) (v, carried))
@@ -125,36 +110,18 @@ module _ (turn : Turn) (n : ℕ) where
     again_so = as_written lost Unlabelled
 
     abbrev again_after : After turn
-    again_after = after turn n at_rest.0 (placed id again_so) r.history words₂ homes₂ r.debt (Placing n again_so) v.glance
+    again_after = own_after turn n at_rest.0 (placed id again_so) r.history words₂ homes₂ (Placing n again_so)
 
     again : Agrees v.start (end turn again_after)
-    again = let o = its_log turn in let l = at_rest.0 in let ph = at_rest.1 in let h = rw works at o.hold in let node = in_phase turn l ph in
-        let same = node_slot turn n l found in
-        node_kept turn n l (placed id again_so) r.history words₂ homes₂ r.debt (Placing n again_so) v.glance record {
-          words = length-set st.words (word_of v.start n) found;
+    again = let o = its_log turn in let l = at_rest.0 in let ph = at_rest.1 in let node = in_phase turn l ph in
+        own_node_kept turn n l (placed id again_so) r.history words₂ homes₂ (Placing n again_so) record {
+          leaves_else = node_leaves turn n l found;
+          hold_words = node_hold turn n l found;
           homes = length-set st.homes n none;
-          grows = grows_none x.number r.history;
-          legal = r.legal;
-          at = refl;
-          fresh = refl;
-          removed = λ m. r.removed m ∙ sym (each_changed (λ i z. removed_in m z ≡ removed_in m (r.phase i)) r.phase
-              (λ e. sym (ap (λ (i : ℕ). removed_in m (r.phase i)) e ∙ ap (removed_in m) ph)) (λ _. refl));
-          slot_words = same;
-          alike = node_alike turn n l found;
-          lists = node_list turn n l found;
-          node_words = λ m range other. node_else turn n l found m other;
-          label_else = λ m other. node_label turn n l found m;
-          label = tt;
           home_else = λ m range other. set_else st.homes n m none other;
-          owed_else = λ m other. refl;
-          taken_else = λ m other. sym (ap (taking m) works);
-          free_else = λ m other bad. let a = ap busy works in other (omega arith);
-          may = inr (inr (ap owner ph));
-          its_stock = λ bad. cc (sym ph ∙ bad);
-          at_slot = λ s f e. cc (sym ph ∙ e);
-          open_file = λ j u f other there holds e. let bad : None ≡ Some f = sym (ap file_in ph) ∙ e in cc bad;
-          guards = λ p e other range. guards_else turn n l (placed id again_so) r.history words₂ homes₂ r.debt (Placing n again_so) v.glance same p e
-              (node_hold turn n l found p range.1) refl (λ may. rw ph at may);
+          mine = inl (ap owner ph);
+          empty = ap file_in ph;
+          still_empty = refl;
           node = let t = sum_set (taken_of n) st.views id v (w turn again_after) here in let a = ap (taking n) works in let b = node.untaken in
               rw (node_here turn n l found) record {
                 counts = node.counts;
@@ -164,12 +131,15 @@ module _ (turn : Turn) (n : ℕ) where
                 unowed = node.unowed;
               };
           known = does_now st.views id v (w turn again_after) (Placing n again_so) here refl;
-          held = o.held ∙ ap held_in works;
+          label = tt;
+          holds = sym (ap held_in works);
+          taken = λ m. sym (ap (taking m) works);
+          free_else = λ m other bad. let a = ap busy works in other (omega arith);
           allowed = rw works at o.allowed;
-          its_own = own_keeps turn n l (placed id again_so) r.history words₂ homes₂ r.debt (Placing n again_so) v.glance same refl
-              (node_hold turn n l found x.number (in_range turn).1 ∙ h.0, h.1) tt (l, changed_here r.phase n (placed id again_so) n refl);
-          holds = λ m. let a = ap (λ (d : Work). if_file m (held_in d)) works in omega arith;
-        }
+          hold = rw works at o.hold;
+          guarded = tt;
+          work = (l, changed_here r.phase n (placed id again_so) n refl);
+        } ([], refl) refl
 
     pub resumes : (slots : ℕ) (carried : List (ℕ × Option Closed))
         → Made turn carried (word_of v.start n) (λ word. word) (Resumes (step slots (word_of v.start n) 0 0 none) (v, carried))
@@ -193,36 +163,18 @@ module _ (turn : Turn) (n : ℕ) where
     words₀ = node_words turn n at_rest.0 0
 
     abbrev free_after : After turn
-    free_after = after_seen turn n at_rest.0 free r.history x.front words₀ st.homes r.debt Idle v.glance
+    free_after = own_after turn n at_rest.0 free x.front words₀ st.homes Idle
 
     freed : Agrees v.start (end turn free_after)
-    freed = let o = its_log turn in let l = at_rest.0 in let ph = at_rest.1 in let h = rw works at o.hold in let node = in_phase turn l ph in
-        let same = node_slot turn n l 0 in
-        node_kept_seen turn n l free r.history x.front words₀ st.homes r.debt Idle v.glance record {
-          words = length-set st.words (word_of v.start n) 0;
+    freed = let o = its_log turn in let l = at_rest.0 in let ph = at_rest.1 in let node = in_phase turn l ph in
+        own_node_kept turn n l free x.front words₀ st.homes Idle record {
+          leaves_else = node_leaves turn n l 0;
+          hold_words = node_hold turn n l 0;
           homes = refl;
-          grows = grows_none x.number r.history;
-          legal = r.legal;
-          at = refl;
-          fresh = refl;
-          removed = λ m. r.removed m ∙ sym (each_changed (λ i z. removed_in m z ≡ removed_in m (r.phase i)) r.phase
-              (λ e. sym (ap (λ (i : ℕ). removed_in m (r.phase i)) e ∙ ap (removed_in m) ph)) (λ _. refl));
-          slot_words = same;
-          alike = node_alike turn n l 0;
-          lists = node_list turn n l 0;
-          node_words = λ m range other. node_else turn n l 0 m other;
-          label_else = λ m other. node_label turn n l 0 m;
-          label = tt;
           home_else = λ m range other. refl;
-          owed_else = λ m other. refl;
-          taken_else = λ m other. sym (ap (taking m) works);
-          free_else = λ m other bad. let a = ap busy works in other (omega arith);
-          may = inr (inr (ap owner ph));
-          its_stock = λ bad. cc (sym ph ∙ bad);
-          at_slot = λ s f e. cc (sym ph ∙ e);
-          open_file = λ j u f other there holds e. let bad : None ≡ Some f = sym (ap file_in ph) ∙ e in cc bad;
-          guards = λ p e other range. guards_else_seen turn n l free r.history x.front words₀ st.homes r.debt Idle v.glance same p e
-              (node_hold turn n l 0 p range.1) refl (λ may. rw ph at may);
+          mine = inl (ap owner ph);
+          empty = ap file_in ph;
+          still_empty = refl;
           node = let t = sum_set (taken_of n) st.views id v (w turn free_after) here in let a = ap (taking n) works in let b = node.untaken in
               rw (node_here turn n l 0) record {
                 counts = refl;
@@ -231,11 +183,14 @@ module _ (turn : Turn) (n : ℕ) where
                 unowed = node.unowed;
               };
           known = tt;
-          held = o.held ∙ ap held_in works;
+          label = tt;
+          holds = sym (ap held_in works);
+          taken = λ m. sym (ap (taking m) works);
+          free_else = λ m other bad. let a = ap busy works in other (omega arith);
           allowed = tt;
-          its_own = own_keeps_seen turn n l free r.history x.front words₀ st.homes r.debt Idle v.glance same refl
-              (node_hold turn n l 0 x.number (in_range turn).1 ∙ h.0, h.1) tt tt;
-          holds = λ m. let a = ap (λ (d : Work). if_file m (held_in d)) works in omega arith;
+          hold = rw works at o.hold;
+          guarded = tt;
+          work = tt;
         } o.seen o.own
 
     pub settles : (slots : ℕ) (carried : List (ℕ × Option Closed))

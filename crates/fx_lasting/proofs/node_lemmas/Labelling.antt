@@ -16,6 +16,8 @@ use Rattle.fx_lasting.proofs.node_lemmas.NodeSteps.{after, node_kept, own_keeps,
 use Rattle.fx_lasting.proofs.Calm.{read_before, read_before_kept}
 use Rattle.fx_lasting.proofs.Peeking.{still}
 use Rattle.fx_lasting.proofs.hold_lemmas.Unheld.{in_phase}
+use Rattle.fx_lasting.proofs.Words.{inl}
+use Rattle.fx_lasting.proofs.node_lemmas.NodeSteps.{own_after, own_node_kept}
 
 -- the file that a pass holds
 held_file : {d : Work} {f : File} {n : ℕ} → HoldsOn d f n → held_in d ≡ Some f
@@ -54,39 +56,26 @@ module _ (turn : Turn) where
     same_node : (m : ℕ) → word_at words' (word_of v.start m) ≡ word_at st.words (word_of v.start m)
     same_node m = same (word_of v.start m) (λ bad. omega (arith, bad, low, high))
 
-    alike : CountAlike words' st.words
-    alike = (same question_place (λ bad. omega (arith, bad, low)), λ g few. same (group_place g) (λ bad. omega (arith, bad, low, few)))
-
     abbrev stored_after : After turn
-    stored_after = after turn n its.0 (placed id l') r.history words' st.homes r.debt (Placing n l') v.glance
+    stored_after = own_after turn n its.0 (placed id l') r.history words' st.homes (Placing n l')
 
     stored : ((m : ℕ) → m ≢ n → LabelSame v.start words' st.words m) → Labels v.start words' n l'.written → Agrees v.start (end turn stored_after)
-    stored else label = let o = its_log turn in let h = rw works at o.hold in let node = in_phase turn its.0 its.1 in
-        node_kept turn n its.0 (placed id l') r.history words' st.homes r.debt (Placing n l') v.glance record {
-          words = length-set st.words place new;
+    stored else label = let o = its_log turn in let node = in_phase turn its.0 its.1 in
+        own_node_kept turn n its.0 (placed id l') r.history words' st.homes (Placing n l') record {
+          leaves_else = record {
+            as_long = length-set st.words place new;
+            slots = same_slots;
+            alike = (same question_place (λ bad. omega (arith, bad, low)), λ g few. same (group_place g) (λ bad. omega (arith, bad, low, few)));
+            lists = λ p few. same (list_place p) (λ bad. omega (arith, bad, low, few));
+            nodes = λ m other. same_node m;
+            labels = else;
+          };
+          hold_words = same_hold;
           homes = refl;
-          grows = grows_none x.number r.history;
-          legal = r.legal;
-          at = refl;
-          fresh = refl;
-          removed = λ m. r.removed m ∙ sym (each_changed (λ i z. removed_in m z ≡ removed_in m (r.phase i)) r.phase
-              (λ is. sym (ap (λ (i : ℕ). removed_in m (r.phase i)) is ∙ ap (removed_in m) its.1)) (λ _. refl));
-          slot_words = same_slots;
-          alike = alike;
-          lists = λ p few. same (list_place p) (λ bad. omega (arith, bad, low, few));
-          node_words = λ m inside other. same_node m;
-          label_else = else;
-          label = label;
           home_else = λ m inside other. refl;
-          owed_else = λ m other. refl;
-          taken_else = λ m other. sym (ap (taking m) works);
-          free_else = λ m other bad. let a = ap busy works in other (omega arith);
-          may = inr (inr (ap owner its.1));
-          its_stock = λ is. cc (sym its.1 ∙ is);
-          at_slot = λ s f is. cc (sym its.1 ∙ is);
-          open_file = λ j u f other there holds is. let bad : None ≡ Some f = sym (ap file_in its.1) ∙ is in cc bad;
-          guards = λ p e other range. guards_else turn n its.0 (placed id l') r.history words' st.homes r.debt (Placing n l') v.glance same_slots p e
-              (same_hold p range.1) refl (λ may. rw its.1 at may);
+          mine = inl (ap owner its.1);
+          empty = ap file_in its.1;
+          still_empty = refl;
           node = let t = sum_set (taken_of n) st.views id v (w turn stored_after) here in let a = ap (taking n) works in let b = node.untaken in record {
             counts = ap (λ (z : ℕ). z + l'.lost) (same_node n) ∙ (ap (λ (z : ℕ). word_at st.words (word_of v.start n) + z) as_many ∙ node.counts);
             few_lost = let e = as_many in let f = node.few_lost in omega arith;
@@ -95,12 +84,15 @@ module _ (turn : Turn) where
             unowed = node.unowed;
           };
           known = does_now st.views id v (w turn stored_after) (Placing n l') here refl;
-          held = o.held ∙ ap held_in works;
+          label = label;
+          holds = sym (ap held_in works);
+          taken = λ m. sym (ap (taking m) works);
+          free_else = λ m other bad. let a = ap busy works in other (omega arith);
           allowed = rw works at o.allowed;
-          its_own = own_keeps turn n its.0 (placed id l') r.history words' st.homes r.debt (Placing n l') v.glance same_slots refl
-              (same_hold x.number (in_range turn).1 ∙ h.0, h.1) tt (its.0, changed_here r.phase n (placed id l') n refl);
-          holds = λ m. let a = ap (λ (d : Work). if_file m (held_in d)) works in omega arith;
-        }
+          hold = rw works at o.hold;
+          guarded = tt;
+          work = (its.0, changed_here r.phase n (placed id l') n refl);
+        } ([], refl) refl
 
     goes : (carried : List (ℕ × Option Closed)) → Goes (v, carried) [] (Placing n l') v.glance (w turn stored_after, carried)
     goes carried = record { stepped = tells turn stored_after refl carried carried [] (grows_none x.number r.history) r.legal refl its.0; carried = refl }

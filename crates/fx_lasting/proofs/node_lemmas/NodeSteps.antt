@@ -4,15 +4,15 @@ use Rattle.fx_lasting.proofs.Words.{◌≡◌, ◌≢◌, ℕ, ◌+◌, ◌<◌,
 use Rattle.fx_lasting.proofs.Words.{get_elem?, held_by, changed_at, File, Event, NodeAgrees, OwnerAgrees, WorkAgrees, IsAllowed, Agrees, slots_of}
 use Rattle.fx_lasting.proofs.Words.{nodes_of, IsHistory, state_after_all, held_in, held_of, taken_of, taking, owed, Phase, free, seated, owner}
 use Rattle.fx_lasting.proofs.Words.{file_in, removed_in, View, Work, ⊎_elim, ◌⊎◌, inr, word_of, hold_word_of, count_in, name_in, full_name_in}
-use Rattle.fx_lasting.proofs.Words.{IsInStock, in_stock, sum_by, sum_set, HoldAgrees, GuardAgrees, MayBeUnmarked, Glance, inl, list_place, IsSeenBy}
-use Rattle.fx_lasting.proofs.Words.{part_of_pass, Labels, written_in}
-use Rattle.fx_lasting.proofs.Histories.{Grows, each_changed}
+use Rattle.fx_lasting.proofs.Words.{IsInStock, in_stock, sum_by, sum_set, HoldAgrees, GuardAgrees, MayBeUnmarked, Glance, inl, IsSeenBy}
+use Rattle.fx_lasting.proofs.Words.{part_of_pass, Labels, written_in, None, if_file, leaving, retired}
+use Rattle.fx_lasting.proofs.Histories.{Grows, grows_none, each_changed}
 use Rattle.fx_lasting.proofs.Frames.{busy, owner_stays, slot_same, node_same, Leaves, keeps_other}
 use Rattle.fx_lasting.proofs.Frames.{sees_same, covers_same, guards_same}
-use Rattle.fx_lasting.proofs.Keeping.{Turn, After, Keeps, Homes, word_at, slot_word, step_kept, w, end, its_log, its_stock, in_its_stock, names_on, asks_alike, few_slots}
-use Rattle.fx_lasting.proofs.Keeping.{LabelSame, labels_same, met_same}
+use Rattle.fx_lasting.proofs.Keeping.{Turn, After, Keeps, Homes, word_at, slot_word, step_kept, w, end, its_log, in_range, its_stock, in_its_stock, names_on, range_left}
+use Rattle.fx_lasting.proofs.Keeping.{labels_same, met_same}
+use Rattle.fx_lasting.proofs.Places.{LeavesElse}
 use Rattle.fx_lasting.proofs.slot_lemmas.Watching.{watch_same}
-use Rattle.fx_lasting.proofs.range_lemmas.Groups.{CountAlike, counts_same}
 
 module _ (turn : Turn) (q : ℕ) (its : q < nodes_of turn.v.start) (ph : Phase) (h' front : List Event) (words' : List ℕ) (homes' : Homes)
     (debt' : ℕ → ℕ) (d : Work) (g : Glance) where
@@ -45,7 +45,7 @@ module _ (turn : Turn) (q : ℕ) (its : q < nodes_of turn.v.start) (ph : Phase) 
 
   -- what the step has to keep
   pub record NodeStepSeen : Type 0 where
-    pub words : length words' ≡ length st.words
+    pub leaves_else : LeavesElse turn q words'
     pub homes : length homes' ≡ length st.homes
     pub grows : Grows x.number r.history h'
     pub legal : IsHistory v.start h'
@@ -53,12 +53,7 @@ module _ (turn : Turn) (q : ℕ) (its : q < nodes_of turn.v.start) (ph : Phase) 
     pub at : (state_after_all v.start h').at ≡ before
     pub fresh : (state_after_all v.start h').fresh ≡ (state_after_all v.start r.history).fresh
     pub removed : (number : ℕ) → (state_after_all v.start h').removed number ≡ removed_in number (changed_at r.phase q ph (r.node_of number))
-    pub slot_words : (s : ℕ) → s < slots_of v.start → slot_word words' s ≡ slot_word st.words s
-    pub alike : CountAlike words' st.words
-    pub lists : (p : ℕ) → p ≤ 1024 → word_at words' (list_place p) ≡ word_at st.words (list_place p)
     -- other nodes
-    pub node_words : (n : ℕ) → n < nodes_of v.start → n ≢ q → word_at words' (word_of v.start n) ≡ word_at st.words (word_of v.start n)
-    pub label_else : (n : ℕ) → n ≢ q → LabelSame v.start words' st.words n
     pub home_else : (n : ℕ) → n < nodes_of v.start → n ≢ q → get_elem? homes' n ≡ get_elem? st.homes n
     pub owed_else : (n : ℕ) → n ≢ q → owed debt' v.start.passes n ≡ owed r.debt v.start.passes n
     pub taken_else : (n : ℕ) → n ≢ q → taking n d ≡ taking n v.work
@@ -110,6 +105,9 @@ module _ (turn : Turn) (q : ℕ) (its : q < nodes_of turn.v.start) (ph : Phase) 
     at_is : (slot : ℕ) → (state_after_all v.start h').at slot ≡ before slot
     at_is slot = ap (λ (f : ℕ → Option File). f slot) s.at
 
+    same_slots : (i : ℕ) → i < slots_of v.start → slot_word words' i ≡ slot_word st.words i
+    same_slots = s.leaves_else.slots
+
     leaves : Leaves turn after_seen
     leaves = record {
       guards = s.guards;
@@ -127,19 +125,19 @@ module _ (turn : Turn) (q : ℕ) (its : q < nodes_of turn.v.start) (ph : Phase) 
         each_changed (λ m z. file_in z ≡ Some f) r.phase
             (λ same. s.open_file j u f other there holds (ap (λ (m : ℕ). file_in (r.phase m)) (sym same) ∙ at.1)) (λ _. at.1),
       );
-      slots = λ i p l other. inr (refl, ap full_name_in (s.slot_words i l), λ hot. rw (s.slot_words i l) hot);
+      slots = λ i p l other. inr (refl, ap full_name_in (same_slots i l), λ hot. rw (same_slots i l) hot);
     }
 
     -- the pass may see no more than before
     pub node_kept_seen : IsSeenBy front h' → part_of_pass x.number h' ≡ part_of_pass x.number front → Agrees v.start (end turn after_seen)
     node_kept_seen seen own = step_kept turn after_seen record {
-      words = s.words;
+      words = s.leaves_else.as_long;
       homes = s.homes;
       grows = s.grows;
       legal = s.legal;
       seen = seen;
       own = own;
-      slots = λ i l. slot_same (s.slot_words i l) (at_is i) (λ q low high. refl)
+      slots = λ i l. slot_same (same_slots i l) (at_is i) (λ q low high. refl)
           (λ f there seat. each_changed (λ m z. z ≡ r.phase m) r.phase
           (λ same. let e = ap r.phase (sym same) ∙ seat in s.at_slot i f e ∙ (sym e ∙ ap r.phase (sym same))) (λ _. refl))
           (r.each_slot i l);
@@ -147,32 +145,32 @@ module _ (turn : Turn) (q : ℕ) (its : q < nodes_of turn.v.start) (ph : Phase) 
           (λ i. count_in (slot_word words' i)) r.node_of r.next_number n (word_at words' (word_of v.start n))
           (sum_by (taken_of n) (set st.views id (w turn after_seen))) (owed debt' v.start.passes n) (get_elem? homes' n) z) r.phase
           (λ same. rw same (node_same (slots_of v.start) r.node_of q (omega arith) refl refl refl refl ph
-          (λ i f is there. (at_is i, ap count_in (s.slot_words i (inside i f is)))) s.node))
-          (λ other. node_same (slots_of v.start) r.node_of n (omega arith) (s.node_words n l other)
+          (λ i f is there. (at_is i, ap count_in (same_slots i (inside i f is)))) s.node))
+          (λ other. node_same (slots_of v.start) r.node_of n (omega arith) (s.leaves_else.nodes n other)
           (let t = sum_set (taken_of n) st.views id v (w turn after_seen) here in let e = s.taken_else n other in omega arith)
           (s.owed_else n other) (s.home_else n l other) (r.phase n)
-          (λ i f is there. (at_is i, ap count_in (s.slot_words i (inside_else n l i f is)))) (r.each_node n l));
+          (λ i f is there. (at_is i, ap count_in (same_slots i (inside_else n l i f is)))) (r.each_node n l));
       owners = λ n l. each_changed (OwnerAgrees (set st.views id (w turn after_seen))) r.phase
           (λ same. rw same s.known) (λ other. owner_stays st.views id v (w turn after_seen) here n (s.free_else n other) (r.phase n) (r.each_owner n l));
       labels = λ n l. each_changed (λ n z. Labels v.start words' n (written_in z)) r.phase (λ same. rw same s.label)
-          (λ other. labels_same v.start _ _ _ (written_in (r.phase n)) (s.label_else n other) (r.each_label n l));
+          (λ other. labels_same v.start _ _ _ (written_in (r.phase n)) (s.leaves_else.labels n other) (r.each_label n l));
       removed = s.removed;
       unborn = λ n l. each_changed (λ m z. z ≡ free) r.phase (λ same. absurd (omega (arith, same, l, its))) (λ _. r.unborn n l);
       fresh = λ number l. ap (λ (f : ℕ → Bool). f number) s.fresh ∙ r.fresh number l;
-      named = names_on turn _ (λ i l. ap name_in (s.slot_words i l));
+      named = names_on turn _ (λ i l. ap name_in (same_slots i l));
       stock = its_stock turn;
       stocks = λ n p e other at. at;
       others = λ j u z other there at n range o work. keeps_other turn after_seen leaves j u z other there at n range o work;
       held = s.held;
       allowed = s.allowed;
-      lists = λ p few. inl (s.lists p few);
+      lists = λ p few. inl (s.leaves_else.lists p few);
       deed_on = λ i p l is. inl is;
       its_bit = λ l. inl l;
-      moves = λ i l. inl (s.slot_words i l);
-      watches = watch_same v.start x.number (s.grows.seen r.history ([], refl)) s.slot_words s.alike.0 x.watch (its_log turn).watch;
+      moves = λ i l. inl (same_slots i l);
+      watches = watch_same v.start x.number (s.grows.seen r.history ([], refl)) same_slots s.leaves_else.alike.0 x.watch (its_log turn).watch;
       its = s.its_own;
       holds = s.holds;
-      counts = counts_same id (w turn after_seen) here r.counts (few_slots turn) s.at s.alike refl (asks_alike turn after_seen refl);
+      counts = range_left turn after_seen s.at s.leaves_else.alike refl refl;
     }
       where
         inside : (i : ℕ) (f : File) → ph ≡ seated i f → i < slots_of v.start
@@ -211,3 +209,76 @@ module _ (turn : Turn) (q : ℕ) (its : q < nodes_of turn.v.start) (ph : Phase) 
 
   pub node_kept : NodeStep → Agrees v.start (end turn after)
   node_kept s = node_kept_seen turn q its ph h' h' words' homes' debt' d g s ([], refl) refl
+
+-- the file of a node that has none
+unremoved : (ph : Phase) → file_in ph ≡ None → (m : ℕ) → removed_in m ph ≡ None
+unremoved (leaving j t nx n f) is m = absurd (cc is)
+unremoved (retired f) is m = absurd (cc is)
+unremoved _ is m = refl
+
+unmarked_none : (sw : ℕ → ℕ) (p : ℕ) (ph : Phase) → file_in ph ≡ None → MayBeUnmarked sw p ph → ⊥
+unmarked_none sw p (seated i f) is may = cc is
+unmarked_none sw p (leaving j t nx n f) is may = cc is
+unmarked_none sw p _ is may = may
+
+-- A step of a pass on a node that no other pass knows: it works with the node, or takes it from its
+-- stock. The node has no file before and after, and the history stays.
+module _ (turn : Turn) (q : ℕ) (its : q < nodes_of turn.v.start) (ph : Phase) (front : List Event) (words' : List ℕ) (homes' : Homes)
+    (d : Work) where
+  open turn use {st, v, r, id, x, here, one}
+
+  abbrev pub own_after : After turn
+  own_after = after_seen turn q its ph r.history front words' homes' r.debt d v.glance
+
+  pub record OwnNodeStep : Type 0 where
+    pub leaves_else : LeavesElse turn q words'
+    pub hold_words : (p : ℕ) → p ≤ v.start.passes → word_at words' (hold_word_of v.start p) ≡ word_at st.words (hold_word_of v.start p)
+    pub homes : length homes' ≡ length st.homes
+    pub home_else : (n : ℕ) → n < nodes_of v.start → n ≢ q → get_elem? homes' n ≡ get_elem? st.homes n
+    pub mine : (owner (r.phase q) ≡ id + 1) ⊎ ((r.phase q ≡ free) × IsInStock x.stock q)
+    pub empty : file_in (r.phase q) ≡ None
+    pub still_empty : file_in ph ≡ None
+    pub node : NodeAgrees (state_after_all v.start r.history).at (slots_of v.start) (λ s. count_in (slot_word st.words s)) r.node_of r.next_number q
+        (word_at words' (word_of v.start q)) (sum_by (taken_of q) (set st.views id (w turn own_after))) (owed r.debt v.start.passes q)
+        (get_elem? homes' q) ph
+    pub known : OwnerAgrees (set st.views id (w turn own_after)) q ph
+    pub label : Labels v.start words' q (written_in ph)
+    -- the pass holds what it held
+    pub holds : held_in d ≡ held_in v.work
+    pub taken : (n : ℕ) → taking n d ≡ taking n v.work
+    pub free_else : (n : ℕ) → n ≢ q → busy v.work ≢ n + 1
+    pub allowed : IsAllowed x.stock x.listed d
+    pub hold : HoldAgrees (word_at st.words (hold_word_of v.start x.number)) (r.debt x.number) d
+    pub guarded : GuardAgrees (slot_word words') (changed_at r.phase q ph) x.number (r.debt x.number) d
+    pub work : WorkAgrees v.start (changed_at r.phase q ph) id d
+
+  pub own_node_kept : OwnNodeStep → IsSeenBy front r.history → part_of_pass x.number r.history ≡ part_of_pass x.number front
+      → Agrees v.start (end turn own_after)
+  own_node_kept s = node_kept_seen turn q its ph r.history front words' homes' r.debt d v.glance record {
+    leaves_else = s.leaves_else;
+    homes = s.homes;
+    grows = grows_none x.number r.history;
+    legal = r.legal;
+    at = refl;
+    fresh = refl;
+    removed = λ m. r.removed m ∙ sym (each_changed (λ i z. removed_in m z ≡ removed_in m (r.phase i)) r.phase
+        (λ is. unremoved ph s.still_empty m ∙ sym (ap (λ (i : ℕ). removed_in m (r.phase i)) is ∙ unremoved (r.phase q) s.empty m)) (λ _. refl));
+    home_else = s.home_else;
+    owed_else = λ m other. refl;
+    taken_else = λ m other. s.taken m;
+    free_else = s.free_else;
+    may = inr (⊎_elim (λ mine. inr mine) (λ its. inl (ap owner its.0)) s.mine);
+    its_stock = λ is. ⊎_elim (λ mine. absurd (let e = ap owner is in omega arith)) (λ its. its.1) s.mine;
+    at_slot = λ i f is. let bad : None ≡ Some f = sym s.empty ∙ ap file_in is in absurd (cc bad);
+    open_file = λ j u f other there holds is. let bad : None ≡ Some f = sym s.empty ∙ is in absurd (cc bad);
+    guards = λ p e other range. guards_else_seen turn q its ph r.history front words' homes' r.debt d v.glance s.leaves_else.slots p e
+        (s.hold_words p range.1) refl (λ may. absurd (unmarked_none (slot_word st.words) p (r.phase q) s.empty may));
+    node = s.node;
+    known = s.known;
+    label = s.label;
+    held = (its_log turn).held ∙ sym s.holds;
+    allowed = s.allowed;
+    its_own = own_keeps_seen turn q its ph r.history front words' homes' r.debt d v.glance s.leaves_else.slots refl
+        (rw (s.hold_words x.number (in_range turn).1) s.hold) s.guarded s.work;
+    holds = λ m. let a = ap (if_file m) s.holds in omega arith;
+  }

@@ -150,18 +150,20 @@ module _ (turn : Turn) where
         let own = guards_same turn turn_after x.number v.work (read_else (hold_word_of v.start x.number) (λ bad. let a = (in_range turn).0 in omega arith)) refl
         (covers_same turn words' same x.number) o.hold o.guarded in calm_kept turn h' h' words' v.work v.glance c q x.listed (λ l. l) wt more record {
           words = length-set st.words place y;
-          grows = quiet.grows;
-          legal = quiet.legal;
+          files = record {
+            grows = quiet.grows;
+            legal = quiet.legal;
+            at = ap (λ (z : State). z.at) quiet.state;
+            fresh = ap (λ (z : State). z.fresh) quiet.state;
+            removed = ap (λ (z : State). z.removed) quiet.state;
+          };
           seen = ([], refl);
           own = refl;
-          at = ap (λ (z : State). z.at) quiet.state;
-          fresh = ap (λ (z : State). z.fresh) quiet.state;
-          removed = ap (λ (z : State). z.removed) quiet.state;
           slot_words = same;
           node_words = λ n. read_else (word_of v.start n) (λ bad. omega arith);
           label_words = label_same v.start st.words place y (λ n. (λ bad. omega (arith, bad, low), λ bad. omega (arith, bad, low)));
           hold_words = λ p other more. read_else (hold_word_of v.start p) (λ bad. omega arith);
-          counts = counts;
+          counts = rw quiet.state counts;
           taken = λ n. refl;
           owners = inl refl;
           held = quiet.held ∙ o.held;

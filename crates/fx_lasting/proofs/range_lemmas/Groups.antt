@@ -6,7 +6,7 @@ use Rattle.fx_lasting.proofs.Words.{changed_here, changed_else, File, sum_set, o
 use Rattle.fx_lasting.proofs.Words.{HasVisitedFull, HasQuestionOf, is_in, uncounted, account, View, Log, Change, Outside, Inside, Survey, NotAsked}
 use Rattle.fx_lasting.proofs.Words.{Covered, full_else, full_here, full_few, IsSome, group_size, groups_in, group_of, group_start, group_len}
 use Rattle.fx_lasting.proofs.Words.{group_place, question_place, ◌⊎◌, ⊎_elim, inl, inr, at_set, ℕ_discrete, eq-eqb, ne_eqb, get_or, Contains, is_some}
-use Rattle.fx_lasting.proofs.Words.{not, MOST_SLOTS, zero}
+use Rattle.fx_lasting.proofs.Words.{not, MOST_SLOTS, zero, sum_by, [], ◌∷◌, bit_at-zero, bit_of}
 
 -- what holds of each size of a group
 pub by_size : (P : ℕ → Type 0) → P 4 → P 64 → P 1024 → P 16384 → (len : ℕ) → P (group_size len)
@@ -245,6 +245,32 @@ pub visited_map : {at at' : ℕ → Option File} {range : ℕ × ℕ} {views vie
 visited_map NotAsked f o = o
 visited_map (Covered n) f o = f n o
 
+-- the first view owes nothing, and nobody asks
+pub counts_alone : {at : ℕ → Option File} {range : ℕ × ℕ} {words : List ℕ} (v : View) → v.change ≡ Outside
+    → ((g : ℕ) → g < groups_in range.1 → get_or words (group_place g) 0 ≡ full_in at (group_start range g) (group_len range.1 g))
+    → get_or words question_place 0 ≡ 0 → RangeCounts at range (v ∷ []) words
+counts_alone {at} {range} v out groups none = record {
+  groups = λ g l. let a = groups g l in let b = full_few at (group_start range g) (group_len range.1 g) in let c = few_slots range.1 g in
+      let d = ap (owing g) out in record { counts = omega (arith, a, b, c, d) };
+  questions = λ j u y e has few asked. let z = subst (λ (q : ℕ). HasQuestionOf q y.number) none asked in
+      let a = bit_at-zero (bit_of y.number) in absurd (omega (arith, z, a));
+}
+
+-- Views change, and no word does: they owe as much, who may empty a slot was there before, and each
+-- pass was
+module _ {at : ℕ → Option File} {range : ℕ × ℕ} {views : List View} {words : List ℕ} (ok : RangeCounts at range views words) (views' : List View)
+    (calm : (j : ℕ) (u : View) (g : ℕ) → get_elem? views' j ≡ some u → u.change ≡ Inside g → get_elem? views j ≡ some u)
+    (was : (j : ℕ) (u : View) (y : Log) → get_elem? views' j ≡ some u → Contains u.logs y
+    → (i : ℕ) × (w : View) × (get_elem? views i ≡ some w) × Contains w.logs y) where
+  pub counts_reseated : ((f : Change → ℕ) → f Outside ≡ 0 → sum_by (λ (u : View). f u.change) views' ≡ sum_by (λ (u : View). f u.change) views)
+      → RangeCounts at range views' words
+  counts_reseated owe = record {
+    groups = λ g l. let a = (ok.groups g l).counts in let b = owe (owing g) refl in record { counts = omega (arith, a, b) };
+    questions = λ j u y there has few asked. let z = was j u y there has in
+        visited_map y.asked (λ n o. record { full = o.full; calm = λ i w g is in_it. o.calm i w g (calm i w g is in_it) in_it })
+        (ok.questions z.0 z.1 y z.2 z.3 few asked);
+  }
+
 -- One view changes
 module _ {at : ℕ → Option File} {range : ℕ × ℕ} {views : List View} (id : ℕ) {v : View} (w : View) (here : get_elem? views id ≡ some v) where
   -- what was full is full
@@ -348,3 +374,17 @@ module _ {at : ℕ → Option File} {range : ℕ × ℕ} {views : List View} (id
 
       empty_here : old ≡ None → IsSome (at s) → ⊥
       empty_here none some_there = let e : IsSome {T = File} None = subst (λ (f : Option File). IsSome f) (was ∙ none) some_there in absurd (cc e)
+
+  -- a slot is emptied by a pass that has taken it off the count
+  pub counts_emptied : {words words' : List ℕ} → RangeCounts at range views words → (s : ℕ) (old : Option File) → range.1 ≤ MOST_SLOTS → at s ≡ old
+      → CountAlike words' words → AskAlike w v → v.change ≡ uncounted (is_in range s) true (group_of range s) → w.change ≡ account range s old
+      → RangeCounts (changed_at at s None) range (set views id w) words'
+  counts_emptied ok s old few was alike asks off is =
+      counts_swap ok s old None few was alike asks is (removal_balances range s old off) (removal_keeps s old off is)
+
+  -- a slot is filled by a pass that owes nothing
+  pub counts_filled : {words words' : List ℕ} → RangeCounts at range views words → (s : ℕ) (old : Option File) (f : File) → range.1 ≤ MOST_SLOTS
+      → at s ≡ old → CountAlike words' words → AskAlike w v → v.change ≡ Outside → w.change ≡ account range s old
+      → RangeCounts (changed_at at s (Some f)) range (set views id w) words'
+  counts_filled ok s old f few was alike asks out is =
+      counts_swap ok s old (Some f) few was alike asks is (fill_balances range s old f out) (fill_keeps s old f was is)

@@ -13,24 +13,7 @@ is_gone found at says not_so there = let bad : true ≡ false = sym (says (subst
 
 -- a pass that has asked so, and makes no step
 pub learns_none : {k : Start} {p : ℕ} {m : Sat} {a : Survey} → IsAtWork k p m → (pass_in m).asked ≡ a → AsksSo a 0 m m
-learns_none at is = let r = runs_none at 0 in record {
-  one = r.one;
-  number = r.number;
-  seen = r.seen;
-  legal = r.legal;
-  own = r.own;
-  steps = r.steps;
-  begun = r.begun;
-  listed = r.listed;
-  asked = is;
-  stock = r.stock;
-  met = r.met;
-  work = r.work;
-  inside = r.inside;
-  glance = r.glance;
-  change = r.change;
-  start = r.start;
-}
+learns_none at is = let r = runs_none at 0 in assumption (r, is)
 
 -- a pass that has asked goes on
 pub learns_then : (m : Sat) {m' m'' : Sat} {a b : Survey} {n n' : ℕ} → AsksSo a n m m' → AsksSo b n' m' m'' → AsksSo b (n + n') m m''

@@ -20,6 +20,7 @@ use Rattle.fx_lasting.proofs.Histories.{each_changed}
 use Rattle.fx_lasting.proofs.Frames.{busy, owner_stays, node_same}
 use Rattle.fx_lasting.proofs.Keeping.{Turn, After, word_at, slot_word, tells_stocked, w, end, Homes, asks_alike, few_slots}
 use Rattle.fx_lasting.proofs.range_lemmas.Groups.{counts_swap, fill_balances, fill_keeps}
+use Rattle.fx_lasting.proofs.range_lemmas.Groups.{counts_filled}
 use Rattle.fx_lasting.proofs.Places.{slot_words, slot_here, slot_else, slot_alike}
 use Rattle.fx_lasting.proofs.slot_lemmas.Swaps.{found, old_at, NotOf, not_old, old_named, d, swap_after, Swap, swap_kept}
 use Rattle.fx_lasting.proofs.hold_lemmas.Unheld.{in_phase}
@@ -171,9 +172,8 @@ module _ (turn : Turn) (s : ℕ) (inside : s < slots_of turn.v.start) (old : Opt
       owners = λ m l apart. each_changed (OwnerAgrees (set st.views id (w turn put_after))) r.phase (λ same. tt)
           (λ other. owner_stays st.views id v (w turn put_after) here m (λ bad. let b = does.works in other (omega arith)) (r.phase m) (r.each_owner m l));
       no_hold = does.no_hold;
-      counts = counts_swap id (w turn put_after) here r.counts s old (Some new_file) (few_slots turn) was (slot_alike turn s inside new_word)
-          (asks_alike turn put_after refl) refl (fill_balances (range_at_start v.start) s old new_file out)
-          (fill_keeps id (w turn put_after) here s old new_file was refl);
+      counts = counts_filled id (w turn put_after) here r.counts s old new_file (few_slots turn) was (slot_alike turn s inside new_word)
+          (asks_alike turn put_after refl) out refl;
     }
 
     pub put_agrees : Agrees v.start (end turn put_after)

@@ -1,25 +1,16 @@
 -- A pass that emptied a slot: what the step leaves, and the pass with the stock that it has then.
-use Rattle.fx_lasting.proofs.Words.{◌≡◌, ◌≤◌, ◌<◌, ℕ, ◌+◌, ◌-◌, List, [], set, sym, refl, ap, ◌∙◌, subst, Option, Bool, get_elem?, some, Action, ◌▷◌}
-use Rattle.fx_lasting.proofs.Words.{◌▷▷◌, Sat, Start, Work, Glance, Change, Runs, IsAtWork, IsStockOf, Log, first_log, TableId, File, At, as_stocked}
+use Rattle.fx_lasting.proofs.Words.{◌≡◌, ◌≤◌, ◌<◌, ℕ, ◌+◌, ◌-◌, List, [], set, sym, ap, ◌∙◌, subst, Option, Bool, get_elem?, some, Action, ◌▷◌}
+use Rattle.fx_lasting.proofs.Words.{◌▷▷◌, Sat, Start, Work, Glance, Change, Runs, IsAtWork, IsStockOf, TableId, File, At, as_stocked}
 use Rattle.fx_lasting.proofs.Words.{pass_in, name_in, nodes_of, empty_word_of, retiring_work, account, range_at_start, slot_of, slot_place, Nothing}
-use Rattle.fx_lasting.proofs.Words.{Outside, LastingPass, IsSeatOf, IsPassOf, Knows, opening_of, view_of, pass_of, doing_in, IsHistory, Use, no_use}
+use Rattle.fx_lasting.proofs.Words.{Outside, LastingPass, IsSeatOf, IsPassOf, Knows, opening_of, view_of, pass_of, doing_in, Use, no_use}
 use Rattle.fx_lasting.proofs.Words.{Adds, SwapsOut, HasEmptied}
 use Rattle.fx_lasting.proofs.Places.{slot_back}
-use Rattle.fx_lasting.proofs.Running.{runs_one, runs_then, runs_stocked, turns_then, number_is, stock_is, still_at_work, at_swapped}
+use Rattle.fx_lasting.proofs.Running.{runs_one, runs_then, runs_stocked, turns_then, number_is, stock_is, still_at_work, at_swapped, at_work_as}
 use Rattle.fx_lasting.proofs.Passing.{adds_run}
 
 -- the seat of a pass with this stock
 pub at_stocked : {k : Start} {p : ℕ} {m : Sat} → IsAtWork k p m → (s : List ℕ) → IsStockOf k p s → IsAtWork k p (as_stocked s m)
-at_stocked {k} {p} {m} at s its = record {
-  log = record (pass_in m) { stock = s };
-  pass = (at.pass.0, refl);
-  its_number = number_is at;
-  low = at.low;
-  high = at.high;
-  legal = subst (λ (l : Log). IsHistory k l.front) (sym (ap first_log at.pass.1)) at.legal;
-  inside = at.inside;
-  stock = its;
-}
+at_stocked {m = m} at s its = at_work_as at (pass_in m).listed (pass_in m).asked s its
 
 -- a pass that goes on with another stock
 pub stocked_then : {m m' m'' : Sat} {xs ys : List Action} {w w' : Work} {g g' : Glance} {c c' : Change} {n n' : ℕ} (s : List ℕ) → Runs m xs w g c n m'

@@ -18,6 +18,7 @@ use Rattle.fx_lasting.proofs.Histories.{grows_one, legal_more, part_mine, held_m
 use Rattle.fx_lasting.proofs.Frames.{busy, owner_stays, node_same}
 use Rattle.fx_lasting.proofs.Keeping.{Turn, turn_of, After, word_at, slot_word, Made, by_turn, its_log, its_work, its_stock, in_range, tells, w, end, asks_alike, few_slots}
 use Rattle.fx_lasting.proofs.range_lemmas.Groups.{counts_swap, removal_balances, removal_keeps, in_range_so}
+use Rattle.fx_lasting.proofs.range_lemmas.Groups.{counts_emptied}
 use Rattle.fx_lasting.proofs.slot_lemmas.Sights.{sees_after, sees_kept, sees_slot}
 use Rattle.fx_lasting.proofs.Places.{slot_else, slot_back, slot_alike}
 use Rattle.fx_lasting.proofs.hold_lemmas.Looking.{unnamed}
@@ -108,8 +109,8 @@ module _ (act : ℕ → Option File → Action) (does : IsRemoval act) (turn : T
     owners = λ n l apart. owner_stays st.views id v (w turn removal) here n (λ bad. let a = not_busy free_of in omega arith) (r.phase n) (r.each_owner n l);
     labels = λ n l apart. r.each_label n l;
     no_hold = (h.0, h.1);
-    counts = counts_swap id (w turn removal) here r.counts s old None (few_slots turn) refl (slot_alike turn s inside left) (asks_alike turn removal refl) refl
-        (removal_balances (range_at_start v.start) s old off) (removal_keeps id (w turn removal) here s old off refl);
+    counts = counts_emptied id (w turn removal) here r.counts s old (few_slots turn) refl (slot_alike turn s inside left)
+        (asks_alike turn removal refl) off refl;
   }
     where
       untaken : (n : ℕ) → taking n (d turn s inside old refl (found turn s inside) (refl, refl)) ≡ 0

@@ -12,6 +12,7 @@ use Rattle.fx_lasting.proofs.range_lemmas.Groups.{counts_same}
 use Rattle.fx_lasting.proofs.Places.{slot_words, slot_here, slot_node, slot_else, slot_hold, slot_alike, slot_list, slot_label}
 use Rattle.fx_lasting.proofs.Keeping.{labels_same, met_same, its_log}
 use Rattle.fx_lasting.proofs.slot_lemmas.Watching.{MovesOn, ActsThere, watch_none}
+use Rattle.fx_lasting.proofs.Keeping.{range_left, LeavesFiles}
 
 module _ (turn : Turn) (s : ℕ) (inside : s < slots_of turn.v.start) (new : ℕ) (h' : List Event) (d : Work) (g : Glance) (deed' : ℕ → ℕ → Deed) where
   open turn use {st, v, r, id, x, here, one}
@@ -45,11 +46,7 @@ module _ (turn : Turn) (s : ℕ) (inside : s < slots_of turn.v.start) (new : ℕ
   old = slot_word st.words s
 
   pub record SlotStep : Type 0 where
-    pub grows : Grows x.number r.history h'
-    pub legal : IsHistory v.start h'
-    pub at : (state_after_all v.start h').at ≡ (state_after_all v.start r.history).at
-    pub fresh : (state_after_all v.start h').fresh ≡ (state_after_all v.start r.history).fresh
-    pub removed : (state_after_all v.start h').removed ≡ (state_after_all v.start r.history).removed
+    pub files : LeavesFiles turn h'
     -- the word names the same file, and stays hot
     pub own_name : name_in new ≡ name_in old
     pub name : full_name_in new ≡ full_name_in old
@@ -94,7 +91,7 @@ module _ (turn : Turn) (s : ℕ) (inside : s < slots_of turn.v.start) (new : ℕ
 
   module _ (p : SlotStep) where
     at_is : (i : ℕ) → (state_after_all v.start h').at i ≡ (state_after_all v.start r.history).at i
-    at_is i = ap (λ (f : ℕ → Option File). f i) p.at
+    at_is i = ap (λ (f : ℕ → Option File). f i) p.files.at
 
     same_name : (i : ℕ) → full_name_in (slot_word words' i) ≡ full_name_in (slot_word st.words i)
     same_name i = dite (ℕ_discrete i s)
@@ -171,8 +168,8 @@ module _ (turn : Turn) (s : ℕ) (inside : s < slots_of turn.v.start) (new : ℕ
     slot_kept = step_kept turn slot_after record {
       words = length-set st.words (slot_place s) new;
       homes = refl;
-      grows = p.grows;
-      legal = p.legal;
+      grows = p.files.grows;
+      legal = p.files.legal;
       seen = ([], refl);
       own = refl;
       slots = λ i l. dite (ℕ_discrete i s) (λ same. rw same slot_now)
@@ -182,9 +179,9 @@ module _ (turn : Turn) (s : ℕ) (inside : s < slots_of turn.v.start) (new : ℕ
       owners = λ n l. ⊎_elim (λ same. owner_same st.views id v (w turn slot_after) here same n (r.phase n) (r.each_owner n l))
           (λ none. owner_stays st.views id v (w turn slot_after) here n (λ bad. omega arith) (r.phase n) (r.each_owner n l)) p.owners;
       labels = λ n l. labels_same v.start _ _ _ (written_in (r.phase n)) (slot_label turn s inside new n) (r.each_label n l);
-      removed = λ number. ap (λ (f : ℕ → Option File). f number) p.removed ∙ r.removed number;
+      removed = λ number. ap (λ (f : ℕ → Option File). f number) p.files.removed ∙ r.removed number;
       unborn = r.unborn;
-      fresh = λ number l. ap (λ (f : ℕ → Bool). f number) p.fresh ∙ r.fresh number l;
+      fresh = λ number l. ap (λ (f : ℕ → Bool). f number) p.files.fresh ∙ r.fresh number l;
       named = names_on turn _ same_own_name;
       stock = its_stock turn;
       stocks = λ n p e other at. at;
@@ -200,11 +197,10 @@ module _ (turn : Turn) (s : ℕ) (inside : s < slots_of turn.v.start) (new : ℕ
       its_bit = λ l. inl l;
       its = p.its;
       holds = p.holds;
-      counts = rw p.at (counts_same id (w turn slot_after) here r.counts (few_slots turn) refl (slot_alike turn s inside new) refl
-          (asks_alike turn slot_after refl));
+      counts = range_left turn slot_after p.files.at (slot_alike turn s inside new) refl refl;
       moves = λ i l. dite (ℕ_discrete i s)
           (λ same. subst (λ (j : ℕ). MovesOn x.number j r.history h' (slot_word st.words j) (slot_word words' j)) (sym same)
           (rw (slot_here turn s inside new) (inr p.moved)))
           (λ other. inl (slot_else turn s inside new i other));
-      watches = watch_none v.start x.number r.shape.slots (p.grows.seen r.history ([], refl)) (slot_alike turn s inside new).0 x.watch (its_log turn).watch;
+      watches = watch_none v.start x.number r.shape.slots (p.files.grows.seen r.history ([], refl)) (slot_alike turn s inside new).0 x.watch (its_log turn).watch;
     }

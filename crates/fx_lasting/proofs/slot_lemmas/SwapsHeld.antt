@@ -13,6 +13,7 @@ use Rattle.fx_lasting.proofs.Histories.{Grows, grows_one, grows_more, legal_more
 use Rattle.fx_lasting.proofs.Frames.{busy, owner_stays, node_same}
 use Rattle.fx_lasting.proofs.Keeping.{Turn, turn_of, After, Made, by_turn, its_log, its_work, its_stock, tells, tells_stocked, word_at, slot_word, w, end, asks_alike, few_slots}
 use Rattle.fx_lasting.proofs.range_lemmas.Groups.{counts_swap, removal_balances, removal_keeps}
+use Rattle.fx_lasting.proofs.range_lemmas.Groups.{counts_emptied}
 use Rattle.fx_lasting.proofs.Places.{slot_else, slot_back, slot_alike}
 use Rattle.fx_lasting.proofs.slot_lemmas.Sights.{sees_after, sees_kept, sees_slot}
 use Rattle.fx_lasting.proofs.slot_lemmas.Swaps.{found, swap_after, Swap, swap_kept}
@@ -122,9 +123,8 @@ module _ (turn : Turn) (s : ℕ) (inside : s < slots_of turn.v.start) (f : File)
         no_hold = (h.0, h.1);
         taken = λ g is. let e : f ≡ g = cc is in subst (λ (z : File). count_in (word - 1) + taking (r.node_of z.number) v.work ≡ count_in word) e
             (let a = ap (taking (r.node_of f.number)) works in let b = bit_here (r.node_of f.number) n (sym on_n) in let c = less.2 in omega arith);
-        counts = counts_swap id (w turn removal) here r.counts s (Some f) None (few_slots turn) there (slot_alike turn s inside left)
-            (asks_alike turn removal refl) refl (removal_balances (range_at_start v.start) s (Some f) off)
-            (removal_keeps id (w turn removal) here s (Some f) off refl);
+        counts = counts_emptied id (w turn removal) here r.counts s (Some f) (few_slots turn) there (slot_alike turn s inside left)
+            (asks_alike turn removal refl) off refl;
       }
 
       pub removal_agrees : Agrees v.start (end turn removal)

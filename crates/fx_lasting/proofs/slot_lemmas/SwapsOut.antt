@@ -10,6 +10,7 @@ use Rattle.fx_lasting.proofs.Histories.{grows_one, part_mine}
 use Rattle.fx_lasting.proofs.Frames.{owner_stays, node_same}
 use Rattle.fx_lasting.proofs.Keeping.{Turn, turn_of, After, Made, by_turn, its_log, tells_stocked, w, end, asks_alike, few_slots}
 use Rattle.fx_lasting.proofs.range_lemmas.Groups.{counts_swap, removal_balances, removal_keeps}
+use Rattle.fx_lasting.proofs.range_lemmas.Groups.{counts_emptied}
 use Rattle.fx_lasting.proofs.Places.{slot_else, slot_back, slot_alike}
 use Rattle.fx_lasting.proofs.slot_lemmas.Swaps.{found, old_at, found_so, old_named, d, swap_after, Swap, swap_kept}
 use Rattle.fx_lasting.proofs.slot_lemmas.SlotLaws.{IsRemoval, cleared, taken}
@@ -77,8 +78,8 @@ module _ (act : ℕ → Option File → Action) (does : IsRemoval act) (turn : T
     owners = λ m l apart. owner_stays st.views id v (w turn removal) here m (λ bad. let a = not_busy free_of in omega arith) (r.phase m) (r.each_owner m l);
     labels = λ m l apart. r.each_label m l;
     no_hold = (h.0, h.1);
-    counts = counts_swap id (w turn removal) here r.counts s old None (few_slots turn) refl (slot_alike turn s inside left) (asks_alike turn removal refl) refl
-        (removal_balances (range_at_start v.start) s old off) (removal_keeps id (w turn removal) here s old off refl);
+    counts = counts_emptied id (w turn removal) here r.counts s old (few_slots turn) refl (slot_alike turn s inside left)
+        (asks_alike turn removal refl) off refl;
   }
     where
       untaken : (m : ℕ) → taking m (d turn s inside old refl (found turn s inside) (refl, refl)) ≡ 0
