@@ -1,18 +1,16 @@
 -- Steps at which no slot and no node changes: they change the pass alone, and perhaps its hold word
 -- or a word that counts or asks.
 use Rattle.fx_lasting.proofs.Words.{alone_in, ◌≡◌, ◌≢◌, ℕ, ◌+◌, ◌<◌, List, set, length, refl, ap, ◌∙◌, subst, arith, Option, Bool, held_by, File, Event}
-use Rattle.fx_lasting.proofs.Words.{range_at_start, NodeAgrees, IsAllowed, Agrees, RangeCounts, Survey, slots_of, nodes_of, IsHistory}
+use Rattle.fx_lasting.proofs.Words.{range_at_start, NodeAgrees, IsAllowed, Agrees, RangeCounts, Survey, slots_of, nodes_of}
 use Rattle.fx_lasting.proofs.Words.{state_after_all, held_in, held_of, taken_of, taking, Work, Glance, Change, ⊎_elim, ◌⊎◌, inr, word_of}
 use Rattle.fx_lasting.proofs.Words.{hold_word_of, count_in, name_in, full_name_in, HoldAgrees, GuardAgrees, WorkAgrees, sum_set, sum_by, get_elem?}
 use Rattle.fx_lasting.proofs.Words.{length-set, set-get_or, owed, seated, [], IsSeenBy, part_of_pass, ◌≤◌, inl, true, list_place, IsListedIn}
 use Rattle.fx_lasting.proofs.Words.{written_in, Watch, WatchAgrees}
-use Rattle.fx_lasting.proofs.Histories.{Grows}
 use Rattle.fx_lasting.proofs.Frames.{busy, owner_stays, owner_same, slot_same, node_same, Leaves, keeps_other, guards_same, covers_same}
 use Rattle.fx_lasting.proofs.Frames.{sees_same}
-use Rattle.fx_lasting.proofs.Keeping.{Turn, After, Keeps, word_at, slot_word, step_kept, w, end, its_log, in_range, its_stock, names_on, asks_alike, few_slots}
+use Rattle.fx_lasting.proofs.Keeping.{Turn, After, Keeps, word_at, slot_word, step_kept, w, end, its_log, in_range, its_stock, names_on}
 use Rattle.fx_lasting.proofs.Keeping.{LabelSame, labels_same, met_same}
 use Rattle.fx_lasting.proofs.slot_lemmas.Watching.{watch_same}
-use Rattle.fx_lasting.proofs.range_lemmas.Groups.{counts_same}
 use Rattle.fx_lasting.proofs.hold_lemmas.Lists.{ListGoesOn}
 use Rattle.fx_lasting.proofs.Places.{hold_words, hold_here, hold_node, hold_slot, hold_else, hold_alike, hold_list, hold_label}
 use Rattle.fx_lasting.proofs.Keeping.{range_left, LeavesFiles}
@@ -28,7 +26,7 @@ module _ (turn : Turn) (h' front : List Event) (words' : List ℕ) (d : Work) (g
     words = words';
     homes = st.homes;
     phase = r.phase;
-    next_number = r.next_number;
+    next_number = r.nodes.next_number;
     debt = r.debt;
     deed = r.deed;
     work = d;
@@ -37,7 +35,7 @@ module _ (turn : Turn) (h' front : List Event) (words' : List ℕ) (d : Work) (g
     asked = q;
     listed = l;
     still_listed = still;
-    where_is = r.where_is;
+    where_is = r.nodes.where_is;
     stock = x.stock;
     watch = o;
     more_met = more;
@@ -72,16 +70,16 @@ module _ (turn : Turn) (h' front : List Event) (words' : List ℕ) (d : Work) (g
         legal = s.files.legal;
         seen = s.seen;
         own = s.own;
-        slots = λ i l. slot_same (s.slot_words i l) (at_is i) (λ q low high. refl) (λ f there seat. refl) (r.each_slot i l);
+        slots = λ i l. slot_same (s.slot_words i l) (at_is i) (λ q low high. refl) (λ f there seat. refl) (r.slots i l);
         nodes = λ n l. node_same (slots_of v.start) r.node_of n (omega arith) (s.node_words n)
             (let t = sum_set (taken_of n) st.views id v (w turn calm_after) here in let e = s.taken n in omega arith)
-            refl refl (r.phase n) (λ i f is there. (at_is i, ap count_in (s.slot_words i (inside n l i f is)))) (r.each_node n l);
-        owners = λ n l. ⊎_elim (λ same. owner_same st.views id v (w turn calm_after) here (ap alone_in same) n (r.phase n) (r.each_owner n l))
-            (λ none. owner_stays st.views id v (w turn calm_after) here n (λ bad. omega arith) (r.phase n) (r.each_owner n l)) s.owners;
-        labels = λ n l. labels_same v.start _ _ _ (written_in (r.phase n)) (s.label_words n) (r.each_label n l);
-        removed = λ number. ap (λ (f : ℕ → Option File). f number) s.files.removed ∙ r.removed number;
-        unborn = r.unborn;
-        fresh = λ number l. ap (λ (f : ℕ → Bool). f number) s.files.fresh ∙ r.fresh number l;
+            refl refl (r.phase n) (λ i f is there. (at_is i, ap count_in (s.slot_words i (inside n l i f is)))) (r.nodes.each n l);
+        owners = λ n l. ⊎_elim (λ same. owner_same st.views id v (w turn calm_after) here (ap alone_in same) n (r.phase n) (r.nodes.owners n l))
+            (λ none. owner_stays st.views id v (w turn calm_after) here n (λ bad. omega arith) (r.phase n) (r.nodes.owners n l)) s.owners;
+        labels = λ n l. labels_same v.start _ _ _ (written_in (r.phase n)) (s.label_words n) (r.nodes.labels n l);
+        removed = λ number. ap (λ (f : ℕ → Option File). f number) s.files.removed ∙ r.nodes.removed number;
+        unborn = r.nodes.unborn;
+        fresh = λ number l. ap (λ (f : ℕ → Bool). f number) s.files.fresh ∙ r.nodes.fresh number l;
         named = names_on turn _ (λ i l. ap name_in (s.slot_words i l));
         stock = its_stock turn;
         stocks = λ n p e other at. at;
@@ -100,8 +98,8 @@ module _ (turn : Turn) (h' front : List Event) (words' : List ℕ) (d : Work) (g
     where
       inside : (n : ℕ) → n < nodes_of v.start → (i : ℕ) (f : File) → r.phase n ≡ seated i f → i < slots_of v.start
       inside n l i f is = (subst (NodeAgrees (state_after_all v.start r.history).at (slots_of v.start) (λ s. count_in (slot_word st.words s)) r.node_of
-          r.next_number n (word_at st.words (word_of v.start n)) (sum_by (taken_of n) st.views) (owed r.debt v.start.passes n)
-          (get_elem? st.homes n)) is (r.each_node n l)).inside
+          r.nodes.next_number n (word_at st.words (word_of v.start n)) (sum_by (taken_of n) st.views) (owed r.debt v.start.passes n)
+          (get_elem? st.homes n)) is (r.nodes.each n l)).inside
 
       leaves : Leaves turn calm_after
       leaves = record {

@@ -24,17 +24,7 @@ busy _ = 0
 pub alone_cases : (w : Work) {d : Work} → alone_in w ≡ d
     → (w ≡ d) ⊎ ((f : File) × (held n : ℕ) × (l : Placement) × (w ≡ Renewing f held n l) × (d ≡ Placing n l))
 alone_cases (Renewing f held n l) is = inr (f, held, n, l, refl, sym is)
-alone_cases Idle is = inl is
-alone_cases (Announced n) is = inl is
-alone_cases (Counted f n) is = inl is
-alone_cases (Guarded f n) is = inl is
-alone_cases (Owing n) is = inl is
-alone_cases (Yielding f n) is = inl is
-alone_cases (Searching n) is = inl is
-alone_cases (Placing n l) is = inl is
-alone_cases (Retiring f n t nx m) is = inl is
-alone_cases (Emptying n) is = inl is
-alone_cases (Keeping n lost) is = inl is
+alone_cases _ is = inl is
 
 pub busy_alone : (w : Work) → busy w ≡ busy (alone_in w)
 busy_alone w = ⊎_elim (λ is. ap busy is) (λ z. ap busy z.4 ∙ sym (ap busy z.5)) (alone_cases w refl)
@@ -49,10 +39,7 @@ pub written_of : (ph : Phase) {f : File} → file_in ph ≡ Some f → written_i
 written_of (seated s f) is = ap (λ (o : Option File). label_in o) is
 written_of (leaving j t nx m f) is = ap (λ (o : Option File). label_in o) is
 written_of (retired f) is = ap (λ (o : Option File). label_in o) is
-written_of free is = absurd (cc is)
-written_of (placed j l) is = absurd (cc is)
-written_of (emptied j) is = absurd (cc is)
-written_of (kept j lost) is = absurd (cc is)
+written_of _ is = absurd (cc is)
 
 -- the pass of a node is known in other views too, if what is done with it is
 pub owner_map : (views others : List View) (n : ℕ)
@@ -205,7 +192,7 @@ module _ (turn : Turn) (a : After turn) where
         → HoldAgrees (word_at st.words (hold_word_of v.start q)) (r.debt q) d → GuardAgrees (slot_word st.words) r.phase q (r.debt q) d
         → HoldAgrees (word_at a.words (hold_word_of v.start q)) (a.debt q) d × GuardAgrees (slot_word a.words) a.phase q (a.debt q) d
     pub owned : (n : ℕ) → owner (r.phase n) ≢ 0 → owner (r.phase n) ≢ id + 1 → a.phase n ≡ r.phase n
-    pub spare : (n q entry : ℕ) → r.phase n ≡ free → r.where_is n ≡ in_stock q entry → q ≢ x.number → a.phase n ≡ free
+    pub spare : (n q entry : ℕ) → r.phase n ≡ free → r.nodes.where_is n ≡ in_stock q entry → q ≢ x.number → a.phase n ≡ free
     pub open_file : (j : ℕ) (u : View) (f : File) (n : ℕ) → j ≢ id → get_elem? st.views j ≡ some u → held_in u.work ≡ Some f
         → HoldsAt v.start r.phase f n → HoldsAt v.start a.phase f n
     pub slots : (s q : ℕ) → s < slots_of v.start → q ≢ x.number
@@ -224,15 +211,14 @@ module _ (turn : Turn) (a : After turn) where
     work_stays (Guarded f m) is at = leaves.open_file j u f m other there (ap held_in is) at
     work_stays (Yielding f m) is at = leaves.open_file j u f m other there (ap held_in is) at
     work_stays (Searching m) is at = let b = rw is at o.allowed in
-        (at.0, leaves.spare m z.number b.0 at.1 ((r.stocks j u z there has).here b.0 m b.1) n)
+        (at.0, leaves.spare m z.number b.0 at.1 ((r.nodes.stocks j u z there has).here b.0 m b.1) n)
     work_stays (Placing m w) is at = (at.0, same_for at.1 refl)
     work_stays (Renewing f m own w) is at = (leaves.open_file j u f m other there (ap held_in is) at.0, (at.1.0, same_for at.1.1 refl))
     work_stays (Retiring f m t next marks) is at = (at.0, same_for at.1 refl)
     work_stays (Emptying m) is at = (at.0, same_for at.1 refl)
     work_stays (Keeping m lost) is at = (at.0, same_for at.1 refl)
     work_stays Idle is at = tt
-    work_stays (Announced m) is at = at
-    work_stays (Owing m) is at = at
+    work_stays _ is at = at
 
     pub keeps_other : WorkAgrees v.start r.phase j u.work → Keeps turn a j z.number u.work u.glance
     keeps_other at = let g = leaves.guards z.number u.work n range o.hold o.guarded in record {
@@ -280,11 +266,11 @@ module _ (turn : Turn) (words' : List ℕ) (same : (s : ℕ) → s < slots_of tu
   open turn use {st, v, r, id, x, here, one}
 
   pub covers_same : (p n : ℕ) → MayBeUnmarked (slot_word st.words) p (r.phase n) → MayBeUnmarked (slot_word words') p (r.phase n)
-  covers_same p n = dite (dec_le (suc n) (nodes_of v.start)) (λ l. go (r.phase n) (r.each_node n (omega (arith, l))))
-      (λ g m. let e = r.unborn n (omega (arith, g)) in absurd (rw e at m))
+  covers_same p n = dite (dec_le (suc n) (nodes_of v.start)) (λ l. go (r.phase n) (r.nodes.each n (omega (arith, l))))
+      (λ g m. let e = r.nodes.unborn n (omega (arith, g)) in absurd (rw e at m))
     where
       go : (ph : Phase) → NodeAgrees (state_after_all v.start r.history).at (slots_of v.start) (λ s. count_in (slot_word st.words s)) r.node_of
-          r.next_number n (word_at st.words (word_of v.start n)) (sum_by (taken_of n) st.views) (owed r.debt v.start.passes n)
+          r.nodes.next_number n (word_at st.words (word_of v.start n)) (sum_by (taken_of n) st.views) (owed r.debt v.start.passes n)
           (get_elem? st.homes n) ph → MayBeUnmarked (slot_word st.words) p ph → MayBeUnmarked (slot_word words') p ph
       go (seated i f) o hot = rw (same i o.inside) hot
       go (leaving j t nx m f) o l = l

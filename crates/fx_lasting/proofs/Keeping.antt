@@ -96,7 +96,7 @@ pub not_there : {k : Start} {st : Shared} → Agrees k st → {id j : ℕ} {v u 
     → (y : Log) → Contains u.logs y → y.number ≢ x.number
 not_there {k} {st} r {id} {j} {v} {u} {x} here one other there y at same =
     let t = sum_two (logs_of x.number) st.views j id u v other there here in
-    let a = r.passes x.number in
+    let a = r.life.passes x.number in
     let c = of_one (λ z. one_if (eqb z.number x.number)) one in
     let d = bit_here x.number x.number refl in
     let e = sum_of (λ z. one_if (eqb z.number x.number)) u.logs y at in
@@ -106,7 +106,7 @@ not_there {k} {st} r {id} {j} {v} {u} {x} here one other there y at same =
 -- the number of each pass of the table
 pub its_range : {k : Start} {st : Shared} → Agrees k st → (j : ℕ) {u : View} → get_elem? st.views j ≡ some u → {y : Log} → Contains u.logs y
     → (0 < y.number) × (y.number ≤ k.passes)
-its_range {k} {st} r j {u} there {y} at = let a = r.passes y.number in let t = sum_at (logs_of y.number) st.views j u there in
+its_range {k} {st} r j {u} there {y} at = let a = r.life.passes y.number in let t = sum_at (logs_of y.number) st.views j u there in
     let e = sum_of (λ z. one_if (eqb z.number y.number)) u.logs y at in let f = bit_here y.number y.number refl in
     (omega (arith, once_is k.passes y.number), omega (arith, once_is k.passes y.number))
 
@@ -117,7 +117,7 @@ few_in_range r = let a = r.shape.range in let b = r.shape.slots in omega arith
 -- each pass of the table is in a view
 pub find_pass : {k : Start} {st : Shared} → Agrees k st → {p : ℕ} → 0 < p → p ≤ k.passes
     → (j : ℕ) × (u : View) × (z : Log) × (get_elem? st.views j ≡ some u) × Contains u.logs z × (z.number ≡ p)
-find_pass {k} {st} r {p} low high = let a = found_sum (logs_of p) st.views (omega (arith, r.passes p, once_is k.passes p, low, high)) in
+find_pass {k} {st} r {p} low high = let a = found_sum (logs_of p) st.views (omega (arith, r.life.passes p, once_is k.passes p, low, high)) in
     let b = found_by (λ (y : Log). y.number) p a.0.logs a.2 in
     (a.1.0, a.0, b.0, at_index st.views a.1.0 a.0 a.1.1 (sym a.1.2), b.1, b.2)
 
@@ -128,10 +128,10 @@ module _ (turn : Turn) where
   has_x = subst (λ (l : List Log). Contains l x) (sym one) (contains_head x [])
 
   pub its_log : LogAgrees v.start r.history st.words r.phase r.debt r.deed v.work v.glance x
-  its_log = (r.each_view id v here).logs x has_x
+  its_log = (r.holds.views id v here).logs x has_x
 
   pub its_work : WorkAgrees v.start r.phase id v.work
-  its_work = (r.each_view id v here).work
+  its_work = (r.holds.views id v here).work
 
   pub in_range : (0 < x.number) × (x.number ≤ v.start.passes)
   in_range = its_range r id here has_x
@@ -145,7 +145,7 @@ module _ (turn : Turn) where
     pub removed : (state_after_all v.start h').removed ≡ (state_after_all v.start r.history).removed
 
   pub none_added : LeavesFiles r.history
-  none_added = record { grows = grows_none x.number r.history; legal = r.legal; at = refl; fresh = refl; removed = refl }
+  none_added = record { grows = grows_none x.number r.history; legal = r.life.legal; at = refl; fresh = refl; removed = refl }
 
   -- The words, the places and the rule's own names after a step
   pub record After : Type 0 where
@@ -207,7 +207,7 @@ module _ (turn : Turn) where
       pub fresh : (number : ℕ) → a.next_number ≤ number → (state_after_all v.start a.h).fresh number ≡ true
       pub named : (s : ℕ) → s < slots_of v.start → NamesItsNode v.start a.where_is s (slot_word a.words s)
       pub stock : StockAgrees v.start a.where_is x.number a.stock
-      pub stocks : (n q entry : ℕ) → q ≢ x.number → r.where_is n ≡ in_stock q entry → a.where_is n ≡ in_stock q entry
+      pub stocks : (n q entry : ℕ) → q ≢ x.number → r.nodes.where_is n ≡ in_stock q entry → a.where_is n ≡ in_stock q entry
       pub others : (j : ℕ) (u : View) (z : Log) → j ≢ id → get_elem? st.views j ≡ some u → Contains u.logs z → z.number ≢ x.number
           → (0 < z.number) × (z.number ≤ v.start.passes)
           → LogAgrees v.start r.history st.words r.phase r.debt r.deed u.work u.glance z → WorkAgrees v.start r.phase j u.work
@@ -226,8 +226,8 @@ module _ (turn : Turn) where
     module _ (s : Step) where
       other_log : (j : ℕ) (u : View) (z : Log) → j ≢ id → get_elem? st.views j ≡ some u → Contains u.logs z
           → LogAgrees v.start a.h a.words a.phase a.debt a.deed u.work u.glance z
-      other_log j u z other there at = let o = (r.each_view j u there).logs z at in let n = not_there r here one other there z at in
-          let k = s.others j u z other there at n (its_range r j there at) o (r.each_view j u there).work in
+      other_log j u z other there at = let o = (r.holds.views j u there).logs z at in let n = not_there r here one other there z at in
+          let k = s.others j u z other there at n (its_range r j there at) o (r.holds.views j u there).work in
           let few : z.number ≤ 1024 = omega (arith, (its_range r j there at).1, r.shape.passes) in
           record {
             seen = s.grows.seen z.front o.seen;
@@ -252,10 +252,10 @@ module _ (turn : Turn) where
       other_work j u other there = go u.logs refl
         where
           go : (l : List Log) → u.logs ≡ l → WorkAgrees v.start a.phase j u.work
-          go [] none = subst (WorkAgrees v.start a.phase j) (sym ((r.each_view j u there).empty none).0) tt
+          go [] none = subst (WorkAgrees v.start a.phase j) (sym ((r.holds.views j u there).empty none).0) tt
           go (z ∷ l) is = let at = subst (λ (l : List Log). Contains l z) (sym is) (contains_head z l) in
               (s.others j u z other there at (not_there r here one other there z at) (its_range r j there at)
-              ((r.each_view j u there).logs z at) (r.each_view j u there).work).work
+              ((r.holds.views j u there).logs z at) (r.holds.views j u there).work).work
 
       its_own : LogAgrees v.start a.h a.words a.phase a.debt a.deed a.work a.glance (logged x a.listed a.asked a.stock a.watch a.front)
       its_own = let few : x.number ≤ 1024 = omega (arith, in_range.1, r.shape.passes) in record {
@@ -282,65 +282,71 @@ module _ (turn : Turn) where
         phase = a.phase;
         node_of = r.node_of;
         numbering = r.numbering;
-        next_number = a.next_number;
         debt = a.debt;
         deed = a.deed;
-        legal = s.legal;
-        each_slot = s.slots;
-        each_node = s.nodes;
-        each_owner = s.owners;
-        each_label = s.labels;
-        removed = s.removed;
-        unborn = s.unborn;
-        fresh = s.fresh;
-        each_view = λ j u e. ⊎_elim (λ (t : (j ≡ id) × (w ≡ u)).
-            subst (λ (z : ℕ × View). ViewAgrees v.start a.h a.words a.phase a.debt a.deed z.0 z.1) (λ i. (sym t.0 i, t.1 i)) record {
-              logs = λ z h. subst (LogAgrees v.start a.h a.words a.phase a.debt a.deed a.work a.glance)
-                  (sym (contains_only (logged x a.listed a.asked a.stock a.watch a.front) z h)) its_own;
-              work = s.its.work;
-              empty = λ none. absurd (omega (arith, ap (length {A = Log}) none));
-              start = inr refl;
-            }) (λ (t : (j ≢ id) × (get_elem? st.views j ≡ some u)). record {
-              logs = λ z h. other_log j u z t.0 t.1 h;
-              work = other_work j u t.0 t.1;
-              empty = (r.each_view j u t.1).empty;
-              start = (r.each_view j u t.1).start;
-            }) (at_set st.views id j w u e);
-        where_is = a.where_is;
-        named = s.named;
-        stocks = λ j u z e has. ⊎_elim
-            (λ (t : (j ≡ id) × (w ≡ u)). let has' : Contains (logged x a.listed a.asked a.stock a.watch a.front ∷ []) z =
-            subst (λ (y : View). Contains y.logs z) (sym t.1) has in
-            subst (λ (y : Log). StockAgrees v.start a.where_is y.number y.stock) (sym (contains_only (logged x a.listed a.asked a.stock a.watch a.front) z has')) s.stock)
-            (λ (t : (j ≢ id) × (get_elem? st.views j ≡ some u)). let o = r.stocks j u z t.1 has in record {
-              its = o.its;
-              here = λ entry n is. s.stocks n z.number entry (not_there r here one t.0 t.1 z has) (o.here entry n is);
-            }) (at_set st.views id j w u e);
-        known = of_replaced (IsKnown a.h) st.views (λ j u e. s.grows.seen u.known (r.known j u e)) id w (s.grows.seen v.known (r.known id v here));
-        holds = λ n. let t = sum_set (held_of n) st.views id v w here in let a = r.holds n in let b = s.holds n in omega arith;
-        passes = λ p. total_same (λ z. one_if (eqb z.number p)) st.views id w here one refl refl ∙ r.passes p;
-        whole = let t = sum_set lengths st.views id v w here in let e = ap (length {A = Log}) one in let b = r.whole in omega arith;
-        authors = λ p none. let t = r.passes p in let u = sum_at (logs_of p) st.views id v here in
-            let its_one : x.number ≡ p → logs_of p v ≡ 1 =
-            λ same. of_one (λ z. one_if (eqb z.number p)) one ∙ rw (eq-eqb x.number p same) refl in
-            s.grows.parts p (λ same. let a = its_one same in omega arith) ∙ r.authors p none;
-        listed = λ p low high is. ⊎_elim (λ before. r.listed p low high before) (λ same. let z = in_range.1 in omega (arith, same, z))
-            (was_listed x.number a.listed p in_range.0 low (s.lists p high) is);
-        counts = s.counts;
+        nodes = record {
+          next_number = a.next_number;
+          each = s.nodes;
+          owners = s.owners;
+          labels = s.labels;
+          removed = s.removed;
+          unborn = s.unborn;
+          fresh = s.fresh;
+          where_is = a.where_is;
+          named = s.named;
+          stocks = λ j u z e has. ⊎_elim
+              (λ (t : (j ≡ id) × (w ≡ u)). let has' : Contains (logged x a.listed a.asked a.stock a.watch a.front ∷ []) z =
+              subst (λ (y : View). Contains y.logs z) (sym t.1) has in
+              subst (λ (y : Log). StockAgrees v.start a.where_is y.number y.stock) (sym (contains_only (logged x a.listed a.asked a.stock a.watch a.front) z has')) s.stock)
+              (λ (t : (j ≢ id) × (get_elem? st.views j ≡ some u)). let o = r.nodes.stocks j u z t.1 has in record {
+                its = o.its;
+                here = λ entry n is. s.stocks n z.number entry (not_there r here one t.0 t.1 z has) (o.here entry n is);
+              }) (at_set st.views id j w u e);
+        };
+        slots = s.slots;
+        holds = record {
+          views = λ j u e. ⊎_elim (λ (t : (j ≡ id) × (w ≡ u)).
+              subst (λ (z : ℕ × View). ViewAgrees v.start a.h a.words a.phase a.debt a.deed z.0 z.1) (λ i. (sym t.0 i, t.1 i)) record {
+                logs = λ z h. subst (LogAgrees v.start a.h a.words a.phase a.debt a.deed a.work a.glance)
+                    (sym (contains_only (logged x a.listed a.asked a.stock a.watch a.front) z h)) its_own;
+                work = s.its.work;
+                empty = λ none. absurd (omega (arith, ap (length {A = Log}) none));
+                start = inr refl;
+              }) (λ (t : (j ≢ id) × (get_elem? st.views j ≡ some u)). record {
+                logs = λ z h. other_log j u z t.0 t.1 h;
+                work = other_work j u t.0 t.1;
+                empty = (r.holds.views j u t.1).empty;
+                start = (r.holds.views j u t.1).start;
+              }) (at_set st.views id j w u e);
+          files = λ n. let t = sum_set (held_of n) st.views id v w here in let a = r.holds.files n in let b = s.holds n in omega arith;
+          listed = λ p low high is. ⊎_elim (λ before. r.holds.listed p low high before) (λ same. let z = in_range.1 in omega (arith, same, z))
+              (was_listed x.number a.listed p in_range.0 low (s.lists p high) is);
+        };
+        range = s.counts;
+        life = record {
+          legal = s.legal;
+          known = of_replaced (IsKnown a.h) st.views (λ j u e. s.grows.seen u.known (r.life.known j u e)) id w (s.grows.seen v.known (r.life.known id v here));
+          passes = λ p. total_same (λ z. one_if (eqb z.number p)) st.views id w here one refl refl ∙ r.life.passes p;
+          whole = let t = sum_set lengths st.views id v w here in let e = ap (length {A = Log}) one in let b = r.life.whole in omega arith;
+          authors = λ p none. let t = r.life.passes p in let u = sum_at (logs_of p) st.views id v here in
+              let its_one : x.number ≡ p → logs_of p v ≡ 1 =
+              λ same. of_one (λ z. one_if (eqb z.number p)) one ∙ rw (eq-eqb x.number p same) refl in
+              s.grows.parts p (λ same. let a = its_one same in omega arith) ∙ r.life.authors p none;
+        };
       }
 
   -- the nodes of the pass's stock
-  pub its_stock : StockAgrees v.start r.where_is x.number x.stock
-  its_stock = r.stocks id v x here has_x
+  pub its_stock : StockAgrees v.start r.nodes.where_is x.number x.stock
+  its_stock = r.nodes.stocks id v x here has_x
 
   -- a node of the stock is there
-  pub in_its_stock : {n : ℕ} → (s : IsInStock x.stock n) → (n < nodes_of v.start) × (r.where_is n ≡ in_stock x.number s.0)
+  pub in_its_stock : {n : ℕ} → (s : IsInStock x.stock n) → (n < nodes_of v.start) × (r.nodes.where_is n ≡ in_stock x.number s.0)
   in_its_stock {n} s = (its_stock.its.inside s.0 n s.1, its_stock.here s.0 n s.1)
 
   -- the nodes that slots name, where no slot names another one
   pub names_on : (words' : List ℕ) → ((s : ℕ) → s < slots_of v.start → name_in (slot_word words' s) ≡ name_in (slot_word st.words s))
-      → (s : ℕ) → s < slots_of v.start → NamesItsNode v.start r.where_is s (slot_word words' s)
-  names_on words' same s l = let o = r.named s l in record { node = o.node; named = same s l ∙ o.named; inside = o.inside; here = o.here }
+      → (s : ℕ) → s < slots_of v.start → NamesItsNode v.start r.nodes.where_is s (slot_word words' s)
+  names_on words' same s l = let o = r.nodes.named s l in record { node = o.node; named = same s l ∙ o.named; inside = o.inside; here = o.here }
 
   -- the effect of the step on its pass
   pub tells : (a : After) → ◌≡◌ {A = Bool × Survey × List ℕ} (a.listed, a.asked, a.stock) (x.listed, x.asked, x.stock) → (carried homes : List (ℕ × Option Closed)) (actions : List Action) → Grows x.number r.history a.front
@@ -413,7 +419,7 @@ module _ (turn : Turn) where
   -- the range agrees after a step that changes neither its words nor what the pass counts and asks
   pub range_left : (a : After) → (state_after_all v.start a.h).at ≡ (state_after_all v.start r.history).at → CountAlike a.words st.words
       → a.change ≡ v.change → a.asked ≡ x.asked → RangeCounts (state_after_all v.start a.h).at (range_at_start v.start) (views' a) a.words
-  range_left a at alike change asked = counts_same id (w a) here r.counts few_slots at alike change (asks_alike a asked)
+  range_left a at alike change asked = counts_same id (w a) here r.range few_slots at alike change (asks_alike a asked)
 
   -- the effect of a step after which the pass has seen what it had seen
   pub tells_less : (a : After) → ◌≡◌ {A = Bool × Survey × List ℕ} (a.listed, a.asked, a.stock) (x.listed, x.asked, x.stock) → (carried homes : List (ℕ × Option Closed)) → a.front ≡ x.front → IsInside v.start a.work
@@ -422,7 +428,7 @@ module _ (turn : Turn) where
     one = (logged x a.listed a.asked a.stock a.watch a.front, refl);
     number = refl;
     seen = ([], same);
-    legal = rw same (legal_before v.start x.front o.seen.0 (subst (IsHistory v.start) o.seen.1 r.legal));
+    legal = rw same (legal_before v.start x.front o.seen.0 (subst (IsHistory v.start) o.seen.1 r.life.legal));
     own = ap (part_of_pass x.number) same;
     steps = refl;
     listed = ap (λ (z : Bool × Survey × List ℕ). z.0) same_pass;

@@ -327,9 +327,8 @@ module _ {id : TableId} {k : Start} {p : LastingPass} (seated : IsSeatOf id k p)
   took_run (Err EmptySlot) t idle is passes visit entry stock unkept = ([] ▷ Look slot None, Idle, t, (sym is, unkept))
 
   pub never_spent : (r : Result Hold LookFault) → LooksByTake slot p.seat.me r m' → r ≢ Err Spent
-  never_spent (Ok hold) t is = cc is
   never_spent (Err Spent) t is = t
-  never_spent (Err EmptySlot) t is = cc is
+  never_spent _ t is = cc is
 
 -- what a pass adds that did something before its look-up
 pub after_then : (k : Start) (u v w : PassView) (xs : List Action) (slot : ℕ) (r : Result Hold LookFault) → r ≢ Err Spent

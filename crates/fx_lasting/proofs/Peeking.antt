@@ -21,7 +21,7 @@ module _ (turn : Turn) where
 
   pub goes_still : (carried : List (ℕ × Option Closed)) → Goes (v, carried) [] v.work v.glance (w turn (read_after turn v.work v.glance r.history), carried)
   goes_still carried = record {
-    stepped = tells turn (read_after turn v.work v.glance r.history) refl carried carried [] (grows_none x.number r.history) r.legal refl (its_inside turn);
+    stepped = tells turn (read_after turn v.work v.glance r.history) refl carried carried [] (grows_none x.number r.history) r.life.legal refl (its_inside turn);
     carried = refl;
   }
 

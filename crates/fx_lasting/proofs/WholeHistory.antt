@@ -35,15 +35,15 @@ found_file number g f is = go (eqb g.number number) refl is
 
 module _ (k : Start) (s : Shared) (r : Agrees k s) where
   abbrev Node : ℕ → Phase → Type 0
-  Node n = NodeAgrees (state_after_all k r.history).at (slots_of k) (λ i. count_in (slot_word s.words i)) r.node_of r.next_number n
+  Node n = NodeAgrees (state_after_all k r.history).at (slots_of k) (λ i. count_in (slot_word s.words i)) r.node_of r.nodes.next_number n
       (word_at s.words (word_of k n)) (sum_by (taken_of n) s.views) (owed r.debt k.passes n) (get_elem? s.homes n)
 
   parts : (seat : ℕ) (pass : PassView) → IsPassAt s seat pass → IsPartOf pass r.history
-  parts seat pass at = let o = (r.each_view seat at.view at.there).logs at.log (subst (λ (l : List Log). Contains l at.log) (sym at.one) (contains_head at.log [])) in
+  parts seat pass at = let o = (r.holds.views seat at.view at.there).logs at.log (subst (λ (l : List Log). Contains l at.log) (sym at.one) (contains_head at.log [])) in
       subst (λ (w : PassView). IsPartOf w r.history) at.shown (rw at.one record { seen = o.seen; own = o.own })
 
   once : (number : ℕ) → length (closes_of number r.history) ≤ 1
-  once number = closed_at_most_once (state_at_start k) r.history number (start_is k) r.legal.leads.0
+  once number = closed_at_most_once (state_at_start k) r.history number (start_is k) r.life.legal.leads.0
 
   has_number : (f : File) → file_if_numbered f.number f ≡ Some f
   has_number f = rw (eq-eqb f.number f.number refl) refl
@@ -51,7 +51,7 @@ module _ (k : Start) (s : Shared) (r : Agrees k s) where
   removed_there : (n : ℕ) (f : File) (ph : Phase) → r.phase n ≡ ph → r.node_of f.number ≡ n → removed_in f.number ph ≡ Some f
       → 1 ≤ tally f.number (state_after_all k r.history)
   removed_there n f ph at on is =
-      let a = ap present (r.removed f.number ∙ (ap (λ (m : ℕ). removed_in f.number (r.phase m)) on ∙ (ap (removed_in f.number) at ∙ is))) in omega arith
+      let a = ap present (r.nodes.removed f.number ∙ (ap (λ (m : ℕ). removed_in f.number (r.phase m)) on ∙ (ap (removed_in f.number) at ∙ is))) in omega arith
 
   -- a file that is open counts in the state that the history leads to
   is_there : (n : ℕ) (f : File) (ph : Phase) → r.phase n ≡ ph → Node n ph → file_in ph ≡ Some f
@@ -65,16 +65,13 @@ module _ (k : Start) (s : Shared) (r : Agrees k s) where
       (let same : g ≡ f = cc is in rw same (has_number f))
   is_there n f (retired g) at o is = removed_there n f (retired g) at (let same : g ≡ f = cc is in rw (← same) o.file.its_node)
       (let same : g ≡ f = cc is in rw same (has_number f))
-  is_there n f free at o is = absurd (cc is)
-  is_there n f (placed seat l) at o is = absurd (cc is)
-  is_there n f (emptied seat) at o is = absurd (cc is)
-  is_there n f (kept seat lost) at o is = absurd (cc is)
+  is_there n f _ at o is = absurd (cc is)
 
   -- so no file of its number was closed
   unclosed : (n : ℕ) (f : File) → HoldsAt k r.phase f n → closes_of f.number r.history ≡ []
   unclosed n f its = let start = tally_start (state_at_start k) f.number (start_is k) in
-      let all = tally_all (state_at_start k) r.history f.number start r.legal.leads.0 in
-      let now = is_there n f (r.phase n) refl (r.each_node n its.0) its.1 in none (closes_of f.number r.history) (omega arith)
+      let all = tally_all (state_at_start k) r.history f.number start r.life.legal.leads.0 in
+      let now = is_there n f (r.phase n) refl (r.nodes.each n its.0) its.1 in none (closes_of f.number r.history) (omega arith)
     where
       none : (l : List File) → length l ≡ 0 → l ≡ []
       none [] is = refl
@@ -82,7 +79,7 @@ module _ (k : Start) (s : Shared) (r : Agrees k s) where
 
   pub is_of_all_passes : IsOfAllPasses k s r
   is_of_all_passes = record {
-    legal = r.legal;
+    legal = r.life.legal;
     start = start_is k;
     parts = parts;
     once = once;
@@ -96,7 +93,7 @@ module _ (k : Start) (s : Shared) (r : Agrees k s) where
     same_file g at = cc (sym at.1 ∙ file)
 
     takes : (seat : ℕ) (v : View) → get_elem? s.views seat ≡ some v → 1 ≤ taken_of n v → Uses f n v.work
-    takes seat v there some_taken = go v.work some_taken (r.each_view seat v there).work
+    takes seat v there some_taken = go v.work some_taken (r.holds.views seat v there).work
       where
         go : (w : Work) → 1 ≤ taking n w → WorkAgrees k r.phase seat w → Uses f n w
         go (Counted g m) is at = dite (ℕ_discrete m n) (λ same. same_file g (rw same at at)) (λ other. absurd (let a = bit_else n m other in omega arith))
@@ -118,14 +115,7 @@ module _ (k : Start) (s : Shared) (r : Agrees k s) where
         (λ full. let same : m ≡ n = (let a = full.1 in omega arith) in same_file g (rw same at at)) h
     owes seat (Owing m) word debt is h at = let a = h.1 in omega arith
     owes seat (Yielding g m) word debt is h at = let same : m ≡ n = (let a = h.1 in omega arith) in same_file g (rw same at at)
-    owes seat Idle word debt is h at = let a = h.1 in absurd (omega arith)
-    owes seat (Counted g m) word debt is h at = let a = h.1 in absurd (omega arith)
-    owes seat (Searching m) word debt is h at = let a = h.1 in absurd (omega arith)
-    owes seat (Placing m w) word debt is h at = let a = h.1 in absurd (omega arith)
-    owes seat (Renewing g m own w) word debt is h at = let a = h.1 in absurd (omega arith)
-    owes seat (Retiring g m t rd k) word debt is h at = let a = h.1 in absurd (omega arith)
-    owes seat (Emptying m) word debt is h at = let a = h.1 in absurd (omega arith)
-    owes seat (Keeping m lost) word debt is h at = let a = h.1 in absurd (omega arith)
+    owes seat _ word debt is h at = let a = h.1 in absurd (omega arith)
 
     abbrev HasOne : Type 0
     HasOne = (seat : ℕ) × (v : View) × (get_elem? s.views seat ≡ some v) × Uses f n v.work
@@ -133,8 +123,8 @@ module _ (k : Start) (s : Shared) (r : Agrees k s) where
     somebody : 0 < sum_by (taken_of n) s.views + owed r.debt k.passes n → HasOne
     somebody more = dite (ℕ_discrete (sum_by (taken_of n) s.views) 0)
         (λ none. let z = owed_found r.debt k.passes n (omega (arith, more, none)) in let y = find_pass r z.1 z.2 in
-        let o = (r.each_view y.0 y.1 y.3).logs y.2 y.4 in
-        (y.0, y.1, y.3, owes y.0 y.1.work _ _ (ap r.debt y.5 ∙ z.3) o.hold (r.each_view y.0 y.1 y.3).work))
+        let o = (r.holds.views y.0 y.1 y.3).logs y.2 y.4 in
+        (y.0, y.1, y.3, owes y.0 y.1.work _ _ (ap r.debt y.5 ∙ z.3) o.hold (r.holds.views y.0 y.1 y.3).work))
         (λ taken. let z = found_sum (taken_of n) s.views (omega (arith, taken)) in
         let there = at_index s.views z.1.0 z.0 z.1.1 (sym z.1.2) in (z.1.0, z.0, there, takes z.1.0 z.0 there z.2))
 
@@ -145,16 +135,12 @@ module _ (k : Start) (s : Shared) (r : Agrees k s) where
       (e.1, (seat, who.0, who.1, ⊎_elim (λ its. subst (Uses f n) (sym its) e.0) (λ z. absurd (cc z.5)) (alone_cases who.0.work who.2)))
   user_of number n f (retired g) at o who is = let e = found_file number g f is in
       (e.1, somebody n f (ap file_in at ∙ ap (λ (x : File). Some x) e.0) o.somebody)
-  user_of number n f free at o who is = absurd (cc is)
-  user_of number n f (placed seat l) at o who is = absurd (cc is)
-  user_of number n f (seated slot g) at o who is = absurd (cc is)
-  user_of number n f (emptied seat) at o who is = absurd (cc is)
-  user_of number n f (kept seat lost) at o who is = absurd (cc is)
+  user_of number n f _ at o who is = absurd (cc is)
 
   pub user_is : (number : ℕ) (f : File) → (state_after_all k r.history).removed number ≡ Some f → HasUser k s f
-  user_is number f is = let on = r.node_of number in let now : removed_in number (r.phase on) ≡ Some f = sym (r.removed number) ∙ is in
+  user_is number f is = let on = r.node_of number in let now : removed_in number (r.phase on) ≡ Some f = sym (r.nodes.removed number) ∙ is in
       dite (dec_le (suc on) (nodes_of k))
-      (λ low. let u = user_of number on f (r.phase on) refl (r.each_node on (omega (arith, low))) (r.each_owner on (omega (arith, low))) now in
+      (λ low. let u = user_of number on f (r.phase on) refl (r.nodes.each on (omega (arith, low))) (r.nodes.owners on (omega (arith, low))) now in
       let node : on ≡ node_of_number k f.number = r.numbering number ∙ ap (node_of_number k) (sym u.0) in
       (u.1.0, u.1.1, u.1.2, subst (λ (m : ℕ). Uses f m u.1.1.work) node u.1.3))
-      (λ high. let e = ap (removed_in number) (r.unborn on (omega (arith, high))) in let bad : None ≡ Some f = sym e ∙ now in absurd (cc bad))
+      (λ high. let e = ap (removed_in number) (r.nodes.unborn on (omega (arith, high))) in let bad : None ≡ Some f = sym e ∙ now in absurd (cc bad))

@@ -4,9 +4,11 @@ pub use Rattle.atomic_table.specs.Seated.{TableId}
 pub use Rattle.atomic_table.specs.Table.{Act, keeps, Valid, stepped, carried_after, step, gives, rest, takes, Allows, Final, Seen, opening, Splits}
 pub use Rattle.atomic_table.specs.Table.{put_back}
 pub use Rattle.fx_base.specs.declared.open_file.Closed.{Closed}
-pub use Rattle.fx_lasting.specs.Agrees.{IsIn, HoldAgrees, MayBeUnmarked, GuardAgrees, GlanceAgrees, Heats, LogAgrees, ViewAgrees, Agrees, NodeAgrees, Does}
-pub use Rattle.fx_lasting.specs.Agrees.{OwnerAgrees, HoldsAt, WorkAgrees, IsAllowed, IsIdleIn, IsToVisit, NamesNode, Nodes, Names, IsSeated}
-pub use Rattle.fx_lasting.specs.Agrees.{SlotAgrees, Home, IsFileOfNode, IsVacant, IsBorn, Labels}
+pub use Rattle.fx_lasting.specs.holds.HoldsAgree.{IsIn, HoldAgrees, MayBeUnmarked, GuardAgrees, GlanceAgrees, Heats, LogAgrees, ViewAgrees, HoldsAt}
+pub use Rattle.fx_lasting.specs.holds.HoldsAgree.{WorkAgrees, IsAllowed, IsIdleIn, IsToVisit, NamesNode}
+pub use Rattle.fx_lasting.specs.Agrees.{Agrees}
+pub use Rattle.fx_lasting.specs.nodes.NodesAgree.{NodeAgrees, Does, OwnerAgrees, Nodes, Home, IsFileOfNode, IsVacant, IsBorn, Labels}
+pub use Rattle.fx_lasting.specs.slots.SlotAgrees.{Names, IsSeated, SlotAgrees}
 pub use Rattle.fx_lasting.specs.AtWork.{IsAtWork, IsReleasing, HasPlace, MayPlace}
 pub use Rattle.fx_lasting.specs.range.Groups.{owing, owing_of, is_in, uncounted, account, GroupCounts, AreFull, HasQuestionOf, HasVisitedFull, RangeCounts}
 pub use Rattle.fx_lasting.specs.Counts.{tally, owed}

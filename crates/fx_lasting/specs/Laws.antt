@@ -7,7 +7,8 @@ use prog.Atomic.{either}
 use Rattle.atomic_table.specs.Table.{step, Splits, Joins, Allows}
 use Rattle.fx_base.specs.Identity.{Identity}
 use Rattle.fx_plain.specs.declared.event.File.{File}
-use Rattle.fx_lasting.specs.Agrees.{Agrees, IsIdleIn}
+use Rattle.fx_lasting.specs.Agrees.{Agrees}
+use Rattle.fx_lasting.specs.holds.HoldsAgree.{IsIdleIn}
 use Rattle.fx_lasting.specs.range.Groups.{is_in, uncounted}
 use Rattle.fx_lasting.specs.nodes.Labels.{label_of, as_written}
 use Rattle.fx_lasting.specs.life.Layout.{question_place, group_place, list_place}

@@ -2,4 +2,5 @@
 pub mod FinishSteps
 pub mod HeldFiles
 pub mod Holds
+pub mod HoldsAgree
 pub mod Visits

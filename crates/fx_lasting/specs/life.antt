@@ -3,6 +3,7 @@ pub mod Closing
 pub mod Cuts
 pub mod Firsts
 pub mod Layout
+pub mod LifeAgrees
 pub mod Lives
 pub mod Opens
 pub mod Showing

@@ -2,6 +2,7 @@
 pub mod KeepSteps
 pub mod LabelSteps
 pub mod Labels
+pub mod NodesAgree
 pub mod Phases
 pub mod Searches
 pub mod Stocks

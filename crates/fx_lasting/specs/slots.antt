@@ -6,5 +6,6 @@ pub mod ByNode
 pub mod Deeds
 pub mod PutAlone
 pub mod PutSteps
+pub mod SlotAgrees
 pub mod SwapSteps
 pub mod Watches

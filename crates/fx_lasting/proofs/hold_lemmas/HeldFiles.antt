@@ -28,16 +28,16 @@ module _ (k : Start) (s : Shared) (r : Agrees k s) where
   -- who holds a file is a pass of the table
   open_one : (p : ℕ) (f : File) → held_by r.history p ≡ Some f → (n : ℕ) × HoldsAt k r.phase f n
   open_one p f held = ⊎_elim
-      (λ its. let z = find_pass r its.0 its.1 in let o = (r.each_view z.0 z.1 z.3).logs z.2 z.4 in
-      is_open z.0 z.1.work (sym o.held ∙ (ap (held_by r.history) z.5 ∙ held)) (r.each_view z.0 z.1 z.3).work)
-      (λ out. let none : held_by r.history p ≡ None = held_in_part r.history p ∙ ap (λ (l : List Event). held_by l p) (r.authors p out.1) in
+      (λ its. let z = find_pass r its.0 its.1 in let o = (r.holds.views z.0 z.1 z.3).logs z.2 z.4 in
+      is_open z.0 z.1.work (sym o.held ∙ (ap (held_by r.history) z.5 ∙ held)) (r.holds.views z.0 z.1 z.3).work)
+      (λ out. let none : held_by r.history p ≡ None = held_in_part r.history p ∙ ap (λ (l : List Event). held_by l p) (r.life.authors p out.1) in
       let bad : None ≡ Some f = sym none ∙ held in absurd (cc bad))
       (once_is k.passes p)
 
   pub one_at_slot : (slot : ℕ) → slot < slots_of k → IsOneOnItsNode k ((state_after_all k r.history).at slot) r.history
   one_at_slot slot inside f g p there held node = let z = open_one p g held in
-      let its = subst (IsSeated k r.node_of r.phase slot) there (r.each_slot slot inside).seat in
-      let on : node_of_number k g.number ≡ z.0 = on_node k s r z.0 g _ z.1.1 (r.each_node z.0 z.1.0) in
+      let its = subst (IsSeated k r.node_of r.phase slot) there (r.slots slot inside).seat in
+      let on : node_of_number k g.number ≡ z.0 = on_node k s r z.0 g _ z.1.1 (r.nodes.each z.0 z.1.0) in
       let same : r.node_of f.number ≡ z.0 = r.numbering f.number ∙ (sym node ∙ on) in
       let a : file_in (r.phase z.0) ≡ Some f = ap (λ (n : ℕ). file_in (r.phase n)) (sym same) ∙ ap file_in its.1 in
       cc (sym z.1.1 ∙ a)

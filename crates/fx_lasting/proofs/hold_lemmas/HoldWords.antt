@@ -34,7 +34,7 @@ module _ (turn : Turn) (carried : List (ℕ × Option Closed)) where
 
     goes_quiet : IsInside v.start d → Goes (v, carried) [] d v.glance (w turn (own_after turn new d r.history), carried)
     goes_quiet inside = record {
-      stepped = tells turn (own_after turn new d r.history) refl carried carried [] (grows_none x.number r.history) r.legal refl inside;
+      stepped = tells turn (own_after turn new d r.history) refl carried carried [] (grows_none x.number r.history) r.life.legal refl inside;
       carried = refl;
     }
 
@@ -90,11 +90,11 @@ module _ (turn : Turn) (carried : List (ℕ × Option Closed)) where
 
     held_now : 0 < (state_after_all v.start r.history).holds f.number
     held_now = let a = ap (λ (d : Work). if_file f.number (held_in d)) is in let b = bit_here f.number f.number refl in
-        omega (arith, r.holds f.number, sum_at (held_of f.number) st.views id v here, a, b)
+        omega (arith, r.holds.files f.number, sum_at (held_of f.number) st.views id v here, a, b)
 
     released : r.debt x.number ≡ 0 → Own turn 0 Idle h₁
     released none_owed = record {
-      files = record { grows = grows_one x.number r.history _ refl; legal = legal_more v.start r.legal held_now ((its_log turn).held ∙ ap held_in is); at = refl; fresh = refl; removed = refl };
+      files = record { grows = grows_one x.number r.history _ refl; legal = legal_more v.start r.life.legal held_now ((its_log turn).held ∙ ap held_in is); at = refl; fresh = refl; removed = refl };
       taken = λ k. sym (ap (taking k) is);
       owners = ap busy is;
       held = held_mine (pass_event x (Release f)) r.history refl;

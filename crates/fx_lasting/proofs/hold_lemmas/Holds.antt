@@ -22,7 +22,7 @@ module _ (k : Start) (s : Shared) (r : Agrees k s) where
   is_open seat _ e w = absurd (cc e)
 
   pub holds_at : {f : File} {hold : Hold} → IsHeldBy s f hold → HoldsAt k r.phase f hold.node
-  holds_at (seat, v, there, holds) = is_open seat v.work holds (r.each_view seat v there).work
+  holds_at (seat, v, there, holds) = is_open seat v.work holds (r.holds.views seat v there).work
 
   one_file : (f g : File) (x y : Hold) → IsHeldBy s f x → IsHeldBy s g y → x.node ≡ y.node → f ≡ g
   one_file f g x y a b same = let here = (holds_at a).1 in let also = (holds_at b).1 in
@@ -36,7 +36,7 @@ module _ (k : Start) (s : Shared) (r : Agrees k s) where
       let both : file_in (seated slot h) ≡ Some f = rw there at here in cc (both, e)
 
   abbrev pub Node : ℕ → Phase → Type 0
-  Node n = NodeAgrees (state_after_all k r.history).at (slots_of k) (λ i. count_in (slot_word s.words i)) r.node_of r.next_number n
+  Node n = NodeAgrees (state_after_all k r.history).at (slots_of k) (λ i. count_in (slot_word s.words i)) r.node_of r.nodes.next_number n
       (word_at s.words (word_of k n)) (sum_by (taken_of n) s.views) (owed r.debt k.passes n) (get_elem? s.homes n)
 
   pub of_phase : (n : ℕ) (f : File) (ph : Phase) → file_in ph ≡ Some f → Node n ph → node_word_in k s n ≢ 0
@@ -60,9 +60,9 @@ module _ (k : Start) (s : Shared) (r : Agrees k s) where
   pub nodes_are_of_one_file : HoldsNameFiles k s r
   nodes_are_of_one_file = record {
     one = one_file;
-    its_number = λ f hold held. let its = holds_at held in sym (on_node hold.node f _ its.1 (r.each_node hold.node its.0));
-    there = λ f g hold slot held inside is at. let a = r.each_slot slot inside in of_slot f g hold slot _ held a.names a.seat is at;
-    none = λ f hold held. let its = holds_at held in of_phase hold.node f _ its.1 (r.each_node hold.node its.0);
+    its_number = λ f hold held. let its = holds_at held in sym (on_node hold.node f _ its.1 (r.nodes.each hold.node its.0));
+    there = λ f g hold slot held inside is at. let a = r.slots slot inside in of_slot f g hold slot _ held a.names a.seat is at;
+    none = λ f hold held. let its = holds_at held in of_phase hold.node f _ its.1 (r.nodes.each hold.node its.0);
   }
 
   -- the file that a pass has to retire is open, on its node
@@ -74,9 +74,9 @@ module _ (k : Start) (s : Shared) (r : Agrees k s) where
 
   pub held_nodes_name_files : HoldKeepsNode k s r
   held_nodes_name_files = record {
-    at_slot = λ f g hold slot held inside is on. let names = subst (Names r.node_of (slot_word_in s slot)) is (r.each_slot slot inside).names in
+    at_slot = λ f g hold slot held inside is on. let names = subst (Names r.node_of (slot_word_in s slot)) is (r.slots slot inside).names in
         nodes_are_of_one_file.there f g hold slot held inside (names.0 ∙ ap (λ (n : ℕ). n + 1) (r.numbering g.number ∙ on)) is;
     removed = λ f g hold x held by same. let here = (holds_at held).1 in
-        let there = is_removed by.0 by.1.work by.3 (r.each_view by.0 by.1 by.2).work in
+        let there = is_removed by.0 by.1.work by.3 (r.holds.views by.0 by.1 by.2).work in
         let e : file_in (r.phase hold.node) ≡ file_in (r.phase x.node) = ap (λ n. file_in (r.phase n)) same in cc (here, there, e);
   }

@@ -38,7 +38,7 @@ module _ {turn : Turn} {n : ℕ} {f : File} {h₁ : List Event} {debt' : ℕ →
 
   -- the phase stays what it was
   stays : (ph : Phase) → r.phase n ≡ ph → found ≢ 2 → busy v.work ≡ 0
-      → NodeAgrees (state_after_all v.start r.history).at (slots_of v.start) (λ s. count_in (slot_word st.words s)) r.node_of r.next_number n
+      → NodeAgrees (state_after_all v.start r.history).at (slots_of v.start) (λ s. count_in (slot_word st.words s)) r.node_of r.nodes.next_number n
       less (sum_by (taken_of n) (set st.views id (w turn (open_after g carried less ph)))) (owed debt' v.start.passes n) (get_elem? st.homes n) ph
       → Outcome
   stays ph is more calm node = inl (
@@ -48,7 +48,7 @@ module _ {turn : Turn} {n : ℕ} {f : File} {h₁ : List Event} {debt' : ℕ →
         (inl (sym is)) (λ s h e. sym is ∙ e)
         (λ p other range may. subst (MayBeUnmarked (slot_word (words₁ g carried less)) p) is (covers_same turn (words₁ g carried less) (same_slots g carried less) p n may))
         node (owner_stays st.views id v (w turn (open_after g carried less ph)) here n (λ bad. omega arith) ph
-        (subst (OwnerAgrees st.views n) is (r.each_owner n g.its.0))),
+        (subst (OwnerAgrees st.views n) is (r.nodes.owners n g.its.0))),
     goes_open g carried less ph,
   )
 
@@ -101,7 +101,7 @@ module _ (turn : Turn) (n : ℕ) where
 
   -- a node to which a mark is owed has a file
   owed_file : n < nodes_of v.start → 1 ≤ owed r.debt v.start.passes n → (f : File) × HoldsAt v.start r.phase f n
-  owed_file l some_owed = go (r.phase n) refl (r.each_node n l)
+  owed_file l some_owed = go (r.phase n) refl (r.nodes.each n l)
     where
       go : (ph : Phase) → r.phase n ≡ ph → NodeNow turn n ph → (f : File) × HoldsAt v.start r.phase f n
       go (leaving j t nx m f) is o = (f, (l, ap file_in is))
@@ -144,14 +144,14 @@ module _ (turn : Turn) (n : ℕ) where
 
     held_now : 0 < (state_after_all v.start r.history).holds f.number
     held_now = let a = ap (if_file f.number) holds in let b = bit_here f.number f.number refl in
-        omega (arith, r.holds f.number, sum_at (held_of f.number) st.views id v here, a, b)
+        omega (arith, r.holds.files f.number, sum_at (held_of f.number) st.views id v here, a, b)
 
     hold_lets : (debt' : ℕ → ℕ) → busy v.work ≡ 0 → ((m : ℕ) → m ≢ n → owed debt' v.start.passes m ≡ owed r.debt v.start.passes m)
         → ((m : ℕ) → m ≢ n → taking m v.work ≡ 0) → ((q : ℕ) → q ≢ x.number → debt' q ≡ r.debt q) → debt' x.number ≡ 0
         → word_at st.words (hold_word_of v.start x.number) ≡ 0 → IsLetGo turn n f h₁ debt' ([] ▷ Release f)
     hold_lets debt' calm owed_else taken_else debts no_debt empty = record {
       its = its;
-      files = record { grows = grows_one x.number r.history _ refl; legal = legal_more v.start r.legal held_now ((its_log turn).held ∙ holds); at = refl; fresh = refl; removed = refl };
+      files = record { grows = grows_one x.number r.history _ refl; legal = legal_more v.start r.life.legal held_now ((its_log turn).held ∙ holds); at = refl; fresh = refl; removed = refl };
       own = part_mine r.history refl;
       holds = λ m. let a = one_less_at (state_after_all v.start r.history).holds f.number m held_now in
           let b = ap (if_file m) holds in omega arith;

@@ -2,7 +2,7 @@
 -- retires the file.
 use Rattle.fx_lasting.proofs.Words.{Renewing, ◌≡◌, ◌≢◌, ℕ, ◌+◌, ◌-◌, ◌%◌, ◌^◌, ◌<◌, ◌≤◌, List, ◌∷◌, ◌++◌, map, set, sym, refl, ap, ◌∙◌, arith, Option, Some}
 use Rattle.fx_lasting.proofs.Words.{None, none, some, set_here, set_else, Closed, ◌▷◌, File, Event, Close, Action, pass_event, held_by, part_of_pass}
-use Rattle.fx_lasting.proofs.Words.{NodeAgrees, OwnerAgrees, MayBeUnmarked, HoldsAt, state_after_all, slots_of, word_of, hold_word_of, held_of}
+use Rattle.fx_lasting.proofs.Words.{NodeAgrees, OwnerAgrees, MayBeUnmarked, HoldsAt, state_after_all, slots_of, hold_word_of, held_of}
 use Rattle.fx_lasting.proofs.Words.{taken_of, taking, if_file, owed, count_in, IsHistory, Phase, free, seated, emptied, owner, file_in, removed_in}
 use Rattle.fx_lasting.proofs.Words.{file_if_numbered, changed_at, changed_here, changed_else, View, Work, Idle, Counted, Emptying, Goes, TakesOut}
 use Rattle.fx_lasting.proofs.Words.{length-set, inr, ◌⊎◌, dite, ℕ_discrete, eq-eqb, ne_eqb, one_if, sum_by, by_equality, sum_set, Agrees, get_elem?}
@@ -12,7 +12,7 @@ use Rattle.fx_lasting.proofs.Frames.{busy, does_now, written_of}
 use Rattle.fx_lasting.proofs.Keeping.{Turn, After, Homes, word_at, slot_word, in_range, tells, w, end}
 use Rattle.fx_lasting.proofs.node_lemmas.NodeSteps.{own_keeps, guards_else}
 use Rattle.fx_lasting.proofs.node_lemmas.NodeSteps.{after, node_kept}
-use Rattle.fx_lasting.proofs.Places.{node_words, node_here, node_else, node_slot, node_hold, node_alike, node_list, node_label}
+use Rattle.fx_lasting.proofs.Places.{node_words, node_here, node_slot, node_hold, node_label}
 use Rattle.fx_lasting.proofs.hold_lemmas.Unheld.{held_alone, held_not, on_node}
 use Rattle.fx_lasting.proofs.Keeping.{labels_same}
 use Rattle.fx_lasting.proofs.Keeping.{LeavesFiles}
@@ -82,7 +82,7 @@ module _ {turn : Turn} {n : ℕ} {f : File} {h₁ : List Event} {debt' : ℕ →
         → ((s : ℕ) (h : File) → r.phase n ≡ seated s h → ph ≡ seated s h)
         → ((p : ℕ) → p ≢ x.number → (0 < p) × (p ≤ v.start.passes) → MayBeUnmarked (slot_word st.words) p (r.phase n)
         → MayBeUnmarked (slot_word words₁) p ph)
-        → NodeAgrees (state_after_all v.start r.history).at (slots_of v.start) (λ s. count_in (slot_word st.words s)) r.node_of r.next_number n
+        → NodeAgrees (state_after_all v.start r.history).at (slots_of v.start) (λ s. count_in (slot_word st.words s)) r.node_of r.nodes.next_number n
         less (sum_by (taken_of n) (set st.views id (w turn open_after))) (owed debt' v.start.passes n) (get_elem? st.homes n) ph
         → OwnerAgrees (set st.views id (w turn open_after)) n ph → Agrees v.start (end turn open_after)
     stays_open filed removes may seats covers node known = node_kept turn n g.its.0 ph h₁ words₁ st.homes debt' Idle v.glance record {
@@ -92,10 +92,10 @@ module _ {turn : Turn} {n : ℕ} {f : File} {h₁ : List Event} {debt' : ℕ →
       legal = g.files.legal;
       at = g.files.at;
       fresh = g.files.fresh;
-      removed = λ m. ap (λ (z : ℕ → Option File). z m) g.files.removed ∙ (r.removed m ∙ sym (each_changed
+      removed = λ m. ap (λ (z : ℕ → Option File). z m) g.files.removed ∙ (r.nodes.removed m ∙ sym (each_changed
           (λ k z. removed_in m z ≡ removed_in m (r.phase k)) r.phase (λ is. removes m ∙ ap (λ (k : ℕ). removed_in m (r.phase k)) (sym is)) (λ _. refl)));
       label = labels_same v.start _ _ _ (written_in ph) (node_label turn n g.its.0 less n) (subst (Labels v.start st.words n)
-          (written_of (r.phase n) g.its.1 ∙ sym (written_of ph filed)) (r.each_label n g.its.0));
+          (written_of (r.phase n) g.its.1 ∙ sym (written_of ph filed)) (r.nodes.labels n g.its.0));
       home_else = λ m l other. refl;
       owed_else = g.owed_else;
       taken_else = λ m other. sym (g.taken_else m other);
@@ -144,7 +144,7 @@ module _ {turn : Turn} {n : ℕ} {f : File} {h₁ : List Event} {debt' : ℕ →
         let b = held_alone turn g.its debt' g.debts o.none_taken o.none_owed o.marked in omega arith
 
     was_removed : (state_after_all v.start h₁).removed f.number ≡ Some f
-    was_removed = ap (λ (z : ℕ → Option File). z f.number) g.files.removed ∙ (r.removed f.number
+    was_removed = ap (λ (z : ℕ → Option File). z f.number) g.files.removed ∙ (r.nodes.removed f.number
         ∙ (ap (λ (k : ℕ). removed_in f.number (r.phase k)) on_this ∙ (o.gone f.number ∙ rw (eq-eqb f.number f.number refl) refl)))
 
     legal₂ : IsHistory v.start h₂
@@ -158,7 +158,7 @@ module _ {turn : Turn} {n : ℕ} {f : File} {h₁ : List Event} {debt' : ℕ →
     removed₂ m = let old = (state_after_all v.start h₁).removed in dite (ℕ_discrete m f.number)
         (λ same. changed_here old f.number None m same ∙ sym (ap (removed_in m)
         (changed_here r.phase n (emptied id) (r.node_of m) (ap r.node_of same ∙ on_this))))
-        (λ other. changed_else old f.number None m other ∙ (ap (λ (z : ℕ → Option File). z m) g.files.removed ∙ (r.removed m
+        (λ other. changed_else old f.number None m other ∙ (ap (λ (z : ℕ → Option File). z m) g.files.removed ∙ (r.nodes.removed m
         ∙ sym (each_changed (λ k z. removed_in m z ≡ removed_in m (r.phase k)) r.phase
         (λ is. sym (ap (λ (k : ℕ). removed_in m (r.phase k)) is ∙ (o.gone m ∙ rw (ne_eqb f.number m (λ e. other (sym e))) refl)))
         (λ _. refl)))))

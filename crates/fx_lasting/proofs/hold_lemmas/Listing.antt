@@ -5,13 +5,12 @@ use Rattle.fx_lasting.proofs.Words.{Yielding, Searching, Placing, Retiring, Empt
 use Rattle.fx_lasting.proofs.Words.{dite, ℕ_discrete, Work, IsAllowed, Lists, ListsKeep, [], Bool, ◌≡◌, ◌+◌, ◌%◌, ◌<◌, ◌∙◌, sym, false, Agrees}
 use Rattle.fx_lasting.proofs.Histories.{grows_none}
 use Rattle.fx_lasting.proofs.Frames.{guards_same, covers_same, sees_same}
-use Rattle.fx_lasting.proofs.Keeping.{Turn, turn_of, After, word_at, Made, by_turn, its_log, its_work, in_range, logged, w, end, asks_alike, few_slots, met_same}
+use Rattle.fx_lasting.proofs.Keeping.{Turn, turn_of, After, word_at, Made, by_turn, its_log, its_work, in_range, w, end, met_same}
 use Rattle.fx_lasting.proofs.slot_lemmas.Watching.{watch_same}
 use Rattle.fx_lasting.proofs.Calm.{calm_after, calm_kept}
 use Rattle.fx_lasting.proofs.hold_lemmas.Lists.{ListGoesOn, now_listed, bit_added}
 use Rattle.fx_lasting.proofs.range_lemmas.GroupSteps.{its_inside}
 use Rattle.fx_lasting.proofs.Places.{list_words, list_here, list_apart, list_node, list_hold, list_slot, list_alike, list_label}
-use Rattle.fx_lasting.proofs.range_lemmas.Groups.{counts_same}
 use Rattle.fx_lasting.proofs.Words.{first_log}
 use Rattle.fx_lasting.proofs.Keeping.{none_added, range_left, tells_as}
 
@@ -22,13 +21,8 @@ allowed_more stock l (Placing n w) ok = ok
 allowed_more stock l (Renewing f n own w) ok = ok
 allowed_more stock l (Announced n) ok = refl
 allowed_more stock l (Guarded f n) ok = refl
-allowed_more stock l Idle ok = tt
-allowed_more stock l (Counted f n) ok = tt
-allowed_more stock l (Owing n) ok = tt
-allowed_more stock l (Yielding f n) ok = tt
-allowed_more stock l (Retiring f n t nx m) ok = tt
-allowed_more stock l (Emptying n) ok = tt
 allowed_more stock l (Keeping n lost) ok = ok
+allowed_more stock l _ ok = tt
 
 module _ (turn : Turn) (not_yet : turn.x.listed ≡ false) (fits : word_at turn.st.words (list_place turn.x.number) < 18446744073709551616) where
   open turn use {st, v, r, id, x, here, one}
@@ -97,7 +91,7 @@ module _ (turn : Turn) (not_yet : turn.x.listed ≡ false) (fits : word_at turn.
     record {
       goes = record {
         stepped = tells_as turn listed_after true (first_log v.logs).asked (first_log v.logs).stock (rw one refl) carried carried []
-            (grows_none x.number r.history) r.legal refl (its_inside turn);
+            (grows_none x.number r.history) r.life.legal refl (its_inside turn);
         carried = refl;
       };
     },

@@ -33,7 +33,7 @@ module _ (turn : Turn) (s : ℕ) (inside : s < slots_of turn.v.start) where
   -- the file that the word names is at the slot, on its node
   pub named : {n : ℕ} → full_name_in word ≡ n + 1
       → (f : File) × (there ≡ Some f) × Shows word f × (n < nodes_of v.start) × (r.phase n ≡ seated s f)
-  named {n} is = let o = r.each_slot s inside in go there refl o.names o.seat
+  named {n} is = let o = r.slots s inside in go there refl o.names o.seat
     where
       go : (found : Option File) → there ≡ found → Names r.node_of word found → IsSeated v.start r.node_of r.phase s found
           → (f : File) × (there ≡ Some f) × Shows word f × (n < nodes_of v.start) × (r.phase n ≡ seated s f)
@@ -42,7 +42,7 @@ module _ (turn : Turn) (s : ℕ) (inside : s < slots_of turn.v.start) where
           (f, at, names.1, rw same at seat.0, rw same at seat.1)
 
   pub unnamed : full_name_in word ≡ 0 → there ≡ None
-  unnamed is = let o = r.each_slot s inside in go there refl o.names
+  unnamed is = let o = r.slots s inside in go there refl o.names
     where
       go : (found : Option File) → there ≡ found → Names r.node_of word found → there ≡ None
       go None at names = at
@@ -59,7 +59,7 @@ module _ (turn : Turn) (s : ℕ) (inside : s < slots_of turn.v.start) where
       go : (e : Deed) → r.deed s x.number ≡ e → r.deed s x.number ≡ untouched
       go untouched is = is
       go over is = absurd (calm s ((its_log turn).heats s inside is))
-      go heated is = absurd (cold (let a = (r.each_slot s inside).heat in
+      go heated is = absurd (cold (let a = (r.slots s inside).heat in
           let b = tally_at (λ p. has_heated (r.deed s p)) v.start.passes x.number (in_range turn).0 (in_range turn).1 (ap has_heated is) in omega arith))
 
   -- a pass that isn't listed took nothing
@@ -113,7 +113,7 @@ module _ (turn : Turn) (s : ℕ) (inside : s < slots_of turn.v.start) where
 
     pub goes_quiet : (carried : List (ℕ × Option Closed)) → Goes (v, carried) [] d g (w turn quiet_after, carried)
     goes_quiet carried = record {
-      stepped = tells turn quiet_after refl carried carried [] (grows_none x.number r.history) r.legal refl knows;
+      stepped = tells turn quiet_after refl carried carried [] (grows_none x.number r.history) r.life.legal refl knows;
       carried = refl;
     }
 
@@ -122,7 +122,7 @@ module _ (turn : Turn) (s : ℕ) (inside : s < slots_of turn.v.start) where
   h₀ = pass_event x (Look s None) ∷ r.history
 
   legal₀ : there ≡ None → IsHistory v.start h₀
-  legal₀ is = legal_more v.start r.legal (size_so, sym is) tt
+  legal₀ is = legal_more v.start r.life.legal (size_so, sym is) tt
 
   found_empty : HasNoFile v.work → v.glance ≡ Nothing → there ≡ None → Reads turn Idle Nothing h₀
   found_empty works nothing is = let o = its_log turn in record {
@@ -278,7 +278,7 @@ module _ (turn : Turn) (s : ℕ) (inside : s < slots_of turn.v.start) where
 
       found_file : Reads turn (Guarded f n) Nothing h₁
       found_file = let guarded : GuardAgrees (slot_word st.words) r.phase x.number (r.debt x.number) (Guarded f n) = λ _. rw at hot in record {
-        files = record { grows = grows_one x.number r.history _ refl; legal = legal_more v.start r.legal (size_so, sym is) tt; at = refl; fresh = refl; removed = refl };
+        files = record { grows = grows_one x.number r.history _ refl; legal = legal_more v.start r.life.legal (size_so, sym is) tt; at = refl; fresh = refl; removed = refl };
         taken = λ k. sym (ap (taking k) works);
         owners = inr (ap busy works);
         held = held_mine (pass_event x (Look s (Some f))) r.history refl;

@@ -38,7 +38,7 @@ module _ (turn : Turn) (f : File) (n t : ℕ) (nx : Round) (m : ℕ) (works : tu
 
   -- the list has its bit
   its_bit : (p : ℕ) → 0 < p → p ≤ v.start.passes → word_at st.words (hold_word_of v.start p) ≢ 0 → IsListedIn (word_at st.words (list_place p)) p
-  its_bit p more high some = let a = find_pass r more high in let o = (r.each_view a.0 a.1 a.3).logs a.2 a.4 in
+  its_bit p more high some = let a = find_pass r more high in let o = (r.holds.views a.0 a.1 a.3).logs a.2 a.4 in
       let said : word_at st.words (hold_word_of v.start a.2.number) ≢ 0 = λ none. some (ap (λ (q : ℕ). word_at st.words (hold_word_of v.start q)) (sym a.5) ∙ none) in
       subst (λ (q : ℕ). IsListedIn (word_at st.words (list_place q)) q) a.5 (o.list (speaks a.2.stock a.2.listed (r.debt a.2.number) a.1.work said o.hold o.allowed))
 
@@ -59,17 +59,7 @@ module _ (turn : Turn) (f : File) (n t : ℕ) (nx : Round) (m : ℕ) (works : tu
       (λ (c : (word_at st.words (hold_word_of v.start p) ≡ k + 1 + 4294967296) × (r.debt p ≡ k + 1)). λ none. let a = c.0 in omega (arith, none)) hold)
       (subst (MayBeUnmarked (slot_word st.words) p) (ap r.phase is ∙ (its turn f n t nx m works).1) (guard clean)))
       (λ _. guard clean)
-  guard_on p Idle ne range hold guard = tt
-  guard_on p (Announced k) ne range hold guard = tt
-  guard_on p (Counted h k) ne range hold guard = tt
-  guard_on p (Owing k) ne range hold guard = tt
-  guard_on p (Yielding h k) ne range hold guard = tt
-  guard_on p (Searching k) ne range hold guard = tt
-  guard_on p (Placing k w) ne range hold guard = tt
-  guard_on p (Renewing h k own w) ne range hold guard = tt
-  guard_on p (Retiring h k a b c) ne range hold guard = tt
-  guard_on p (Emptying k) ne range hold guard = tt
-  guard_on p (Keeping k lost) ne range hold guard = tt
+  guard_on p _ ne range hold guard = tt
 
   skimmed : Visited turn f n t nx m works st.words r.debt nx' m
   skimmed = let a = (node turn f n t nx m works).few_marks in record {
@@ -97,7 +87,7 @@ module _ (turn : Turn) (f : File) (n t : ℕ) (nx : Round) (m : ℕ) (works : tu
           let same : Retiring f n t nx' m ≡ Retiring g i a nx' c = cc e in
           subst (λ (d : Work). Goes (v, carried) [] d v.glance (w turn (seen_after turn f n t nx m works st.words r.debt nx' m), carried)) same
           (goes turn f n t nx m works st.words r.debt nx' m carried);
-      inside = λ p low few at is. r.listed p low few (subst (λ (i : ℕ). IsListedIn (word_at st.words i) p) (sym at) is);
+      inside = λ p low few at is. r.holds.listed p low few (subst (λ (i : ℕ). IsListedIn (word_at st.words i) p) (sym at) is);
     },
   )
 

@@ -91,7 +91,7 @@ module _ (turn : Turn) (s : ℕ) (inside : s < slots_of turn.v.start) where
 
   -- a take leaves room: nobody takes twice beyond the takes of a cold slot
   room : count_in found + 1 < 1048576
-  room = let a = (r.each_slot s inside).takes in let b = tally_few (λ q. has_acted (r.deed s q)) v.start.passes in let c = r.shape.passes in
+  room = let a = (r.slots s inside).takes in let b = tally_few (λ q. has_acted (r.deed s q)) v.start.passes in let c = r.shape.passes in
       omega (arith, few_cold v.start.passes)
 
   -- what passes have done, after a deed of the pass at the slot
@@ -172,7 +172,7 @@ module _ (turn : Turn) (s : ℕ) (inside : s < slots_of turn.v.start) where
     cold_still : count_in found < cold_takes v.start.passes → Standing Nothing r.deed
     cold_still few = record {
       takes = let a = one_more in omega arith;
-      heat = same_heat ∙ (r.each_slot s inside).heat;
+      heat = same_heat ∙ (r.slots s inside).heat;
       deed_else = λ i q other. refl;
       deed_other = λ q other. refl;
       deed_own = λ is. inl is;
@@ -183,9 +183,9 @@ module _ (turn : Turn) (s : ℕ) (inside : s < slots_of turn.v.start) where
 
     heats_now : cold_takes v.start.passes ≤ count_in found → Standing (Heating s) (does_here over)
     heats_now many = record {
-      takes = let a = one_more in let b = (r.each_slot s inside).takes in let c = counts_here over has_acted in
+      takes = let a = one_more in let b = (r.slots s inside).takes in let c = counts_here over has_acted in
           let d = ap (λ (e : Deed). one_if (has_acted e)) nothing_done in omega arith;
-      heat = let a = same_heat in let b = (r.each_slot s inside).heat in let c = counts_here over has_heated in
+      heat = let a = same_heat in let b = (r.slots s inside).heat in let c = counts_here over has_heated in
           let d = ap (λ (e : Deed). one_if (has_heated e)) nothing_done in omega arith;
       deed_else = does_there over;
       deed_other = does_other over;
@@ -207,7 +207,7 @@ module _ (turn : Turn) (s : ℕ) (inside : s < slots_of turn.v.start) where
       -- no file
       none_taken : there turn s inside ≡ None → SlotStep turn s inside new h₀ d g deed'
       none_taken is = let o = its_log turn in let h = rw works at o.hold in record {
-        files = record { grows = grows_one x.number r.history _ refl; legal = legal_more v.start r.legal (size_so turn s inside, sym is) tt; at = refl; fresh = refl; removed = refl };
+        files = record { grows = grows_one x.number r.history _ refl; legal = legal_more v.start r.life.legal (size_so turn s inside, sym is) tt; at = refl; fresh = refl; removed = refl };
         own_name = own_name;
         name = same_name;
         entry = same_entry;
@@ -247,7 +247,7 @@ module _ (turn : Turn) (s : ℕ) (inside : s < slots_of turn.v.start) where
 
         file_taken : SlotStep turn s inside new h₁ (holding f n) g deed'
         file_taken = let o = its_log turn in let h = rw works at o.hold in record {
-          files = record { grows = grows_one x.number r.history _ refl; legal = legal_more v.start r.legal (size_so turn s inside, sym is) tt; at = refl; fresh = refl; removed = refl };
+          files = record { grows = grows_one x.number r.history _ refl; legal = legal_more v.start r.life.legal (size_so turn s inside, sym is) tt; at = refl; fresh = refl; removed = refl };
           own_name = own_name;
           name = same_name;
           entry = same_entry;
@@ -331,13 +331,12 @@ module _ (turn : Turn) (s : ℕ) (inside : s < slots_of turn.v.start) where
     not_counted = go (r.deed s x.number) refl
       where
         go : (e : Deed) → r.deed s x.number ≡ e → has_heated e ≡ false
-        go untouched is = refl
-        go over is = refl
         go heated is = absurd (not_yet is)
+        go _ is = refl
 
     -- a heat leaves room: no pass heats twice
     heat_room : heat_in found + 1 < 2048
-    heat_room = let a = (r.each_slot s inside).heat in let c = r.shape.passes in
+    heat_room = let a = (r.slots s inside).heat in let c = r.shape.passes in
         let b = tally_room (λ q. has_heated (r.deed s q)) v.start.passes x.number (in_range turn).0 (in_range turn).1 not_counted in omega arith
 
     hot_is : hot_word ≡ found + 2097152
@@ -368,8 +367,8 @@ module _ (turn : Turn) (s : ℕ) (inside : s < slots_of turn.v.start) where
           entry = z.1;
           hot = λ _. is_hot;
           moved = inr (let b = z.2 in omega arith);
-          takes = let a = (r.each_slot s inside).takes in let b = z.3 in let c = counts_over in omega arith;
-          heat = let a = (r.each_slot s inside).heat in let b = z.2 in let c = counts_here heated has_heated in let d = ap one_if not_counted in omega arith;
+          takes = let a = (r.slots s inside).takes in let b = z.3 in let c = counts_over in omega arith;
+          heat = let a = (r.slots s inside).heat in let b = z.2 in let c = counts_here heated has_heated in let d = ap one_if not_counted in omega arith;
           deed_else = does_there heated;
           deed_other = does_other heated;
           deed_own = λ is. inr has;
@@ -398,15 +397,8 @@ module _ (turn : Turn) (s : ℕ) (inside : s < slots_of turn.v.start) where
         go Idle o = tt
         go (Announced n) o = o
         go (Owing n) o = o
-        go (Counted f n) o = o.0
-        go (Guarded f n) o = o.0
-        go (Yielding f n) o = o.0
-        go (Searching n) o = o.0
-        go (Placing n w) o = o.0
         go (Renewing f n own w) o = (o.0.0, o.1.0)
-        go (Retiring f n t nx m) o = o.0
-        go (Emptying n) o = o.0
-        go (Keeping n lost) o = o.0
+        go _ o = o.0
 
     pub heats_up : (slots : ℕ) (carried : List (ℕ × Option Closed))
         → Made turn carried (slot_place s) (λ word. (word + heat_unit) % 2 ^ 64) (HeatsSlot (step slots (slot_place s) heat_unit 0 none) (v, carried))
@@ -417,7 +409,7 @@ module _ (turn : Turn) (s : ℕ) (inside : s < slots_of turn.v.start) where
       slot_kept turn s inside hot_word r.history v.work Nothing (does_here heated) heats_it,
       record {
         goes = record {
-          stepped = tells turn hot_after refl carried carried [] (grows_none x.number r.history) r.legal refl knows_its;
+          stepped = tells turn hot_after refl carried carried [] (grows_none x.number r.history) r.life.legal refl knows_its;
           carried = refl;
         };
       },

@@ -13,14 +13,14 @@ module _ (turn : Turn) where
   -- a node in its phase
   abbrev pub NodeNow : ℕ → Phase → Type 0
   NodeNow n = NodeAgrees (state_after_all v.start r.history).at (slots_of v.start) (λ s. count_in (slot_word st.words s)) r.node_of
-      r.next_number n (word_at st.words (word_of v.start n)) (sum_by (taken_of n) st.views) (owed r.debt v.start.passes n) (get_elem? st.homes n)
+      r.nodes.next_number n (word_at st.words (word_of v.start n)) (sum_by (taken_of n) st.views) (owed r.debt v.start.passes n) (get_elem? st.homes n)
 
   pub in_phase : {n : ℕ} {ph : Phase} → n < nodes_of v.start → r.phase n ≡ ph → NodeNow n ph
-  in_phase {n} l is = subst (NodeNow n) is (r.each_node n l)
+  in_phase {n} l is = subst (NodeNow n) is (r.nodes.each n l)
 
   -- a file of a node has its number there
   pub on_node : {n : ℕ} {f : File} → n < nodes_of v.start → file_in (r.phase n) ≡ Some f → r.node_of f.number ≡ n
-  on_node {n} {f} l is = go (r.phase n) is (r.each_node n l)
+  on_node {n} {f} l is = go (r.phase n) is (r.nodes.each n l)
     where
       go : (ph : Phase) → file_in ph ≡ Some f → NodeNow n ph → r.node_of f.number ≡ n
       go (seated s g) e o = let same : g ≡ f = cc e in rw same at o.file.its_node
@@ -71,11 +71,11 @@ module _ (turn : Turn) where
       held_not = go u.logs refl
         where
           go : (l : List Log) → u.logs ≡ l → held_of f.number u ≡ 0
-          go [] none = ap (λ (d : Work). if_file f.number (held_in d)) ((r.each_view j u there).empty none).0
+          go [] none = ap (λ (d : Work). if_file f.number (held_in d)) ((r.holds.views j u there).empty none).0
           go (z ∷ l) is = let at = subst (λ (l : List Log). Contains l z) (sym is) (contains_head z l) in
-              let o = (r.each_view j u there).logs z at in
-              by_log u.work z at refl (r.each_view j u there).work o.hold o.guarded
+              let o = (r.holds.views j u there).logs z at in
+              by_log u.work z at refl (r.holds.views j u there).work o.hold o.guarded
 
     -- so the pass holds it alone, or nobody does
     pub held_alone : (state_after_all v.start r.history).holds f.number ≡ held_of f.number v
-    held_alone = r.holds f.number ∙ sum_only (held_of f.number) st.views id v here (λ j u other there. held_not j u other there)
+    held_alone = r.holds.files f.number ∙ sum_only (held_of f.number) st.views id v here (λ j u other there. held_not j u other there)

@@ -1,21 +1,20 @@
 -- A pass that removed a hot file visits the hold words of the others: where one names the node, the
 -- pass marks it.
 use Rattle.fx_lasting.proofs.Words.{Renewing}
-use Rattle.fx_lasting.proofs.Words.{Round, round_at, IsToVisit, IsPassed, list_place, ◌≡◌, ◌≢◌, ℕ, ◌+◌, ◌^◌, ◌<◌, ◌≤◌, List, [], set, length, sym}
+use Rattle.fx_lasting.proofs.Words.{Round, round_at, IsToVisit, IsPassed, ◌≡◌, ◌≢◌, ℕ, ◌+◌, ◌^◌, ◌<◌, ◌≤◌, List, [], set, sym}
 use Rattle.fx_lasting.proofs.Words.{refl, ap, ◌∙◌, subst, arith, Option, none, keeps, Closed, File, WorkAgrees, HoldAgrees, GuardAgrees}
 use Rattle.fx_lasting.proofs.Words.{MayBeUnmarked, slots_of, nodes_of, word_of, hold_word_of, held_in, if_file, taken_of, taking, owed, Phase}
 use Rattle.fx_lasting.proofs.Words.{leaving, owner, file_in, removed_in, changed_at, changed_here, changed_else, Work, Idle, Announced, Counted}
 use Rattle.fx_lasting.proofs.Words.{Guarded, Owing, Yielding, Searching, Placing, Retiring, Emptying, Keeping, Visits, Marks, VisitsKeep, MarksKeep}
 use Rattle.fx_lasting.proofs.Words.{step, inr, ⊎_elim, dite, ℕ_discrete, eqb, one_if, announced, mark, set-get_or, exchanged, bit_here, bit_else}
-use Rattle.fx_lasting.proofs.Words.{Goes, length-set, sum_set, Start, dec_le, Agrees, either, Labels, label_of, written_in}
+use Rattle.fx_lasting.proofs.Words.{Goes, sum_set, Start, dec_le, Agrees, either, Labels, label_of, written_in}
 use Rattle.fx_lasting.proofs.Counts.{owed_changed}
 use Rattle.fx_lasting.proofs.Histories.{grows_none, each_changed}
 use Rattle.fx_lasting.proofs.Frames.{busy, does_now, covers_same}
 use Rattle.fx_lasting.proofs.Keeping.{Turn, turn_of, After, word_at, slot_word, Made, by_turn, its_log, its_work, tells, w, end, find_pass}
 use Rattle.fx_lasting.proofs.node_lemmas.NodeSteps.{after, node_kept, own_keeps, guards_else}
 use Rattle.fx_lasting.proofs.Keeping.{LabelSame, labels_same}
-use Rattle.fx_lasting.proofs.range_lemmas.Groups.{CountAlike}
-use Rattle.fx_lasting.proofs.Places.{hold_words, hold_here, hold_node, hold_slot, hold_else, hold_alike, hold_list, hold_label, pass_back}
+use Rattle.fx_lasting.proofs.Places.{hold_words, hold_here, hold_node, hold_slot, hold_else, hold_label, pass_back}
 use Rattle.fx_lasting.proofs.hold_lemmas.Unheld.{NodeNow, in_phase}
 use Rattle.fx_lasting.proofs.Places.{LeavesElse, leaves_all, hold_leaves}
 
@@ -59,13 +58,13 @@ module _ (turn : Turn) (f : File) (n t : ℕ) (nx : Round) (m : ℕ) (works : tu
           leaves_else = s.leaves_else;
           homes = refl;
           grows = grows_none x.number r.history;
-          legal = r.legal;
+          legal = r.life.legal;
           at = refl;
           fresh = refl;
-          removed = λ k. r.removed k ∙ sym (each_changed (λ i z. removed_in k z ≡ removed_in k (r.phase i)) r.phase
+          removed = λ k. r.nodes.removed k ∙ sym (each_changed (λ i z. removed_in k z ≡ removed_in k (r.phase i)) r.phase
               (λ is. sym (ap (λ (i : ℕ). removed_in k (r.phase i)) is ∙ ap (removed_in k) its.1)) (λ _. refl));
           label = labels_same v.start _ _ _ (label_of f.identity) s.same_label
-              (subst (λ (z : Phase). Labels v.start st.words n (written_in z)) its.1 (r.each_label n its.0));
+              (subst (λ (z : Phase). Labels v.start st.words n (written_in z)) its.1 (r.nodes.labels n its.0));
           home_else = λ k l other. refl;
           owed_else = s.owed_else;
           taken_else = λ k other. sym (ap (taking k) works);
@@ -92,7 +91,7 @@ module _ (turn : Turn) (f : File) (n t : ℕ) (nx : Round) (m : ℕ) (works : tu
         }
 
     pub goes : (carried : List (ℕ × Option Closed)) → Goes (v, carried) [] (Retiring f n t nx' m') v.glance (w turn seen_after, carried)
-    goes carried = record { stepped = tells turn seen_after refl carried carried [] (grows_none x.number r.history) r.legal refl its.0; carried = refl }
+    goes carried = record { stepped = tells turn seen_after refl carried carried [] (grows_none x.number r.history) r.life.legal refl its.0; carried = refl }
 
   -- a hold word that names nothing new
   module _ (pass : ℕ) (low : nx.next ≤ pass) (high : pass ≤ v.start.passes) (other : pass ≢ x.number)
@@ -117,17 +116,7 @@ module _ (turn : Turn) (f : File) (n t : ℕ) (nx : Round) (m : ℕ) (works : tu
         → p ≢ x.number → p ≢ pass → GuardAgrees (slot_word st.words) r.phase p (r.debt p) e
         → GuardAgrees (slot_word words') (changed_at r.phase n (leaving id t (round_at nx pass) m' f)) p (r.debt p) e
     guard_else words' m' same p (Guarded h k) ne not_pass guard = λ none. cover words' m' same p ne not_pass k (guard none)
-    guard_else words' m' same p Idle ne not_pass guard = tt
-    guard_else words' m' same p (Announced k) ne not_pass guard = tt
-    guard_else words' m' same p (Counted h k) ne not_pass guard = tt
-    guard_else words' m' same p (Owing k) ne not_pass guard = tt
-    guard_else words' m' same p (Yielding h k) ne not_pass guard = tt
-    guard_else words' m' same p (Searching k) ne not_pass guard = tt
-    guard_else words' m' same p (Placing k w) ne not_pass guard = tt
-    guard_else words' m' same p (Renewing h k own w) ne not_pass guard = tt
-    guard_else words' m' same p (Retiring h k a b c) ne not_pass guard = tt
-    guard_else words' m' same p (Emptying k) ne not_pass guard = tt
-    guard_else words' m' same p (Keeping k lost) ne not_pass guard = tt
+    guard_else words' m' same p _ ne not_pass guard = tt
 
     -- this pass holds nothing of the node that isn't marked, if its word doesn't name it
     guard_here : word ≢ announced n → (e : Work) → HoldAgrees word (r.debt pass) e → GuardAgrees (slot_word st.words) r.phase pass (r.debt pass) e
@@ -136,17 +125,7 @@ module _ (turn : Turn) (f : File) (n t : ℕ) (nx : Round) (m : ℕ) (works : tu
         (λ is. absurd (⊎_elim (λ (clean : (word ≡ k + 1) × (r.debt pass ≡ 0)). not_so (clean.0 ∙ ap (λ (i : ℕ). i + 1) is))
         (λ (full : (word ≡ k + 1 + 4294967296) × (r.debt pass ≡ k + 1)). let a = full.1 in omega arith) hold))
         (λ _. guard none)
-    guard_here not_so Idle hold guard = tt
-    guard_here not_so (Announced k) hold guard = tt
-    guard_here not_so (Counted h k) hold guard = tt
-    guard_here not_so (Owing k) hold guard = tt
-    guard_here not_so (Yielding h k) hold guard = tt
-    guard_here not_so (Searching k) hold guard = tt
-    guard_here not_so (Placing k w) hold guard = tt
-    guard_here not_so (Renewing h k own w) hold guard = tt
-    guard_here not_so (Retiring h k a b c) hold guard = tt
-    guard_here not_so (Emptying k) hold guard = tt
-    guard_here not_so (Keeping k lost) hold guard = tt
+    guard_here not_so _ hold guard = tt
 
     unnamed : word ≢ announced n → Visited st.words r.debt (round_at nx pass) m
     unnamed not_so = let guards : (p : ℕ) (e : Work) → p ≢ x.number → (0 < p) × (p ≤ v.start.passes)
@@ -180,16 +159,9 @@ module _ (turn : Turn) (f : File) (n t : ℕ) (nx : Round) (m : ℕ) (works : tu
         (λ (c : (word ≡ k + 1 + 4294967296) × (r.debt pass ≡ k + 1)). absurd (let a = c.0 in omega arith)) hold
     clean_debt (Guarded h k) hold is = let small = r.shape.nodes in let l = its.0 in ⊎_elim (λ (c : (word ≡ k + 1) × (r.debt pass ≡ 0)). c.1)
         (λ (c : (word ≡ k + 1 + 4294967296) × (r.debt pass ≡ k + 1)). absurd (let a = c.0 in omega arith)) hold
-    clean_debt Idle hold is = hold.1
-    clean_debt (Counted h k) hold is = hold.1
     clean_debt (Owing k) hold is = absurd (let a = hold.0 in omega arith)
     clean_debt (Yielding h k) hold is = absurd (let a = hold.0 in omega arith)
-    clean_debt (Searching k) hold is = hold.1
-    clean_debt (Placing k w) hold is = hold.1
-    clean_debt (Renewing h k own w) hold is = hold.1
-    clean_debt (Retiring h k a b c) hold is = hold.1
-    clean_debt (Emptying k) hold is = hold.1
-    clean_debt (Keeping k lost) hold is = hold.1
+    clean_debt _ hold is = hold.1
 
     -- the marked word, and the debt
     now_marked : (e : Work) → HoldAgrees word (r.debt pass) e → word ≡ announced n → HoldAgrees (announced n + mark) (n + 1) e
@@ -199,31 +171,13 @@ module _ (turn : Turn) (f : File) (n t : ℕ) (nx : Round) (m : ℕ) (works : tu
     now_marked (Guarded h k) hold is = let small = r.shape.nodes in let l = its.0 in ⊎_elim
         (λ (c : (word ≡ k + 1) × (r.debt pass ≡ 0)). inr (let a = c.0 in (omega arith, omega arith)))
         (λ (c : (word ≡ k + 1 + 4294967296) × (r.debt pass ≡ k + 1)). absurd (let a = c.0 in omega arith)) hold
-    now_marked Idle hold is = absurd (let a = hold.0 in omega arith)
-    now_marked (Counted h k) hold is = absurd (let a = hold.0 in omega arith)
-    now_marked (Owing k) hold is = absurd (let a = hold.0 in omega arith)
-    now_marked (Yielding h k) hold is = absurd (let a = hold.0 in omega arith)
-    now_marked (Searching k) hold is = absurd (let a = hold.0 in omega arith)
-    now_marked (Placing k w) hold is = absurd (let a = hold.0 in omega arith)
-    now_marked (Renewing h k own w) hold is = absurd (let a = hold.0 in omega arith)
     now_marked (Retiring h k a b c) hold is = absurd (let a = hold.0 in omega arith)
-    now_marked (Emptying k) hold is = absurd (let a = hold.0 in omega arith)
-    now_marked (Keeping k lost) hold is = absurd (let a = hold.0 in omega arith)
+    now_marked _ hold is = absurd (let a = hold.0 in omega arith)
 
     -- a pass that owes is excused
     excused : (slot_word' : ℕ → ℕ) (phase' : ℕ → Phase) (e : Work) → GuardAgrees slot_word' phase' pass (n + 1) e
     excused sw phase' (Guarded h k) = λ none. absurd (omega arith)
-    excused sw phase' Idle = tt
-    excused sw phase' (Announced k) = tt
-    excused sw phase' (Counted h k) = tt
-    excused sw phase' (Owing k) = tt
-    excused sw phase' (Yielding h k) = tt
-    excused sw phase' (Searching k) = tt
-    excused sw phase' (Placing k w) = tt
-    excused sw phase' (Renewing h k own w) = tt
-    excused sw phase' (Retiring h k a b c) = tt
-    excused sw phase' (Emptying k) = tt
-    excused sw phase' (Keeping k lost) = tt
+    excused sw phase' _ = tt
 
     abbrev debt₁ : ℕ → ℕ
     debt₁ = changed_at r.debt pass (n + 1)
@@ -234,7 +188,7 @@ module _ (turn : Turn) (f : File) (n t : ℕ) (nx : Round) (m : ℕ) (works : tu
 
       no_debt : r.debt pass ≡ 0
       no_debt = let a = find_pass r more high in
-          let o = subst (λ (q : ℕ). HoldAgrees (word_at st.words (hold_word_of v.start q)) (r.debt q) a.1.work) a.5 ((r.each_view a.0 a.1 a.3).logs a.2 a.4).hold in
+          let o = subst (λ (q : ℕ). HoldAgrees (word_at st.words (hold_word_of v.start q)) (r.debt q) a.1.work) a.5 ((r.holds.views a.0 a.1 a.3).logs a.2 a.4).hold in
           clean_debt a.1.work o is
 
       owes : (k : ℕ) → owed debt₁ v.start.passes k ≡ owed r.debt v.start.passes k + one_if (eqb (n + 1) (k + 1))

@@ -21,7 +21,7 @@ module _ {k : Start} {s : Shared} (r : Agrees k s) (all_idle : (i : ℕ) (u : Vi
   nobody i d = sym (ap busy d.2) ∙ (sym (busy_alone d.0.work) ∙ not_busy (all_idle i d.0 d.1))
 
   unheld : (n : ℕ) → end.holds n ≡ 0
-  unheld n = r.holds n ∙ sum_zero_at (held_of n) s.views (λ i u e. ap (if_file n) (no_file (all_idle i u e)))
+  unheld n = r.holds.files n ∙ sum_zero_at (held_of n) s.views (λ i u e. ap (if_file n) (no_file (all_idle i u e)))
 
   untaken : (n : ℕ) → sum_by (taken_of n) s.views ≡ 0
   untaken n = sum_zero_at (taken_of n) s.views (λ i u e. no_take (all_idle i u e) n)
@@ -29,29 +29,25 @@ module _ {k : Start} {s : Shared} (r : Agrees k s) (all_idle : (i : ℕ) (u : Vi
   unowed : (n : ℕ) → owed r.debt k.passes n ≡ 0
   unowed n = dite (ℕ_discrete (owed r.debt k.passes n) 0) (λ none. none) (λ some_owed. absurd (
       let z = owed_found r.debt k.passes n (omega (arith, some_owed)) in let y = find_pass r z.1 z.2 in
-      let h = ((r.each_view y.0 y.1 y.3).logs y.2 y.4).hold in
+      let h = ((r.holds.views y.0 y.1 y.3).logs y.2 y.4).hold in
       let i = holds_none (all_idle y.0 y.1 y.3) h in
       let e = ap r.debt y.5 in omega (arith, z.3, i.1, e)))
 
   abbrev Node : ℕ → Phase → Type 0
-  Node n = NodeAgrees end.at (slots_of k) (λ i. count_in (slot_word s.words i)) r.node_of r.next_number n (word_at s.words (word_of k n))
+  Node n = NodeAgrees end.at (slots_of k) (λ i. count_in (slot_word s.words i)) r.node_of r.nodes.next_number n (word_at s.words (word_of k n))
       (sum_by (taken_of n) s.views) (owed r.debt k.passes n) (get_elem? s.homes n)
 
   removed_none : (m n : ℕ) (ph : Phase) → Node n ph → OwnerAgrees s.views n ph → removed_in m ph ≡ None
   removed_none m n (leaving i t nx z f) a o = let bad = nobody i o in absurd (omega arith)
   removed_none m n (retired f) a o = let w = a.somebody in let h = untaken n in let q = unowed n in absurd (omega arith)
-  removed_none m n free a o = refl
-  removed_none m n (placed i l) a o = refl
-  removed_none m n (seated i f) a o = refl
-  removed_none m n (emptied i) a o = refl
-  removed_none m n (kept i lost) a o = refl
+  removed_none m n _ a o = refl
 
   pub settled_end : IsSettled end
   settled_end = record {
     unheld = unheld;
-    closed = λ m. r.removed m ∙ dite (dec_le (suc (r.node_of m)) (nodes_of k))
-        (λ l. removed_none m (r.node_of m) (r.phase (r.node_of m)) (r.each_node (r.node_of m) (omega (arith, l))) (r.each_owner (r.node_of m) (omega (arith, l))))
-        (λ g. ap (removed_in m) (r.unborn (r.node_of m) (omega (arith, g))));
+    closed = λ m. r.nodes.removed m ∙ dite (dec_le (suc (r.node_of m)) (nodes_of k))
+        (λ l. removed_none m (r.node_of m) (r.phase (r.node_of m)) (r.nodes.each (r.node_of m) (omega (arith, l))) (r.nodes.owners (r.node_of m) (omega (arith, l))))
+        (λ g. ap (removed_in m) (r.nodes.unborn (r.node_of m) (omega (arith, g))));
   }
 
   -- at the end the file that lies in the place of a node is at its slot
@@ -74,17 +70,17 @@ module _ {k : Start} {s : Shared} (r : Agrees k s) (all_idle : (i : ℕ) (u : Vi
   home_by {n} (kept i lost) a o = let bad = nobody i o in absurd (omega arith)
 
   pub home_file : {n : ℕ} → n < nodes_of k → (x : Option Closed) × (get_elem? s.homes n ≡ some (some x)) × AtItsSlot n x
-  home_file {n} l = home_by (r.phase n) (r.each_node n l) (r.each_owner n l)
+  home_file {n} l = home_by (r.phase n) (r.nodes.each n l) (r.nodes.owners n l)
 
   pub seat_at : {slot : ℕ} {f : File} → slot < slots_of k → end.at slot ≡ Some f
       → (r.node_of f.number < nodes_of k) × (r.phase (r.node_of f.number) ≡ seated slot f)
-  seat_at {slot} l there = subst (IsSeated k r.node_of r.phase slot) there (r.each_slot slot l).seat
+  seat_at {slot} l there = subst (IsSeated k r.node_of r.phase slot) there (r.slots slot l).seat
 
   -- the file at a slot lies in the place of its node
   pub file_home : {slot : ℕ} {f : File} → slot < slots_of k → end.at slot ≡ Some f
       → (r.node_of f.number < nodes_of k) × (get_elem? s.homes (r.node_of f.number) ≡ some (some (Some f.identity)))
   file_home {slot} {f} l there = let sat = seat_at l there in
-      (sat.0, (subst (Node (r.node_of f.number)) sat.1 (r.each_node (r.node_of f.number) sat.0)).file.at_home)
+      (sat.0, (subst (Node (r.node_of f.number)) sat.1 (r.nodes.each (r.node_of f.number) sat.0)).file.at_home)
 
   -- files at different slots are on different nodes
   pub one_slot : {slot other : ℕ} {f g : File} → slot < slots_of k → other < slots_of k → end.at slot ≡ Some f → end.at other ≡ Some g
@@ -96,5 +92,5 @@ module _ {k : Start} {s : Shared} (r : Agrees k s) (all_idle : (i : ℕ) (u : Vi
   none_outside_end {slot} past = outside slot past
     where
       outside : (slot : ℕ) → slots_of k ≤ slot → end.at slot ≡ None
-      outside slot past = inside_behind (state_at_start k) (map action_of r.history) r.legal.leads.0 (opens_inside (contents_of k) 0) slot
+      outside slot past = inside_behind (state_at_start k) (map action_of r.history) r.life.legal.leads.0 (opens_inside (contents_of k) 0) slot
           (let size = (same_shape k r.history).0 in omega arith)

@@ -109,14 +109,14 @@ module _ (id : TableId) (k : Start) where
     all_logs = ap (length {A = Log}) these_logs ∙ (length-map (reverse ps) log_of ∙ (length-reverse ps ∙ count))
 
     whole_here : length v.logs ≡ sum_by lengths s.views
-    whole_here = all_logs ∙ sym r.whole
+    whole_here = all_logs ∙ sym r.life.whole
 
     pub all_idle : (i : ℕ) (u : View) → get_elem? s.views i ≡ some u → HasNoFile u.work
     all_idle = each_seat (λ (u : View). u.logs) s.views seat v at whole_here (λ u. HasNoFile u.work) idle
-        (λ i u e none. inl ((r.each_view i u e).empty none).0)
+        (λ i u e none. inl ((r.holds.views i u e).empty none).0)
 
     pub known : (p : LastingPass) → Contains ps p → LogAgrees k r.history s.words r.phase r.debt r.deed v.work v.glance (log_of p)
-    known p h = (r.each_view seat v at).logs (log_of p) (rw these_logs (contains_mapped log_of (reverse ps) p (contains_reversed ps p h)))
+    known p h = (r.holds.views seat v at).logs (log_of p) (rw these_logs (contains_mapped log_of (reverse ps) p (contains_reversed ps p h)))
 
     sum_of_all : (f : Log → ℕ) → sum_by f v.logs ≡ sum_by (λ p. f (log_of p)) ps
     sum_of_all f = sum_gathered (λ (p : LastingPass). p.seat.me.0.logs) log_of f ps v.logs these_logs
@@ -130,14 +130,14 @@ module _ (id : TableId) (k : Start) where
 
     pub whole : IsWhole (opening_of k) r.history (map view_of ps)
     whole = record {
-      legal = r.legal;
+      legal = r.life.legal;
       settled = settled_end r all_idle;
       seen = λ w h. let p = contains_map view_of ps w h in rw p.2 (known p.0 p.1).seen;
       own = λ w h. let p = contains_map view_of ps w h in rw p.2 (known p.0 p.1).own;
       authors = λ e h. let known : once k.passes e.pass ≢ 0 =
-          λ none. contains_none e (subst (λ (l : List Event). Contains l e) (r.authors e.pass none) (in_part e.pass r.history e h refl)) in
+          λ none. contains_none e (subst (λ (l : List Event). Contains l e) (r.life.authors e.pass none) (in_part e.pass r.history e h refl)) in
           let a = sum_of_all (λ x. one_if (eqb x.number e.pass)) in let b = sum_here (λ x. one_if (eqb x.number e.pass)) in
-          let c = r.passes e.pass in let p = found_by (λ (q : LastingPass). (log_of q).number) e.pass ps (omega (arith, known)) in
+          let c = r.life.passes e.pass in let p = found_by (λ (q : LastingPass). (log_of q).number) e.pass ps (omega (arith, known)) in
           (view_of p.0, contains_mapped view_of ps p.0 p.1, sym p.2);
       chains_inside = λ w h c d. let p = contains_map view_of ps w h in
           absurd (contains_none c (subst (λ (z : PassView). Contains z.drawn c) p.2 d));

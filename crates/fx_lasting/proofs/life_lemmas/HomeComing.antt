@@ -39,7 +39,7 @@ module _ (t : LastingTable) {id : ℕ} {v : View} {words : List ℕ} (xs : List 
   stored : AreStored size (node_at words) end r.node_of xs
   stored = record {
     named = λ slot l. node_is (slice_index words (slot_place slot)) (end.at slot)
-        (subst (λ (ws : List ℕ). Names r.node_of (slice_index ws (slot_place slot)) (end.at slot)) final.2 (r.each_slot slot l).names);
+        (subst (λ (ws : List ℕ). Names r.node_of (slice_index ws (slot_place slot)) (end.at slot)) final.2 (r.slots slot l).names);
     there = λ slot f l at. final.4 _ _ (file_home r all_idle l at).1;
     apart = λ slot other f g l m at at' same. one_slot r all_idle l m at at' same;
     others = λ place file there.

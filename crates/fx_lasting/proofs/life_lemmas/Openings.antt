@@ -228,26 +228,32 @@ module _ (k : Start) (words : List ℕ) (homes : List (Option Closed)) (o : Open
     phase = first_phase k;
     node_of = node_of_number k;
     numbering = λ number. refl;
-    next_number = slots_of k;
     debt = λ q. 0;
     deed = λ i q. untouched;
-    legal = record { leads = (tt, refl); releases = tt };
-    each_slot = slot_opens;
-    each_node = node_opens;
-    each_owner = λ n l. owner_opens n;
-    each_label = λ n l. label_opens n;
-    removed = λ number. removed_opens number (node_of_number k number);
-    unborn = λ n l. let m = more_nodes in high_phase (omega arith);
-    fresh = λ number l. ap not (le-ltb number (slots_of k) l);
-    each_view = view_opens;
-    where_is = first_where k;
-    named = named_opens;
-    stocks = stocks_open;
-    known = of_one (IsKnown []) (first_view k) ([], refl);
-    holds = λ n. refl;
-    passes = λ p. let a = counted_once (λ (y : Log). y.number) (new_log k) (λ n. refl) p k.passes in omega arith;
-    whole = let a = length-map-range_with_len (new_log k) 1 k.passes in omega arith;
-    authors = λ p none. refl;
-    listed = λ p low high is. absurd (no_bits p high is);
-    counts = counts_alone (first_view k) refl o.groups o.question;
+    nodes = record {
+      next_number = slots_of k;
+      each = node_opens;
+      owners = λ n l. owner_opens n;
+      labels = λ n l. label_opens n;
+      removed = λ number. removed_opens number (node_of_number k number);
+      unborn = λ n l. let m = more_nodes in high_phase (omega arith);
+      fresh = λ number l. ap not (le-ltb number (slots_of k) l);
+      where_is = first_where k;
+      named = named_opens;
+      stocks = stocks_open;
+    };
+    slots = slot_opens;
+    holds = record {
+      views = view_opens;
+      files = λ n. refl;
+      listed = λ p low high is. absurd (no_bits p high is);
+    };
+    range = counts_alone (first_view k) refl o.groups o.question;
+    life = record {
+      legal = record { leads = (tt, refl); releases = tt };
+      known = of_one (IsKnown []) (first_view k) ([], refl);
+      passes = λ p. let a = counted_once (λ (y : Log). y.number) (new_log k) (λ n. refl) p k.passes in omega arith;
+      whole = let a = length-map-range_with_len (new_log k) 1 k.passes in omega arith;
+      authors = λ p none. refl;
+    };
   }

@@ -10,7 +10,7 @@ module _ (k : Start) (s : Shared) (r : Agrees k s) (views : List View) where
   pub record Reseated : Type 0 where
     pub taken : (n : ℕ) → sum_by (taken_of n) views ≡ sum_by (taken_of n) s.views
     pub owners : (n : ℕ) (ph : Phase) → OwnerAgrees s.views n ph → OwnerAgrees views n ph
-    pub stocks : (j : ℕ) (v : View) (x : Log) → get_elem? views j ≡ some v → Contains v.logs x → StockAgrees k r.where_is x.number x.stock
+    pub stocks : (j : ℕ) (v : View) (x : Log) → get_elem? views j ≡ some v → Contains v.logs x → StockAgrees k r.nodes.where_is x.number x.stock
     pub each_view : (j : ℕ) (v : View) → get_elem? views j ≡ some v → ViewAgrees k r.history s.words r.phase r.debt r.deed j v
     pub holds : (number : ℕ) → sum_by (held_of number) views ≡ sum_by (held_of number) s.views
     pub known : OfEach (IsKnown r.history) views
@@ -25,28 +25,34 @@ module _ (k : Start) (s : Shared) (r : Agrees k s) (views : List View) where
     phase = r.phase;
     node_of = r.node_of;
     numbering = r.numbering;
-    next_number = r.next_number;
     debt = r.debt;
     deed = r.deed;
-    legal = r.legal;
-    each_slot = r.each_slot;
-    each_node = λ n l. subst (λ (t : ℕ). NodeAgrees (state_after_all k r.history).at (slots_of k) (λ i. count_in (slot_word s.words i)) r.node_of
-        r.next_number n (word_at s.words (word_of k n)) t (owed r.debt k.passes n) (get_elem? s.homes n) (r.phase n))
-        (sym (a.taken n)) (r.each_node n l);
-    each_owner = λ n l. a.owners n (r.phase n) (r.each_owner n l);
-    each_label = r.each_label;
-    removed = r.removed;
-    unborn = r.unborn;
-    fresh = r.fresh;
-    each_view = a.each_view;
-    where_is = r.where_is;
-    named = r.named;
-    stocks = a.stocks;
-    known = a.known;
-    holds = λ number. r.holds number ∙ sym (a.holds number);
-    passes = λ p. a.passes p ∙ r.passes p;
-    whole = a.whole ∙ r.whole;
-    authors = r.authors;
-    listed = r.listed;
-    counts = a.counts;
+    nodes = record {
+      next_number = r.nodes.next_number;
+      each = λ n l. subst (λ (t : ℕ). NodeAgrees (state_after_all k r.history).at (slots_of k) (λ i. count_in (slot_word s.words i)) r.node_of
+          r.nodes.next_number n (word_at s.words (word_of k n)) t (owed r.debt k.passes n) (get_elem? s.homes n) (r.phase n))
+          (sym (a.taken n)) (r.nodes.each n l);
+      owners = λ n l. a.owners n (r.phase n) (r.nodes.owners n l);
+      labels = r.nodes.labels;
+      removed = r.nodes.removed;
+      unborn = r.nodes.unborn;
+      fresh = r.nodes.fresh;
+      where_is = r.nodes.where_is;
+      named = r.nodes.named;
+      stocks = a.stocks;
+    };
+    slots = r.slots;
+    holds = record {
+      views = a.each_view;
+      files = λ number. r.holds.files number ∙ sym (a.holds number);
+      listed = r.holds.listed;
+    };
+    range = a.counts;
+    life = record {
+      legal = r.life.legal;
+      known = a.known;
+      passes = λ p. a.passes p ∙ r.life.passes p;
+      whole = a.whole ∙ r.life.whole;
+      authors = r.life.authors;
+    };
   }

@@ -1,15 +1,15 @@
 -- A seat is split off, and one is joined back.
 use Rattle.fx_lasting.proofs.Words.{◌≡◌, ℕ, List, length, sym, refl, ap, ◌∙◌, subst, arith, ⊎_elim, length-append, sum_by, sum_by-append, eqb}
-use Rattle.fx_lasting.proofs.Words.{count_in, WorkAgrees, LogAgrees, NodeAgrees, Agrees, owing, Shared, Outside, Inside, Log, Start, AreFull}
-use Rattle.fx_lasting.proofs.Words.{range_at_start, View, Work, Idle, Nothing, Glance, Change, SplitsKeep, JoinsKeep, together, spent, one_if}
-use Rattle.fx_lasting.proofs.Words.{held_in, if_file, taking, owed, get_elem?, state_after_all, slots_of, word_of, some, set, set_here, set_else}
+use Rattle.fx_lasting.proofs.Words.{WorkAgrees, LogAgrees, Agrees, Shared, Outside, Inside, Log, Start}
+use Rattle.fx_lasting.proofs.Words.{View, Work, Idle, Nothing, Glance, Change, SplitsKeep, JoinsKeep, together, spent, one_if}
+use Rattle.fx_lasting.proofs.Words.{held_in, if_file, taking, get_elem?, some, set, set_here, set_else}
 use Rattle.fx_lasting.proofs.Words.{at_set, stands_at, sum_set, Contains, HasNoFile, ViewAgrees, taken_of, held_of, logs_of, lengths, zero, suc, []}
 use Rattle.fx_lasting.proofs.Words.{◌∷◌, ◌≢◌, set-set, OfEach, of_replaced, of_appended, seen_from_start, without_first, first_alone, AreReseated}
 use Rattle.fx_lasting.proofs.Words.{split, joined}
 use Rattle.fx_lasting.proofs.node_lemmas.Choosing.{no_file, no_take, not_busy, holds_none}
 use Rattle.fx_lasting.proofs.Frames.{busy_alone, busy, owner_map, owner_stays}
-use Rattle.fx_lasting.proofs.range_lemmas.Groups.{counts_same, visited_map}
-use Rattle.fx_lasting.proofs.Keeping.{IsKnown, word_at, slot_word, few_in_range}
+use Rattle.fx_lasting.proofs.range_lemmas.Groups.{counts_same}
+use Rattle.fx_lasting.proofs.Keeping.{IsKnown, few_in_range}
 use Rattle.fx_lasting.proofs.range_lemmas.Groups.{counts_reseated}
 use Rattle.fx_lasting.proofs.life_lemmas.Reseating.{reseat}
 
@@ -40,20 +40,20 @@ module _ (k : Start) (s : Shared) (r : Agrees k s) (views : List View) (a : AreR
     taken = λ n. by_work (taking n) refl;
     owners = λ n ph. owner_map s.views views n (λ j d is o.
         (o.0, a.others j o.0 o.1 (λ idle. let e : busy d ≡ 0 = ap busy (sym o.2) ∙ (sym (busy_alone o.0.work) ∙ ap busy idle.0) in omega arith), o.2)) ph;
-    stocks = λ j u x e has. ⊎_elim (λ new. let w = new.its x has in r.stocks w.0 w.1 x w.2 w.4) (λ old. r.stocks j u x old has) (a.each j u e);
+    stocks = λ j u x e has. ⊎_elim (λ new. let w = new.its x has in r.nodes.stocks w.0 w.1 x w.2 w.4) (λ old. r.nodes.stocks j u x old has) (a.each j u e);
     each_view = λ j u e. ⊎_elim (λ new. record {
       logs = λ x h. let w = new.its x h in
           subst (λ (d : Work × Glance). LogAgrees k r.history s.words r.phase r.debt r.deed d.0 d.1 x)
-          (λ i. ((w.3.0 ∙ sym new.idle.0) i, (w.3.1 ∙ sym new.idle.1) i)) ((r.each_view w.0 w.1 w.2).logs x w.4);
+          (λ i. ((w.3.0 ∙ sym new.idle.0) i, (w.3.1 ∙ sym new.idle.1) i)) ((r.holds.views w.0 w.1 w.2).logs x w.4);
       work = subst (WorkAgrees k r.phase j) (sym new.idle.0) tt;
       empty = λ _. new.idle;
       start = new.begun;
-    }) (λ old. r.each_view j u old) (a.each j u e);
+    }) (λ old. r.holds.views j u old) (a.each j u e);
     holds = λ n. by_work (λ d. if_file n (held_in d)) refl;
     known = known;
     passes = λ p. by_log (λ y. one_if (eqb y.number p));
     whole = a.by_logs (length {A = Log}) refl (λ xs ys. length-append xs ys);
-    counts = counts_reseated r.counts views
+    counts = counts_reseated r.range views
         (λ j u g e is. ⊎_elim (λ new. let bad : Inside g ≡ Outside = sym is ∙ new.idle.2 in absurd (cc bad)) (λ old. old) (a.each j u e))
         (λ j u y e has. ⊎_elim (λ new. let w = new.its y has in (w.0, w.1, w.2, w.4)) (λ old. (j, u, old, has)) (a.each j u e))
         by_change;
@@ -61,8 +61,8 @@ module _ (k : Start) (s : Shared) (r : Agrees k s) (views : List View) (a : AreR
 
 pub splits_keep : SplitsKeep without_first first_alone
 splits_keep k id v idle still out s r at = reseated k s r _ (split logs start k IsIdle s.views id v at (idle, still, out)
-    (λ l. record v { logs = l }) (λ l. refl) (λ l. (idle, still, out)) (λ l. refl) (r.each_view id v at).start)
-    (let mine = r.known id v at in of_appended (IsKnown r.history) (set s.views id (without_first v)) (of_replaced (IsKnown r.history) s.views r.known id (without_first v) mine) (first_alone v) mine)
+    (λ l. record v { logs = l }) (λ l. refl) (λ l. (idle, still, out)) (λ l. refl) (r.holds.views id v at).start)
+    (let mine = r.life.known id v at in of_appended (IsKnown r.history) (set s.views id (without_first v)) (of_replaced (IsKnown r.history) s.views r.life.known id (without_first v) mine) (first_alone v) mine)
 
 -- a pass that has chosen a node may forget it
 module _ (k : Start) (s : Shared) (r : Agrees k s) (id : ℕ) (v : View) (here : get_elem? s.views id ≡ some v) (free_of : HasNoFile v.work) where
@@ -93,20 +93,20 @@ module _ (k : Start) (s : Shared) (r : Agrees k s) (id : ℕ) (v : View) (here :
   forgotten = reseat k s r views' record {
     taken = λ n. let t = sum_set (taken_of n) s.views id v forgot here in let e = no_take free_of n in omega arith;
     owners = λ n. owner_stays s.views id v forgot here n (λ bad. let e = not_busy free_of in omega arith);
-    stocks = λ j u x e has. ⊎_elim (λ (t : (j ≡ id) × (forgot ≡ u)). r.stocks id v x here (subst (λ (z : View). Contains z.logs x) (sym t.1) has))
-        (λ t. r.stocks j u x t.1 has) (at_set s.views id j forgot u e);
+    stocks = λ j u x e has. ⊎_elim (λ (t : (j ≡ id) × (forgot ≡ u)). r.nodes.stocks id v x here (subst (λ (z : View). Contains z.logs x) (sym t.1) has))
+        (λ t. r.nodes.stocks j u x t.1 has) (at_set s.views id j forgot u e);
     each_view = λ j u e. ⊎_elim (λ (t : (j ≡ id) × (forgot ≡ u)).
         subst (λ (z : ℕ × View). ViewAgrees k r.history s.words r.phase r.debt r.deed z.0 z.1) (λ i. (sym t.0 i, t.1 i)) record {
-          logs = λ x h. its_log x ((r.each_view id v here).logs x h);
+          logs = λ x h. its_log x ((r.holds.views id v here).logs x h);
           work = tt;
-          empty = λ none. let e = (r.each_view id v here).empty none in (refl, e.1, e.2);
-          start = (r.each_view id v here).start;
-        }) (λ t. r.each_view j u t.1) (at_set s.views id j forgot u e);
+          empty = λ none. let e = (r.holds.views id v here).empty none in (refl, e.1, e.2);
+          start = (r.holds.views id v here).start;
+        }) (λ t. r.holds.views j u t.1) (at_set s.views id j forgot u e);
     holds = λ n. let t = sum_set (held_of n) s.views id v forgot here in let e = ap (if_file n) (no_file free_of) in omega arith;
-    known = of_replaced (IsKnown r.history) s.views r.known id forgot (r.known id v here);
+    known = of_replaced (IsKnown r.history) s.views r.life.known id forgot (r.life.known id v here);
     passes = λ p. let t = sum_set (logs_of p) s.views id v forgot here in omega arith;
     whole = let t = sum_set lengths s.views id v forgot here in omega arith;
-    counts = counts_same id forgot here r.counts (few_in_range r) refl (refl, λ g l. refl) refl (λ y has. (y, has, refl, refl));
+    counts = counts_same id forgot here r.range (few_in_range r) refl (refl, λ g l. refl) refl (λ y has. (y, has, refl, refl));
   }
 
 -- writes at two places, in the other order
@@ -140,4 +140,4 @@ joins_keep k id v begun free_of still out other w w_free w_still w_out s r at ap
     subst (λ (l : List View). Agrees k record { words = s.words; homes = s.homes; views = l }) same (reseated k _ r₂ _
     (joined logs start k IsIdle views₂ id v₁ at₂ (refl, still, out) other w₁ both spent apart there₂ (refl, w_still, w_out) (refl, still, out) refl
     begun (refl, refl, refl) refl)
-    (of_replaced (IsKnown r.history) (set views₂ id both) (of_replaced (IsKnown r.history) views₂ r₂.known id both (r.known id v at)) other spent (seen_from_start r.history)))
+    (of_replaced (IsKnown r.history) (set views₂ id both) (of_replaced (IsKnown r.history) views₂ r₂.life.known id both (r.life.known id v at)) other spent (seen_from_start r.history)))

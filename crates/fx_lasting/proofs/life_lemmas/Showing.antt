@@ -4,7 +4,7 @@ use Rattle.fx_lasting.proofs.Words.{◌≡◌, ℕ, ◌+◌, ◌≤◌, List, []
 use Rattle.fx_lasting.proofs.Words.{get_elem?, ⊎_elim, at_set, sum_set, sum_by-append, one_if, contains_only, Contains, IsSeenBy, part_of_pass, Event}
 use Rattle.fx_lasting.proofs.Words.{LogAgrees, ViewAgrees, Agrees, Outside, Inside, Shared, Log, Start, View}
 use Rattle.fx_lasting.proofs.Words.{IsInside, Runs, IsHistory, taken_of, held_of, logs_of, lengths}
-use Rattle.fx_lasting.proofs.Words.{owing_of, first_log, view_of, StockAgrees, TableId, LastingPass, IsPassOf, opening_of, doing_in}
+use Rattle.fx_lasting.proofs.Words.{first_log, view_of, StockAgrees, TableId, LastingPass, IsPassOf, opening_of, doing_in}
 use Rattle.fx_lasting.proofs.Words.{contains_none, contains_alone, learned_so, of_appended, of_replaced, at_snoc, at_longer, set_again, Splits, Seat}
 use Rattle.fx_lasting.proofs.Words.{Closed, Option, view_with, Adds, no_use, Learns}
 use Rattle.fx_lasting.specs.life.Showing.{shown_view, HasLearned}
@@ -27,8 +27,8 @@ module _ (k : Start) (s : Shared) (r : Agrees k s) (h : List Event) (seen : IsSe
   beside = reseat k s r views' record {
     taken = λ n. let t = sum_by-append (taken_of n) s.views (u ∷ []) in omega arith;
     owners = λ n. owner_map s.views views' n (λ j d is o. (o.0, at_longer s.views (u ∷ []) j o.0 o.1, o.2));
-    stocks = λ j x y e has. ⊎_elim (λ old. r.stocks j x y old has) (λ new. absurd (no_pass new has)) (at_snoc s.views u x j e);
-    each_view = λ j x e. ⊎_elim (λ old. r.each_view j x old)
+    stocks = λ j x y e has. ⊎_elim (λ old. r.nodes.stocks j x y old has) (λ new. absurd (no_pass new has)) (at_snoc s.views u x j e);
+    each_view = λ j x e. ⊎_elim (λ old. r.holds.views j x old)
         (λ (new : u ≡ x). subst (ViewAgrees k r.history s.words r.phase r.debt r.deed j) new record {
           logs = λ y c. absurd (contains_none y c);
           work = tt;
@@ -36,10 +36,10 @@ module _ (k : Start) (s : Shared) (r : Agrees k s) (h : List Event) (seen : IsSe
           start = inl refl;
         }) (at_snoc s.views u x j e);
     holds = λ n. let t = sum_by-append (held_of n) s.views (u ∷ []) in omega arith;
-    known = of_appended (IsKnown r.history) s.views r.known u seen;
+    known = of_appended (IsKnown r.history) s.views r.life.known u seen;
     passes = λ p. let t = sum_by-append (logs_of p) s.views (u ∷ []) in omega arith;
     whole = let t = sum_by-append lengths s.views (u ∷ []) in omega arith;
-    counts = counts_reseated r.counts views'
+    counts = counts_reseated r.range views'
         (λ j x g e is. ⊎_elim (λ old. old)
         (λ (new : u ≡ x). let bad : Outside ≡ Inside g = ap (λ (z : View). z.change) new ∙ is in absurd (cc bad)) (at_snoc s.views u x j e))
         (λ j x y e has. ⊎_elim (λ old. (j, x, old, has)) (λ new. absurd (no_pass new has)) (at_snoc s.views u x j e))
@@ -52,7 +52,7 @@ module _ (k : Start) (s : Shared) (r : Agrees k s) (h : List Event) (seen : IsSe
 -- a seat with one pass may show what the pass has seen
 pub may_show : (k : Start) (id : ℕ) (v : View) {x : Log} → v.logs ≡ x ∷ [] → Splits (Agrees k) id v v (shown_view v)
 may_show k id v {x} one s r at =
-    let seen : IsSeenBy (first_log v.logs).front r.history = subst (λ (l : List Log). IsSeenBy (first_log l).front r.history) (sym one) ((r.each_view id v at).logs x (contains_alone one)).seen in
+    let seen : IsSeenBy (first_log v.logs).front r.history = subst (λ (l : List Log). IsSeenBy (first_log l).front r.history) (sym one) ((r.holds.views id v at).logs x (contains_alone one)).seen in
     subst (λ (l : List View). Agrees k record { words = s.words; homes = s.homes; views = l ++ shown_view v ∷ [] }) (sym (set_again s.views id v at))
     (beside k s r (first_log v.logs).front seen)
 
@@ -60,7 +60,7 @@ may_show k id v {x} one s r at =
 module _ (k : Start) (id : ℕ) (v w : View) (x : Log) (one : v.logs ≡ x ∷ []) (begun : v.start ≡ k) (within : IsInside v.start v.work) (s : Shared) (r : Agrees k s)
     (at : get_elem? s.views id ≡ some v) (other : ℕ) (there : get_elem? s.views other ≡ some w) where
   its_log : LogAgrees k r.history s.words r.phase r.debt r.deed v.work v.glance x
-  its_log = (r.each_view id v at).logs x (contains_alone one)
+  its_log = (r.holds.views id v at).logs x (contains_alone one)
 
   abbrev log : Log
   log = record x { front = r.history }
@@ -88,21 +88,21 @@ module _ (k : Start) (id : ℕ) (v w : View) (x : Log) (one : v.logs ≡ x ∷ [
   learned_agrees = reseat k s r (set s.views id learned) record {
     taken = λ n. let t = sum_set (taken_of n) s.views id v learned at in omega arith;
     owners = owner_same s.views id v learned at refl;
-    stocks = λ j u y e has. ⊎_elim (λ (t : (j ≡ id) × (learned ≡ u)). subst (λ (z : Log). StockAgrees k r.where_is z.number z.stock)
-        (sym (contains_only log y (subst (λ (z : View). Contains z.logs y) (sym t.1) has))) (r.stocks id v x at (contains_alone one)))
-        (λ t. r.stocks j u y t.1 has) (at_set s.views id j learned u e);
+    stocks = λ j u y e has. ⊎_elim (λ (t : (j ≡ id) × (learned ≡ u)). subst (λ (z : Log). StockAgrees k r.nodes.where_is z.number z.stock)
+        (sym (contains_only log y (subst (λ (z : View). Contains z.logs y) (sym t.1) has))) (r.nodes.stocks id v x at (contains_alone one)))
+        (λ t. r.nodes.stocks j u y t.1 has) (at_set s.views id j learned u e);
     each_view = λ j u e. ⊎_elim (λ (t : (j ≡ id) × (learned ≡ u)).
         subst (λ (z : ℕ × View). ViewAgrees k r.history s.words r.phase r.debt r.deed z.0 z.1) (λ i. (sym t.0 i, t.1 i)) record {
           logs = λ y h. subst (LogAgrees k r.history s.words r.phase r.debt r.deed v.work v.glance) (sym (contains_only log y h)) now_log;
-          work = (r.each_view id v at).work;
+          work = (r.holds.views id v at).work;
           empty = λ none. absurd (omega (arith, ap (length {A = Log}) none));
           start = inr begun;
-        }) (λ t. r.each_view j u t.1) (at_set s.views id j learned u e);
+        }) (λ t. r.holds.views j u t.1) (at_set s.views id j learned u e);
     holds = λ n. let t = sum_set (held_of n) s.views id v learned at in omega arith;
-    known = of_replaced (IsKnown r.history) s.views r.known id learned (r.known id v at);
+    known = of_replaced (IsKnown r.history) s.views r.life.known id learned (r.life.known id v at);
     passes = λ p. total_same (λ z. one_if (eqb z.number p)) s.views id learned at one refl refl;
     whole = let t = sum_set lengths s.views id v learned at in let e = ap (length {A = Log}) one in omega arith;
-    counts = counts_same id learned at r.counts (few_in_range r) refl (refl, λ g l. refl) refl
+    counts = counts_same id learned at r.range (few_in_range r) refl (refl, λ g l. refl) refl
         (λ y has. subst (λ (y : Log). (z : Log) × Contains v.logs z × (z.number ≡ y.number) × (z.asked ≡ y.asked)) (sym (contains_only log y has))
         (x, contains_alone one, refl, refl));
   }
@@ -113,7 +113,7 @@ module _ (k : Start) (id : ℕ) (v w : View) (x : Log) (one : v.logs ≡ x ∷ [
       one = (log, refl);
       number = ap (λ (z : Log). z.number) (sym first);
       seen = subst (λ (z : Log). IsSeenBy z.front r.history) (sym first) o.seen;
-      legal = subst (λ (z : Start). IsHistory z r.history) (sym begun) r.legal;
+      legal = subst (λ (z : Start). IsHistory z r.history) (sym begun) r.life.legal;
       own = subst (λ (z : Log). part_of_pass z.number r.history ≡ part_of_pass z.number z.front) (sym first) o.own;
       steps = subst (λ (z : Log). x.steps ≤ z.steps + 0) (sym first) (omega arith);
       begun = subst (λ (z : Log). z.steps ≤ x.steps) (sym first) (omega arith);
@@ -127,7 +127,7 @@ module _ (k : Start) (id : ℕ) (v w : View) (x : Log) (one : v.logs ≡ x ∷ [
       change = refl;
       start = refl;
     };
-    shown = r.known other w there;
+    shown = r.life.known other w there;
   }
 
   may : (z : View) × Agrees k record { words = s.words; homes = s.homes; views = set s.views id z } × HasLearned v w z

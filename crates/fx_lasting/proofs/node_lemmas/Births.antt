@@ -6,11 +6,10 @@ use Rattle.fx_lasting.proofs.Words.{file_in, removed_in, changed_here, Log, Work
 use Rattle.fx_lasting.proofs.Words.{BirthsKeep, RestsKeep, birth_word, step, inl, inr, ⊎_elim, dite, ℕ_discrete, sum_by, sum_set, length-set, Start}
 use Rattle.fx_lasting.proofs.Words.{Agrees, first_log, HasNoFile, HoldAgrees, IsAllowed, GuardAgrees, rested, IsInside, changed_at, IsInStock, Bool}
 use Rattle.fx_lasting.proofs.Words.{cond, le-ltb, get_or, HasItsPlace, Placement, as_written, Unlabelled}
-use Rattle.fx_lasting.proofs.Histories.{grows_none, each_changed}
+use Rattle.fx_lasting.proofs.Histories.{grows_none}
 use Rattle.fx_lasting.proofs.Frames.{alone_cases, busy, does_now}
-use Rattle.fx_lasting.proofs.Keeping.{Turn, turn_of, After, Homes, word_at, slot_word, Made, by_turn, its_log, its_work, its_stock, in_its_stock, in_range, tells, tells_less, w, end}
-use Rattle.fx_lasting.proofs.node_lemmas.NodeSteps.{after, node_kept, own_keeps, guards_else}
-use Rattle.fx_lasting.proofs.Places.{node_words, node_here, node_else, node_slot, node_hold, node_label}
+use Rattle.fx_lasting.proofs.Keeping.{Turn, turn_of, After, Homes, word_at, slot_word, Made, by_turn, its_log, its_work, its_stock, in_its_stock, tells, tells_less, w, end}
+use Rattle.fx_lasting.proofs.Places.{node_words, node_here, node_hold}
 use Rattle.fx_lasting.proofs.Calm.{read_before, read_before_kept, Reads}
 use Rattle.fx_lasting.proofs.node_lemmas.Choosing.{no_file, no_take, not_busy, holds_none}
 use Rattle.fx_lasting.proofs.node_lemmas.FreeNodes.{some_free, entry_is, named_by}
@@ -28,7 +27,7 @@ module _ (turn : Turn) where
 
   -- a node whose word is 0 is free
   zero_free : {n : ℕ} → n < nodes_of v.start → word_at st.words (word_of v.start n) ≡ 0 → r.phase n ≡ free
-  zero_free {n} l is = go (r.phase n) refl (r.each_node n l)
+  zero_free {n} l is = go (r.phase n) refl (r.nodes.each n l)
     where
       go : (ph : Phase) → r.phase n ≡ ph → NodeNow turn n ph → r.phase n ≡ free
       go free at o = at
@@ -184,7 +183,7 @@ module _ (turn : Turn) where
       birth,
       record {
         goes = λ m works'. let same : n ≡ m = cc (sym works ∙ works') in rw (← same)
-            (tells turn born_after refl carried ((n, None) ∷ carried) [] (grows_none x.number r.history) r.legal refl its.0, refl);
+            (tells turn born_after refl carried ((n, None) ∷ carried) [] (grows_none x.number r.history) r.life.legal refl its.0, refl);
       },
     )
 
@@ -286,7 +285,7 @@ module _ (turn : Turn) where
       tt,
       rw has resting,
       record {
-        stepped = tells turn rest_after refl carried (rest carried) [] (grows_none x.number r.history) r.legal refl knows.1;
+        stepped = tells turn rest_after refl carried (rest carried) [] (grows_none x.number r.history) r.life.legal refl knows.1;
         carried = refl;
       },
     )

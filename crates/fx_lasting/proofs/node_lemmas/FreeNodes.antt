@@ -86,12 +86,7 @@ found_below P dec (suc n) = ⊎_elim (λ p. inl (n, omega arith, p))
 
 is_free : (ph : Phase) → (ph ≡ free) ⊎ (ph ≡ free → ⊥)
 is_free free = inl refl
-is_free (placed s l) = inr (λ e. cc e)
-is_free (seated s f) = inr (λ e. cc e)
-is_free (leaving s t nx m f) = inr (λ e. cc e)
-is_free (retired f) = inr (λ e. cc e)
-is_free (emptied s) = inr (λ e. cc e)
-is_free (kept s lost) = inr (λ e. cc e)
+is_free _ = inr (λ e. cc e)
 
 -- an entry of a list of numbers
 pub entry_is : (l : List ℕ) (i : ℕ) → i < length l → get_elem? l i ≡ some (get_or l i 0)
@@ -121,30 +116,23 @@ module _ {k : Start} {st : Shared} (r : Agrees k st) where
   owes_use n word (Guarded f m) o = ⊎_elim (λ (c : (word ≡ m + 1) × (n + 1 ≡ 0)). absurd (let a = c.1 in omega arith)) (λ c. sym c.1) o
   owes_use n word (Owing m) o = sym o.1
   owes_use n word (Yielding f m) o = sym o.1
-  owes_use n word Idle o = absurd (let a = o.1 in omega arith)
-  owes_use n word (Counted f m) o = absurd (let a = o.1 in omega arith)
-  owes_use n word (Searching m) o = absurd (let a = o.1 in omega arith)
-  owes_use n word (Placing m w) o = absurd (let a = o.1 in omega arith)
-  owes_use n word (Renewing g m own w) o = absurd (let a = o.1 in omega arith)
-  owes_use n word (Retiring f m t nx z) o = absurd (let a = o.1 in omega arith)
-  owes_use n word (Emptying m) o = absurd (let a = o.1 in omega arith)
-  owes_use n word (Keeping m lost) o = absurd (let a = o.1 in omega arith)
+  owes_use n word _ o = absurd (let a = o.1 in omega arith)
 
   -- a pass works with a node that isn't free, unless a slot names it
-  used : (n : ℕ) → n < nodes_of k → ((s : ℕ) → r.where_is n ≢ at_slot s) → ((j : ℕ) (l : Placement) → Does st.views j (Placing n l) → 1 ≤ view_use n) → (ph : Phase) → r.phase n ≡ ph → (ph ≡ free → ⊥)
-      → NodeAgrees (state_after_all k r.history).at (slots_of k) (λ s. count_in (slot_word st.words s)) r.node_of r.next_number n
+  used : (n : ℕ) → n < nodes_of k → ((s : ℕ) → r.nodes.where_is n ≢ at_slot s) → ((j : ℕ) (l : Placement) → Does st.views j (Placing n l) → 1 ≤ view_use n) → (ph : Phase) → r.phase n ≡ ph → (ph ≡ free → ⊥)
+      → NodeAgrees (state_after_all k r.history).at (slots_of k) (λ s. count_in (slot_word st.words s)) r.node_of r.nodes.next_number n
       (word_at st.words (word_of k n)) (sum_by (taken_of n) st.views) (owed r.debt k.passes n) (get_elem? st.homes n) ph
       → OwnerAgrees st.views n ph → 1 ≤ view_use n
   used n l away placed_use free is not_free o own = absurd (not_free refl)
   used n l away placed_use (placed j z) is not_free o own = placed_use j z own
-  used n l away placed_use (seated s f) is not_free o own = let b = (r.each_slot s o.inside).names in
+  used n l away placed_use (seated s f) is not_free o own = let b = (r.slots s o.inside).names in
       let names = subst (Names r.node_of (slot_word st.words s)) o.there b in let e = o.file.its_node in let at = names.0 in
-      let c = name_of_file (slot_word st.words s) n (omega arith) in let z = r.named s o.inside in let y = z.named in
-      let same : z.node ≡ n = omega arith in absurd (away s (subst (λ (m : ℕ). r.where_is m ≡ at_slot s) same z.here))
+      let c = name_of_file (slot_word st.words s) n (omega arith) in let z = r.nodes.named s o.inside in let y = z.named in
+      let same : z.node ≡ n = omega arith in absurd (away s (subst (λ (m : ℕ). r.nodes.where_is m ≡ at_slot s) same z.here))
   used n l away placed_use (leaving j t nx m f) is not_free o own = let a = does_use n j own (λ m l bad. cc bad) refl in omega arith
   used n l away placed_use (retired f) is not_free o own = dite (ℕ_discrete (sum_by (taken_of n) st.views) 0)
       (λ none. let z = owed_found r.debt k.passes n (let a = o.somebody in omega arith) in let y = find_pass r z.1 z.2 in
-      let h = ((r.each_view y.0 y.1 y.3).logs y.2 y.4).hold in
+      let h = ((r.holds.views y.0 y.1 y.3).logs y.2 y.4).hold in
       let h' = subst (λ (p : ℕ). HoldAgrees (word_at st.words (hold_word_of k p)) (r.debt p) y.1.work) y.5 h in
       let a = used_by n y.0 y.1 y.3 (owes_use n _ y.1.work (rw z.3 at h')) in omega arith)
       (λ some_taken. let a = sum_le_at (taken_of n) (uses n) st.views (λ i u e. takes_use n u.work) in omega arith)
@@ -156,14 +144,14 @@ module _ {k : Start} {st : Shared} (r : Agrees k st) where
     abbrev own : ℕ → ℕ
     own j = get_or x.stock j 0
 
-    stock : StockAgrees k r.where_is x.number x.stock
-    stock = r.stocks id v x here (subst (λ (l : List Log). Contains l x) (sym one) (contains_head x []))
+    stock : StockAgrees k r.nodes.where_is x.number x.stock
+    stock = r.nodes.stocks id v x here (subst (λ (l : List Log). Contains l x) (sym one) (contains_head x []))
 
-    own_here : (j : ℕ) → j < length x.stock → (own j < nodes_of k) × (r.where_is (own j) ≡ in_stock x.number j)
+    own_here : (j : ℕ) → j < length x.stock → (own j < nodes_of k) × (r.nodes.where_is (own j) ≡ in_stock x.number j)
     own_here j l = (stock.its.inside j (own j) (entry_is x.stock j l), stock.here j (own j) (entry_is x.stock j l))
 
     own_apart : (i j : ℕ) → i < length x.stock → j < length x.stock → own i ≡ own j → i ≡ j
-    own_apart i j l m same = let both : in_stock x.number i ≡ in_stock x.number j = sym (own_here i l).1 ∙ (ap r.where_is same ∙ (own_here j m).1) in cc both
+    own_apart i j l m same = let both : in_stock x.number i ≡ in_stock x.number j = sym (own_here i l).1 ∙ (ap r.nodes.where_is same ∙ (own_here j m).1) in cc both
 
     abbrev own_use : View → ℕ
     own_use u = below (λ j. uses (own j) u) (length x.stock)
@@ -181,7 +169,7 @@ module _ {k : Start} {st : Shared} (r : Agrees k st) where
     one_each j u there = go u.logs refl
       where
         go : (l : List Log) → u.logs ≡ l → own_use u ≤ length u.logs
-        go [] none = let e = none_if u (ap named_by ((r.each_view j u there).empty none).0) in omega arith
+        go [] none = let e = none_if u (ap named_by ((r.holds.views j u there).empty none).0) in omega arith
         go (z ∷ l) is = let a = at_most_one u in let b = ap (length {A = Log}) is in omega arith
 
     -- all passes but this one
@@ -195,15 +183,15 @@ module _ {k : Start} {st : Shared} (r : Agrees k st) where
     few_used : sum_by own_use st.views + 1 ≤ k.passes
     few_used = let a = sum_set own_use st.views id v left here in let b = none_if v still in let c = none_if left still in
         let d = sum_set lengths st.views id v left here in let e = ap (length {A = Log}) one in let f = sum_le_at own_use lengths (set st.views id left) one_else in
-        let g = r.whole in omega arith
+        let g = r.life.whole in omega arith
 
     -- a pass that holds a file besides places another stock's nodes: it isn't this one
     module _ (m : ℕ) (low : m < length x.stock) (j : ℕ) (u : View) (there : get_elem? st.views j ≡ some u) (f : File) (held n : ℕ) (l : Placement)
         (works : u.work ≡ Renewing f held n l) (same : n ≡ own m) where
       by_log : (y : Log) → Contains u.logs y → ⊥
-      by_log y has = let its = rw works at ((r.each_view j u there).logs y has).allowed in
-          let named = (r.stocks j u y there has).here its.0 n its.1 in
-          let both : in_stock y.number its.0 ≡ in_stock x.number m = sym named ∙ (ap r.where_is same ∙ (own_here m low).1) in
+      by_log y has = let its = rw works at ((r.holds.views j u there).logs y has).allowed in
+          let named = (r.nodes.stocks j u y there has).here its.0 n its.1 in
+          let both : in_stock y.number its.0 ≡ in_stock x.number m = sym named ∙ (ap r.nodes.where_is same ∙ (own_here m low).1) in
           let number : y.number ≡ x.number = cc both in dite (ℕ_discrete j id)
           (λ (is : j ≡ id). let e : named_by v.work ≡ held + 1 = ap (λ (w : View). named_by w.work) (some-injective v u (sym here ∙ (ap (get_elem? st.views) (sym is) ∙ there)))
           ∙ ap named_by works in omega (arith, e, still))
@@ -213,7 +201,7 @@ module _ {k : Start} {st : Shared} (r : Agrees k st) where
       stray = go u.logs refl
         where
           go : (l : List Log) → u.logs ≡ l → ⊥
-          go [] none = let idle : u.work ≡ Idle = ((r.each_view j u there).empty none).0 in cc (sym idle ∙ works)
+          go [] none = let idle : u.work ≡ Idle = ((r.holds.views j u there).empty none).0 in cc (sym idle ∙ works)
           go (y ∷ ys) is = by_log y (subst (λ (l : List Log). Contains l y) (sym is) (contains_head y ys))
 
     -- so who places a node of this stock uses it alone
@@ -227,6 +215,6 @@ module _ {k : Start} {st : Shared} (r : Agrees k st) where
         (λ none. absurd (
         let a = below_le (λ j. 1) (λ j. view_use (own j)) (length x.stock)
         (λ m l. let at = own_here m l in used (own m) at.0
-        (λ s bad. let e : in_stock x.number m ≡ at_slot s = sym at.1 ∙ bad in cc e) (λ j z. placed_use m l j z) (r.phase (own m)) refl (none m l) (r.each_node (own m) at.0) (r.each_owner (own m) at.0)) in
+        (λ s bad. let e : in_stock x.number m ≡ at_slot s = sym at.1 ∙ bad in cc e) (λ j z. placed_use m l j z) (r.phase (own m)) refl (none m l) (r.nodes.each (own m) at.0) (r.nodes.owners (own m) at.0)) in
         let c = below_ones (length x.stock) in let e = below_sum (λ j. uses (own j)) st.views (length x.stock) in let f = few_used in omega arith))
         (found_below (λ j. r.phase (own j) ≡ free) (λ j. is_free (r.phase (own j))) (length x.stock))

@@ -80,7 +80,7 @@ module _ (turn : Turn) (n : ℕ) where
       rw has parked,
       record {
         keeps = λ m works' _. let same : n ≡ m = cc (sym works ∙ works') in rw (← same)
-            (tells turn park_after refl carried (rest carried) [] (grows_none x.number r.history) r.legal refl at_out.0, refl);
+            (tells turn park_after refl carried (rest carried) [] (grows_none x.number r.history) r.life.legal refl at_out.0, refl);
         lost = λ not_so. absurd (not_so is);
       },
     )
@@ -151,7 +151,7 @@ module _ (turn : Turn) (n : ℕ) where
       record {
         goes = λ m more works'. let same : n ≡ m = cc (sym works ∙ works') in let as_many : lost ≡ more = cc (sym works ∙ works') in
             rw (← same, ← as_many) (
-              tells turn again_after refl carried ((n, None) ∷ carried) [] (grows_none x.number r.history) r.legal refl at_rest.0,
+              tells turn again_after refl carried ((n, None) ∷ carried) [] (grows_none x.number r.history) r.life.legal refl at_rest.0,
               refl,
               (in_phase turn at_rest.0 at_rest.1).counts,
               (in_phase turn at_rest.0 at_rest.1).few_lost,

@@ -1,18 +1,16 @@
 -- A pass stores the label of the file that it places, and loads that of the file that it holds.
-use Rattle.fx_lasting.proofs.Words.{IsIn, ◌≡◌, ◌≢◌, ℕ, ◌+◌, ◌<◌, ◌≤◌, List, [], set, sym, refl, ap, ◌∙◌, subst, arith, Option, Some, None, inr, ⊎_elim}
+use Rattle.fx_lasting.proofs.Words.{IsIn, ◌≡◌, ◌≢◌, ℕ, ◌+◌, ◌<◌, ◌≤◌, List, [], set, sym, refl, ap, ◌∙◌, subst, arith, Option, Some, ⊎_elim}
 use Rattle.fx_lasting.proofs.Words.{none, keeps, step, length-set, get_or-set_other, get_or-set_same, Closed, File, Agrees, WorkAgrees, HoldsAt}
 use Rattle.fx_lasting.proofs.Words.{Labels, slots_of, nodes_of, slot_place, group_place, list_place, question_place, word_of, hold_word_of}
-use Rattle.fx_lasting.proofs.Words.{tag_word_of, number_word_of, held_in, if_file, taken_of, taking, HoldsOn, Phase, placed, owner, file_in}
-use Rattle.fx_lasting.proofs.Words.{removed_in, written_in, changed_here, sum_set, Work, Placing, Placement, Written, as_written, Unlabelled, Tag}
+use Rattle.fx_lasting.proofs.Words.{tag_word_of, number_word_of, held_in, taken_of, taking, HoldsOn, Phase, placed, owner, file_in}
+use Rattle.fx_lasting.proofs.Words.{written_in, changed_here, sum_set, Work, Placing, Placement, Written, as_written, Unlabelled, Tag}
 use Rattle.fx_lasting.proofs.Words.{Label, label_of, number_of_mark, Goes, Log, first_log, Tags, Numbers, ReadsTag, ReadsNumber, TagsKeep, RecallsTag, RecallsTagKeep}
 use Rattle.fx_lasting.proofs.Words.{NumbersKeep, ReadsTagKeep, ReadsNumberKeep}
-use Rattle.fx_lasting.proofs.Histories.{grows_none, each_changed}
+use Rattle.fx_lasting.proofs.Histories.{grows_none}
 use Rattle.fx_lasting.proofs.Frames.{busy, does_now, written_of}
-use Rattle.fx_lasting.proofs.range_lemmas.Groups.{CountAlike}
 use Rattle.fx_lasting.proofs.hold_lemmas.Holds.{on_node}
 use Rattle.fx_lasting.proofs.range_lemmas.GroupSteps.{its_inside}
-use Rattle.fx_lasting.proofs.Keeping.{Turn, turn_of, After, word_at, slot_word, LabelSame, Made, by_turn, its_log, its_work, in_range, tells, tells_less, w, end}
-use Rattle.fx_lasting.proofs.node_lemmas.NodeSteps.{after, node_kept, own_keeps, guards_else}
+use Rattle.fx_lasting.proofs.Keeping.{Turn, turn_of, After, word_at, slot_word, LabelSame, Made, by_turn, its_log, its_work, tells, tells_less, w, end}
 use Rattle.fx_lasting.proofs.Calm.{read_before, read_before_kept}
 use Rattle.fx_lasting.proofs.Peeking.{still}
 use Rattle.fx_lasting.proofs.hold_lemmas.Unheld.{in_phase}
@@ -95,7 +93,7 @@ module _ (turn : Turn) where
         } ([], refl) refl
 
     goes : (carried : List (ℕ × Option Closed)) → Goes (v, carried) [] (Placing n l') v.glance (w turn stored_after, carried)
-    goes carried = record { stepped = tells turn stored_after refl carried carried [] (grows_none x.number r.history) r.legal refl its.0; carried = refl }
+    goes carried = record { stepped = tells turn stored_after refl carried carried [] (grows_none x.number r.history) r.life.legal refl its.0; carried = refl }
 
   -- The tag's word has this tag after the step
   module _ (n lost t : ℕ) (u : Written) (works : v.work ≡ Placing n (as_written lost u)) where
@@ -157,7 +155,7 @@ module _ (turn : Turn) where
               get_or-set_other st.words place (number_word_of v.start m) new 0 (λ bad. other (omega (arith, bad))),
             )) (
               get_or-set_other st.words place (tag_word_of v.start n) new 0 (λ bad. omega (arith, bad))
-                  ∙ subst (λ (ph : Phase). Labels v.start st.words n (written_in ph)) at.1 (r.each_label n at.0),
+                  ∙ subst (λ (ph : Phase). Labels v.start st.words n (written_in ph)) at.1 (r.nodes.labels n at.0),
               get_or-set_same st.words place new 0 (omega (arith, r.shape.words, at.0)),
             ),
         record {
@@ -176,7 +174,7 @@ module _ (turn : Turn) where
     its_file = held_at f n holds
 
     its_label : Labels v.start st.words n (label_of f.identity)
-    its_label = subst (Labels v.start st.words n) (written_of (r.phase n) its_file.1) (r.each_label n its_file.0)
+    its_label = subst (Labels v.start st.words n) (written_of (r.phase n) its_file.1) (r.nodes.labels n its_file.0)
 
     same_file : (g : File) (m : ℕ) → HoldsOn v.work g m → f ≡ g
     same_file g m its = let e = sym (held_file holds) ∙ held_file its in cc e
@@ -219,7 +217,7 @@ module _ (turn : Turn) where
         goes = sees carried;
         front = ap (λ (l : List Log). (first_log l).front) (sym one);
         number = λ g m its. its_label.1 ∙ ap (λ (h : File). number_of_mark h.identity.mark) (same_file g m its);
-        node = λ g m its. let at = held_at g m its in on_node v.start st r m g (r.phase m) at.1 (r.each_node m at.0);
+        node = λ g m its. let at = held_at g m its in on_node v.start st r m g (r.phase m) at.1 (r.nodes.each m at.0);
       },
     )
 

@@ -25,7 +25,7 @@ module _ (turn : Turn) (q : ℕ) (its : q < nodes_of turn.v.start) (ph : Phase) 
     words = words';
     homes = homes';
     phase = changed_at r.phase q ph;
-    next_number = r.next_number;
+    next_number = r.nodes.next_number;
     debt = debt';
     deed = r.deed;
     work = d;
@@ -34,7 +34,7 @@ module _ (turn : Turn) (q : ℕ) (its : q < nodes_of turn.v.start) (ph : Phase) 
     asked = x.asked;
     listed = x.listed;
     still_listed = λ l. l;
-    where_is = r.where_is;
+    where_is = r.nodes.where_is;
     stock = x.stock;
     watch = x.watch;
     more_met = met_same x.watch.met;
@@ -67,7 +67,7 @@ module _ (turn : Turn) (q : ℕ) (its : q < nodes_of turn.v.start) (ph : Phase) 
     pub guards : (p : ℕ) (e : Work) → p ≢ x.number → (0 < p) × (p ≤ v.start.passes)
         → HoldAgrees (word_at st.words (hold_word_of v.start p)) (r.debt p) e → GuardAgrees (slot_word st.words) r.phase p (r.debt p) e
         → HoldAgrees (word_at words' (hold_word_of v.start p)) (debt' p) e × GuardAgrees (slot_word words') (changed_at r.phase q ph) p (debt' p) e
-    pub node : NodeAgrees before (slots_of v.start) (λ s. count_in (slot_word st.words s)) r.node_of r.next_number q
+    pub node : NodeAgrees before (slots_of v.start) (λ s. count_in (slot_word st.words s)) r.node_of r.nodes.next_number q
         (word_at words' (word_of v.start q)) (sum_by (taken_of q) (set st.views id (w turn after_seen))) (owed debt' v.start.passes q)
         (get_elem? homes' q) ph
     pub known : OwnerAgrees (set st.views id (w turn after_seen)) q ph
@@ -117,7 +117,7 @@ module _ (turn : Turn) (q : ℕ) (its : q < nodes_of turn.v.start) (ph : Phase) 
           (λ other. refl);
       spare = λ n p e is at other. each_changed (λ m z. z ≡ free) r.phase
           (λ same. let mine = in_its_stock turn (s.its_stock (ap r.phase (sym same) ∙ is)) in
-          let both : in_stock p e ≡ in_stock x.number (s.its_stock (ap r.phase (sym same) ∙ is)).0 = sym at ∙ (ap r.where_is same ∙ mine.1) in
+          let both : in_stock p e ≡ in_stock x.number (s.its_stock (ap r.phase (sym same) ∙ is)).0 = sym at ∙ (ap r.nodes.where_is same ∙ mine.1) in
           absurd (other (cc both)))
           (λ _. is);
       open_file = λ j u f n other there holds at. (
@@ -140,23 +140,23 @@ module _ (turn : Turn) (q : ℕ) (its : q < nodes_of turn.v.start) (ph : Phase) 
       slots = λ i l. slot_same (same_slots i l) (at_is i) (λ q low high. refl)
           (λ f there seat. each_changed (λ m z. z ≡ r.phase m) r.phase
           (λ same. let e = ap r.phase (sym same) ∙ seat in s.at_slot i f e ∙ (sym e ∙ ap r.phase (sym same))) (λ _. refl))
-          (r.each_slot i l);
+          (r.slots i l);
       nodes = λ n l. each_changed (λ n z. NodeAgrees (state_after_all v.start h').at (slots_of v.start)
-          (λ i. count_in (slot_word words' i)) r.node_of r.next_number n (word_at words' (word_of v.start n))
+          (λ i. count_in (slot_word words' i)) r.node_of r.nodes.next_number n (word_at words' (word_of v.start n))
           (sum_by (taken_of n) (set st.views id (w turn after_seen))) (owed debt' v.start.passes n) (get_elem? homes' n) z) r.phase
           (λ same. rw same (node_same (slots_of v.start) r.node_of q (omega arith) refl refl refl refl ph
           (λ i f is there. (at_is i, ap count_in (same_slots i (inside i f is)))) s.node))
           (λ other. node_same (slots_of v.start) r.node_of n (omega arith) (s.leaves_else.nodes n other)
           (let t = sum_set (taken_of n) st.views id v (w turn after_seen) here in let e = s.taken_else n other in omega arith)
           (s.owed_else n other) (s.home_else n l other) (r.phase n)
-          (λ i f is there. (at_is i, ap count_in (same_slots i (inside_else n l i f is)))) (r.each_node n l));
+          (λ i f is there. (at_is i, ap count_in (same_slots i (inside_else n l i f is)))) (r.nodes.each n l));
       owners = λ n l. each_changed (OwnerAgrees (set st.views id (w turn after_seen))) r.phase
-          (λ same. rw same s.known) (λ other. owner_stays st.views id v (w turn after_seen) here n (s.free_else n other) (r.phase n) (r.each_owner n l));
+          (λ same. rw same s.known) (λ other. owner_stays st.views id v (w turn after_seen) here n (s.free_else n other) (r.phase n) (r.nodes.owners n l));
       labels = λ n l. each_changed (λ n z. Labels v.start words' n (written_in z)) r.phase (λ same. rw same s.label)
-          (λ other. labels_same v.start _ _ _ (written_in (r.phase n)) (s.leaves_else.labels n other) (r.each_label n l));
+          (λ other. labels_same v.start _ _ _ (written_in (r.phase n)) (s.leaves_else.labels n other) (r.nodes.labels n l));
       removed = s.removed;
-      unborn = λ n l. each_changed (λ m z. z ≡ free) r.phase (λ same. absurd (omega (arith, same, l, its))) (λ _. r.unborn n l);
-      fresh = λ number l. ap (λ (f : ℕ → Bool). f number) s.fresh ∙ r.fresh number l;
+      unborn = λ n l. each_changed (λ m z. z ≡ free) r.phase (λ same. absurd (omega (arith, same, l, its))) (λ _. r.nodes.unborn n l);
+      fresh = λ number l. ap (λ (f : ℕ → Bool). f number) s.fresh ∙ r.nodes.fresh number l;
       named = names_on turn _ (λ i l. ap name_in (same_slots i l));
       stock = its_stock turn;
       stocks = λ n p e other at. at;
@@ -174,14 +174,14 @@ module _ (turn : Turn) (q : ℕ) (its : q < nodes_of turn.v.start) (ph : Phase) 
     }
       where
         inside : (i : ℕ) (f : File) → ph ≡ seated i f → i < slots_of v.start
-        inside i f is = (subst (NodeAgrees before (slots_of v.start) (λ s. count_in (slot_word st.words s)) r.node_of r.next_number q
+        inside i f is = (subst (NodeAgrees before (slots_of v.start) (λ s. count_in (slot_word st.words s)) r.node_of r.nodes.next_number q
             (word_at words' (word_of v.start q)) (sum_by (taken_of q) (set st.views id (w turn after_seen))) (owed debt' v.start.passes q)
             (get_elem? homes' q)) is s.node).inside
 
         inside_else : (n : ℕ) → n < nodes_of v.start → (i : ℕ) (f : File) → r.phase n ≡ seated i f → i < slots_of v.start
-        inside_else n l i f is = (subst (NodeAgrees before (slots_of v.start) (λ s. count_in (slot_word st.words s)) r.node_of r.next_number n
+        inside_else n l i f is = (subst (NodeAgrees before (slots_of v.start) (λ s. count_in (slot_word st.words s)) r.node_of r.nodes.next_number n
             (word_at st.words (word_of v.start n)) (sum_by (taken_of n) st.views) (owed r.debt v.start.passes n)
-            (get_elem? st.homes n)) is (r.each_node n l)).inside
+            (get_elem? st.homes n)) is (r.nodes.each n l)).inside
 
 -- a step after which the pass has seen the whole history
 module _ (turn : Turn) (q : ℕ) (its : q < nodes_of turn.v.start) (ph : Phase) (h' : List Event) (words' : List ℕ) (homes' : Homes)
@@ -238,7 +238,7 @@ module _ (turn : Turn) (q : ℕ) (its : q < nodes_of turn.v.start) (ph : Phase) 
     pub mine : (owner (r.phase q) ≡ id + 1) ⊎ ((r.phase q ≡ free) × IsInStock x.stock q)
     pub empty : file_in (r.phase q) ≡ None
     pub still_empty : file_in ph ≡ None
-    pub node : NodeAgrees (state_after_all v.start r.history).at (slots_of v.start) (λ s. count_in (slot_word st.words s)) r.node_of r.next_number q
+    pub node : NodeAgrees (state_after_all v.start r.history).at (slots_of v.start) (λ s. count_in (slot_word st.words s)) r.node_of r.nodes.next_number q
         (word_at words' (word_of v.start q)) (sum_by (taken_of q) (set st.views id (w turn own_after))) (owed r.debt v.start.passes q)
         (get_elem? homes' q) ph
     pub known : OwnerAgrees (set st.views id (w turn own_after)) q ph
@@ -258,10 +258,10 @@ module _ (turn : Turn) (q : ℕ) (its : q < nodes_of turn.v.start) (ph : Phase) 
     leaves_else = s.leaves_else;
     homes = s.homes;
     grows = grows_none x.number r.history;
-    legal = r.legal;
+    legal = r.life.legal;
     at = refl;
     fresh = refl;
-    removed = λ m. r.removed m ∙ sym (each_changed (λ i z. removed_in m z ≡ removed_in m (r.phase i)) r.phase
+    removed = λ m. r.nodes.removed m ∙ sym (each_changed (λ i z. removed_in m z ≡ removed_in m (r.phase i)) r.phase
         (λ is. unremoved ph s.still_empty m ∙ sym (ap (λ (i : ℕ). removed_in m (r.phase i)) is ∙ unremoved (r.phase q) s.empty m)) (λ _. refl));
     home_else = s.home_else;
     owed_else = λ m other. refl;

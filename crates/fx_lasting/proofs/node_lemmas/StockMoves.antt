@@ -7,7 +7,7 @@ use Rattle.fx_lasting.proofs.Keeping.{Turn, slot_word, its_stock, in_its_stock}
 
 -- what the word of a slot names is a node of the table
 pub names_a_node : (turn : Turn) {s : ℕ} → s < slots_of turn.v.start → NamesANode turn.v.start (slot_word turn.st.words s)
-names_a_node turn {s} inside = let o = turn.r.named s inside in let a = o.named in let b = o.inside in ((λ bad. omega (arith, bad, a)), omega arith)
+names_a_node turn {s} inside = let o = turn.r.nodes.named s inside in let a = o.named in let b = o.inside in ((λ bad. omega (arith, bad, a)), omega arith)
 
 module _ (turn : Turn) (s : ℕ) (inside : s < slots_of turn.v.start) (n : ℕ) (stocked : IsInStock turn.x.stock n) where
   open turn use {st, v, r, id, x, here, one}
@@ -22,47 +22,47 @@ module _ (turn : Turn) (s : ℕ) (inside : s < slots_of turn.v.start) (n : ℕ) 
   other_inside : other < nodes_of v.start
   other_inside = (names_a_node turn inside).1
 
-  other_here : r.where_is other ≡ at_slot s
-  other_here = let o = r.named s inside in let a = o.named in let same : o.node ≡ other = omega arith in
-      subst (λ (m : ℕ). r.where_is m ≡ at_slot s) same o.here
+  other_here : r.nodes.where_is other ≡ at_slot s
+  other_here = let o = r.nodes.named s inside in let a = o.named in let same : o.node ≡ other = omega arith in
+      subst (λ (m : ℕ). r.nodes.where_is m ≡ at_slot s) same o.here
 
-  its_place : (n < nodes_of v.start) × (r.where_is n ≡ in_stock x.number entry)
+  its_place : (n < nodes_of v.start) × (r.nodes.where_is n ≡ in_stock x.number entry)
   its_place = in_its_stock turn stocked
 
   apart : n ≢ other
-  apart same = let bad : in_stock x.number entry ≡ at_slot s = sym its_place.1 ∙ (ap r.where_is same ∙ other_here) in cc bad
+  apart same = let bad : in_stock x.number entry ≡ at_slot s = sym its_place.1 ∙ (ap r.nodes.where_is same ∙ other_here) in cc bad
 
   abbrev pub where_moved : ℕ → Whereabouts
-  where_moved = changed_at (changed_at r.where_is n (at_slot s)) other (in_stock x.number entry)
+  where_moved = changed_at (changed_at r.nodes.where_is n (at_slot s)) other (in_stock x.number entry)
 
   abbrev pub stock_moved : List ℕ
   stock_moved = set x.stock entry other
 
   moved_n : where_moved n ≡ at_slot s
-  moved_n = changed_else (changed_at r.where_is n (at_slot s)) other (in_stock x.number entry) n apart
-      ∙ changed_here r.where_is n (at_slot s) n refl
+  moved_n = changed_else (changed_at r.nodes.where_is n (at_slot s)) other (in_stock x.number entry) n apart
+      ∙ changed_here r.nodes.where_is n (at_slot s) n refl
 
   moved_other : where_moved other ≡ in_stock x.number entry
-  moved_other = changed_here (changed_at r.where_is n (at_slot s)) other (in_stock x.number entry) other refl
+  moved_other = changed_here (changed_at r.nodes.where_is n (at_slot s)) other (in_stock x.number entry) other refl
 
   -- each other node is where it was
-  moved_else : (m : ℕ) → m ≢ n → m ≢ other → where_moved m ≡ r.where_is m
-  moved_else m a b = changed_else (changed_at r.where_is n (at_slot s)) other (in_stock x.number entry) m b
-      ∙ changed_else r.where_is n (at_slot s) m a
+  moved_else : (m : ℕ) → m ≢ n → m ≢ other → where_moved m ≡ r.nodes.where_is m
+  moved_else m a b = changed_else (changed_at r.nodes.where_is n (at_slot s)) other (in_stock x.number entry) m b
+      ∙ changed_else r.nodes.where_is n (at_slot s) m a
 
-  pub moved_slot : (i m : ℕ) → i ≢ s → r.where_is m ≡ at_slot i → where_moved m ≡ at_slot i
+  pub moved_slot : (i m : ℕ) → i ≢ s → r.nodes.where_is m ≡ at_slot i → where_moved m ≡ at_slot i
   moved_slot i m away at = moved_else m
-      (λ same. let bad : in_stock x.number entry ≡ at_slot i = sym its_place.1 ∙ (ap r.where_is (sym same) ∙ at) in cc bad)
-      (λ same. let bad : at_slot s ≡ at_slot i = sym other_here ∙ (ap r.where_is (sym same) ∙ at) in let e : s ≡ i = cc bad in away (sym e)) ∙ at
+      (λ same. let bad : in_stock x.number entry ≡ at_slot i = sym its_place.1 ∙ (ap r.nodes.where_is (sym same) ∙ at) in cc bad)
+      (λ same. let bad : at_slot s ≡ at_slot i = sym other_here ∙ (ap r.nodes.where_is (sym same) ∙ at) in let e : s ≡ i = cc bad in away (sym e)) ∙ at
 
   -- the slot's new word names the node of the stock
   pub moved_names : (word : ℕ) → name_in word ≡ n + 1 → NamesItsNode v.start where_moved s word
   moved_names word is = record { node = n; named = is; inside = its_place.0; here = moved_n }
 
-  pub moved_stocks : (m q e : ℕ) → q ≢ x.number → r.where_is m ≡ in_stock q e → where_moved m ≡ in_stock q e
+  pub moved_stocks : (m q e : ℕ) → q ≢ x.number → r.nodes.where_is m ≡ in_stock q e → where_moved m ≡ in_stock q e
   moved_stocks m q e away at = moved_else m
-      (λ same. let bad : in_stock x.number entry ≡ in_stock q e = sym its_place.1 ∙ (ap r.where_is (sym same) ∙ at) in let z : x.number ≡ q = cc bad in away (sym z))
-      (λ same. let bad : at_slot s ≡ in_stock q e = sym other_here ∙ (ap r.where_is (sym same) ∙ at) in cc bad) ∙ at
+      (λ same. let bad : in_stock x.number entry ≡ in_stock q e = sym its_place.1 ∙ (ap r.nodes.where_is (sym same) ∙ at) in let z : x.number ≡ q = cc bad in away (sym z))
+      (λ same. let bad : at_slot s ≡ in_stock q e = sym other_here ∙ (ap r.nodes.where_is (sym same) ∙ at) in cc bad) ∙ at
 
   moved_entry : (e m : ℕ) → get_elem? stock_moved e ≡ some m → (m < nodes_of v.start) × (where_moved m ≡ in_stock x.number e)
   moved_entry e m is = dite (ℕ_discrete e entry)
@@ -73,9 +73,9 @@ module _ (turn : Turn) (s : ℕ) (inside : s < slots_of turn.v.start) (n : ℕ) 
       let at = its_stock turn in (
         at.its.inside e m was,
         moved_else m
-            (λ same. let bad : in_stock x.number entry ≡ in_stock x.number e = sym its_place.1 ∙ (ap r.where_is (sym same) ∙ at.here e m was) in
+            (λ same. let bad : in_stock x.number entry ≡ in_stock x.number e = sym its_place.1 ∙ (ap r.nodes.where_is (sym same) ∙ at.here e m was) in
             let z : entry ≡ e = cc bad in away (sym z))
-            (λ same. let bad : at_slot s ≡ in_stock x.number e = sym other_here ∙ (ap r.where_is (sym same) ∙ at.here e m was) in cc bad) ∙ at.here e m was,
+            (λ same. let bad : at_slot s ≡ in_stock x.number e = sym other_here ∙ (ap r.nodes.where_is (sym same) ∙ at.here e m was) in cc bad) ∙ at.here e m was,
       ))
 
   pub moved_stock : StockAgrees v.start where_moved x.number stock_moved

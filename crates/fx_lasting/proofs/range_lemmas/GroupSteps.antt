@@ -30,15 +30,8 @@ pub is_inside : (k : Start) (phase : ℕ → Phase) (seat : ℕ) (d : Work) → 
 is_inside k phase seat Idle o = tt
 is_inside k phase seat (Announced n) o = o
 is_inside k phase seat (Owing n) o = o
-is_inside k phase seat (Counted f n) o = o.0
-is_inside k phase seat (Guarded f n) o = o.0
-is_inside k phase seat (Yielding f n) o = o.0
-is_inside k phase seat (Searching n) o = o.0
-is_inside k phase seat (Placing n w) o = o.0
 is_inside k phase seat (Renewing f n own w) o = (o.0.0, o.1.0)
-is_inside k phase seat (Retiring f n t nx m) o = o.0
-is_inside k phase seat (Emptying n) o = o.0
-is_inside k phase seat (Keeping n lost) o = o.0
+is_inside k phase seat _ o = o.0
 
 module _ (k : Start) (s : Shared) (r : Agrees k s) where
   -- a seat without a pass owes nothing
@@ -46,13 +39,13 @@ module _ (k : Start) (s : Shared) (r : Agrees k s) where
   few_owing g j u there = go u.logs refl
     where
       go : (l : List Log) → u.logs ≡ l → owing g u.change ≤ length u.logs
-      go [] is = let a = ap (owing g) ((r.each_view j u there).empty is).2 in omega arith
+      go [] is = let a = ap (owing g) ((r.holds.views j u there).empty is).2 in omega arith
       go (z ∷ l) is = let a = one_at_most g u.change in let b = ap (length {A = Log}) is in omega arith
 
   -- if a seat with one pass isn't the only one to owe, another seat has a pass
   pub others_owe : (g id : ℕ) (v : View) → get_elem? s.views id ≡ some v → lengths v ≡ 1 → sum_by (owing_of g) s.views ≢ owing_of g v → 1 < k.passes
   others_owe g id v here alone other = let a = sum_set (owing_of g) s.views id v spent here in let b = sum_set lengths s.views id v spent here in
-      let c = sum_le_at (owing_of g) lengths (set s.views id spent) each in let d = sum_at (owing_of g) s.views id v here in let e = r.whole in
+      let c = sum_le_at (owing_of g) lengths (set s.views id spent) each in let d = sum_at (owing_of g) s.views id v here in let e = r.life.whole in
       omega (arith, a, b, c, d, e, alone, other)
     where
       each : (j : ℕ) (u : View) → get_elem? (set s.views id spent) j ≡ some u → owing_of g u ≤ lengths u
@@ -60,13 +53,13 @@ module _ (k : Start) (s : Shared) (r : Agrees k s) where
           (λ t. few_owing g j u t.1) (at_set s.views id j spent u there)
 
   pub owing_most : (g : ℕ) → sum_by (owing_of g) s.views ≤ 1024
-  owing_most g = let a = sum_le_at (owing_of g) lengths s.views (few_owing g) in let b = r.whole in let c = r.shape.passes in omega arith
+  owing_most g = let a = sum_le_at (owing_of g) lengths s.views (few_owing g) in let b = r.life.whole in let c = r.shape.passes in omega arith
 
   -- a group that counts all its slots: they are full, and no pass owes it a slot
   module _ (g : ℕ) (its : g < groups_in (range_at_start k).1) (all : word_at s.words (group_place g) ≡ group_len (range_at_start k).1 g) where
     settled : (sum_by (owing_of g) s.views ≡ 0)
         × (full_in (state_after_all k r.history).at (group_start (range_at_start k) g) (group_len (range_at_start k).1 g) ≡ group_len (range_at_start k).1 g)
-    settled = let a = (r.counts.groups g its).counts in let b = owing_most g in let c = groups.few_slots (range_at_start k).1 g in
+    settled = let a = (r.range.groups g its).counts in let b = owing_most g in let c = groups.few_slots (range_at_start k).1 g in
         let d = full_few (state_after_all k r.history).at (group_start (range_at_start k) g) (group_len (range_at_start k).1 g) in
         (omega (arith, a, b, c, d, all), omega (arith, a, b, c, d, all))
 
@@ -100,7 +93,7 @@ module _ (turn : Turn) where
     pub held : held_by h' x.number ≡ held_by r.history x.number
 
   pub no_event : Quiet r.history
-  no_event = record { grows = grows_none x.number r.history; legal = r.legal; state = refl; held = refl }
+  no_event = record { grows = grows_none x.number r.history; legal = r.life.legal; state = refl; held = refl }
 
   abbrev pub h₁ : List Event
   h₁ = pass_event x Full ∷ r.history
@@ -108,7 +101,7 @@ module _ (turn : Turn) where
   pub told_full : ((slot : ℕ) → range.0 ≤ slot → slot < range.0 + range.1 → IsSome (at_now slot)) → Quiet h₁
   told_full each = record {
     grows = grows_one x.number r.history _ refl;
-    legal = legal_more v.start r.legal (λ slot small in_range. let z = (same_shape v.start r.history).1 in
+    legal = legal_more v.start r.life.legal (λ slot small in_range. let z = (same_shape v.start r.history).1 in
         let a = ap (λ (p : ℕ × ℕ). p.0) z in let b = ap (λ (p : ℕ × ℕ). p.1) z in
         each slot (omega (arith, a, b, in_range.0)) (omega (arith, a, b, in_range.1))) tt;
     state = refl;
@@ -183,13 +176,13 @@ module _ (turn : Turn) where
 
     pub stepped_so : (carried : List (ℕ × Option Closed)) → q ≡ x.asked → h' ≡ r.history → Stepped (v, carried) [] v.work v.glance c (w', carried)
     stepped_so carried same quiet = tells turn turn_after (λ i. (x.listed, same i, x.stock)) carried carried [] (subst (Grows x.number r.history) (sym quiet) (grows_none x.number r.history))
-        (subst (IsHistory v.start) (sym quiet) r.legal) (ap (part_of_pass x.number) quiet) its_inside
+        (subst (IsHistory v.start) (sym quiet) r.life.legal) (ap (part_of_pass x.number) quiet) its_inside
 
     pub goes_asked : (carried : List (ℕ × Option Closed)) → c ≡ v.change → h' ≡ r.history → Goes (as_asked q (v, carried)) [] v.work v.glance (w', carried)
     goes_asked carried same quiet = record {
       stepped = subst (λ (z : Change). Stepped (as_asked q (v, carried)) [] v.work v.glance z (w', carried)) same
           (tells_asked turn turn_after refl carried (subst (Grows x.number r.history) (sym quiet) (grows_none x.number r.history))
-          (subst (IsHistory v.start) (sym quiet) r.legal) (ap (part_of_pass x.number) quiet) its_inside);
+          (subst (IsHistory v.start) (sym quiet) r.life.legal) (ap (part_of_pass x.number) quiet) its_inside);
       carried = refl;
     }
 
@@ -205,8 +198,8 @@ module _ (turn : Turn) where
         → (x.number ≤ 64 → HasQuestionOf (word_at st.words question_place) x.number → HasVisitedFull at_now range (set st.views id w') q) → Kept
     read_counts is same f = let all : (other : ℕ) → word_at words' other ≡ word_at st.words other =
         λ other. dite (ℕ_discrete other place) (λ e. subst (λ (p : ℕ). word_at words' p ≡ word_at st.words p) (sym e) (read_here ∙ is)) (λ apart. read_else other apart) in
-        counts_after id w' here r.counts
-        (λ n l. group_same id w' here r.counts refl (ap (owing n) same) l (all (group_place n)))
+        counts_after id w' here r.range
+        (λ n l. group_same id w' here r.range refl (ap (owing n) same) l (all (group_place n)))
         (λ p n few asked. full_same id w' here refl same)
         (λ j u z other there has few. subst (λ (q : ℕ). HasQuestionOf q z.number) (all question_place))
         (own_question (λ few asked. f few (subst (λ (q : ℕ). HasQuestionOf q x.number) (all question_place) asked)))
@@ -214,7 +207,7 @@ module _ (turn : Turn) where
     -- and one after which it has asked what it had asked
     pub read_same : y ≡ word_at st.words place → c ≡ v.change → q ≡ x.asked → Kept
     read_same is same asked = read_counts is same (λ few there. subst (HasVisitedFull at_now range (set st.views id w')) (sym asked)
-        (visited_map x.asked (λ n. full_same id w' here refl same) (r.counts.questions id v x here (has_x turn) few there)))
+        (visited_map x.asked (λ n. full_same id w' here refl same) (r.range.questions id v x here (has_x turn) few there)))
 
   -- the word of a group
   module _ (g : ℕ) (its : g < groups_in range.1) where
@@ -239,13 +232,13 @@ module _ (turn : Turn) where
     turn_counts : (y : ℕ) (c : Change) → ((n : ℕ) → n ≢ g → owing n c ≡ owing n v.change)
         → (y + owing g c) % 2 ^ 64 ≡ (word + owing g v.change) % 2 ^ 64 → ((n : ℕ) → c ≡ Inside n → ⊥)
         → Kept (group_place g) low_g unlisted_g x.watch (met_same x.watch.met) y c x.asked r.history
-    turn_counts y c else balance calm = let after = turned y c in counts_kept id after here r.counts
+    turn_counts y c else balance calm = let after = turned y c in counts_kept id after here r.range
         (read_else (group_place g) low_g unlisted_g x.watch (met_same x.watch.met) y c x.asked r.history question_place (λ bad. omega (arith, bad)))
         (λ n l. dite (ℕ_discrete n g)
         (λ same. subst (λ (m : ℕ). GroupCounts at_now range (set st.views id after) m (word_at (set st.words (group_place g) y) (group_place m))) (sym same)
         (subst (GroupCounts at_now range (set st.views id after) g) (sym (read_here (group_place g) low_g unlisted_g x.watch (met_same x.watch.met) y c x.asked r.history))
-        (let a = sum_set (owing_of g) st.views id v after here in let u = (r.counts.groups g its).counts in record { counts = omega (arith, a, u, balance) })))
-        (λ other. group_same id after here r.counts refl (else n other) l
+        (let a = sum_set (owing_of g) st.views id v after here in let u = (r.range.groups g its).counts in record { counts = omega (arith, a, u, balance) })))
+        (λ other. group_same id after here r.range refl (else n other) l
         (read_else (group_place g) low_g unlisted_g x.watch (met_same x.watch.met) y c x.asked r.history (group_place n) (λ bad. other (omega (arith, bad))))))
         (λ n o. full_still id after here o o.full (λ m is. absurd (calm m is))) (asks_alike turn (turn_after (group_place g) low_g unlisted_g x.watch (met_same x.watch.met) y c x.asked r.history) refl)
 
@@ -300,7 +293,7 @@ module _ (turn : Turn) where
       count_full : Kept (group_place g) low_g unlisted_g x.watch (met_same x.watch.met) word v.change (Covered (g + 1)) r.history
       count_full = read_counts (group_place g) low_g unlisted_g x.watch (met_same x.watch.met) word v.change (Covered (g + 1)) r.history refl refl
           (λ few there. full_same id (w' (group_place g) low_g unlisted_g x.watch (met_same x.watch.met) word v.change (Covered (g + 1)) r.history) here refl refl
-          (more_full (subst (HasVisitedFull at_now range st.views) asked (r.counts.questions id v x here (has_x turn) few there))))
+          (more_full (subst (HasVisitedFull at_now range st.views) asked (r.range.questions id v x here (has_x turn) few there))))
 
     -- a group that doesn't count all its slots: one has no file, or another pass owes it one
     module _ (fits : word < 18446744073709551616) where
@@ -310,7 +303,7 @@ module _ (turn : Turn) where
         pub short : v.change ≡ Outside → HasGap v.start r.history ⊎ ((x.watch.met < met) × (1 < v.start.passes))
 
       gap : sum_by (owing_of g) st.views ≡ 0 → word ≢ group_len range.1 g → HasGap v.start r.history
-      gap none_owes some_empty = let a = (r.counts.groups g its).counts in
+      gap none_owes some_empty = let a = (r.range.groups g its).counts in
           let z = full_gap at_now (group_start range g) (group_len range.1 g) (λ e. some_empty (omega (arith, a, none_owes, e, fits))) in
           let b = of_group range z.0 g z.1 z.2 in record { slot = z.0; low = b.0; high = b.1; empty = z.3 }
 

@@ -45,7 +45,7 @@ module _ (turn : Turn) where
         let nobody : (p : ℕ) → HasQuestionOf (word_at (set st.words question_place 0) question_place) p → ⊥ =
         λ p asked. let z = subst (λ (q : ℕ). HasQuestionOf q p) (read_here turn question_place low_q unlisted_q o more 0 (Inside g) x.asked r.history) asked in
         let a = bit_at-zero (bit_of p) in omega (arith, z, a) in record {
-          groups = λ n l. group_same id after here r.counts refl (sym (ap (owing n) lowered)) l
+          groups = λ n l. group_same id after here r.range refl (sym (ap (owing n) lowered)) l
               (read_else turn question_place low_q unlisted_q o more 0 (Inside g) x.asked r.history (group_place n) (λ bad. omega (arith, bad)));
           questions = λ j u z there has few asked. absurd (nobody z.number asked);
         }
@@ -180,7 +180,7 @@ module _ (turn : Turn) where
     with_bit = (question + 2 ^ bit_of x.number) % 2 ^ 64
 
     clear : HasQuestionOf question x.number → ⊥
-    clear there = subst (HasVisitedFull at_now range st.views) not_yet (r.counts.questions id v x here (has_x turn) few there)
+    clear there = subst (HasVisitedFull at_now range st.views) not_yet (r.range.questions id v x here (has_x turn) few there)
 
     is_set : with_bit ≡ bit_or question (2 ^ bit_of x.number)
     is_set = bit_added question (bit_of x.number) fits (omega arith) clear
@@ -192,8 +192,8 @@ module _ (turn : Turn) where
     bit_after = asking o_bit same_met with_bit v.change (Covered 0) r.history
 
     bit_counts : Kept turn question_place low_q unlisted_q o_bit same_met with_bit v.change (Covered 0) r.history
-    bit_counts = counts_after id bit_after here r.counts
-        (λ n l. group_same id bit_after here r.counts refl refl l
+    bit_counts = counts_after id bit_after here r.range
+        (λ n l. group_same id bit_after here r.range refl refl l
         (read_else turn question_place low_q unlisted_q o_bit same_met with_bit v.change (Covered 0) r.history (group_place n) (λ bad. omega (arith, bad))))
         (λ p n low asked. full_same id bit_after here refl refl)
         (λ j u z other there has low asked. let its = its_range r j there has in
@@ -220,7 +220,7 @@ module _ (turn : Turn) where
   -- the pass has visited all groups
   module _ (few : x.number ≤ 64) (asked : x.asked ≡ Covered (groups_in range.1)) where
     all_full : HasQuestionOf question x.number → (s : ℕ) → range.0 ≤ s → s < range.0 + range.1 → IsSome (at_now s)
-    all_full there s low high = (subst (HasVisitedFull at_now range st.views) asked (r.counts.questions id v x here (has_x turn) few there)).full
+    all_full there s low high = (subst (HasVisitedFull at_now range st.views) asked (r.range.questions id v x here (has_x turn) few there)).full
         s low high (is_group range s low high)
 
     -- a bit that the pass has set was cleared by another one

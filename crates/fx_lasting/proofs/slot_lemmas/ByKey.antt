@@ -159,10 +159,8 @@ module _ (k : Start) (vh v : PassView) (key : Key) (hold : Hold) (freed other : 
 -- a look-up that found no file of the key says why itself
 pub not_tried : (k : Start) (vh : PassView) (key : Key) (fault : KeyFault) (freed released : Option Closed) (w : PassView) (p p' : LastingPass)
     → LookedByKey k vh key (Err fault) freed released w → TriesKey k vh key fault freed p p'
-not_tried k vh key NoSlot freed released w p p' looked = tt
-not_tried k vh key Empty freed released w p p' looked = tt
-not_tried k vh key Other freed released w p p' looked = tt
 not_tried k vh key Again freed released w p p' bad = absurd bad
+not_tried k vh key _ freed released w p p' looked = tt
 
 -- The holder found the file of the key. The pass p learned what the holder had seen, and tried
 module _ (k : Start) (vh : PassView) (key : Key) (hold : Hold) (freed other : Option Closed) (b : PassView) (p heard w p' : LastingPass)

@@ -48,8 +48,7 @@ was_before a {b} more was =
 -- what a word says of a call isn't that it tries no more
 not_again : (word node : ℕ) (miss : Miss) → SaysIf word node (Err miss) → miss ≢ Again
 not_again word node Again says is = absurd says
-not_again word node Empty says is = cc is
-not_again word node Other says is = cc is
+not_again word node _ says is = cc is
 
 -- A pass that has seen what is at a slot
 module _ {k : Start} {slot : ℕ} (node : ℕ) {st : At} {m m' : Sat} {found : ℕ} (start : m.0.start ≡ k) (here : slot_of st.word ≡ slot)
@@ -113,15 +112,13 @@ failed_so k slot node word m m' Other says was = was
 
 pub tried_none : (k : Start) (slot : ℕ) (miss : Miss) (p p' : LastingPass) → miss ≢ Again → HasTriedIf k slot miss p p'
 tried_none k slot Again p p' not = absurd (not refl)
-tried_none k slot Empty p p' not = tt
-tried_none k slot Other p p' not = tt
+tried_none k slot _ p p' not = tt
 
 pub tried_so : (k : Start) (slot node : ℕ) (p p' : LastingPass) (m₁ m₂ : Sat) → (pass_in m₁).number ≡ (view_of p).number → m₁.0.start ≡ k
     → IsSeenBy (view_of p).front (pass_in m₁).front → meetings p ≤ (pass_in m₁).watch.met → IsSeenBy (pass_in m₂).front (view_of p').front
     → (pass_in m₂).watch.met ≤ meetings p' → (miss : Miss) → FailedIf k slot node miss m₁ m₂ → HasTriedIf k slot miss p p'
 tried_so k slot node p p' m₁ m₂ number start before few after more Again failed = overtaken_by k slot p p' m₁ m₂ number start before few after more failed
-tried_so k slot node p p' m₁ m₂ number start before few after more Empty failed = tt
-tried_so k slot node p p' m₁ m₂ number start before few after more Other failed = tt
+tried_so k slot node p p' m₁ m₂ number start before few after more _ failed = tt
 
 -- what a pass did that put its file there, from this entry of its stock
 abbrev Replaced : (m₁ m₂ : Sat) (at found own : ℕ) → Closed → ℕ → Type 0

@@ -51,10 +51,10 @@ module _ (turn : Turn) (s : ℕ) (inside : s < slots_of turn.v.start) (f : File)
 
   held_now : 0 < before.holds f.number
   held_now = let a = ap (if_file f.number) holds_it in let b = bit_here f.number f.number refl in
-      omega (arith, r.holds f.number, sum_at (held_of f.number) st.views id v here, a, b)
+      omega (arith, r.holds.files f.number, sum_at (held_of f.number) st.views id v here, a, b)
 
   pub legal₀ : IsHistory v.start h₀
-  legal₀ = legal_more v.start r.legal held_now ((its_log turn).held ∙ holds_it)
+  legal₀ = legal_more v.start r.life.legal held_now ((its_log turn).held ∙ holds_it)
 
   -- the hold ends
   pub let_go : (m : ℕ) → (state_after_all v.start h₀).holds m + held_of m v ≡ before.holds m

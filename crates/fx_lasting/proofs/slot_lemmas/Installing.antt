@@ -19,7 +19,6 @@ use Rattle.fx_lasting.proofs.node_lemmas.StockMoves.{where_moved, stock_moved, m
 use Rattle.fx_lasting.proofs.Histories.{each_changed}
 use Rattle.fx_lasting.proofs.Frames.{busy, owner_stays, node_same}
 use Rattle.fx_lasting.proofs.Keeping.{Turn, After, word_at, slot_word, tells_stocked, w, end, Homes, asks_alike, few_slots}
-use Rattle.fx_lasting.proofs.range_lemmas.Groups.{counts_swap, fill_balances, fill_keeps}
 use Rattle.fx_lasting.proofs.range_lemmas.Groups.{counts_filled}
 use Rattle.fx_lasting.proofs.Places.{slot_words, slot_here, slot_else, slot_alike}
 use Rattle.fx_lasting.proofs.slot_lemmas.Swaps.{found, old_at, NotOf, not_old, old_named, d, swap_after, Swap, swap_kept}
@@ -31,7 +30,7 @@ use Rattle.fx_lasting.proofs.hold_lemmas.Unheld.{in_phase}
 module _ (turn : Turn) (s : ℕ) (inside : s < slots_of turn.v.start) (old : Option File) (was : (state_after_all turn.v.start turn.r.history).at s ≡ old)
     (counted : ℕ) (alike : IsAlike turn s inside counted) (n lost : ℕ) (file : Closed)
     (its : IsIn turn.v.start turn.r.phase n (placed turn.id (as_written lost (label_of file)))) (its_entry : IsInStock turn.x.stock n)
-    (small : file.entry < 2 ^ 8) (out : turn.v.change ≡ Outside) (number : ℕ) (late : turn.r.next_number ≤ number) (on_n : turn.r.node_of number ≡ n)
+    (small : file.entry < 2 ^ 8) (out : turn.v.change ≡ Outside) (number : ℕ) (late : turn.r.nodes.next_number ≤ number) (on_n : turn.r.node_of number ≡ n)
     (h₂ : List Event) where
   open turn use {st, v, r, id, x, here, one}
 
@@ -134,7 +133,7 @@ module _ (turn : Turn) (s : ℕ) (inside : s < slots_of turn.v.start) (old : Opt
         (set_else st.homes n m (some (Some file)) other) (r.phase m)
         (λ i f is there. let away : i ≢ s = λ same. apart f (sym was ∙ (ap before.at (sym same) ∙ there)) (sym (in_phase turn l is).file.its_node) in
         (ap (λ (z : State). z.at i) does.state ∙ changed_else before.at s (Some new_file) i away, ap count_in (slot_else turn s inside new_word i away)))
-        (r.each_node m l)
+        (r.nodes.each m l)
 
     installs : Swap turn s inside old was counted alike h₂ new_word (Some new_file) homes₁ phase₁ (number + 1) c₂ where₁ stock₁
     installs = record {
@@ -144,7 +143,7 @@ module _ (turn : Turn) (s : ℕ) (inside : s < slots_of turn.v.start) (old : Opt
       fresh = changed_at before.fresh number false;
       holds = does.holds;
       leads = does.state;
-      fresh_on = λ m l. changed_else before.fresh number false m (λ same. omega (arith, l, same)) ∙ r.fresh m (omega (arith, late, l));
+      fresh_on = λ m l. changed_else before.fresh number false m (λ same. omega (arith, l, same)) ∙ r.nodes.fresh m (omega (arith, late, l));
       held = does.held;
       let_go = does.let_go;
       taken = does.taken;
@@ -165,14 +164,14 @@ module _ (turn : Turn) (s : ℕ) (inside : s < slots_of turn.v.start) (old : Opt
           (λ same. inr (as_written lost (label_of file), ap r.phase same ∙ its.1)) (λ other. inl refl);
       labels = λ m l apart. each_changed (λ m ph. Labels v.start st.words m (written_in ph)) r.phase
           (λ same. subst (λ (i : ℕ). Labels v.start st.words i (label_of file)) (sym same)
-          (subst (λ (ph : Phase). Labels v.start st.words n (written_in ph)) its.1 (r.each_label n its.0))) (λ other. r.each_label m l);
+          (subst (λ (ph : Phase). Labels v.start st.words n (written_in ph)) its.1 (r.nodes.labels n its.0))) (λ other. r.nodes.labels m l);
       nodes = λ m l apart. each_changed Node₁ r.phase (λ same. subst (λ (i : ℕ). Node₁ i (seated s new_file)) (sym same) node_here₁)
           (λ other. node_else₁ l other apart);
       old_home = λ f is. set_else st.homes n (r.node_of f.number) (some (Some file)) (λ same. its_apart f is (sym same));
       owners = λ m l apart. each_changed (OwnerAgrees (set st.views id (w turn put_after))) r.phase (λ same. tt)
-          (λ other. owner_stays st.views id v (w turn put_after) here m (λ bad. let b = does.works in other (omega arith)) (r.phase m) (r.each_owner m l));
+          (λ other. owner_stays st.views id v (w turn put_after) here m (λ bad. let b = does.works in other (omega arith)) (r.phase m) (r.nodes.owners m l));
       no_hold = does.no_hold;
-      counts = counts_filled id (w turn put_after) here r.counts s old new_file (few_slots turn) was (slot_alike turn s inside new_word)
+      counts = counts_filled id (w turn put_after) here r.range s old new_file (few_slots turn) was (slot_alike turn s inside new_word)
           (asks_alike turn put_after refl) out refl;
     }
 

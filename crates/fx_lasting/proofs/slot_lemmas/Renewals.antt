@@ -18,7 +18,7 @@ use Rattle.fx_lasting.proofs.slot_lemmas.HeldSlots.{there, on_n, some_takes, les
 
 module _ (turn : Turn) (s : ℕ) (inside : s < slots_of turn.v.start) (f : File) (n own lost : ℕ) (file : Closed)
     (works : turn.v.work ≡ Renewing f n own (as_written lost (label_of file))) (small : file.entry < 2 ^ 8) (out : turn.v.change ≡ Outside)
-    (number : ℕ) (late : turn.r.next_number ≤ number) (on_own : turn.r.node_of number ≡ own)
+    (number : ℕ) (late : turn.r.nodes.next_number ≤ number) (on_own : turn.r.node_of number ≡ own)
     (names_it : full_name_in (found turn s inside) ≡ n + 1) where
   open turn use {st, v, r, id, x, here, one}
 
@@ -63,7 +63,7 @@ module _ (turn : Turn) (s : ℕ) (inside : s < slots_of turn.v.start) (f : File)
   puts = let o = its_log turn in let h = rw works at o.hold in record {
     grows = grows_more refl (grows_one x.number r.history (pass_event x (Release f)) refl);
     legal = legal_more v.start (legal₀ turn s inside f n both.0 takes_it holds_it names_it)
-        (let z = (same_shape v.start r.history).0 in (omega arith, r.fresh number late, sym is_there)) tt;
+        (let z = (same_shape v.start r.history).0 in (omega arith, r.nodes.fresh number late, sym is_there)) tt;
     acted = (h₀ turn s inside f n both.0 takes_it holds_it names_it, event, (pass_event x (Release f) ∷ [], refl), ([], refl), refl, refl);
     holds = (state_after_all v.start (h₀ turn s inside f n both.0 takes_it holds_it names_it)).holds;
     state = refl;

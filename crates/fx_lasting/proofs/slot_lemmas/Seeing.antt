@@ -58,7 +58,7 @@ module _ (turn : Turn) (s : ℕ) (inside : s < slots_of turn.v.start) (carried :
 
   -- It is exchanged for the word of the file that the pass places
   module _ (n lost : ℕ) (file : Closed) (works : turn.v.work ≡ Placing n (as_written lost (label_of file))) (small : file.entry < 2 ^ 8) (out : turn.v.change ≡ Outside)
-      (carries : carried ≡ (n, Some file) ∷ []) (number : ℕ) (late : turn.r.next_number ≤ number) (on_n : turn.r.node_of number ≡ n)
+      (carries : carried ≡ (n, Some file) ∷ []) (number : ℕ) (late : turn.r.nodes.next_number ≤ number) (on_n : turn.r.node_of number ≡ n)
       (slots old_word : ℕ) where
     abbrev Puts : ℕ → Type 0
     Puts y = Made turn carried (slot_place s) (λ _. y) (Replaces (step slots (slot_place s) old_word (file_word_of n file.entry + lost) none) (v, carried))

@@ -64,7 +64,7 @@ module _ (turn : Turn) (s : ℕ) where
       by_number (Some f) names = (names.0 ∙ ap (λ (n : ℕ). n + 1) (r.numbering f.number), names.1)
 
       pub named : Names (node_of_number v.start) found there
-      named = by_number there (r.each_slot s inside).names
+      named = by_number there (r.slots s inside).names
 
       changed_now : (first_log v.logs).watch.slot ≡ s → found ≢ (first_log v.logs).watch.word → IsOvertaken s (v, carried) (w turn sees_after, carried)
       changed_now = subst (λ (l : List Log). (first_log l).watch.slot ≡ s → found ≢ (first_log l).watch.word
@@ -74,7 +74,7 @@ module _ (turn : Turn) (s : ℕ) where
       pub sees_slot : (slots first second : ℕ) → Sees (step slots (slot_place s) first second none) (v, carried) found (w turn sees_after, carried)
       sees_slot slots first second = record {
         goes = record {
-          stepped = tells turn sees_after refl carried carried [] (grows_none x.number r.history) r.legal refl (its_inside turn);
+          stepped = tells turn sees_after refl carried carried [] (grows_none x.number r.history) r.life.legal refl (its_inside turn);
           carried = refl;
         };
         names = rw (slot_back s) named;

@@ -17,7 +17,7 @@ use Rattle.fx_lasting.proofs.node_lemmas.StockMoves.{names_a_node}
 use Rattle.fx_lasting.proofs.Histories.{grows_one, legal_more, part_mine, held_mine, same_shape}
 use Rattle.fx_lasting.proofs.Frames.{busy, owner_stays, node_same}
 use Rattle.fx_lasting.proofs.Keeping.{Turn, turn_of, After, word_at, slot_word, Made, by_turn, its_log, its_work, its_stock, in_range, tells, w, end, asks_alike, few_slots}
-use Rattle.fx_lasting.proofs.range_lemmas.Groups.{counts_swap, removal_balances, removal_keeps, in_range_so}
+use Rattle.fx_lasting.proofs.range_lemmas.Groups.{in_range_so}
 use Rattle.fx_lasting.proofs.range_lemmas.Groups.{counts_emptied}
 use Rattle.fx_lasting.proofs.slot_lemmas.Sights.{sees_after, sees_kept, sees_slot}
 use Rattle.fx_lasting.proofs.Places.{slot_else, slot_back, slot_alike}
@@ -40,7 +40,7 @@ IsRemoval act = (turn : Turn) (s : ℕ) → s < slots_of turn.v.start → let h 
 
 pub cleared : IsRemoval Clear
 cleared turn s inside = (
-  legal_more turn.v.start turn.r.legal (let z = (same_shape turn.v.start turn.r.history).0 in (omega arith, refl)) tt,
+  legal_more turn.v.start turn.r.life.legal (let z = (same_shape turn.v.start turn.r.history).0 in (omega arith, refl)) tt,
   refl,
   held_mine (pass_event turn.x (Clear s ((state_after_all turn.v.start turn.r.history).at s))) turn.r.history refl,
   refl,
@@ -48,7 +48,7 @@ cleared turn s inside = (
 
 pub taken : IsRemoval Take
 taken turn s inside = (
-  legal_more turn.v.start turn.r.legal (let z = (same_shape turn.v.start turn.r.history).0 in (omega arith, refl)) tt,
+  legal_more turn.v.start turn.r.life.legal (let z = (same_shape turn.v.start turn.r.history).0 in (omega arith, refl)) tt,
   refl,
   held_mine (pass_event turn.x (Take s ((state_after_all turn.v.start turn.r.history).at s))) turn.r.history refl,
   refl,
@@ -72,9 +72,9 @@ module _ (act : ℕ → Option File → Action) (does : IsRemoval act) (turn : T
   c₁ = account (range_at_start v.start) s old
 
   abbrev pub removal : After turn
-  removal = swap_after turn s inside old refl (found turn s inside) (refl, refl) h₁ left None st.homes r.phase r.next_number c₁ r.where_is x.stock
+  removal = swap_after turn s inside old refl (found turn s inside) (refl, refl) h₁ left None st.homes r.phase r.nodes.next_number c₁ r.nodes.where_is x.stock
 
-  removes : Swap turn s inside old refl (found turn s inside) (refl, refl) h₁ left None st.homes r.phase r.next_number c₁ r.where_is x.stock
+  removes : Swap turn s inside old refl (found turn s inside) (refl, refl) h₁ left None st.homes r.phase r.nodes.next_number c₁ r.nodes.where_is x.stock
   removes = let o = its_log turn in let h = holds_none free_of o.hold in let e = does turn s inside in record {
     grows = grows_one x.number r.history _ refl;
     legal = e.0;
@@ -82,14 +82,14 @@ module _ (act : ℕ → Option File → Action) (does : IsRemoval act) (turn : T
     fresh = (state_after_all v.start r.history).fresh;
     holds = (state_after_all v.start r.history).holds;
     leads = e.1;
-    fresh_on = r.fresh;
+    fresh_on = r.nodes.fresh;
     held = e.2 ∙ (o.held ∙ no_file free_of);
     let_go = λ n. let a = ap (if_file n) (no_file free_of) in omega arith;
     taken = λ f is. let a = no_take free_of (r.node_of f.number) in omega arith;
     homes = refl;
     later = omega arith;
     removed_else = λ m. refl;
-    named_new = let o = r.named s inside in record { node = o.node; named = name_left (found turn s inside) ∙ o.named; inside = o.inside; here = o.here };
+    named_new = let o = r.nodes.named s inside in record { node = o.node; named = name_left (found turn s inside) ∙ o.named; inside = o.inside; here = o.here };
     named_else = λ i n other at. at;
     stock = its_stock turn;
     stocks = λ n q e other at. at;
@@ -104,12 +104,12 @@ module _ (act : ℕ → Option File → Action) (does : IsRemoval act) (turn : T
         refl refl (r.phase n) (λ i f is there. let other : i ≢ s = λ same. apart f (ap (λ (j : ℕ). (state_after_all v.start r.history).at j) (sym same) ∙ there)
         (sym (in_phase turn l is).file.its_node) in
         (ap (λ (z : State). z.at i) e.1 ∙ changed_else (state_after_all v.start r.history).at s None i other, ap count_in (slot_else turn s inside left i other)))
-        (r.each_node n l);
+        (r.nodes.each n l);
     old_home = λ f is. refl;
-    owners = λ n l apart. owner_stays st.views id v (w turn removal) here n (λ bad. let a = not_busy free_of in omega arith) (r.phase n) (r.each_owner n l);
-    labels = λ n l apart. r.each_label n l;
+    owners = λ n l apart. owner_stays st.views id v (w turn removal) here n (λ bad. let a = not_busy free_of in omega arith) (r.phase n) (r.nodes.owners n l);
+    labels = λ n l apart. r.nodes.labels n l;
     no_hold = (h.0, h.1);
-    counts = counts_emptied id (w turn removal) here r.counts s old (few_slots turn) refl (slot_alike turn s inside left)
+    counts = counts_emptied id (w turn removal) here r.range s old (few_slots turn) refl (slot_alike turn s inside left)
         (asks_alike turn removal refl) off refl;
   }
     where
@@ -121,7 +121,7 @@ module _ (act : ℕ → Option File → Action) (does : IsRemoval act) (turn : T
           go (Some f) = refl
 
   pub removal_agrees : Agrees v.start (end turn removal)
-  removal_agrees = swap_kept turn s inside old refl (found turn s inside) (refl, refl) h₁ left None st.homes r.phase r.next_number c₁ r.where_is x.stock removes
+  removal_agrees = swap_kept turn s inside old refl (found turn s inside) (refl, refl) h₁ left None st.homes r.phase r.nodes.next_number c₁ r.nodes.where_is x.stock removes
 
   pub removal_tells : (carried : List (ℕ × Option Closed))
       → Stepped (v, carried) ([] ▷ act s old) (retiring_work v.start (found turn s inside) old) v.glance c₁ (w turn removal, carried)
@@ -160,21 +160,21 @@ takes_out_keep k slots id i s m x has works inside off place = by_turn slots (λ
     (λ st r here is fits. removal_made Take taken (turn_of m x has.1 id st r here) s is.0 works is.1 slots m.1 fits)
 
 -- a number that none had before, and which says the node
-pub fresh_number : (turn : Turn) {n : ℕ} → n < nodes_of turn.v.start → (m : ℕ) × (turn.r.next_number ≤ m) × (turn.r.node_of m ≡ n)
+pub fresh_number : (turn : Turn) {n : ℕ} → n < nodes_of turn.v.start → (m : ℕ) × (turn.r.nodes.next_number ≤ m) × (turn.r.node_of m ≡ n)
 fresh_number turn {n} low = let r = turn.r in let nodes = nodes_of turn.v.start in (
-  r.next_number * nodes + n,
-  omega (arith, le-mul_of_pos_right {m = nodes} r.next_number (omega (arith, low))),
-  r.numbering (r.next_number * nodes + n) ∙ mod-mul-add r.next_number nodes n low,
+  r.nodes.next_number * nodes + n,
+  omega (arith, le-mul_of_pos_right {m = nodes} r.nodes.next_number (omega (arith, low))),
+  r.numbering (r.nodes.next_number * nodes + n) ∙ mod-mul-add r.nodes.next_number nodes n low,
 )
 
-pub new_number : (turn : Turn) {n : ℕ} {l : Placement} → turn.v.work ≡ Placing n l → (m : ℕ) × (turn.r.next_number ≤ m) × (turn.r.node_of m ≡ n)
+pub new_number : (turn : Turn) {n : ℕ} {l : Placement} → turn.v.work ≡ Placing n l → (m : ℕ) × (turn.r.nodes.next_number ≤ m) × (turn.r.node_of m ≡ n)
 new_number turn works = fresh_number turn (subst (WorkAgrees turn.v.start turn.r.phase turn.id) works (its_work turn)).0
 
 -- The slot gets the file that a pass places under a number that none had before. The pass holds
 -- nothing.
 module _ (turn : Turn) (s : ℕ) (inside : s < slots_of turn.v.start) (old : Option File) (was : (state_after_all turn.v.start turn.r.history).at s ≡ old)
     (n lost : ℕ) (file : Closed) (works : turn.v.work ≡ Placing n (as_written lost (label_of file))) (small : file.entry < 2 ^ 8) (out : turn.v.change ≡ Outside)
-    (number : ℕ) (late : turn.r.next_number ≤ number) (on_n : turn.r.node_of number ≡ n) (a : Action) where
+    (number : ℕ) (late : turn.r.nodes.next_number ≤ number) (on_n : turn.r.node_of number ≡ n) (a : Action) where
   open turn use {st, v, r, id, x, here, one}
 
   abbrev before : State
@@ -237,7 +237,7 @@ file_carried (c ∷ cs) = c.1
 
 module _ (turn : Turn) (s : ℕ) (inside : s < slots_of turn.v.start) (n lost : ℕ) (file : Closed) (works : turn.v.work ≡ Placing n (as_written lost (label_of file)))
     (small : file.entry < 2 ^ 8) (out : turn.v.change ≡ Outside) (slots : ℕ) (carried : List (ℕ × Option Closed))
-    (carries : carried ≡ (n, Some file) ∷ []) (number : ℕ) (late : turn.r.next_number ≤ number) (on_n : turn.r.node_of number ≡ n) where
+    (carries : carried ≡ (n, Some file) ∷ []) (number : ℕ) (late : turn.r.nodes.next_number ≤ number) (on_n : turn.r.node_of number ≡ n) where
   open turn use {st, v, r, id, x, here, one}
 
   abbrev pub put_old : Option File
@@ -248,7 +248,7 @@ module _ (turn : Turn) (s : ℕ) (inside : s < slots_of turn.v.start) (n lost : 
 
   pub putting : Effect turn s inside put_old refl n lost file works small out number late on_n put_action
   putting = record {
-    legal = legal_more v.start r.legal (let z = (same_shape v.start r.history).0 in (omega arith, r.fresh number late, refl)) tt;
+    legal = legal_more v.start r.life.legal (let z = (same_shape v.start r.history).0 in (omega arith, r.nodes.fresh number late, refl)) tt;
     state = refl;
     held = held_mine (pass_event x put_action) r.history refl;
     acts = refl;
@@ -278,7 +278,7 @@ module _ (turn : Turn) (s : ℕ) (inside : s < slots_of turn.v.start) (n lost : 
 
 module _ (turn : Turn) (slots s n lost old_word : ℕ) (file : Closed) (carried : List (ℕ × Option Closed)) (works : turn.v.work ≡ Placing n (as_written lost (label_of file)))
     (carries : carried ≡ (n, Some file) ∷ []) (small : file.entry < 2 ^ 8) (out : turn.v.change ≡ Outside) (in_range : IsInRange turn.v.start s)
-    (empty : full_name_in old_word ≡ 0) (number : ℕ) (late : turn.r.next_number ≤ number) (on_n : turn.r.node_of number ≡ n) where
+    (empty : full_name_in old_word ≡ 0) (number : ℕ) (late : turn.r.nodes.next_number ≤ number) (on_n : turn.r.node_of number ≡ n) where
   open turn use {st, v, r, id, x, here, one}
 
   abbrev word : ℕ
@@ -308,9 +308,9 @@ module _ (turn : Turn) (slots s n lost old_word : ℕ) (file : Closed) (carried 
 
     allocating : Effect turn s within None at_none n lost file works small out number late on_n alloc
     allocating = record {
-      legal = legal_more v.start r.legal (let z = (same_shape v.start r.history).0 in let y = (same_shape v.start r.history).1 in
+      legal = legal_more v.start r.life.legal (let z = (same_shape v.start r.history).0 in let y = (same_shape v.start r.history).1 in
           let p = ap (λ (p : ℕ × ℕ). p.0) y in let q = ap (λ (p : ℕ × ℕ). p.1) y in let low = in_range.0 in let high = in_range.1 in let l = within in
-          (omega arith, (omega arith, omega arith), at_none, r.fresh number late)) tt;
+          (omega arith, (omega arith, omega arith), at_none, r.nodes.fresh number late)) tt;
       state = refl;
       held = held_mine (pass_event x alloc) r.history refl;
       acts = refl;

@@ -1,14 +1,12 @@
 -- A step on the word of a slot, whose file stays there.
 use Rattle.fx_lasting.proofs.Words.{alone_in, inl, true, Deed, untouched, has_acted, has_heated, heat_in, ◌≡◌, ◌≢◌, ℕ, ◌+◌, ◌<◌, ◌≤◌, List, [], set, sym, refl}
 use Rattle.fx_lasting.proofs.Words.{ap, ◌∙◌, subst, arith, Option, Some, None, Bool, held_by, File, Event, NodeAgrees, IsAllowed, SlotAgrees, Names}
-use Rattle.fx_lasting.proofs.Words.{Agrees, slots_of, nodes_of, IsHistory, state_after_all, held_in, held_of, taken_of, taking, Phase, free, placed}
+use Rattle.fx_lasting.proofs.Words.{Agrees, slots_of, nodes_of, state_after_all, held_in, held_of, taken_of, taking, Phase, free, placed}
 use Rattle.fx_lasting.proofs.Words.{seated, leaving, retired, emptied, kept, Work, Glance, ⊎_elim, ◌⊎◌, inr, dite, ℕ_discrete, slot_place, word_of}
 use Rattle.fx_lasting.proofs.Words.{count_in, name_in, full_name_in, entry_in, IsHot, cold_takes, tally, birth_word, owed, sum_set, sum_by, get_elem?}
 use Rattle.fx_lasting.proofs.Words.{length-set, MayBeUnmarked, dec_le, suc, written_in, MOST_SLOTS, without_slot}
-use Rattle.fx_lasting.proofs.Histories.{Grows}
 use Rattle.fx_lasting.proofs.Frames.{busy, owner_stays, owner_same, slot_same, node_same, Leaves, keeps_other, guards_same}
-use Rattle.fx_lasting.proofs.Keeping.{Turn, After, Keeps, word_at, slot_word, step_kept, w, end, its_stock, names_on, asks_alike, few_slots}
-use Rattle.fx_lasting.proofs.range_lemmas.Groups.{counts_same}
+use Rattle.fx_lasting.proofs.Keeping.{Turn, After, Keeps, word_at, slot_word, step_kept, w, end, its_stock, names_on}
 use Rattle.fx_lasting.proofs.Places.{slot_words, slot_here, slot_node, slot_else, slot_hold, slot_alike, slot_list, slot_label}
 use Rattle.fx_lasting.proofs.Keeping.{labels_same, met_same, its_log}
 use Rattle.fx_lasting.proofs.slot_lemmas.Watching.{MovesOn, ActsThere, watch_none}
@@ -27,7 +25,7 @@ module _ (turn : Turn) (s : ℕ) (inside : s < slots_of turn.v.start) (new : ℕ
     words = words';
     homes = st.homes;
     phase = r.phase;
-    next_number = r.next_number;
+    next_number = r.nodes.next_number;
     debt = r.debt;
     deed = deed';
     work = d;
@@ -36,7 +34,7 @@ module _ (turn : Turn) (s : ℕ) (inside : s < slots_of turn.v.start) (new : ℕ
     asked = x.asked;
     listed = x.listed;
     still_listed = λ l. l;
-    where_is = r.where_is;
+    where_is = r.nodes.where_is;
     stock = x.stock;
     watch = without_slot MOST_SLOTS x.watch;
     more_met = met_same x.watch.met;
@@ -72,11 +70,11 @@ module _ (turn : Turn) (s : ℕ) (inside : s < slots_of turn.v.start) (new : ℕ
 
   -- a guard of a file at a hot slot
   pub covers_slot : (IsHot old → IsHot new) → (p n : ℕ) → MayBeUnmarked (slot_word st.words) p (r.phase n) → MayBeUnmarked (slot_word words') p (r.phase n)
-  covers_slot hot p n = dite (dec_le (suc n) (nodes_of v.start)) (λ l. go (r.phase n) (r.each_node n (omega (arith, l))))
-      (λ z m. let e = r.unborn n (omega (arith, z)) in absurd (rw e at m))
+  covers_slot hot p n = dite (dec_le (suc n) (nodes_of v.start)) (λ l. go (r.phase n) (r.nodes.each n (omega (arith, l))))
+      (λ z m. let e = r.nodes.unborn n (omega (arith, z)) in absurd (rw e at m))
     where
       go : (ph : Phase) → NodeAgrees (state_after_all v.start r.history).at (slots_of v.start) (λ s. count_in (slot_word st.words s)) r.node_of
-          r.next_number n (word_at st.words (word_of v.start n)) (sum_by (taken_of n) st.views) (owed r.debt v.start.passes n)
+          r.nodes.next_number n (word_at st.words (word_of v.start n)) (sum_by (taken_of n) st.views) (owed r.debt v.start.passes n)
           (get_elem? st.homes n) ph → MayBeUnmarked (slot_word st.words) p ph → MayBeUnmarked (slot_word words') p ph
       go (seated i f) o is_hot = dite (ℕ_discrete i s)
           (λ same. subst (λ (j : ℕ). IsHot (slot_word st.words j) → IsHot (slot_word words' j)) (sym same)
@@ -106,7 +104,7 @@ module _ (turn : Turn) (s : ℕ) (inside : s < slots_of turn.v.start) (new : ℕ
         (λ other. ap name_in (slot_else turn s inside new i other))
 
     slot_now : SlotAgrees v.start r.node_of r.phase (deed' s) s ((state_after_all v.start h').at s) (slot_word words' s)
-    slot_now = let o = r.each_slot s inside in rw (slot_here turn s inside new, at_is s)
+    slot_now = let o = r.slots s inside in rw (slot_here turn s inside new, at_is s)
         record { names = names ((state_after_all v.start r.history).at s) o.names; seat = o.seat; takes = p.takes; heat = p.heat }
       where
         names : (found : Option File) → Names r.node_of old found → Names r.node_of new found
@@ -129,7 +127,7 @@ module _ (turn : Turn) (s : ℕ) (inside : s < slots_of turn.v.start) (new : ℕ
     }
 
     abbrev Node : ℕ → Phase → Type 0
-    Node n = NodeAgrees (state_after_all v.start h').at (slots_of v.start) (λ i. count_in (slot_word words' i)) r.node_of r.next_number n
+    Node n = NodeAgrees (state_after_all v.start h').at (slots_of v.start) (λ i. count_in (slot_word words' i)) r.node_of r.nodes.next_number n
         (word_at words' (word_of v.start n)) (sum_by (taken_of n) (set st.views id (w turn slot_after))) (owed r.debt v.start.passes n)
         (get_elem? st.homes n)
 
@@ -138,14 +136,14 @@ module _ (turn : Turn) (s : ℕ) (inside : s < slots_of turn.v.start) (new : ℕ
         (let t = sum_set (taken_of n) st.views id v (w turn slot_after) here in let e = p.taken n l (λ f at. else f (sym is ∙ at)) in omega arith)
         refl refl ph (λ i f at there. (at_is i, ap count_in (slot_else turn s inside new i (λ same. else f (at ∙ ap (λ (j : ℕ). seated j f) same)))))
         (subst (NodeAgrees (state_after_all v.start r.history).at (slots_of v.start) (λ s. count_in (slot_word st.words s)) r.node_of
-        r.next_number n (word_at st.words (word_of v.start n)) (sum_by (taken_of n) st.views) (owed r.debt v.start.passes n)
-        (get_elem? st.homes n)) is (r.each_node n l))
+        r.nodes.next_number n (word_at st.words (word_of v.start n)) (sum_by (taken_of n) st.views) (owed r.debt v.start.passes n)
+        (get_elem? st.homes n)) is (r.nodes.each n l))
 
     node_now : (n : ℕ) → n < nodes_of v.start → (ph : Phase) → r.phase n ≡ ph → Node n ph
     node_now n l (seated i f) is = dite (ℕ_discrete i s)
         (λ same. let o = subst (NodeAgrees (state_after_all v.start r.history).at (slots_of v.start) (λ s. count_in (slot_word st.words s)) r.node_of
-        r.next_number n (word_at st.words (word_of v.start n)) (sum_by (taken_of n) st.views) (owed r.debt v.start.passes n)
-        (get_elem? st.homes n)) is (r.each_node n l) in
+        r.nodes.next_number n (word_at st.words (word_of v.start n)) (sum_by (taken_of n) st.views) (owed r.debt v.start.passes n)
+        (get_elem? st.homes n)) is (r.nodes.each n l) in
         let c = p.counts n f l (is ∙ ap (λ (j : ℕ). seated j f) same) in
         let e = ap (λ (j : ℕ). count_in (slot_word words' j)) same in let h = ap count_in (slot_here turn s inside new) in
         let k = slot_node turn s inside new n in record {
@@ -174,14 +172,14 @@ module _ (turn : Turn) (s : ℕ) (inside : s < slots_of turn.v.start) (new : ℕ
       own = refl;
       slots = λ i l. dite (ℕ_discrete i s) (λ same. rw same slot_now)
           (λ other. slot_same (slot_else turn s inside new i other) (at_is i)
-          (λ q low high. p.deed_else i q other) (λ f there seat. refl) (r.each_slot i l));
+          (λ q low high. p.deed_else i q other) (λ f there seat. refl) (r.slots i l));
       nodes = λ n l. node_now n l (r.phase n) refl;
-      owners = λ n l. ⊎_elim (λ same. owner_same st.views id v (w turn slot_after) here same n (r.phase n) (r.each_owner n l))
-          (λ none. owner_stays st.views id v (w turn slot_after) here n (λ bad. omega arith) (r.phase n) (r.each_owner n l)) p.owners;
-      labels = λ n l. labels_same v.start _ _ _ (written_in (r.phase n)) (slot_label turn s inside new n) (r.each_label n l);
-      removed = λ number. ap (λ (f : ℕ → Option File). f number) p.files.removed ∙ r.removed number;
-      unborn = r.unborn;
-      fresh = λ number l. ap (λ (f : ℕ → Bool). f number) p.files.fresh ∙ r.fresh number l;
+      owners = λ n l. ⊎_elim (λ same. owner_same st.views id v (w turn slot_after) here same n (r.phase n) (r.nodes.owners n l))
+          (λ none. owner_stays st.views id v (w turn slot_after) here n (λ bad. omega arith) (r.phase n) (r.nodes.owners n l)) p.owners;
+      labels = λ n l. labels_same v.start _ _ _ (written_in (r.phase n)) (slot_label turn s inside new n) (r.nodes.labels n l);
+      removed = λ number. ap (λ (f : ℕ → Option File). f number) p.files.removed ∙ r.nodes.removed number;
+      unborn = r.nodes.unborn;
+      fresh = λ number l. ap (λ (f : ℕ → Bool). f number) p.files.fresh ∙ r.nodes.fresh number l;
       named = names_on turn _ same_own_name;
       stock = its_stock turn;
       stocks = λ n p e other at. at;

@@ -43,10 +43,10 @@ module _ (turn : Turn) (s : ℕ) (inside : s < slots_of turn.v.start) where
 
   module _ (old : Option File) (was : state.at s ≡ old) where
     pub names_old : Names r.node_of found old
-    names_old = subst (Names r.node_of found) was (r.each_slot s inside).names
+    names_old = subst (Names r.node_of found) was (r.slots s inside).names
 
     seat_old : IsSeated v.start r.node_of r.phase s old
-    seat_old = subst (IsSeated v.start r.node_of r.phase s) was (r.each_slot s inside).seat
+    seat_old = subst (IsSeated v.start r.node_of r.phase s) was (r.slots s inside).seat
 
     -- the file that was there
     pub old_at : {f : File} → old ≡ Some f → (r.node_of f.number < nodes_of v.start) × (r.phase (r.node_of f.number) ≡ seated s f)
@@ -147,13 +147,13 @@ module _ (turn : Turn) (s : ℕ) (inside : s < slots_of turn.v.start) where
         pub let_go : (n : ℕ) → holds n + held_of n v ≡ state.holds n
         pub taken : (f : File) → old ≡ Some f → count_in counted + taking (r.node_of f.number) v.work ≡ count_in found
         pub homes : length homes' ≡ length st.homes
-        pub later : r.next_number ≤ next'
+        pub later : r.nodes.next_number ≤ next'
         pub removed_else : (m : ℕ) → removed_in m (phase₁ (r.node_of m)) ≡ removed_in m (r.phase (r.node_of m))
         -- the nodes that slots name, and those of stocks
         pub named_new : NamesItsNode v.start where_is' s new_word
-        pub named_else : (i n : ℕ) → i ≢ s → r.where_is n ≡ at_slot i → where_is' n ≡ at_slot i
+        pub named_else : (i n : ℕ) → i ≢ s → r.nodes.where_is n ≡ at_slot i → where_is' n ≡ at_slot i
         pub stock : StockAgrees v.start where_is' x.number stock'
-        pub stocks : (n q e : ℕ) → q ≢ x.number → r.where_is n ≡ in_stock q e → where_is' n ≡ in_stock q e
+        pub stocks : (n q e : ℕ) → q ≢ x.number → r.nodes.where_is n ≡ in_stock q e → where_is' n ≡ in_stock q e
         -- the new file of the slot
         pub names : Names r.node_of new_word new
         pub few_takes : count_in new_word ≤ cold_takes v.start.passes
@@ -217,7 +217,7 @@ module _ (turn : Turn) (s : ℕ) (inside : s < slots_of turn.v.start) where
         -- its label is still that of the file
         old_label : {f : File} → old ≡ Some f → Labels v.start (slot_words turn s inside new_word) (r.node_of f.number) (label_of f.identity)
         old_label {f} is = let its = old_at old was is in labels_same v.start _ _ _ (label_of f.identity) (slot_label turn s inside new_word (r.node_of f.number))
-            (subst (λ (ph : Phase). Labels v.start st.words (r.node_of f.number) (written_in ph)) its.1 (r.each_label (r.node_of f.number) its.0))
+            (subst (λ (ph : Phase). Labels v.start st.words (r.node_of f.number) (written_in ph)) its.1 (r.nodes.labels (r.node_of f.number) its.0))
 
         -- who guards the old file is still to be visited
         guard_old : {f : File} (q : ℕ) → 0 < q → q ≤ v.start.passes → old ≡ Some f → IsHot found → IsToVisit (new_round (first_visit v.start.passes counted)) q
@@ -236,7 +236,7 @@ module _ (turn : Turn) (s : ℕ) (inside : s < slots_of turn.v.start) where
             at_slot apart i f is same = dite (dec_le (suc n) (nodes_of v.start))
                 (λ l. let o = in_phase turn (omega (arith, l)) is in
                 apart f (sym was ∙ (ap state.at (sym same) ∙ o.there)) (sym o.file.its_node))
-                (λ g. let e = r.unborn n (omega (arith, g)) in let bad : free ≡ seated i f = sym e ∙ is in cc bad)
+                (λ g. let e = r.nodes.unborn n (omega (arith, g)) in let bad : free ≡ seated i f = sym e ∙ is in cc bad)
 
             go : NotOf r.node_of n old → (ph : Phase) → r.phase n ≡ ph → MayBeUnmarked (slot_word st.words) q ph
                 → MayBeUnmarked (slot_word (slot_words turn s inside new_word)) q (phase' n)
@@ -244,11 +244,7 @@ module _ (turn : Turn) (s : ℕ) (inside : s < slots_of turn.v.start) where
                 (sym (same_phase is apart (λ l bad. cc bad))) (rw (slot_else turn s inside new_word i (λ same. at_slot apart i f is same)) hot)
             go apart (leaving j t nx m f) is l = subst (MayBeUnmarked (slot_word (slot_words turn s inside new_word)) q)
                 (sym (same_phase is apart (λ l bad. cc bad))) l
-            go apart free is m = absurd m
-            go apart (placed j l) is m = absurd m
-            go apart (retired f) is m = absurd m
-            go apart (emptied j) is m = absurd m
-            go apart (kept j lost) is m = absurd m
+            go apart _ is m = absurd m
 
         slots_on : (q i : ℕ) → SlotGoesOn (slot_word st.words i) (slot_word (slot_words turn s inside new_word) i) (r.deed i q) (deed' i q)
         slots_on q i = dite (ℕ_discrete i s)
@@ -278,11 +274,11 @@ module _ (turn : Turn) (s : ℕ) (inside : s < slots_of turn.v.start) where
         removed_now m = ap (λ (z : State). z.removed m) p.leads ∙ go old refl
           where
             go : (o : Option File) → old ≡ o → with_removed state.removed o m ≡ removed_in m (gone o phase₁ (r.node_of m))
-            go None is = r.removed m ∙ sym (p.removed_else m)
+            go None is = r.nodes.removed m ∙ sym (p.removed_else m)
             go (Some f) is = dite (ℕ_discrete m f.number)
                 (λ same. changed_here state.removed f.number (Some f) m same ∙ sym (ap (removed_in m) (changed_here phase₁ (r.node_of f.number) (gone_as f) (r.node_of m)
                 (ap r.node_of same)) ∙ rw (eq-eqb f.number m (sym same)) refl))
-                (λ other. changed_else state.removed f.number (Some f) m other ∙ (r.removed m ∙ (sym (p.removed_else m)
+                (λ other. changed_else state.removed f.number (Some f) m other ∙ (r.nodes.removed m ∙ (sym (p.removed_else m)
                 ∙ sym (each_changed (λ k z. removed_in m z ≡ removed_in m (phase₁ k)) phase₁
                 (λ at. rw (ne_eqb f.number m (λ e. other (sym e))) (sym (ap (λ (k : ℕ). removed_in m (phase₁ k)) at
                 ∙ ap (removed_in m) (⊎_elim (λ e. e ∙ (old_at old was is).1) (λ bad. let z : placed id bad.0 ≡ seated s f = sym bad.1 ∙ (old_at old was is).1 in absurd (cc z))
@@ -296,9 +292,9 @@ module _ (turn : Turn) (s : ℕ) (inside : s < slots_of turn.v.start) where
             → SlotAgrees v.start r.node_of phase' (deed' i) i (after.at i) (slot_word (slot_words turn s inside new_word) i)
         slot_other i l other = slot_same (slot_else turn s inside new_word i other) (at_else i other)
             (λ q low high. ap (λ (f : ℕ → Deed). f q) (changed_else r.deed s (λ p. untouched) i other))
-            (λ f there seat. let its = subst (IsSeated v.start r.node_of r.phase i) there (r.each_slot i l).seat in
+            (λ f there seat. let its = subst (IsSeated v.start r.node_of r.phase i) there (r.slots i l).seat in
             same_phase its.1 (not_old old was its.1 (λ g bad. other (cc bad))) (λ l bad. cc bad) ∙ sym its.1)
-            (r.each_slot i l)
+            (r.slots i l)
 
         pub swap_kept : Agrees v.start (end turn swap_after)
         swap_kept = let o = its_log turn in let hands = p.no_hold in step_kept turn swap_after record {
@@ -325,10 +321,10 @@ module _ (turn : Turn) (s : ℕ) (inside : s < slots_of turn.v.start) where
               (λ f is same. rw (same, out_here is) (old_label is))
               (λ apart. rw (else_phase apart) (labels_same v.start _ _ _ (written_in (phase₁ n)) (slot_label turn s inside new_word n) (p.labels n l apart)));
           removed = removed_now;
-          unborn = λ n l. same_phase (r.unborn n l) (not_old old was (r.unborn n l) (λ f bad. cc bad)) (λ z bad. cc bad);
+          unborn = λ n l. same_phase (r.nodes.unborn n l) (not_old old was (r.nodes.unborn n l) (λ f bad. cc bad)) (λ z bad. cc bad);
           fresh = λ number l. ap (λ (z : State). z.fresh number) p.leads ∙ p.fresh_on number l;
           named = λ i l. dite (ℕ_discrete i s) (λ same. rw (same, slot_here turn s inside new_word) p.named_new)
-              (λ other. let o = r.named i l in record {
+              (λ other. let o = r.nodes.named i l in record {
                 node = o.node;
                 named = ap name_in (slot_else turn s inside new_word i other) ∙ o.named;
                 inside = o.inside;

@@ -12,7 +12,6 @@ use Rattle.fx_lasting.proofs.node_lemmas.StockMoves.{names_a_node, where_moved, 
 use Rattle.fx_lasting.proofs.Histories.{Grows, grows_one, grows_more, legal_more, part_mine, held_mine, same_shape}
 use Rattle.fx_lasting.proofs.Frames.{busy, owner_stays, node_same}
 use Rattle.fx_lasting.proofs.Keeping.{Turn, turn_of, After, Made, by_turn, its_log, its_work, its_stock, tells, tells_stocked, word_at, slot_word, w, end, asks_alike, few_slots}
-use Rattle.fx_lasting.proofs.range_lemmas.Groups.{counts_swap, removal_balances, removal_keeps}
 use Rattle.fx_lasting.proofs.range_lemmas.Groups.{counts_emptied}
 use Rattle.fx_lasting.proofs.Places.{slot_else, slot_back, slot_alike}
 use Rattle.fx_lasting.proofs.slot_lemmas.Sights.{sees_after, sees_kept, sees_slot}
@@ -75,17 +74,17 @@ module _ (turn : Turn) (s : ℕ) (inside : s < slots_of turn.v.start) (f : File)
     -- it is that of an empty slot, and each node is named by one slot, or in one stock
     pub record Leaves : Type 0 where
       pub named_new : NamesItsNode v.start where₁ s left
-      pub named_else : (i m : ℕ) → i ≢ s → r.where_is m ≡ at_slot i → where₁ m ≡ at_slot i
+      pub named_else : (i m : ℕ) → i ≢ s → r.nodes.where_is m ≡ at_slot i → where₁ m ≡ at_slot i
       pub stock : StockAgrees v.start where₁ x.number stock₁
-      pub stocks : (m q e : ℕ) → q ≢ x.number → r.where_is m ≡ in_stock q e → where₁ m ≡ in_stock q e
+      pub stocks : (m q e : ℕ) → q ≢ x.number → r.nodes.where_is m ≡ in_stock q e → where₁ m ≡ in_stock q e
       pub names : full_name_in left ≡ 0
       pub takes : (count_in left ≡ 0) × (heat_in left ≡ 0)
 
     abbrev pub removal : After turn
-    removal = swap_after turn s inside (Some f) there (word - 1) (less.0, less.1) h₁ left None st.homes r.phase r.next_number c₁ where₁ stock₁
+    removal = swap_after turn s inside (Some f) there (word - 1) (less.0, less.1) h₁ left None st.homes r.phase r.nodes.next_number c₁ where₁ stock₁
 
     module _ (l : Leaves) where
-      removes : Swap turn s inside (Some f) there (word - 1) (less.0, less.1) h₁ left None st.homes r.phase r.next_number c₁ where₁ stock₁
+      removes : Swap turn s inside (Some f) there (word - 1) (less.0, less.1) h₁ left None st.homes r.phase r.nodes.next_number c₁ where₁ stock₁
       removes = let o = its_log turn in let h = rw works at o.hold in record {
         grows = grows;
         legal = legal₁;
@@ -93,7 +92,7 @@ module _ (turn : Turn) (s : ℕ) (inside : s < slots_of turn.v.start) (f : File)
         fresh = before.fresh;
         holds = (state_after_all v.start h₀).holds;
         leads = refl;
-        fresh_on = r.fresh;
+        fresh_on = r.nodes.fresh;
         let_go = held_let_go turn s inside f n its takes_it (ap held_in works) names_it;
         held = held_mine (pass_event x (Take s (Some f))) h₀ refl ∙ held_mine (pass_event x (Release f)) r.history refl;
         homes = refl;
@@ -116,19 +115,19 @@ module _ (turn : Turn) (s : ℕ) (inside : s < slots_of turn.v.start) (f : File)
             refl refl (r.phase m) (λ i g is seen. let away : i ≢ s = λ same. apart f refl (sym (in_phase turn low is).file.its_node
             ∙ (let e : g ≡ f = cc (sym seen ∙ (ap before.at same ∙ there)) in ap (λ (z : File). r.node_of z.number) e)) in
             (changed_else before.at s None i away, ap count_in (slot_else turn s inside left i away)))
-            (r.each_node m low);
+            (r.nodes.each m low);
         old_home = λ g is. refl;
-        owners = λ m low apart. owner_stays st.views id v (w turn removal) here m (λ bad. let a = ap busy works in omega arith) (r.phase m) (r.each_owner m low);
-        labels = λ m low apart. r.each_label m low;
+        owners = λ m low apart. owner_stays st.views id v (w turn removal) here m (λ bad. let a = ap busy works in omega arith) (r.phase m) (r.nodes.owners m low);
+        labels = λ m low apart. r.nodes.labels m low;
         no_hold = (h.0, h.1);
         taken = λ g is. let e : f ≡ g = cc is in subst (λ (z : File). count_in (word - 1) + taking (r.node_of z.number) v.work ≡ count_in word) e
             (let a = ap (taking (r.node_of f.number)) works in let b = bit_here (r.node_of f.number) n (sym on_n) in let c = less.2 in omega arith);
-        counts = counts_emptied id (w turn removal) here r.counts s (Some f) (few_slots turn) there (slot_alike turn s inside left)
+        counts = counts_emptied id (w turn removal) here r.range s (Some f) (few_slots turn) there (slot_alike turn s inside left)
             (asks_alike turn removal refl) off refl;
       }
 
       pub removal_agrees : Agrees v.start (end turn removal)
-      removal_agrees = swap_kept turn s inside (Some f) there (word - 1) (less.0, less.1) h₁ left None st.homes r.phase r.next_number c₁ where₁ stock₁ removes
+      removal_agrees = swap_kept turn s inside (Some f) there (word - 1) (less.0, less.1) h₁ left None st.homes r.phase r.nodes.next_number c₁ where₁ stock₁ removes
 
   pub knows : IsInside v.start (retiring_work v.start (word - 1) (Some f))
   knows = held_knows turn s inside f n its takes_it (ap held_in works) names_it
@@ -141,9 +140,9 @@ module _ (turn : Turn) (s : ℕ) (inside : s < slots_of turn.v.start) (f : File)
 
   -- The slot keeps its name alone
   module _ (slots : ℕ) (carried : List (ℕ × Option Closed)) where
-    leaves_name : Leaves (without_file word) r.where_is x.stock
+    leaves_name : Leaves (without_file word) r.nodes.where_is x.stock
     leaves_name = record {
-      named_new = let o = r.named s inside in record { node = o.node; named = name_left word ∙ o.named; inside = o.inside; here = o.here };
+      named_new = let o = r.nodes.named s inside in record { node = o.node; named = name_left word ∙ o.named; inside = o.inside; here = o.here };
       named_else = λ i m other at. at;
       stock = its_stock turn;
       stocks = λ m q e other at. at;
@@ -152,7 +151,7 @@ module _ (turn : Turn) (s : ℕ) (inside : s < slots_of turn.v.start) (f : File)
     }
 
     abbrev left : After turn
-    left = removal (without_file word) r.where_is x.stock
+    left = removal (without_file word) r.nodes.where_is x.stock
 
     abbrev Takes : (old_word : ℕ) → ℕ → Type 0
     Takes old_word y = Made turn carried (slot_place s) (λ _. y) (TakesHeld (step slots (slot_place s) old_word (without_file old_word) none) (v, carried))
@@ -162,7 +161,7 @@ module _ (turn : Turn) (s : ℕ) (inside : s < slots_of turn.v.start) (f : File)
       w turn left,
       keeps,
       tt,
-      removal_agrees (without_file word) r.where_is x.stock leaves_name,
+      removal_agrees (without_file word) r.nodes.where_is x.stock leaves_name,
       record {
         wins = λ g node works' _. let same : f ≡ g = cc (sym works ∙ works') in rw (← same, slot_back s) (
           some_takes,

@@ -9,7 +9,6 @@ use Rattle.fx_lasting.proofs.node_lemmas.StockMoves.{names_a_node, where_moved, 
 use Rattle.fx_lasting.proofs.Histories.{grows_one, part_mine}
 use Rattle.fx_lasting.proofs.Frames.{owner_stays, node_same}
 use Rattle.fx_lasting.proofs.Keeping.{Turn, turn_of, After, Made, by_turn, its_log, tells_stocked, w, end, asks_alike, few_slots}
-use Rattle.fx_lasting.proofs.range_lemmas.Groups.{counts_swap, removal_balances, removal_keeps}
 use Rattle.fx_lasting.proofs.range_lemmas.Groups.{counts_emptied}
 use Rattle.fx_lasting.proofs.Places.{slot_else, slot_back, slot_alike}
 use Rattle.fx_lasting.proofs.slot_lemmas.Swaps.{found, old_at, found_so, old_named, d, swap_after, Swap, swap_kept}
@@ -41,9 +40,9 @@ module _ (act : ℕ → Option File → Action) (does : IsRemoval act) (turn : T
   stock₁ = stock_moved turn s inside n stocked
 
   abbrev pub removal : After turn
-  removal = swap_after turn s inside old refl (found turn s inside) (refl, refl) h₁ left None st.homes r.phase r.next_number c₁ where₁ stock₁
+  removal = swap_after turn s inside old refl (found turn s inside) (refl, refl) h₁ left None st.homes r.phase r.nodes.next_number c₁ where₁ stock₁
 
-  removes : Swap turn s inside old refl (found turn s inside) (refl, refl) h₁ left None st.homes r.phase r.next_number c₁ where₁ stock₁
+  removes : Swap turn s inside old refl (found turn s inside) (refl, refl) h₁ left None st.homes r.phase r.nodes.next_number c₁ where₁ stock₁
   removes = let o = its_log turn in let h = holds_none free_of o.hold in let e = does turn s inside in record {
     grows = grows_one x.number r.history _ refl;
     legal = e.0;
@@ -51,7 +50,7 @@ module _ (act : ℕ → Option File → Action) (does : IsRemoval act) (turn : T
     fresh = (state_after_all v.start r.history).fresh;
     holds = (state_after_all v.start r.history).holds;
     leads = e.1;
-    fresh_on = r.fresh;
+    fresh_on = r.nodes.fresh;
     held = e.2 ∙ (o.held ∙ no_file free_of);
     let_go = λ m. let a = ap (if_file m) (no_file free_of) in omega arith;
     taken = λ f is. let a = no_take free_of (r.node_of f.number) in omega arith;
@@ -73,12 +72,12 @@ module _ (act : ℕ → Option File → Action) (does : IsRemoval act) (turn : T
         refl refl (r.phase m) (λ i f is there. let other : i ≢ s = λ same. apart f (ap (λ (j : ℕ). (state_after_all v.start r.history).at j) (sym same) ∙ there)
         (sym (in_phase turn l is).file.its_node) in
         (ap (λ (z : State). z.at i) e.1 ∙ changed_else (state_after_all v.start r.history).at s None i other, ap count_in (slot_else turn s inside left i other)))
-        (r.each_node m l);
+        (r.nodes.each m l);
     old_home = λ f is. refl;
-    owners = λ m l apart. owner_stays st.views id v (w turn removal) here m (λ bad. let a = not_busy free_of in omega arith) (r.phase m) (r.each_owner m l);
-    labels = λ m l apart. r.each_label m l;
+    owners = λ m l apart. owner_stays st.views id v (w turn removal) here m (λ bad. let a = not_busy free_of in omega arith) (r.phase m) (r.nodes.owners m l);
+    labels = λ m l apart. r.nodes.labels m l;
     no_hold = (h.0, h.1);
-    counts = counts_emptied id (w turn removal) here r.counts s old (few_slots turn) refl (slot_alike turn s inside left)
+    counts = counts_emptied id (w turn removal) here r.range s old (few_slots turn) refl (slot_alike turn s inside left)
         (asks_alike turn removal refl) off refl;
   }
     where
@@ -90,7 +89,7 @@ module _ (act : ℕ → Option File → Action) (does : IsRemoval act) (turn : T
           go (Some f) = refl
 
   pub removal_agrees : Agrees v.start (end turn removal)
-  removal_agrees = swap_kept turn s inside old refl (found turn s inside) (refl, refl) h₁ left None st.homes r.phase r.next_number c₁ where₁ stock₁ removes
+  removal_agrees = swap_kept turn s inside old refl (found turn s inside) (refl, refl) h₁ left None st.homes r.phase r.nodes.next_number c₁ where₁ stock₁ removes
 
   pub removal_tells : (carried : List (ℕ × Option Closed)) (e : ℕ) → get_elem? (first_log v.logs).stock e ≡ some n
       → Stepped (as_swapped e (name_in (found turn s inside) - 1) (v, carried)) ([] ▷ act s old) (retiring_work v.start (found turn s inside) old) v.glance c₁

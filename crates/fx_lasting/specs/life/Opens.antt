@@ -7,7 +7,7 @@ use Rattle.atomic_table.specs.Table.{opening}
 use Rattle.fx_base.specs.Identity.{Identity}
 use Rattle.fx_plain.specs.declared.event.File.{File}
 use Rattle.fx_table.specs.FullSlots.{full_in}
-use Rattle.fx_lasting.specs.Agrees.{Labels}
+use Rattle.fx_lasting.specs.nodes.NodesAgree.{Labels}
 use Rattle.fx_lasting.specs.nodes.Labels.{label_of}
 use Rattle.fx_lasting.specs.life.Layout.{question_place, group_place, list_place, slot_place}
 use Rattle.fx_lasting.specs.life.Layout.{words_for, groups_in, group_start, group_len}

@@ -13,7 +13,7 @@ use Rattle.fx_table.specs.declared.values.Doing.TheVariants.{Holding}
 use Rattle.fx_table.specs.declared.values.Doing.TheVariants.{Retiring as Retires}
 use Rattle.fx_table.specs.declared.values.Hold.{Hold}
 use Rattle.fx_table.specs.declared.values.Retired.{Retired}
-use Rattle.fx_lasting.specs.Agrees.{Names}
+use Rattle.fx_lasting.specs.slots.SlotAgrees.{Names}
 use Rattle.fx_lasting.specs.Ends.{Does}
 use Rattle.fx_lasting.specs.slots.ByNode.{FailedIf, FitsMiss, WasSo}
 use Rattle.fx_lasting.specs.slots.ByKey.{HeldByKey, HoldsAtKey, IsKeyOf, LookedByKey, TriesKey}

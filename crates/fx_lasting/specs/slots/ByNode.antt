@@ -13,7 +13,7 @@ use Rattle.fx_table.specs.Calls.{Adds, IsNewFile, no_use, one_number}
 use Rattle.fx_table.specs.Pass.{PassView, IsFileRemoval}
 use Rattle.fx_table.specs.declared.values.Doing.TheVariants.{Idle as DoesNothing}
 use Rattle.fx_table.specs.declared.values.Doing.TheVariants.{Retiring as Retires}
-use Rattle.fx_lasting.specs.Agrees.{Names}
+use Rattle.fx_lasting.specs.slots.SlotAgrees.{Names}
 use Rattle.fx_lasting.specs.Ends.{Does}
 use Rattle.fx_lasting.specs.holds.HeldFiles.{IsOneOnItsNode}
 use Rattle.fx_lasting.specs.Fields.{full_name_in}

@@ -15,7 +15,7 @@ use Rattle.fx_table.specs.declared.values.Doing.TheVariants.{Idle as DoesNothing
 use Rattle.fx_table.specs.declared.values.Doing.TheVariants.{Retiring as Retires}
 use Rattle.fx_table.specs.declared.values.Hold.{Hold}
 use Rattle.fx_table.specs.declared.values.Retired.{Retired}
-use Rattle.fx_lasting.specs.Agrees.{Names}
+use Rattle.fx_lasting.specs.slots.SlotAgrees.{Names}
 use Rattle.fx_lasting.specs.Effects.{as_swapped, pass_in, retiring_work}
 use Rattle.fx_lasting.specs.Ends.{Does}
 use Rattle.fx_lasting.specs.Fields.{full_name_in, most_carried}

@@ -10,7 +10,7 @@ use Rattle.fx_plain.specs.declared.event.File.{File}
 use Rattle.fx_plain.specs.declared.event.Action.TheVariants.{Look, Put, Release}
 use Rattle.atomic_table.specs.Table.{rest}
 use Rattle.fx_words.specs.Words.{name_in}
-use Rattle.fx_lasting.specs.Agrees.{Names}
+use Rattle.fx_lasting.specs.slots.SlotAgrees.{Names}
 use Rattle.fx_lasting.specs.range.Groups.{account}
 use Rattle.fx_lasting.specs.nodes.Labels.{label_of, as_written}
 use Rattle.fx_lasting.specs.Fields.{count_in, full_name_in, IsHot}

@@ -8,7 +8,7 @@ use Rattle.fx_plain.specs.declared.event.File.{File}
 use Rattle.fx_plain.specs.declared.event.Action.{Action}
 use Rattle.fx_plain.specs.declared.event.Action.TheVariants.{Release, Take}
 use Rattle.fx_words.specs.Words.{name_in}
-use Rattle.fx_lasting.specs.Agrees.{Names}
+use Rattle.fx_lasting.specs.slots.SlotAgrees.{Names}
 use Rattle.fx_lasting.specs.range.Groups.{account}
 use Rattle.fx_lasting.specs.holds.HeldFiles.{IsOneOnItsNode}
 use Rattle.fx_lasting.specs.Fields.{count_in, empty_word_of}
