@@ -21,13 +21,13 @@ use Rattle.fx_counted.specs.Settling.{Observes}
 use Rattle.fx_counted.proofs.Calling.{its_idle}
 
 -- a seat that does nothing, in no change
-abbrev DoesNothing : View → Type 0
+abbrev pub DoesNothing : View → Type 0
 DoesNothing v = (v.work ≡ Between Idle) × (v.change ≡ Outside)
 
-abbrev logs : View → List Log
+abbrev pub logs : View → List Log
 logs v = v.logs
 
-abbrev start : View → Start
+abbrev pub start : View → Start
 start v = v.start
 
 -- the rule holds where passes are in other seats that do nothing
@@ -39,7 +39,7 @@ module _ (k : Start) (s : Shared) (r : Agrees k s) (views : List View) (a : AreR
   by_change : (f : Change → ℕ) → f Outside ≡ 0 → sum_by (λ (u : View). f u.change) views ≡ sum_by (λ (u : View). f u.change) s.views
   by_change f none = a.by_work (λ u. f u.change) (λ u idle. ap f idle.1 ∙ none)
 
-  reseated : Agrees k record { words = s.words; homes = s.homes; views = views }
+  pub reseated : Agrees k record { words = s.words; homes = s.homes; views = views }
   reseated = record {
     shape = shape_kept refl refl r.shape;
     history = r.history;

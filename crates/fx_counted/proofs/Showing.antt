@@ -1,11 +1,11 @@
 -- A pass shows what it has seen, and another pass learns it: the rule holds afterwards. Neither is
 -- an atomic step.
-use Rattle.fx_counted.proofs.Words.{◌≡◌, ℕ, ◌+◌, ◌≤◌, List, [], ◌∷◌, length, sym, refl, ap, ◌∙◌, subst, arith, ⊎_elim, sum_by, sum_by-append, eqb, one_if, times}
-use Rattle.fx_counted.proofs.Words.{WorkAgrees, LogAgrees, Agrees, Shared, Log, Start, View, Between, Idle, Seat, Closed, Sat, TableId, CountedPass, IsPassOf, PassView}
-use Rattle.fx_counted.proofs.Words.{contains_none, contains_head, contains_only, Contains, Event, first_log, pass_of, view_of, opening_of, set_again, some, get_elem?, Option}
-use Rattle.std.proofs.Common.{◌++◌, set, inl, inr}
-use Rattle.fx_plain.specs.History.{IsSeenBy, part_of_pass}
-use Rattle.atomic_table.proofs.Lists.{at_snoc, at_longer, at_set}
+use Rattle.fx_counted.proofs.Words.{◌≡◌, ℕ, ◌+◌, ◌≤◌, List, [], ◌∷◌, length, sym, refl, ap, ◌∙◌, subst, arith, ⊎_elim, eqb, one_if}
+use Rattle.fx_counted.proofs.Words.{LogAgrees, Agrees, Shared, Log, Start, View, Between, Seat, Closed, TableId, CountedPass, IsPassOf}
+use Rattle.fx_counted.proofs.Words.{contains_only, first_log, view_of, opening_of, set_again, some, get_elem?, Option}
+use Rattle.std.proofs.Common.{◌++◌, set, inr}
+use Rattle.fx_plain.specs.History.{IsSeenBy}
+use Rattle.atomic_table.proofs.Lists.{at_set}
 use Rattle.atomic_table.specs.Table.{Splits}
 use Rattle.fx_table.proofs.SumLemmas.{sum_set, contains_alone}
 use Rattle.fx_table.specs.Calls.{Adds, no_use}
@@ -15,68 +15,26 @@ use Rattle.fx_counted.specs.declared.view.Work.{Work}
 use Rattle.fx_counted.specs.declared.view.Work.TheVariants.{Placing, Emptying}
 use Rattle.fx_counted.specs.declared.view.Change.{Change}
 use Rattle.fx_counted.specs.declared.view.Change.TheVariants.{Outside}
-use Rattle.fx_counted.specs.Control.{changes_of, added_of, removed_of}
-use Rattle.fx_counted.specs.Cuts.{view_with}
 use Rattle.fx_counted.specs.Goes.{Goes}
-use Rattle.fx_counted.specs.Passes.{held_of, logs_of, looks_of, drawn_of, ended_of, shown, doing_in}
+use Rattle.fx_counted.specs.Passes.{held_of, shown, doing_in}
 use Rattle.fx_counted.specs.Showing.{shown_view, HasLearned}
 use Rattle.fx_counted.specs.Effects.{IsInside}
-use Rattle.fx_counted.proofs.Frames.{owner_map, owner_same, control_same, draws_same, total_same}
+use Rattle.fx_table.proofs.Seats.{appended}
+use Rattle.fx_counted.proofs.Seats.{DoesNothing, logs, start, reseated}
+use Rattle.fx_counted.proofs.Frames.{owner_same, control_same, draws_same, total_same}
 use Rattle.fx_counted.proofs.Keeping.{IsKnown, shape_kept}
 use Rattle.fx_seen.proofs.Views.{of_appended, of_replaced}
 use Rattle.fx_table.proofs.Calls.{learned_so}
 use Rattle.fx_counted.proofs.Calling.{adds_so, still_pass}
 use Rattle.fx_seen.specs.Kept.{MayLearn}
 
--- a seat without passes that shows a history joins the others
-module _ (k : Start) (s : Shared) (r : Agrees k s) (h : List Event) (seen : IsSeenBy h r.history) where
-  abbrev u : View
-  u = view_with h
-
-  abbrev views' : List View
-  views' = s.views ++ u ∷ []
-
-  beside : Agrees k record { words = s.words; homes = s.homes; views = views' }
-  beside = record {
-    shape = shape_kept refl refl r.shape;
-    history = r.history;
-    phase = r.phase;
-    legal = r.legal;
-    each_slot = r.each_slot;
-    each_node = r.each_node;
-    each_owner = λ n has. owner_map s.views views' n (λ j d is o. (o.0, at_longer s.views (u ∷ []) j o.0 o.1, o.2)) (r.phase n) (r.each_owner n has);
-    no_other = r.no_other;
-    each_view = λ j x e. ⊎_elim (λ old. r.each_view j x old)
-        (λ (new : u ≡ x). subst (ViewAgrees k r.history r.phase j) new record {
-          logs = λ y c. absurd (contains_none y c);
-          work = tt;
-          empty = λ _. (refl, refl);
-          start = inl refl;
-        }) (at_snoc s.views u x j e);
-    known = of_appended (IsKnown r.history) s.views r.known u seen;
-    holds = λ n. let t = sum_by-append (held_of n) s.views (u ∷ []) in let h = r.holds n in omega arith;
-    look_ups = let t = sum_by-append looks_of s.views (u ∷ []) in let h = r.look_ups in omega arith;
-    passes = λ p. let t = sum_by-append (logs_of p) s.views (u ∷ []) in let h = r.passes p in omega arith;
-    whole = let t = sum_by-append lengths s.views (u ∷ []) in let h = r.whole in omega arith;
-    authors = r.authors;
-    control = let a = sum_by-append changes_of s.views (u ∷ []) in let b = sum_by-append added_of s.views (u ∷ []) in
-        let c = sum_by-append removed_of s.views (u ∷ []) in let up = r.control.upper in let low = r.control.lower in record { upper = omega arith; lower = omega arith };
-    draws = let d = r.draws in let t = sum_by-append ended_of s.views (u ∷ []) in record {
-      given = d.given;
-      few = d.few;
-      each = λ c. let a = sum_by-append (drawn_of c) s.views (u ∷ []) in let b = d.each c in omega arith;
-      counts = let b = d.counts in omega arith;
-      all = λ some_told. d.all (omega arith);
-      unused = d.unused;
-    };
-  }
-
 -- a seat with one pass may show what the pass has seen
 pub may_show : (k : Start) (id : ℕ) (v : View) {x : Log} → v.logs ≡ x ∷ [] → Splits (Agrees k) id v v (shown_view v)
 may_show k id v {x} one s r at =
     let seen : IsSeenBy (first_log v.logs).front r.history = subst (λ (l : List Log). IsSeenBy (first_log l).front r.history) (sym one) ((r.each_view id v at).logs x (contains_alone one)).seen in
     subst (λ (l : List View). Agrees k record { words = s.words; homes = s.homes; views = l ++ shown_view v ∷ [] }) (sym (set_again s.views id v at))
-    (beside k s r (first_log v.logs).front seen)
+    (reseated k s r _ (appended logs start k DoesNothing s.views (shown_view v) (refl, refl) refl)
+    (of_appended (IsKnown r.history) s.views r.known (shown_view v) seen))
 
 -- a seat with one pass may learn the whole history
 module _ (k : Start) (id : ℕ) (v w : View) (x : Log) (one : v.logs ≡ x ∷ []) (begun : v.start ≡ k) (within : IsInside v.start v.work) (s : Shared) (r : Agrees k s)
