@@ -240,7 +240,12 @@ enum {
     YACHT_RULE_FINDS_CLOSED = 16, /* a look found a file that was closed before: first, second */
     YACHT_RULE_CLOSES_TWICE = 17, /* a file was closed twice: first, second */
     YACHT_RULE_CLOSES_HELD = 18,  /* a file was closed while a look held it: first, second */
-    YACHT_RULE_CANT_ANSWER = 19   /* a request can't have its answer: first, second */
+    YACHT_RULE_CANT_ANSWER = 19,  /* a request can't have its answer: first, second */
+    YACHT_RULE_HOLDS = 20,        /* an access finds a file at a slot, and each other file isn't
+                                   * there by earlier steps and by the log: first, second, access,
+                                   * slot */
+    YACHT_RULE_DIFFERS = 21       /* accesses of different calls aren't at the same time (premise):
+                                   * the calls first and second */
 };
 
 /* A step of a reason: by its rule, the point `from` comes before the point `to` in each flight. The
@@ -253,6 +258,7 @@ typedef struct yacht_step {
     uint64_t access;    /* the number of the access among those of its member, from 0 */
     uint64_t premise;   /* the number of an earlier step, from 0 */
     uint64_t other;     /* the number of another earlier step, from 0 */
+    uint64_t slot;      /* the slot at which a file is found, from 0 */
     yacht_point from;   /* the earlier point */
     yacht_point to;     /* the later point */
 } yacht_step;

@@ -30,6 +30,8 @@ done 8.1 0 2.1.0
 closed 2.1.0 a
 call 9 look 2
 done 9.1 -9
+call 11 close 1
+done 11.1 0
 call 10 close 0 link ; open b any link ; update 1 0,0
 done 10.1 1
 done 10.2 -125
@@ -79,10 +81,11 @@ PUT_A_SETTLED = chain(installs_a, of_lines(6, 15))
 LOOK_GONE_B = chain(step("ends", LOOKED, access(8), event(8)), of_lines(8, 11), begins_found, finds_b)
 CLEAR_GONE_B = chain(step("ends", UPDATED, access(10, 1), event(10), 1), of_lines(10, 11), begins_found, finds_b)
 PUT_A_GONE_B = chain(installs_a, of_lines(6, 11), begins_found, finds_b)
+LOOK_CLOSE = chain(step("ends", LOOKED, access(8), event(8)), of_lines(8, 16), step("begins", CLOSED, event(16), access(17)))
 PUT_B_FOUND = [step("follows", FOUND, PUT_B, access(12))]
 # steps that come first, the last one, which follows, and others in its place, which don't
 ROWS = [
-    ([], of_lines(5, 6), [of_lines(6, 5), of_lines(6, 6), of_lines(4, 5), of_lines(1, 5), of_lines(29, 30), of_lines(0, 5),
+    ([], of_lines(5, 6), [of_lines(6, 5), of_lines(6, 6), of_lines(4, 5), of_lines(1, 5), of_lines(31, 32), of_lines(0, 5),
                           step("events", (5, 6), event(5), event(6), is_strict=False), step("events", (5, 6), event(5), event(7))]),
     ([], step("begins", OPENED, event(5), access(6)),
      [step("begins", (5, 8), event(5), access(8)), step("begins", OPENED, event(5), access(6, 1), 1), step("begins", (6, 6), event(6), access(6)),
@@ -139,12 +142,22 @@ ROWS = [
     ([], step("closes-held", (12, 20), event(20), event(20)),
      [step("closes-held", (8, 14), event(14), event(14)), step("closes-held", (12, 14), event(14), event(14)), step("closes-held", (22, 14), event(14), event(14)),
       step("closes-held", (10, 20), event(20), event(20))]),
-    ([], step("cant-answer", (26, 27), event(27), event(27)),
+    ([], step("cant-answer", (28, 29), event(29), event(29)),
      [step("cant-answer", CLOSED, event(17), event(17)), step("cant-answer", READ, event(19), event(19)), step("cant-answer", (24, 25), event(25), event(25)),
-      step("cant-answer", (16, 27), event(27), event(27)), step("cant-answer", (26, 27), event(26), event(27)),
-      step("cant-answer", (26, 28), event(28), event(28))]),
+      step("cant-answer", (16, 29), event(29), event(29)), step("cant-answer", (28, 29), event(28), event(29)),
+      step("cant-answer", (28, 30), event(30), event(30))]),
     # an update past the last slot
-    ([], step("cant-answer", (26, 29), event(29), event(29)), [step("cant-answer", UPDATED, event(10), event(10))]),
+    ([], step("cant-answer", (28, 31), event(31), event(31)), [step("cant-answer", UPDATED, event(10), event(10))]),
+    # slot 1 never had a file, and one of slot 0 was replaced; without its access, more may be there
+    ([], step("holds", (26, 27), access(27), access(27)),
+     [step("holds", CLOSED, access(17), access(17)), step("holds", READ, access(19), access(19)), step("holds", (24, 25), access(25), access(25)),
+      step("holds", (26, 17), access(17), access(17)), step("holds", OPENED, access(6), access(6))]),
+    ([], step("holds", CLOSED, access(17), GONE_B, is_strict=False),
+     [step("holds", CLOSED, access(17), GONE_A, is_strict=False), step("holds", CLOSED, access(17), GONE_B), step("holds", CLOSED, access(17), PUT_B, is_strict=False),
+      step("holds", CLOSED, access(17), (GONE, B, 1), is_strict=False), step("holds", LOOKED, access(8), GONE_B, is_strict=False)]),
+    (LOOK_CLOSE, step("differs", (7, 16), access(8), access(17), premises=(4,)),
+     [step("differs", (7, 7), access(8), access(17), premises=(4,)), step("differs", (7, 16), access(8), access(17), premises=(0,)),
+      step("differs", (9, 16), access(8), access(17), premises=(4,)), step("differs", (7, 16), access(8), access(17), premises=(4,), is_strict=False)]),
     ([], of_lines(5, 6), [step("knows", (5, 6), event(5), event(6))]),
 ]
 

@@ -37,6 +37,10 @@ class Log:
                 self.closes[at] = mark_of(rest[0])
             if word == "closed" and rest[0] not in tagged:
                 self.closes[at] = mark_of(rest[0]) if self.file_of(mark_of(rest[0])) == rest[1] else (0, 0, 0)
+        self.answers = {}
+        for at, it in enumerate(self.lines):
+            if re.match(r"done \d+\.\d+ ", it) and int(it.split()[1].split(".")[0]) in self.calls:
+                self.answers.setdefault(mark_of(it.split()[1]), []).append((at, it.split()))
         self.fed = {it.split()[2].lower(): it.split()[1] for it in self.lines if it.startswith("fed ")}
 
     def chain(self, call):
@@ -133,6 +137,64 @@ class Log:
             return [(result, (*place, 0)) if result >= 0 else None]
         return [(int(request[3]), (*place, 0))] if int(request[3]) < self.size else []
 
+
+    def found_slots(self, call_line, line, number):
+        """Returns the slots at which an access finds a file, by its answer."""
+        self.access(call_line, line, number)
+        call, member, result, _ = self.answer_at(line)
+        request = self.chain(call)[member - 1]
+        if request[0] == "open" and request[2] == "any":
+            return range(self.size) if result < 0 else []
+        return [int(request[1])] if request[0] in ("close", "read", "look") and result >= 0 else []
+
+    def installs(self, slot, before):
+        """Yields the marks of the files that calls before a line may install at a slot."""
+        for call, line in self.calls.items():
+            for member, request in enumerate(self.chain(call) if line < before else [], 1):
+                if self.is_refused(request):
+                    continue
+                if request[0] == "open" and (request[2] == "any" or int(request[3]) == slot):
+                    yield call, member, 0
+                if request[0] in ("update", "regupdate"):
+                    entry = slot - int(request[1])
+                    entries = list(map(int, request[2].split(",")))
+                    if 0 <= entry < len(entries) and entries[entry] >= 0:
+                        yield call, member, entry
+
+    def is_refused(self, request):
+        """Returns whether an open or an update fails without an access."""
+        if request[0] == "open":
+            return request[1] not in self.names or request[2] != "any" and int(request[3]) >= self.size
+        if request[0] in ("update", "regupdate"):
+            entries = list(map(int, request[2].split(",")))
+            return int(request[1]) + len(entries) > self.size or any(not -2 <= it < len(self.names) for it in entries)
+        return False
+
+    def slot_of(self, file, result):
+        """Returns the slot at which a member that answered a result installed a file."""
+        call, member, entry = file
+        request = self.chain(call)[member - 1]
+        return int(request[1]) + entry if request[0] != "open" else result if request[2] == "any" else int(request[3])
+
+    def answer_of(self, file):
+        """Returns the line and the result of the answer of the member that installs a file, or 0 twice."""
+        for line, words in self.answers.get(file[:2], ()):
+            return line, int(words[2])
+        return 0, 0
+
+    def left_before(self, slot, before):
+        """Yields for each access to a slot that was answered before a line, and whose answer says what it leaves there, the line of its call
+        and the file, or None."""
+        for (call, _), those in self.answers.items():
+            for line, _ in those:
+                for number in range(len(self.accesses_of(line)) if line < before else 0):
+                    left = self.access(self.calls[call], line, number)
+                    if left and left[0] == slot:
+                        yield self.calls[call], left[1]
+
+    def accesses_of(self, line):
+        call, member, result, _ = self.answer_at(line)
+        return self.accesses((call, member), self.chain(call)[member - 1], result, line)
 
     def may_answer(self, request, result):
         """Returns whether a request of a chain may have a result, whatever it finds."""
@@ -291,6 +353,33 @@ class Reason:
         want(not self.log.may_answer(self.log.chain(call)[member - 1], result), "the request may have this answer")
         return (EVENT, lines[1]), (EVENT, lines[1]), True
 
+    def _holds(self, lines, access, premises, point):
+        z, own = (ACCESS, lines[1], access), point[1:] if point[0] == GONE else (None, None)
+        want(point == z or point[0] == GONE, "it says nothing of a file that is there")
+        slots = [it for it in self.log.found_slots(*lines, access) if point == z or it == own[1]]
+        want(any(all(file == own[0] or self._is_absent(z, lines[0], slot, file) for file in self.log.installs(slot, lines[1])) for slot in slots),
+             "the access finds no file, or another one may be there")
+        return z, point, point == z
+
+    def _is_absent(self, z, call_line, slot, file):
+        """Whether a file isn't at a slot just before the access z, by earlier steps, or by the answer of the member that installs it."""
+        gone = GONE, file, slot
+        if any(it[:2] == (z, (PUT, file)) or it == (gone, z, True) for it in self.known):
+            return True
+        line, result = self.log.answer_of(file)
+        if line == 0:
+            return False
+        if result < 0 or self.log.slot_of(file, result) != slot:
+            return True
+        return any(line < called and left != file for called, left in self.log.left_before(slot, call_line))
+
+    def _differs(self, lines, access, premises):
+        ((before, after, _),) = premises
+        want(before[0] == after[0] == ACCESS and self.log.call_at(lines[0]) != self.log.call_at(lines[1]), "they are no accesses of two calls")
+        self.log.access(lines[0], *before[1:])
+        self.log.access(lines[1], *after[1:])
+        return before, after, True
+
 
 def point_of(words):
     """Returns a point as this program writes it."""
@@ -313,7 +402,7 @@ def complaint(text, facts, tags=False):
         for nth, (rule, lines, access, premises, before, after, is_strict) in enumerate(facts):
             order = point_of(before), point_of(after), bool(is_strict)
             # the file of a call and the slot of a close are named by the order alone
-            named = {"calls": order[1][1:2], "closes": order[0][2:3]}.get(rule, ())
+            named = {"calls": order[1][1:2], "closes": order[0][2:3], "holds": order[1:2]}.get(rule, ())
             try:
                 adds = reason.order(rule, lines, access, premises) if not named else getattr(reason, f"_{rule}")(lines, access, [], *named)
                 want(adds == order, f"it adds {adds}, not {order}")

@@ -133,3 +133,12 @@ class Words:
     def _cant_answer(self, it: Step) -> str:
         result = self._log.answers[self._events[it.lines[1]].call, self._events[it.lines[1]].member].result
         return f"{self._who(it.lines[1])} answered {result} at line {it.lines[1]}, which such a request never answers"
+
+    def _holds(self, it: Step) -> str:
+        found = f"{self._who(it.lines[1])} found a file at slot {it.slot} by line {it.lines[1]}"
+        if it.before == it.after:
+            return f"{found}, where no file can have been"
+        return f"{found}, which can only have been {name_of(it.after.file)}"
+
+    def _differs(self, it: Step) -> str:
+        return "accesses of two calls are not at the same time"

@@ -14,7 +14,7 @@ if TYPE_CHECKING:
 
 # the rules and the kinds of points, in the order of their numbers from 1
 RULES = ["events", "begins", "ends", "calls", "installs", "places", "follows", "finds", "closes", "settles", "empties", "precedes", "displaces",
-         "outlives", "then", "finds-closed", "closes-twice", "closes-held", "cant-answer"]
+         "outlives", "then", "finds-closed", "closes-twice", "closes-held", "cant-answer", "holds", "differs"]
 POINTS = ["event", "access", "put", "gone"]
 # for each rule the number of its events, whether it names an access, and the number of its premises
 SHAPES = {
@@ -22,7 +22,7 @@ SHAPES = {
     "places": (2, True, 0), "follows": (2, False, 0), "finds": (2, False, 0), "closes": (1, False, 0), "settles": (1, False, 2),
     "empties": (2, True, 1), "precedes": (2, True, 1), "displaces": (0, False, 2), "outlives": (0, False, 2), "then": (0, False, 2),
     "finds-closed": (2, False, 0), "closes-twice": (2, False, 0), "closes-held": (2, False, 0),
-    "cant-answer": (2, False, 0),
+    "cant-answer": (2, False, 0), "holds": (2, True, 0), "differs": (2, False, 1),
 }
 
 
@@ -40,7 +40,7 @@ class Point(NamedTuple):
 class Step(NamedTuple):
     """A step of a reason: by its `rule`, `before` comes before `after` in each flight, or, unless `is_strict`, at the same time. `lines` are
     those of the events that the rule is applied to, mostly of a call and its answer, `access` is the number of the access among those of its
-    member, and `premises` are the numbers of earlier steps, from 0."""
+    member, and `premises` are the numbers of earlier steps, from 0. `slot` is the one at which an access finds a file."""
 
     rule: str
     lines: tuple[int, ...]
@@ -49,6 +49,7 @@ class Step(NamedTuple):
     before: Point
     after: Point
     is_strict: bool
+    slot: int = 0
 
 
 class _Point(ctypes.Structure):
@@ -73,6 +74,7 @@ class _Step(ctypes.Structure):
         ("access", c_uint64),
         ("premise", c_uint64),
         ("other", c_uint64),
+        ("slot", c_uint64),
         ("from", _Point),
         ("to", _Point),
     ]
@@ -102,4 +104,4 @@ class Steps:
         lines = tuple(self._events[at].line for at in (it.first, it.second)[:events])
         before, after = self._point(getattr(it, "from")), self._point(it.to)
         access = it.access if is_of_access else 0
-        return Step(rule, lines, access, (it.premise, it.other)[:premises], before, after, bool(it.is_strict))
+        return Step(rule, lines, access, (it.premise, it.other)[:premises], before, after, bool(it.is_strict), it.slot)

@@ -31,7 +31,8 @@ proved_logs() {
     printf 'call 1 sparse 1\ndone 1.1 0\ncall 2 read 0 0 4097\n' > "$room/none"
     [ "$(python $module/yachtlog.py "$room/right")" = "$room/right: legal" ] || return 1
     [ "$(python $module/yachtlog.py "$room/right" "$room/wrong")" = "$room/right: legal
-$room/wrong: not legal: line 4: done 2.1 0" ] || return 1
+$room/wrong: not legal: line 4: done 2.1 0
+    close 2 found a file at slot 0 by line 4, where no file can have been" ] || return 1
     python $module/yachtlog.py "$room/right" "$room/wrong" > /dev/null
     [ $? -eq 1 ] || return 1
     python $module/yachtlog.py "$room/none" > "$room/found"

@@ -123,6 +123,7 @@ pub(crate) struct Step {
     pub(crate) access: u64,
     pub(crate) premise: u64,
     pub(crate) other: u64,
+    pub(crate) slot: u64,
     pub(crate) from: Point,
     pub(crate) to: Point,
 }

@@ -69,9 +69,14 @@ pub enum Rule {
     ClosesHeld,
     /// A contradiction: a request can't have its answer, whatever it finds.
     CantAnswer,
+    /// An access finds a file at a slot, and each other file isn't there. If no file may be there,
+    /// it is a contradiction.
+    Holds,
+    /// Accesses of different calls aren't at the same time.
+    Differs,
 }
 
-const RULES: [Rule; 19] = [
+const RULES: [Rule; 21] = [
     Rule::Events,
     Rule::Begins,
     Rule::Ends,
@@ -91,10 +96,12 @@ const RULES: [Rule; 19] = [
     Rule::ClosesTwice,
     Rule::ClosesHeld,
     Rule::CantAnswer,
+    Rule::Holds,
+    Rule::Differs,
 ];
 
 /// A step of a reason: a point comes before another one in each flight. `first`, `second`,
-/// `access`, `premise` and `other` are 0 if the rule doesn't use them
+/// `access`, `premise`, `other` and `slot` are 0 if the rule doesn't use them
 /// (`include/yachtjudge.h`, `YACHT_RULE_EVENTS` and the others).
 #[derive(Clone, Copy, Debug, PartialEq, Eq)]
 pub struct Step {
@@ -110,6 +117,8 @@ pub struct Step {
     pub premise: usize,
     /// The number of another earlier step, from 0.
     pub other: usize,
+    /// The slot at which an access finds a file, from 0.
+    pub slot: u32,
     /// The earlier point.
     pub before: Point,
     /// The later point.
@@ -150,6 +159,7 @@ impl Step {
             access: it.access as usize,
             premise: it.premise as usize,
             other: it.other as usize,
+            slot: it.slot as u32,
             before: point_of(it.from),
             after: point_of(it.to),
             is_strict: it.is_strict == 1,

@@ -3,10 +3,10 @@ use Rattle.check_certificate.proofs.Words.{◌≡◌, ◌⊎◌, ℕ, ◌+◌, �
 use Rattle.check_certificate.proofs.Words.{Some, None, Option, ⊎_elim, Contains, contains_head}
 use Rattle.check_certificate.proofs.Words.{cases_lt, slice_get, Moment, Logged, Accesses, Access, IsLeftAt, true, false, Bool}
 use Rattle.check_certificate.proofs.Words.{AreTimes, Identity, Table, table_with, table_left_by, Happening, WasLogged}
-use Rattle.check_certificate.proofs.Words.{Permits, LookAnswered, Freed, FileClosed, AllSettled, IsLegalLog, Looks}
+use Rattle.check_certificate.proofs.Words.{Permits, Answered, Called, LookAnswered, LookCalled, Freed, FileClosed, AllSettled, IsLegalLog, Looks}
 use Rattle.check_certificate.proofs.Words.{zero, suc, contains_tail, if◌then◌else◌, subst}
 use Rattle.check_certificate.proofs.Existing.{times_of_flight}
-use Rattle.check_certificate.proofs.Leaving.{taken_gone, there_after, there_or_taken}
+use Rattle.check_certificate.proofs.Leaving.{same_chain, taken_gone, there_after, there_or_taken}
 use Rattle.check_certificate.proofs.Life.{IsPutAt, is_gone, put_before, put_here}
 use Rattle.check_certificate.proofs.Marks.{mark_at}
 use Rattle.check_certificate.proofs.Orders.{IsHere, IsSaid, call_before, event_order, here, may_at, new_file, older, s, said, table}
@@ -19,7 +19,7 @@ use Rattle.check_certificate.specs.declared.certificate.Point.TheVariants.{Event
 use Rattle.check_certificate.specs.declared.certificate.Point.TheVariants.{Access as At}
 use Rattle.check_certificate.specs.declared.certificate.PointOrder.{PointOrder}
 use Rattle.check_certificate.specs.declared.evidence.Evidence.{Evidence}
-use Rattle.check_certificate.specs.declared.evidence.Evidence.TheVariants.{Made, Empties, Installs, Finds, Never}
+use Rattle.check_certificate.specs.declared.evidence.Evidence.TheVariants.{Empties, Finds, Full, Installs, Never, Sees, Removes}
 use Rattle.fx_flight.proofs.Beginnings.{logged}
 use Rattle.fx_flight.proofs.InTime.{in_log}
 use Rattle.fx_flight.specs.Laws.{IsCallOf}
@@ -28,6 +28,7 @@ use Rattle.fx_chain.specs.declared.request.Request.{Request}
 use Rattle.fx_table.proofs.SumLemmas.{contains_map}
 use Rattle.fx_flight.specs.Events.{all_happenings, happening_of}
 use Rattle.fx_flight.specs.declared.event.LogEvent.{LogEvent}
+use Rattle.fx_order.proofs.Accesses.{at_itself}
 use Rattle.std.proofs.lemmas.List.{length-map}
 use Rattle.std.proofs.lemmas.Option.{slice_get-get_or, slice_get-map, slice_get_read}
 use Rattle.std.specs.Prelude.{option_map, slice_index_or}
@@ -38,18 +39,18 @@ strict_from from to = record { from = from; to = to; strict = true }
 abbrev pub not_after : Point → Point → PointOrder
 not_after from to = record { from = from; to = to; strict = false }
 
-strict_order : (clock : Point → ℕ) (from to : Point) → clock from < clock to → IsInOrder clock (strict_from from to)
+pub strict_order : (clock : Point → ℕ) (from to : Point) → clock from < clock to → IsInOrder clock (strict_from from to)
 strict_order clock from to low = omega arith
 
-loose_order : (clock : Point → ℕ) (from to : Point) → clock from ≤ clock to → IsInOrder clock (not_after from to)
+pub loose_order : (clock : Point → ℕ) (from to : Point) → clock from ≤ clock to → IsInOrder clock (not_after from to)
 loose_order clock from to low = omega arith
 
 -- the times of a strict order
-apart : (clock : Point → ℕ) (from to : Point) → IsInOrder clock (strict_from from to) → clock from < clock to
+pub apart : (clock : Point → ℕ) (from to : Point) → IsInOrder clock (strict_from from to) → clock from < clock to
 apart clock from to low = omega arith
 
 -- the order is weaker than the times
-weaker : (clock : Point → ℕ) (o : PointOrder) → IsInOrder clock o → clock o.from ≤ clock o.to
+pub weaker : (clock : Point → ℕ) (o : PointOrder) → IsInOrder clock o → clock o.from ≤ clock o.to
 weaker clock o is = let low = is in omega arith
 
 strictly : (clock : Point → ℕ) (o : PointOrder) → o.strict ≡ true → IsInOrder clock o → clock o.from < clock o.to
@@ -61,7 +62,11 @@ pair_of p q is = let same : p ≡ q = cc in (ap (λ (r : ℕ × Option Identity)
 
 left_so : (t : Table) (a : Access) (evidence : Evidence) (slot : ℕ) (left : Option Identity) → IsEvident a evidence → left_at evidence ≡ Some (slot, left) → Permits t a
     → (table_with t a).at slot ≡ left
-left_so t a Made slot left is so may = absurd (cc)
+left_so t a Full slot left is so may = absurd (cc)
+left_so t a (Sees own) slot left is so may = absurd (cc)
+left_so t a (Removes own) slot left is so may =
+    let p = pair_of (own, None) (slot, left) so in
+    subst (λ k. (table_with t a).at k ≡ None) p.0 (subst (λ x. (table_with t x).at own ≡ None) (sym is.1) (at_itself own None (t.at own))) ∙ p.1
 left_so t a Never slot left is so may = absurd is
 left_so t a (Empties own) slot left is so may =
     let p = pair_of (own, None) (slot, left) so in subst (λ k. (table_with t a).at k ≡ None) p.0 (is t may) ∙ p.1
@@ -320,6 +325,33 @@ module _ (b : LogBeginning) where
       let freed = may.unheld id
       (is_earlier answer close (LookAnswered id (Some file)) (FileClosed file) first second low submissions registrations sound legal clock times x) in
       absurd (held (rw (front_is x.front (FileClosed file) x.rest close x.parts x.few) (rw x.same at (in_log x.earlier (Freed id) freed))))
+
+  -- accesses of different calls are at different times
+  pub differs_forced : (call answer k other later j : ℕ) (one two : Evidence) (id jd : ℕ) (d e : Happening) → IsAccessMade b call answer k one → IsAccessMade b other later j two
+      → IsEventAt b call d → IsCallOf id d → IsEventAt b other e → IsCallOf jd e → (id ≡ jd → ⊥)
+      → (o : PointOrder) → o.from ≡ At answer k → o.to ≡ At later j → IsForced b o → IsForced b (strict_from (At answer k) (At later j))
+  differs_forced call answer k other later j one two id jd d e first second d_at d_is e_at e_is differ o from to known submissions registrations sound legal clock times =
+      let x = said b submissions registrations sound legal clock times call answer k one first in
+      let y = said b submissions registrations sound legal clock times other later j two second in
+      let low = rw (from, to) at (weaker clock o (known submissions registrations sound legal clock times)) in
+      ⊎_elim (λ lt. strict_order clock (At answer k) (At later j) lt)
+      (λ high. let time : clock (At answer k) ≡ clock (At later j) = omega arith in
+      let same : x.id ≡ y.id = same_chain legal.flight (clock (At later j)) x.id y.id x.access y.access (rw time at x.time) y.time in
+      let event_x : Some x.begins ≡ Some d = sym x.called ∙ d_at in
+      let event_y : Some y.begins ≡ Some e = sym y.called ∙ e_at in
+      let begins_x : x.begins ≡ d = cc in
+      let begins_y : y.begins ≡ e = cc in
+      absurd (differ (call_id d id x.id d_is (rw begins_x at x.own) ∙ (same ∙ sym (call_id e jd y.id e_is (rw begins_y at y.own))))))
+      (cases_lt (clock (At answer k)) (clock (At later j)))
+    where
+      call_id : (e : Happening) (one other : ℕ) → IsCallOf one e → IsCallOf other e → one ≡ other
+      call_id (Called n requests) one other is so = sym is ∙ so
+      call_id (LookCalled n slot) one other is so = sym is ∙ so
+      call_id (Answered n c) one other is so = absurd is
+      call_id (LookAnswered n found) one other is so = absurd is
+      call_id (Freed n) one other is so = absurd is
+      call_id (FileClosed file) one other is so = absurd is
+      call_id AllSettled one other is so = absurd is
 
   pub cant_answer : (call answer : ℕ) → IsAccessMade b call answer 0 Never → IsForced b (strict_from (Event answer) (Event answer))
   cant_answer call answer made submissions registrations sound legal clock times =

@@ -1,7 +1,7 @@
 -- A file that was taken from its slot is at no slot afterwards; one that is installed and wasn't
 -- taken is there.
 use Rattle.check_certificate.proofs.Words.{◌≡◌, ◌⊎◌, ℕ, ◌+◌, ◌<◌, List, [], ◌∷◌, ◌++◌, length, refl, sym, ap, ◌∙◌, arith, inl, inr, Some}
-use Rattle.check_certificate.proofs.Words.{None, Option, ⊎_elim, Contains, contains_cases, contains_none, Moment, Logged, Accesses, IsOlderPart, Access, IsPut}
+use Rattle.check_certificate.proofs.Words.{None, Option, ⊎_elim, Contains, contains_cases, contains_none, Moment, Logged, Accesses, IsOlderPart, Access, ChainAccess, IsPut}
 use Rattle.check_certificate.proofs.Words.{IsLeftAt, IsAccessAt, IsPutTime, Table, table_with, table_left_by, taken_in, file_removed_by, option_to_list}
 use Rattle.check_certificate.proofs.Words.{Identity, IsFlight, FlightSetting, table_of, Puts, Allocates, Looks, Clears, Takes, FindsFull, Permits}
 use Rattle.check_certificate.proofs.Words.{Contains-append_left, Contains-append_right, Contains-append_cases, contains_head, length-append}
@@ -45,25 +45,40 @@ taking (Accesses x ∷ flight) file has =
     one (Some f) inside = ⊎_elim (λ same. ap Some (sym same)) (λ none. absurd (contains_none file none)) (contains_cases f [] file inside)
 
 -- accesses at one time are one
-same_access : (flight : List Moment) (time id jd : ℕ) (a b : Access) → IsAccessAt flight id a time → IsAccessAt flight jd b time → a ≡ b
-same_access flight time id jd a b one other =
+same_moment : (flight : List Moment) (time id jd : ℕ) (a b : Access) → IsAccessAt flight id a time → IsAccessAt flight jd b time → (id ≡ jd) × (a ≡ b)
+same_moment flight time id jd a b one other =
     let x : Moment = Accesses (record { chain = id; access = a }) in
     let y : Moment = Accesses (record { chain = jd; access = b }) in
     let few = one.2 in let few_too = other.2 in
     let more = shorter (x ∷ one.0) (y ∷ other.0) one.1 other.1 (omega arith) in
-    only more.0 (x ∷ one.0) (y ∷ other.0) more.1 (omega arith)
+    only more.0 one.0 other.0 more.1 (omega arith)
   where
-    first : Moment → Access
-    first (Accesses z) = z.access
-    first (Logged e) = a
+    only : (k l r : List Moment) → Accesses (record { chain = id; access = a }) ∷ l ≡ k ++ Accesses (record { chain = jd; access = b }) ∷ r
+        → length l ≡ length r → (id ≡ jd) × (a ≡ b)
+    only [] l r is few =
+        let x : ChainAccess = record { chain = id; access = a } in
+        let y : ChainAccess = record { chain = jd; access = b } in
+        let same : x ≡ y = cc in
+        (ap (λ (z : ChainAccess). z.chain) same, ap (λ (z : ChainAccess). z.access) same)
+    only (m ∷ k) l r is few = let long = ap length is in let more = length-append k (Accesses (record { chain = jd; access = b }) ∷ r) in absurd (omega arith)
 
-    head : List Moment → Access
-    head [] = a
-    head (m ∷ ms) = first m
+pub same_access : (flight : List Moment) (time id jd : ℕ) (a b : Access) → IsAccessAt flight id a time → IsAccessAt flight jd b time → a ≡ b
+same_access flight time id jd a b one other = (same_moment flight time id jd a b one other).1
 
-    only : (k l r : List Moment) → l ≡ k ++ r → length l ≡ length r → head l ≡ head r
-    only [] l r is few = ap head is
-    only (m ∷ k) l r is few = let long = ap length is in let more = length-append k r in absurd (omega arith)
+pub same_chain : (flight : List Moment) (time id jd : ℕ) (a b : Access) → IsAccessAt flight id a time → IsAccessAt flight jd b time → id ≡ jd
+same_chain flight time id jd a b one other = (same_moment flight time id jd a b one other).0
+
+-- an access installs a file at one slot
+pub same_slot : (a b : Access) (one other : ℕ) (file : Identity) → a ≡ b → IsPut a one file → IsPut b other file → one ≡ other
+same_slot a b one other file same first second = own b one other (rw same at first) second
+  where
+    own : (c : Access) (one other : ℕ) → IsPut c one file → IsPut c other file → one ≡ other
+    own (Puts slot f removed) one other x y = sym x.0 ∙ y.0
+    own (Allocates slot f) one other x y = sym x.0 ∙ y.0
+    own (Looks slot found) one other x y = absurd x
+    own (Clears slot removed) one other x y = absurd x
+    own (Takes slot removed) one other x y = absurd x
+    own FindsFull one other x y = absurd x
 
 module _ (s : FlightSetting) (flight : List Moment) (is : IsFlight s flight) (file : Identity)
     (new : (slot : ℕ) → (table_of s.old).at slot ≡ Some file → ⊥) (put : ℕ) (is_put : IsPutTime flight file put) where
@@ -86,21 +101,10 @@ module _ (s : FlightSetting) (flight : List Moment) (is : IsFlight s flight) (fi
             (λ other. let here = put_here (table_of s.old) slot file flight put is_put (new slot) t.earlier older other.1 in
             let there_too = put_here (table_of s.old) e.slot file flight put is_put (new e.slot) t.earlier older e.was in
             let same : here.1 ≡ there_too.1 = same_access t.earlier put here.0 there_too.0 here.1 there_too.1 here.3 there_too.3 in
-            other.0 (same_slot here.1 there_too.1 slot e.slot same here.2 there_too.2))
+            other.0 (same_slot here.1 there_too.1 slot e.slot file same here.2 there_too.2))
             (λ placed. let again = is_put.each t.id slot (length t.earlier) t.access (put_of t.access slot file placed) (t.earlier, within, refl) in omega arith)
             (e.after slot file now),
       )
-    where
-      same_slot : (a b : Access) (one other : ℕ) → a ≡ b → IsPut a one file → IsPut b other file → one ≡ other
-      same_slot a b one other same first second = own b one other (rw same at first) second
-        where
-          own : (c : Access) (one other : ℕ) → IsPut c one file → IsPut c other file → one ≡ other
-          own (Puts slot f removed) one other x y = sym x.0 ∙ y.0
-          own (Allocates slot f) one other x y = sym x.0 ∙ y.0
-          own (Looks slot found) one other x y = absurd x
-          own (Clears slot removed) one other x y = absurd x
-          own (Takes slot removed) one other x y = absurd x
-          own FindsFull one other x y = absurd x
 
   -- a file that was installed at the slot is there, or was taken
   pub there_or_taken : (slot : ℕ) (part : List Moment) → IsOlderPart part flight → IsPutAt part slot file put

@@ -9,3 +9,6 @@ pub mod Orders
 pub mod Forcing
 pub mod Showing
 pub mod Impossible
+pub mod Intended
+pub mod Held
+pub mod Walks

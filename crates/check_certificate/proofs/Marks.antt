@@ -40,13 +40,13 @@ has_put (Takes own removed) slot file is = absurd is
 has_put FindsFull slot file is = absurd is
 
 -- of a list with this access in it
-has_in : (front : List Access) (a : Access) (rest : List Access) (slot : ℕ) (file : Identity) → IsPut a slot file
+pub has_in : (front : List Access) (a : Access) (rest : List Access) (slot : ℕ) (file : Identity) → IsPut a slot file
     → Has (placed (front ++ a ∷ rest)) slot file
 has_in front a rest slot file is =
     rw (placed-append front (a ∷ rest)) (has_right (placed front) (placed_by a ++ placed rest) slot file
     (has_left (placed_by a) (placed rest) slot file (has_put a slot file is)))
 
-no_look : (a : Access) (looked : ℕ) (found : Option Identity) (slot : ℕ) (file : Identity) → a ≡ Looks looked found → IsPut a slot file → ⊥
+pub no_look : (a : Access) (looked : ℕ) (found : Option Identity) (slot : ℕ) (file : Identity) → a ≡ Looks looked found → IsPut a slot file → ⊥
 no_look a looked found slot file same is = let put : IsPut (Looks looked found) slot file = rw same at is in put
 
 module _ (old : RingState) (answers : ℕ → List Completed) where
@@ -54,12 +54,12 @@ module _ (old : RingState) (answers : ℕ → List Completed) where
   s = record { old = old; first = first_of_call; answers = answers }
 
   -- an access that installs a file is one of a chain
-  record IsOne (flight : List Moment) (id : ℕ) (a : Access) : Type 0 where
-    requests : List Asked
-    more : List Access
-    done : IsChainDone old.catalogue old.size (first_of_call id) requests ((made_by id flight ++ a ∷ []) ++ more) (answers id)
+  pub record IsOne (flight : List Moment) (id : ℕ) (a : Access) : Type 0 where
+    pub requests : List Asked
+    pub more : List Access
+    pub done : IsChainDone old.catalogue old.size (first_of_call id) requests ((made_by id flight ++ a ∷ []) ++ more) (answers id)
 
-  of_chain : (flight : List Moment) (id slot : ℕ) (a : Access) (file : Identity) → IsPut a slot file → MayAccess s flight id a → IsOne flight id a
+  pub of_chain : (flight : List Moment) (id slot : ℕ) (a : Access) (file : Identity) → IsPut a slot file → MayAccess s flight id a → IsOne flight id a
   of_chain flight id slot a file put (inl x) = record { requests = x.0; more = x.2.0; done = x.2.1 }
   of_chain flight id slot a file put (inr x) = absurd (no_look a x.0 x.1 slot file x.4 put)
 

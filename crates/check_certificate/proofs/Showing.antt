@@ -55,7 +55,12 @@ module _ (catalogue : List FileEntry) (place : Place) (is : IsCatalogue catalogu
   read_evident : (slot off len : ℕ) (found : Option Identity)
       → IsEvident (Looks slot found) (evidence_of (Look slot) (answer_at_table catalogue place (Reads slot off len) (last_finding (Looks slot found ∷ []))).res)
   read_evident slot off len None = λ t may. sym may.1
-  read_evident slot off len (Some file) = tt
+  read_evident slot off len (Some file) = (file, refl)
+
+  close_evident : (slot : ℕ) (found : Option Identity)
+      → IsEvident (Takes slot found) (evidence_of (Take slot) (answer_at_table catalogue place (Closes slot) (last_finding (Takes slot found ∷ []))).res)
+  close_evident slot None = emptied_so (Takes slot None) slot None (inr refl)
+  close_evident slot (Some file) = (file, refl)
 
   operation_evident : (operation : Operation) (own : List Access) → (x : (entry : ℕ) × IsOpened catalogue operation entry
       × AllZip IsOf (intents_of place entry operation) own) → AreEvident operation own
@@ -68,12 +73,12 @@ module _ (catalogue : List FileEntry) (place : Place) (is : IsCatalogue catalogu
       let same : other ≡ entry = same_opened is (Opens name Any) other entry opened named in
       single_evident (Allocates slot (installed place 0 entry)) (Allocate (installed place 0 other)) (pos slot)
       (refl, ap (λ e. installed place 0 e) (sym same)) k intent so)
-      (λ name entry named k intent other opened so. single_evident FindsFull (Allocate (installed place 0 other)) (negsuc 22) tt k intent so)
+      (λ name entry named k intent other opened so. single_evident FindsFull (Allocate (installed place 0 other)) (negsuc 22) refl k intent so)
       (λ slot off len found k intent other opened so. single_evident (Looks slot found) (Look slot)
       (answer_at_table catalogue place (Reads slot off len) (last_finding (Looks slot found ∷ []))).res (read_evident slot off len found) k intent so)
       (λ slot found k intent other opened so. single_evident (Takes slot found) (Take slot)
       (answer_at_table catalogue place (Closes slot) (last_finding (Takes slot found ∷ []))).res
-      (emptied_so (Takes slot found) slot found (inr refl)) k intent so)
+      (close_evident slot found) k intent so)
       (λ off list l fits k intent other opened so. list_evident (pos (length list)) 0 off list l fits k intent so)
       operation own x
 

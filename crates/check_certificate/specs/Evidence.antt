@@ -9,19 +9,22 @@ use Rattle.fx_chain.specs.declared.intent.Intent.{Intent}
 use Rattle.fx_chain.specs.declared.intent.Intent.TheVariants.{Look, Put, Clear, Take, Allocate}
 use Rattle.fx_order.specs.Access.{Table, Permits, table_with}
 use Rattle.fx_order.specs.declared.access.Access.{Access}
-use Rattle.fx_order.specs.declared.access.Access.TheVariants.{Looks}
+use Rattle.fx_order.specs.declared.access.Access.TheVariants.{FindsFull, Looks, Takes}
 use Rattle.fx_flight.specs.Events.{Happening, Called, Answered, LookCalled, LookAnswered}
 use Rattle.fx_flight.specs.Flight.{IsLookDone}
 use Rattle.check_certificate.specs.Forced.{log_of_beginning}
 use Rattle.check_certificate.specs.Times.{IsPut, IsMemberDoneBy}
 use Rattle.check_certificate.specs.declared.beginning.LogBeginning.{LogBeginning}
 use Rattle.check_certificate.specs.declared.evidence.Evidence.{Evidence}
-use Rattle.check_certificate.specs.declared.evidence.Evidence.TheVariants.{Made, Empties, Installs}
-use Rattle.check_certificate.specs.declared.evidence.Evidence.TheVariants.{Finds, Never}
+use Rattle.check_certificate.specs.declared.evidence.Evidence.TheVariants.{Empties, Full, Installs}
+use Rattle.check_certificate.specs.declared.evidence.Evidence.TheVariants.{Finds, Never, Removes}
+use Rattle.check_certificate.specs.declared.evidence.Evidence.TheVariants.{Sees}
 
 -- it is so of this access
 abbrev pub IsEvident : Access → Evidence → Type 0
-IsEvident a Made = Unit {0}
+IsEvident a (Removes slot) = (file : Identity) × (a ≡ Takes slot (Some file))
+IsEvident a (Sees slot) = (file : Identity) × (a ≡ Looks slot (Some file))
+IsEvident a Full = a ≡ FindsFull
 IsEvident a (Empties slot) = (table : Table) → Permits table a → (table_with table a).at slot ≡ None
 IsEvident a (Installs slot file) = IsPut a slot file
 IsEvident a (Finds slot file) = a ≡ Looks slot (Some file)
@@ -70,7 +73,9 @@ pub record IsAccessMade (b : LogBeginning) (call answer k : ℕ) (evidence : Evi
 
 -- the slot of an access, and the file that it leaves there, where the answer says so
 abbrev pub left_at : Evidence → Option (ℕ × Option Identity)
-left_at Made = None
+left_at (Removes slot) = Some (slot, None)
+left_at (Sees slot) = None
+left_at Full = None
 left_at (Empties slot) = Some (slot, None)
 left_at (Installs slot file) = Some (slot, Some file)
 left_at (Finds slot file) = Some (slot, Some file)
@@ -79,17 +84,22 @@ left_at Never = None
 -- an open at any slot by its result
 abbrev pub allocated_by : Identity → ℤ → Evidence
 allocated_by file (pos slot) = Installs slot file
-allocated_by file (negsuc n) = Made
+allocated_by file (negsuc n) = Full
 
--- a read that failed
+-- a read
 abbrev pub looked_by : ℕ → ℤ → Evidence
-looked_by slot (pos n) = Made
+looked_by slot (pos n) = Sees slot
 looked_by slot (negsuc n) = Empties slot
+
+-- a close
+abbrev pub taken_by : ℕ → ℤ → Evidence
+taken_by slot (pos n) = Removes slot
+taken_by slot (negsuc n) = Empties slot
 
 -- what the result of a request says of the access that it intended
 abbrev pub evidence_of : Intent → ℤ → Evidence
 evidence_of (Put slot file) res = Installs slot file
 evidence_of (Allocate file) res = allocated_by file res
 evidence_of (Clear slot) res = Empties slot
-evidence_of (Take slot) res = Empties slot
+evidence_of (Take slot) res = taken_by slot res
 evidence_of (Look slot) res = looked_by slot res

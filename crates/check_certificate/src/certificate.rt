@@ -28,6 +28,26 @@ pub struct PointOrder {
     pub strict: bool,
 }
 
+/// An access that finds a file at a slot.
+#[derive(Clone, Copy, Debug)]
+pub struct Holding {
+    /// The position of the call.
+    pub call: usize,
+    /// The position of the answer.
+    pub answer: usize,
+    /// The number of the access.
+    pub access: usize,
+    /// The slot.
+    pub slot: u32,
+    /// An earlier access that leaves another file or none there, so that files of before are gone:
+    /// the positions of its call and its answer, and its number.
+    pub since: (usize, usize, usize),
+    /// The only file that may be there, or `None` if none may.
+    pub holder: Option<File>,
+    /// True for the order of that file's installation, false for that of its removal.
+    pub is_put: bool,
+}
+
 /// A step of a certificate: a rule, and what it is applied to. Each step adds one order to those
 /// that are known. A field named for an order is the number of the earlier step that added it, from
 /// 0. `call` is the position of the event that begins the call which the event at `answer` answers.
@@ -162,6 +182,19 @@ pub enum Step {
         first: usize,
         /// The second order. It begins at the point at which the first one ends.
         second: usize,
+    },
+    /// An access finds a file at a slot, and each other file isn't there, by a known order or by
+    /// the answer of its member: `Put(file) < Access(answer, access)` or `Access(answer, access) <=
+    /// Gone(file, slot)`. If no file may be there, it is a contradiction.
+    Holds(Holding),
+    /// Accesses of different calls aren't at the same time: a strict order.
+    Differs {
+        /// The position of the call of the first access.
+        call: usize,
+        /// The position of the call of the second access.
+        other: usize,
+        /// The order of both accesses, which may be at the same time.
+        order: usize,
     },
     /// A contradiction: a look's answer is a file that was closed before.
     FindsClosed {

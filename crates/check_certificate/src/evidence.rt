@@ -18,8 +18,12 @@ use fx_flight::LogEvent;
 /// The evidence in an answer for one access of its member.
 #[derive(Clone, Copy, Debug)]
 pub(crate) enum Evidence {
-    /// The access was made.
-    Made,
+    /// The access takes a file from the slot.
+    Removes(u32),
+    /// The access finds some file at the slot.
+    Sees(u32),
+    /// The access finds a file at each slot of the allocation range.
+    Full,
     /// The access leaves the slot empty.
     Empties(u32),
     /// The access installs the file at the slot.
@@ -37,8 +41,8 @@ impl Evidence {
         ensures { result ≡ left_at self }
     {
         match self {
-            Evidence::Made | Evidence::Never => None,
-            Evidence::Empties(slot) => Some((slot, None)),
+            Evidence::Sees(_) | Evidence::Full | Evidence::Never => None,
+            Evidence::Empties(slot) | Evidence::Removes(slot) => Some((slot, None)),
             Evidence::Installs(slot, file) | Evidence::Finds(slot, file) => Some((
                 slot,
                 Some(file),
@@ -55,22 +59,29 @@ fn evidence_of(intent: Intent, c: &Completion) -> Evidence
         Intent::Put(slot, file) => Evidence::Installs(slot, file),
         Intent::Allocate(file) => match u32::try_from(c.res) {
             Ok(slot) => Evidence::Installs(slot, file),
-            Err(_) => Evidence::Made,
+            Err(_) => Evidence::Full,
         },
-        Intent::Clear(slot) | Intent::Take(slot) => Evidence::Empties(slot),
+        Intent::Clear(slot) => Evidence::Empties(slot),
+        Intent::Take(slot) => {
+            if c.res < 0 {
+                Evidence::Empties(slot)
+            } else {
+                Evidence::Removes(slot)
+            }
+        }
         Intent::Look(slot) => {
             if c.res < 0 {
                 Evidence::Empties(slot)
             } else {
-                Evidence::Made
+                Evidence::Sees(slot)
             }
         }
     }
 }
 
 impl LogBeginning<'_> {
-    // Returns the number of slots.
-    fn size(&self) -> Option<u32>
+    /// Returns the number of slots.
+    pub(crate) fn size(&self) -> Option<u32>
         ensures { IfSome result (λ size. size ≡ slot_count self.now) }
     {
         u32::try_from(self.slots.at.len()).ok()

@@ -5,14 +5,16 @@
 //! [`is_refuted`] checks them. Begin reading at `certificate.rt` and `specs/Times.antt`.
 #![tactic(auto)]
 
+mod absence;
 mod answers;
 mod beginning;
 mod certificate;
 mod evidence;
+mod holding;
 mod premises;
 mod refuted;
 mod rules;
 
 pub use answers::is_impossible;
-pub use certificate::{Point, PointOrder, Step};
+pub use certificate::{Holding, Point, PointOrder, Step};
 pub use refuted::is_refuted;

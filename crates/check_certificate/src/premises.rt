@@ -49,6 +49,16 @@ fn gone_after(order: &PointOrder, answer: usize, access: usize) -> Option<(File,
     }
 }
 
+// Returns the answer and the number of an access.
+fn access_of(point: Point) -> Option<(usize, usize)>
+    ensures { IfSome result (λ access. point ≡ Access access.0 access.1) }
+{
+    match point {
+        Point::Access(answer, access) => Some((answer, access)),
+        _ => None,
+    }
+}
+
 // Returns the file of a strict order of the access that installs it and an event.
 fn put_before(order: &PointOrder, at: usize) -> Option<File>
     ensures { IfSome result (λ file. order.now
@@ -172,6 +182,28 @@ impl LogBeginning<'_> {
             return None;
         }
         Some(ordered(Point::Event(settled), Point::Gone(file, slot)))
+    }
+
+    /// Returns the strict order of two accesses of different calls: `order` says that the first one
+    /// doesn't come after the second one.
+    pub(crate) fn differs(
+        &self,
+        call: usize,
+        other: usize,
+        order: &PointOrder,
+    ) -> Option<PointOrder>
+        ensures { IfSome result (λ new. IsForced self.now order.now → IsForced self.now new) }
+    {
+        let id = self.call_at(call)?;
+        let jd = self.call_at(other)?;
+        let (answer, access) = access_of(order.from)?;
+        let (later, number) = access_of(order.to)?;
+        let _one = self.made(call, answer, access)?;
+        let _two = self.made(other, later, number)?;
+        if id == jd {
+            return None;
+        }
+        Some(ordered(order.from, order.to))
     }
 
     /// Returns a contradiction if a look's answer is a file that was closed before.

@@ -104,6 +104,8 @@ impl LogBeginning<'_> {
                 self.outlives(known.get(there)?, known.get(placed)?)
             }
             Step::Then { first, second } => joined(known.get(first)?, known.get(second)?),
+            Step::Holds(holding) => self.holds(&holding, known),
+            Step::Differs { call, other, order } => self.differs(call, other, known.get(order)?),
             Step::FindsClosed { close, answer } => self.finds_closed(close, answer),
             Step::ClosesTwice { first, second } => self.closes_twice(first, second),
             Step::ClosesHeld { answer, close } => self.closes_held(answer, close),

@@ -21,6 +21,8 @@ struct Needs {
     is_needed: Vec<bool>,
     // The paths of the two premises of each edge.
     paths: Vec<(Vec<usize>, Vec<usize>)>,
+    // And those of the further premises of each list.
+    lists: Vec<Vec<Vec<usize>>>,
 }
 
 /// The steps of a certificate so far, and the number of the step of each edge.
@@ -64,6 +66,11 @@ fn with_premises(step: Step, first: usize, second: usize) -> Step {
             installed: first,
             placed: second,
         },
+        Step::Differs { call, other, .. } => Step::Differs {
+            call,
+            other,
+            order: first,
+        },
         Step::Outlives { .. } => Step::Outlives {
             there: first,
             placed: second,
@@ -100,13 +107,40 @@ fn path_of(
     Ok(path)
 }
 
+impl Needs {
+    // Notes the paths of the further premises of an edge.
+    fn take_list(
+        &mut self,
+        alloc: Global,
+        graph: &Graph,
+        list: usize,
+        edge: usize,
+    ) -> Result<(), NoMemory> {
+        let Some(pairs) = graph.lists.get(list) else {
+            return Ok(());
+        };
+        let mut paths = Vec::new(alloc);
+        for pair in pairs {
+            paths.push(path_of(alloc, graph, Some(*pair), edge, &mut self.is_needed)?)?;
+        }
+        if let Some(own) = self.lists.get_mut(list) {
+            *own = paths;
+        }
+        Ok(())
+    }
+}
+
 // Returns what is needed of the edges for those of a path.
 fn needs_of(alloc: Global, graph: &Graph, path: &[usize]) -> Result<Needs, NoMemory> {
     let count = graph.edges.len();
     let mut needs = Needs {
         is_needed: vec![in alloc; false; count]?,
         paths: Vec::new(alloc),
+        lists: Vec::new(alloc),
     };
+    for _ in 0..graph.lists.len() {
+        needs.lists.push(Vec::new(alloc))?;
+    }
     for edge in path {
         if let Some(own) = needs.is_needed.get_mut(*edge) {
             *own = true;
@@ -125,6 +159,9 @@ fn needs_of(alloc: Global, graph: &Graph, path: &[usize]) -> Result<Needs, NoMem
         let first = path_of(alloc, graph, first, edge, &mut needs.is_needed)?;
         let second = path_of(alloc, graph, second, edge, &mut needs.is_needed)?;
         needs.paths.push((first, second))?;
+        if needs.is_needed.get(edge).copied().unwrap_or(false) {
+            needs.take_list(alloc, graph, found.absent, edge)?;
+        }
     }
     needs.paths.reverse();
     Ok(needs)
@@ -249,6 +286,11 @@ pub(crate) fn certificate_of(
             && needs.is_needed.get(number).copied().unwrap_or(false)
             && let Some((first, second)) = needs.paths.get(number)
         {
+            if let Some(list) = needs.lists.get(edge.absent) {
+                for further in list {
+                    assembly.join(graph, further)?;
+                }
+            }
             own = assembly.push(graph, edge, first, second)?;
         }
         assembly.numbers.push(own)?;

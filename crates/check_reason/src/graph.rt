@@ -25,6 +25,8 @@ pub(crate) struct Edge {
     pub(crate) step: Step,
     /// Its premises, in the order of the step's fields.
     pub(crate) premises: (Option<Pair>, Option<Pair>),
+    /// The number of its list of further premises, if it has one.
+    pub(crate) absent: usize,
 }
 
 /// A graph of orders, and which points they put in order.
@@ -34,6 +36,8 @@ pub(crate) struct Graph {
     pub(crate) points: Vec<Point>,
     /// The edges, in the order in which they were added.
     pub(crate) edges: Vec<Edge>,
+    /// Lists of premises: orders by which files aren't at a slot.
+    pub(crate) lists: Vec<Vec<Pair>>,
     /// A point that comes before itself.
     pub(crate) loops: Option<usize>,
     // The last edge from each point, and for each edge the one before it from the same point.
@@ -102,6 +106,7 @@ impl Graph {
         Graph {
             points: Vec::new(alloc),
             edges: Vec::new(alloc),
+            lists: Vec::new(alloc),
             loops: None,
             last: Vec::new(alloc),
             before: Vec::new(alloc),
@@ -205,6 +210,7 @@ impl Graph {
             pair: in_order(from, to, true),
             step,
             premises: (None, None),
+            absent: usize::MAX,
         })
     }
 

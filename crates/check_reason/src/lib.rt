@@ -8,6 +8,7 @@
 mod assembly;
 mod direct;
 mod graph;
+mod holding;
 mod problem;
 mod reading;
 mod reason;

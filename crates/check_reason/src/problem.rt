@@ -11,18 +11,24 @@ use fx_flight::LogEvent;
 
 /// An access, and the number of its point.
 #[derive(Clone, Copy, Debug)]
-struct AccessPoint {
-    shown: ShownAccess,
-    point: usize,
+pub(crate) struct AccessPoint {
+    /// The access.
+    pub(crate) shown: ShownAccess,
+    /// The number of its point.
+    pub(crate) point: usize,
 }
 
 /// A file at its slot, and the numbers of the points at which it is installed and gone.
 #[derive(Clone, Copy, Debug)]
-struct FilePoints {
-    file: File,
-    slot: u32,
-    put: usize,
-    gone: usize,
+pub(crate) struct FilePoints {
+    /// The file.
+    pub(crate) file: File,
+    /// Its slot.
+    pub(crate) slot: u32,
+    /// The number of the point at which it is installed.
+    pub(crate) put: usize,
+    /// The number of the point at which it is gone.
+    pub(crate) gone: usize,
 }
 
 /// The orders of a window.
@@ -30,8 +36,9 @@ struct FilePoints {
 pub(crate) struct Problem {
     /// The graph.
     pub(crate) graph: Graph,
-    accesses: Vec<AccessPoint>,
-    files: Vec<FilePoints>,
+    /// The accesses, and the files whose slots are known.
+    pub(crate) accesses: Vec<AccessPoint>,
+    pub(crate) files: Vec<FilePoints>,
 }
 
 // Returns the step that says that a call comes before an access.
@@ -195,7 +202,7 @@ impl Problem {
     }
 
     // Adds an order by a rule with premises, if they hold and the order isn't known.
-    fn add_by(
+    pub(crate) fn add_by(
         &mut self,
         new: Pair,
         step: Step,
@@ -212,13 +219,16 @@ impl Problem {
             pair: new,
             step,
             premises: (Some(first), second),
+            absent: usize::MAX,
         })?;
         Ok(true)
     }
 
     // Applies the rules of an access that leaves a slot without a file.
     fn by_access(&mut self, z: &AccessPoint, f: &FilePoints) -> Result<bool, NoMemory> {
-        let (slot, left) = left_by(z.shown.shown);
+        let Some((slot, left)) = left_by(z.shown.shown) else {
+            return Ok(false);
+        };
         if slot != f.slot || left == Some(f.file) {
             return Ok(false);
         }
@@ -323,7 +333,10 @@ impl Problem {
     /// Applies the rules until they add nothing, or a point comes before itself.
     pub(crate) fn saturate(&mut self, log: &Reading<'_>, window: &Window) -> Result<(), NoMemory> {
         for _ in 0..usize::MAX {
-            if self.graph.loops.is_some() || !self.go_on(log, window)? {
+            if self.graph.loops.is_some() {
+                break;
+            }
+            if !self.go_on(log, window)? && !self.differ_all()? && !self.hold_all(log, window)? {
                 break;
             }
         }

@@ -120,6 +120,17 @@ impl<'a> Reading<'a> {
         self.calls.get((id as usize).checked_sub(1)?)
     }
 
+    /// Returns the number of members of the call with a number, from 1.
+    pub(crate) fn members(&self, id: u32) -> usize {
+        let Some(call) = self.call(id) else {
+            return 0;
+        };
+        match self.events.get(call.at) {
+            Some(LogEvent::Call { id: _, chain }) => chain.len(),
+            _ => 0,
+        }
+    }
+
     /// Returns the access that installed a file, if its answer shows it.
     pub(crate) fn install_of(&self, file: File) -> Option<ShownAccess> {
         let Mark::Submitted {

@@ -17,6 +17,10 @@ pub(crate) enum Shown {
     Takes(u32),
     /// It finds the file at the slot.
     Finds(u32, File),
+    /// It finds some file at the slot.
+    Reads(u32),
+    /// It finds a file at each slot of the allocation range.
+    Full,
 }
 
 /// An access that an answer shows.
@@ -36,7 +40,10 @@ pub(crate) struct ShownAccess {
 fn shown_by(intent: Intent, c: &Completion) -> Option<Shown> {
     Some(match intent {
         Intent::Put(slot, file) => Shown::Installs(slot, file),
-        Intent::Allocate(file) => Shown::Installs(u32::try_from(c.res).ok()?, file),
+        Intent::Allocate(file) => match u32::try_from(c.res) {
+            Ok(slot) => Shown::Installs(slot, file),
+            Err(_) => Shown::Full,
+        },
         Intent::Clear(slot) => Shown::Empties(slot),
         Intent::Take(slot) => {
             if c.res < 0 {
@@ -46,20 +53,33 @@ fn shown_by(intent: Intent, c: &Completion) -> Option<Shown> {
             }
         }
         Intent::Look(slot) => {
-            if c.res >= 0 {
-                return None;
+            if c.res < 0 {
+                Shown::Empties(slot)
+            } else {
+                Shown::Reads(slot)
             }
-            Shown::Empties(slot)
         }
     })
 }
 
 /// Returns the slot of an access, and the file that it leaves there, or `None` if the slot is empty
-/// afterwards.
-pub(crate) fn left_by(shown: Shown) -> (u32, Option<File>) {
+/// afterwards. Returns `None` if the answer doesn't show it.
+pub(crate) fn left_by(shown: Shown) -> Option<(u32, Option<File>)> {
     match shown {
-        Shown::Empties(slot) | Shown::Takes(slot) => (slot, None),
-        Shown::Installs(slot, file) | Shown::Finds(slot, file) => (slot, Some(file)),
+        Shown::Empties(slot) | Shown::Takes(slot) => Some((slot, None)),
+        Shown::Installs(slot, file) | Shown::Finds(slot, file) => Some((slot, Some(file))),
+        Shown::Reads(_) | Shown::Full => None,
+    }
+}
+
+/// Returns the slot of an access. Returns `None` if it looks at all slots.
+pub(crate) fn slot_of(shown: Shown) -> Option<u32> {
+    match shown {
+        Shown::Reads(slot) => Some(slot),
+        _ => match left_by(shown) {
+            Some((slot, _)) => Some(slot),
+            None => None,
+        },
     }
 }
 

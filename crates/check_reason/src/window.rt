@@ -2,8 +2,9 @@
 //! that their answers show, files, and the positions of all their events.
 
 use crate::reading::{Reading, call_number, number_of};
-use crate::shown::{Shown, ShownAccess, left_by};
+use crate::shown::{Shown, ShownAccess, left_by, slot_of};
 use fx_base::{Closed as File, NoMemory};
+use fx_chain::{Intent, Place, intent_of};
 use fx_flight::LogEvent;
 use std::alloc::Global;
 
@@ -38,6 +39,9 @@ pub(crate) struct Window {
     calls: Vec<u32>,
     slots: Vec<u32>,
 }
+
+/// The number of slots of a table above which an open that found no free slot isn't explained.
+pub(crate) const MOST_SLOTS: u32 = 64;
 
 // Appends a value unless it is there.
 fn note(list: &mut Vec<u32>, value: u32) -> Result<(), NoMemory> {
@@ -92,15 +96,50 @@ impl Window {
                     }
                 }
             }
+            self.take_open_members(log, id)?;
+        }
+        Ok(())
+    }
+
+    // Adds the files that members of a call without an answer may have installed.
+    fn take_open_members(&mut self, log: &Reading<'_>, id: u32) -> Result<(), NoMemory> {
+        let Some(call) = log.call(id) else {
+            return Ok(());
+        };
+        for member in call.answers.len()..log.members(id) {
+            let Ok(before) = u32::try_from(member) else {
+                break;
+            };
+            let place = Place {
+                submission: id,
+                chain: 1,
+                member: before.saturating_add(1),
+            };
+            let Some(request) = log.request(place) else {
+                break;
+            };
+            for access in 0..request.accesses() {
+                match intent_of(log.catalogue, log.size, place, request, access) {
+                    Some(Intent::Put(slot, file)) => self.take_file(log, file, Some(slot))?,
+                    Some(Intent::Allocate(file)) => self.take_file(log, file, None)?,
+                    _ => {}
+                }
+            }
         }
         Ok(())
     }
 
     // Adds an access, and its file.
     fn take_access(&mut self, log: &Reading<'_>, shown: ShownAccess) -> Result<(), NoMemory> {
-        let (slot, left) = left_by(shown.shown);
-        note(&mut self.slots, slot)?;
-        if let Some(file) = left {
+        if let Some(slot) = slot_of(shown.shown) {
+            note(&mut self.slots, slot)?;
+        }
+        if shown.shown == Shown::Full && log.size <= MOST_SLOTS {
+            for slot in 0..log.size {
+                note(&mut self.slots, slot)?;
+            }
+        }
+        if let Some((slot, Some(file))) = left_by(shown.shown) {
             self.take_file(log, file, Some(slot))?;
         }
         if !matches!(shown.shown, Shown::Installs(_, _)) {
@@ -125,7 +164,7 @@ impl Window {
         let install = log.install_of(file);
         let mut slot = slot;
         if let Some(shown) = install {
-            slot = Some(left_by(shown.shown).0);
+            slot = slot_of(shown.shown);
             self.positions.push(shown.answer)?;
         }
         self.positions.push(call.at)?;

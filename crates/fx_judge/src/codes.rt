@@ -181,3 +181,9 @@ pub const RULE_CLOSES_HELD: u32 = 18;
 
 /// A contradiction: a request can't have its answer.
 pub const RULE_CANT_ANSWER: u32 = 19;
+
+/// An access finds a file at a slot, and each other file isn't there.
+pub const RULE_HOLDS: u32 = 20;
+
+/// Accesses of different calls aren't at the same time.
+pub const RULE_DIFFERS: u32 = 21;

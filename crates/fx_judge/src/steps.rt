@@ -2,11 +2,11 @@
 
 use crate::codes::{
     POINT_ACCESS, POINT_EVENT, POINT_GONE, POINT_PUT, RULE_BEGINS, RULE_CALLS, RULE_CANT_ANSWER,
-    RULE_CLOSES, RULE_CLOSES_HELD, RULE_CLOSES_TWICE, RULE_DISPLACES, RULE_EMPTIES, RULE_ENDS,
-    RULE_EVENTS, RULE_FINDS, RULE_FINDS_CLOSED, RULE_FOLLOWS, RULE_INSTALLS, RULE_OUTLIVES,
-    RULE_PLACES, RULE_PRECEDES, RULE_SETTLES, RULE_THEN,
+    RULE_CLOSES, RULE_CLOSES_HELD, RULE_CLOSES_TWICE, RULE_DIFFERS, RULE_DISPLACES, RULE_EMPTIES,
+    RULE_ENDS, RULE_EVENTS, RULE_FINDS, RULE_FINDS_CLOSED, RULE_FOLLOWS, RULE_HOLDS, RULE_INSTALLS,
+    RULE_OUTLIVES, RULE_PLACES, RULE_PRECEDES, RULE_SETTLES, RULE_THEN,
 };
-use check_certificate::{Point, Step};
+use check_certificate::{Holding, Point, Step};
 use check_reason::ReasonStep;
 use fx_base::{Closed, Mark};
 
@@ -37,7 +37,7 @@ pub struct YachtPoint {
 #[repr(C)]
 #[derive(Drop)]
 pub struct YachtStep {
-    /// One of `RULE_EVENTS` to `RULE_CANT_ANSWER`.
+    /// One of `RULE_EVENTS` to `RULE_DIFFERS`.
     pub rule: u32,
     /// 1 if `from` comes before `to`; 0 if it comes before or at the same time.
     pub is_strict: u32,
@@ -51,6 +51,8 @@ pub struct YachtStep {
     pub premise: u64,
     /// The number of the other earlier step, from 0.
     pub other: u64,
+    /// The slot at which a file is found, from 0.
+    pub slot: u64,
     /// The earlier point.
     pub from: YachtPoint,
     /// The later point.
@@ -111,6 +113,7 @@ struct Applied {
     events: (usize, usize),
     access: usize,
     premises: (usize, usize),
+    slot: u32,
 }
 
 // Returns a rule that is applied to two events.
@@ -120,6 +123,7 @@ fn of_events(rule: u32, first: usize, second: usize) -> Applied {
         events: (first, second),
         access: 0,
         premises: (0, 0),
+        slot: 0,
     }
 }
 
@@ -130,6 +134,7 @@ fn of_access(rule: u32, call: usize, answer: usize, access: usize, premise: usiz
         events: (call, answer),
         access,
         premises: (premise, 0),
+        slot: 0,
     }
 }
 
@@ -140,6 +145,18 @@ fn of_steps(rule: u32, event: usize, premise: usize, other: usize) -> Applied {
         events: (event, 0),
         access: 0,
         premises: (premise, other),
+        slot: 0,
+    }
+}
+
+// Returns the rule of an access that finds a file.
+fn of_holding(holding: &Holding) -> Applied {
+    Applied {
+        rule: RULE_HOLDS,
+        events: (holding.call, holding.answer),
+        access: holding.access,
+        premises: (0, 0),
+        slot: holding.slot,
     }
 }
 
@@ -194,6 +211,14 @@ fn applied_by(step: &Step) -> Applied {
         Step::FindsClosed { close, answer } => of_events(RULE_FINDS_CLOSED, close, answer),
         Step::ClosesTwice { first, second } => of_events(RULE_CLOSES_TWICE, first, second),
         Step::ClosesHeld { answer, close } => of_events(RULE_CLOSES_HELD, answer, close),
+        Step::Holds(holding) => of_holding(&holding),
+        Step::Differs { call, other, order } => Applied {
+            rule: RULE_DIFFERS,
+            events: (call, other),
+            access: 0,
+            premises: (order, 0),
+            slot: 0,
+        },
         Step::CantAnswer { call, answer } => of_events(RULE_CANT_ANSWER, call, answer),
     }
 }
@@ -209,6 +234,7 @@ fn passed_step(step: &ReasonStep) -> YachtStep {
         access: it.access as u64,
         premise: it.premises.0 as u64,
         other: it.premises.1 as u64,
+        slot: it.slot as u64,
         from: passed_point(step.order.from),
         to: passed_point(step.order.to),
     }

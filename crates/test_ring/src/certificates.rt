@@ -2,7 +2,7 @@
 //! wrong one. A contract says what a certificate shows that the checker takes; none says that it
 //! takes one.
 use crate::setting::{Host, close, one_file, open};
-use check_certificate::{Step, is_refuted};
+use check_certificate::{Holding, Step, is_refuted};
 use fx_base::{Closed as File, NoMemory};
 use fx_chain::{Completion, Place, Request};
 use fx_flight::LogEvent;
@@ -210,6 +210,44 @@ fn cant_answer<H: Host>(rt: &H, res: i32) -> Result<bool, NoMemory> {
     let mut log = Vec::new(rt.alloc());
     answered(rt, &mut log, 1, close(0), res)?;
     refutes(rt, &log, 2, &[Step::CantAnswer { call: 0, answer: 1 }])
+}
+
+// Checks whether a log is refuted by its last close of slot 0, which answered 0. Calls open the
+// slot and close it before, unless there is only that close. `since` names an earlier access.
+fn finds_none<H: Host>(
+    rt: &H,
+    is_alone: bool,
+    since: (usize, usize, usize),
+    holder: Option<File>,
+) -> Result<bool, NoMemory> {
+    let mut log = Vec::new(rt.alloc());
+    if !is_alone {
+        call(rt, &mut log, 1, open(rt))?;
+        call(rt, &mut log, 2, close(0))?;
+    }
+    let at = log.len();
+    call(rt, &mut log, if is_alone { 1 } else { 3 }, close(0))?;
+    let holding = Holding {
+        call: at,
+        answer: at + 1,
+        access: 0,
+        slot: 0,
+        since,
+        holder,
+        is_put: false,
+    };
+    refutes(rt, &log, at + 2, &[Step::Holds(holding)])
+}
+
+#[test]
+fn close_without_a_file_refutes(rt: HostRuntime) {
+    assert!(rt; finds_none(&rt, true, (0, 0, 0), None) == Ok(true));
+    assert!(rt; finds_none(&rt, false, (2, 3, 0), None) == Ok(true));
+    // without the close between them the file may be there, and it is when it was installed
+    for since in [(0, 0, 0), (0, 1, 0), (4, 5, 0), (2, 1, 0)] {
+        assert!(rt; finds_none(&rt, false, since, None) == Ok(false));
+    }
+    assert!(rt; finds_none(&rt, false, (2, 3, 0), Some(opened_by(1))) == Ok(false));
 }
 
 #[test]

@@ -1,0 +1,157 @@
+//! Orders that show that a file isn't at a slot just before an access.
+ghost use Rattle.std.specs.Prelude.{◌≡◌, ℕ, IfSome, IsTrue, true};
+ghost use Rattle.fx_base.specs.declared.mark.Mark.TheVariants.{Submitted};
+ghost use Rattle.check_certificate.specs.Absent.{is_negative};
+ghost use Rattle.check_certificate.specs.Forced.{IsForced};
+ghost use Rattle.check_certificate.specs.declared.certificate.Point.TheVariants.{Access, Gone, Put};
+
+use crate::beginning::{LogBeginning, call_of};
+use crate::certificate::{Holding, Point, PointOrder};
+use crate::evidence::Evidence;
+use crate::rules::{joined, ordered};
+use fx_base::{Closed as File, Mark};
+use fx_chain::{Completion, Place};
+use fx_flight::LogEvent;
+
+/// Checks whether an order says that a file is installed after the access.
+pub(crate) fn is_later(order: &PointOrder, h: &Holding, file: File) -> bool
+    ensures { IsTrue result → (order.now.from ≡ Access h.now.answer h.now.access)
+        × (order.now.to ≡ Put file) }
+{
+    order.from == Point::Access(h.answer, h.access) && order.to == Point::Put(file)
+}
+
+/// Checks whether an order says that a file is gone from the slot before the access.
+pub(crate) fn is_gone(order: &PointOrder, h: &Holding, file: File) -> bool
+    ensures { IsTrue result → order.now ≡ record {
+      from = Gone file h.now.slot;
+      to = Access h.now.answer h.now.access;
+      strict = true;
+    } }
+{
+    order.strict
+        && order.from == Point::Gone(file, h.slot)
+        && order.to == Point::Access(h.answer, h.access)
+}
+
+// Checks whether a file has the mark of a member of a call.
+fn is_of_member(file: File, place: Place) -> bool
+    ensures { IsTrue result → (entry : ℕ) × (file.mark
+        ≡ Submitted place.submission 1 place.member entry) }
+{
+    match file.mark {
+        Mark::Submitted {
+            submission,
+            chain,
+            member,
+            entry: _,
+        } => submission == place.submission && chain == 1 && member == place.member,
+        Mark::Registered { k: _, i: _ } => false,
+    }
+}
+
+// Checks whether an answer is a failure.
+fn is_failure(c: &Completion) -> bool
+    ensures { result ≡ is_negative c.now.res }
+{
+    c.res < 0
+}
+
+impl LogBeginning<'_> {
+    // Returns the order of an event and the installation of a file that no access installs: the
+    // event at `own` is the failure of the file's member.
+    fn fails(&self, event: usize, own: usize, file: File) -> Option<PointOrder>
+        ensures { IfSome result (IsForced self.now) }
+    {
+        let answer = self.events.get(own)?;
+        let LogEvent::Done(c) = answer else {
+            return None;
+        };
+        if !is_failure(c) || event >= self.events.len() || !is_of_member(file, c.place) {
+            return None;
+        }
+        Some(ordered(Point::Event(event), Point::Put(file)))
+    }
+
+    // Returns the order of a file's removal from a slot and an event, where the file was
+    // installed at another slot.
+    fn elsewhere(
+        &self,
+        call: usize,
+        answer: usize,
+        access: usize,
+        slot: u32,
+        event: usize,
+    ) -> Option<PointOrder>
+        ensures { IfSome result (IsForced self.now) }
+    {
+        let evidence = self.made(call, answer, access)?;
+        let Evidence::Installs(own, file) = evidence else {
+            return None;
+        };
+        let _call = call_of(file)?;
+        if own == slot {
+            return None;
+        }
+        Some(PointOrder {
+            from: Point::Gone(file, slot),
+            to: Point::Event(event),
+            strict: false,
+        })
+    }
+
+    // Returns the order of a file's removal and the access that `since` names, before which
+    // the file was installed, and which leaves the slot without it.
+    fn replaced(&self, h: &Holding, call: usize, answer: usize, access: usize) -> Option<PointOrder>
+        ensures { IfSome result (IsForced self.now) }
+    {
+        let (later, later_answer, number) = h.since;
+        let installs = self.installs(call, answer, access)?;
+        let next = self.events_in_order(answer, later)?;
+        let begins = self.begins(later, later_answer, number)?;
+        let first = joined(&installs, &next)?;
+        let installed = joined(&first, &begins)?;
+        let gone = self.empties(later, later_answer, number, &installed)?;
+        let ends = self.ends(later, later_answer, number)?;
+        let past = self.events_in_order(later_answer, h.call)?;
+        let second = joined(&gone, &ends)?;
+        joined(&second, &past)
+    }
+
+    // Returns the position of the answer of a member, from that of its call on.
+    fn answer_of(&self, call: usize, place: Place) -> Option<usize> {
+        for at in call..self.events.len() {
+            if let LogEvent::Done(c) = &self.events[at]
+                && c.place == place
+            {
+                return Some(at);
+            }
+        }
+        None
+    }
+
+    /// Returns an order by which the file of an access that a member of a call intends isn't at
+    /// the slot just before the access of `h`: by the answer of that member.
+    pub(crate) fn absence(
+        &self,
+        h: &Holding,
+        call: usize,
+        place: Place,
+        access: usize,
+        file: File,
+    ) -> Option<PointOrder>
+        ensures { IfSome result (IsForced self.now) }
+    {
+        let answer = self.answer_of(call, place)?;
+        let ends = self.ends(h.call, h.answer, h.access)?;
+        if let Some(failed) = self.fails(h.answer, answer, file) {
+            return joined(&ends, &failed);
+        }
+        let begins = self.begins(h.call, h.answer, h.access)?;
+        if let Some(other) = self.elsewhere(call, answer, access, h.slot, h.call) {
+            return joined(&other, &begins);
+        }
+        let gone = self.replaced(h, call, answer, access)?;
+        joined(&gone, &begins)
+    }
+}

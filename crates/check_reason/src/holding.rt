@@ -1,0 +1,205 @@
+//! Accesses that find a file at a slot: which files may be there, by the orders of a window.
+
+use crate::graph::{Edge, Pair, in_order};
+use crate::problem::{AccessPoint, FilePoints, Problem};
+use crate::reading::Reading;
+use crate::shown::{Shown, ShownAccess, left_by};
+use crate::window::{MOST_SLOTS, Window};
+use check_certificate::{Holding, Step};
+use fx_base::{Closed as File, NoMemory};
+
+// The number of events before a call in which an access is looked for that leaves its slot.
+const SINCE: usize = 4_096;
+
+// Returns the access with the latest call that leaves a slot with a known file or none, and was
+// answered before a call.
+fn since(log: &Reading<'_>, slot: u32, before: usize) -> Option<ShownAccess> {
+    let mut latest: Option<ShownAccess> = None;
+    for back in 0..SINCE {
+        let Some(at) = before.checked_sub(back + 1) else {
+            break;
+        };
+        // an access that was answered before a call has an earlier call
+        if matches!(latest, Some(last) if at < last.call) {
+            break;
+        }
+        for access in 0..log.accesses_at(at) {
+            let Some(shown) = log.shown_at(at, access) else {
+                continue;
+            };
+            let is_left = matches!(left_by(shown.shown), Some((own, _)) if own == slot);
+            if is_left && !matches!(latest, Some(last) if last.call > shown.call) {
+                latest = Some(shown);
+            }
+        }
+    }
+    latest
+}
+
+// Checks whether a file that was installed is gone by an access that leaves its slot.
+fn is_replaced(install: Option<ShownAccess>, file: File, since: Option<ShownAccess>) -> bool {
+    if let Some(install) = install
+        && let Some(since) = since
+        && let Some((_, left)) = left_by(since.shown)
+    {
+        return install.answer < since.call && left != Some(file);
+    }
+    false
+}
+
+impl Problem {
+    // Applies the rule to an access that finds a file at a slot. Returns whether an order was
+    // added.
+    fn hold(
+        &mut self,
+        log: &Reading<'_>,
+        window: &Window,
+        z: &AccessPoint,
+        slot: u32,
+    ) -> Result<bool, NoMemory> {
+        let (call, answer, access) = (z.shown.call, z.shown.answer, z.shown.access);
+        let last = since(log, slot, call);
+        let mut absent = Vec::new(log.alloc);
+        let mut holder: Option<FilePoints> = None;
+        for known in &window.files {
+            let is_here = match known.slot {
+                Some(own) => own == slot,
+                None => true,
+            };
+            if known.call > answer || !is_here {
+                continue;
+            }
+            if is_replaced(known.install, known.file, last) {
+                continue;
+            }
+            let Some(own) = self
+                .files
+                .iter()
+                .find(|own| own.file == known.file)
+                .copied()
+            else {
+                return Ok(false);
+            };
+            if let Some(pair) = self.absence(z, &own) {
+                absent.push(pair)?;
+                continue;
+            }
+            if holder.is_some() {
+                return Ok(false);
+            }
+            holder = Some(own);
+        }
+        let list = self.graph.lists.len();
+        self.graph.lists.push(absent)?;
+        let mut holding = Holding {
+            call,
+            answer,
+            access,
+            slot,
+            since: match last {
+                Some(it) => (it.call, it.answer, it.access),
+                None => (0, 0, 0),
+            },
+            holder: match holder {
+                Some(own) => Some(own.file),
+                None => None,
+            },
+            is_put: false,
+        };
+        let Some(own) = holder else {
+            return self.add_holding(in_order(z.point, z.point, true), holding, list);
+        };
+        let one = self.add_holding(in_order(z.point, own.gone, false), holding, list)?;
+        holding.is_put = true;
+        let other = self.add_holding(in_order(own.put, z.point, true), holding, list)?;
+        Ok(one || other)
+    }
+
+    // Adds an order by the rule, unless it is known.
+    fn add_holding(
+        &mut self,
+        pair: Pair,
+        holding: Holding,
+        absent: usize,
+    ) -> Result<bool, NoMemory> {
+        if self.graph.loops.is_some() || self.graph.holds(pair) {
+            return Ok(false);
+        }
+        self.graph.add(Edge {
+            pair,
+            step: Step::Holds(holding),
+            premises: (None, None),
+            absent,
+        })?;
+        Ok(true)
+    }
+
+    // Applies the rule of accesses of different calls.
+    fn differ(&mut self, x: &AccessPoint, y: &AccessPoint) -> Result<bool, NoMemory> {
+        let loose = in_order(x.point, y.point, false);
+        let new = in_order(x.point, y.point, true);
+        if x.shown.call == y.shown.call {
+            return Ok(false);
+        }
+        let step = Step::Differs {
+            call: x.shown.call,
+            other: y.shown.call,
+            order: 0,
+        };
+        self.add_by(new, step, loose, None)
+    }
+
+    /// Applies the rule of accesses of different calls to all. Returns whether an order was added.
+    pub(crate) fn differ_all(&mut self) -> Result<bool, NoMemory> {
+        let mut is_new = false;
+        for i in 0..self.accesses.len() {
+            for j in 0..self.accesses.len() {
+                if let Some(x) = self.accesses.get(i).copied()
+                    && let Some(y) = self.accesses.get(j).copied()
+                {
+                    is_new |= self.differ(&x, &y)?;
+                }
+            }
+        }
+        Ok(is_new)
+    }
+
+    // Returns the order by which a file isn't at a slot just before an access.
+    fn absence(&self, z: &AccessPoint, own: &FilePoints) -> Option<Pair> {
+        let later = in_order(z.point, own.put, false);
+        let gone = in_order(own.gone, z.point, true);
+        if self.graph.holds(later) {
+            Some(later)
+        } else if self.graph.holds(gone) {
+            Some(gone)
+        } else {
+            None
+        }
+    }
+
+    /// Applies the rule of accesses that find a file to each of them. Returns whether an order was
+    /// added.
+    pub(crate) fn hold_all(
+        &mut self,
+        log: &Reading<'_>,
+        window: &Window,
+    ) -> Result<bool, NoMemory> {
+        let mut is_new = false;
+        for i in 0..self.accesses.len() {
+            let Some(z) = self.accesses.get(i).copied() else {
+                break;
+            };
+            let slots = match z.shown.shown {
+                Shown::Takes(slot) | Shown::Reads(slot) => slot..slot.saturating_add(1),
+                Shown::Full if log.size <= MOST_SLOTS => 0..log.size,
+                _ => 0..0,
+            };
+            for slot in slots {
+                if self.graph.loops.is_none() {
+                    is_new |= self.hold(log, window, &z, slot)?;
+                }
+            }
+        }
+        Ok(is_new)
+    }
+}
