@@ -159,8 +159,10 @@ WHY_STALE = """    2.1.0 was gone from slot 0 after close 3, which answered 0, s
 """
 WHY_WRONG = "    open 2 answered 7 at line 6, which such a request never answers\n"
 WHY_EARLY = "    look 3 held 2.1.0 from line 8 on, and it was closed by line 11\n"
+WHY_GONE = "since close 2.2 found a file at slot 0 by line 7, which can only have been 2.1.0\n"
 FILES = {"right": OPENED, "wrong": OPENED.replace("done 2.1 0", "done 2.1 7"), "none": "x\n", "stale": f"{STALE}free 5\nsettled\n".replace("call 3", MORE),
-         "early": f"{HEAD}{EARLIER}{HELD}{''.join(REMOVERS)}closed 2.1.0 a\nfree 3\n"}
+         "early": f"{HEAD}{EARLIER}{HELD}{''.join(REMOVERS)}closed 2.1.0 a\nfree 3\n",
+         "gone": f"{HEAD}call 2 open b any link ; close 0\ndone 2.1 0\ndone 2.2 0\ncall 3 read 0 0 1\ndone 3.1 1 62\n"}
 ARGUMENTS = [
     ([], USAGE, "usage: yachtlog.py"),
     (["--help"], LEGAL, "usage: yachtlog.py"),
@@ -176,6 +178,7 @@ ARGUMENTS = [
     (["--shorten", "stale"], NOT_LEGAL, f"^{STALE}.*stale: not legal: line 10: done 5.1 0 2.1.0\n{WHY_STALE}$"),
     (["--full-reason", "--shorten", "stale"], NOT_LEGAL, f"^{STALE}.*stale: not legal: line 10: done 5.1 0 2.1.0\n{WHY_STALE}$"),
     (["--shorten", "early"], NOT_LEGAL, f"^{HEAD}{HELD}({'|'.join(REMOVERS)})closed 2.1.0 a\n.*early: not legal: line 11: closed 2.1.0 a\n{WHY_EARLY}$"),
+    (["--full-reason", "gone"], NOT_LEGAL, f"gone: not legal: line 9: done 3.1 1 62\n.*{WHY_GONE}"),
     (["--shorten", "none"], NOT_A_LOG, "not a log: line 1"),
     (["right", "right"], LEGAL, "right: legal\n.*right: legal\n$"),
     (["right", "wrong", "none", "/nonexistent"], NOT_LEGAL, "right: legal\n.*wrong: not legal: line 6: done 2.1 7\n.*none: not a log: line 1: "),
@@ -193,6 +196,7 @@ LACKING = [
 ]
 # wrong changes of the modules, of each kind of row
 WRONG = [
+    ("yachtreason", '(it.after if it.after.kind == "gone" else it.before).file', "it.after.file"),
     ("yachtlines", '_want(self.chains, "no call registers', '_want(True, "no call registers'),
     ("yachtlines", 'text.split("\\n")', "[*text.splitlines(), '']"),
     ("yachtlines", '_want(not rest, f"the last', '_want(True, f"the last'),

@@ -353,13 +353,14 @@ class Reason:
         want(not self.log.may_answer(self.log.chain(call)[member - 1], result), "the request may have this answer")
         return (EVENT, lines[1]), (EVENT, lines[1]), True
 
-    def _holds(self, lines, access, premises, point):
-        z, own = (ACCESS, lines[1], access), point[1:] if point[0] == GONE else (None, None)
-        want(point == z or point[0] == GONE, "it says nothing of a file that is there")
-        slots = [it for it in self.log.found_slots(*lines, access) if point == z or it == own[1]]
+    def _holds(self, lines, access, premises, points):
+        z, (before, after) = (ACCESS, lines[1], access), points
+        own = next((it[1:] for it in points if it[0] in (PUT, GONE)), (None,))
+        want(points == (z, z) or (before[0], after) == (PUT, z) or (before, after[0]) == (z, GONE), "it says nothing of a file that is there")
+        slots = [it for it in self.log.found_slots(*lines, access) if after[0] != GONE or it == own[1]]
         want(any(all(file == own[0] or self._is_absent(z, lines[0], slot, file) for file in self.log.installs(slot, lines[1])) for slot in slots),
              "the access finds no file, or another one may be there")
-        return z, point, point == z
+        return before, after, after[0] != GONE
 
     def _is_absent(self, z, call_line, slot, file):
         """Whether a file isn't at a slot just before the access z, by earlier steps, or by the answer of the member that installs it."""
@@ -402,7 +403,7 @@ def complaint(text, facts, tags=False):
         for nth, (rule, lines, access, premises, before, after, is_strict) in enumerate(facts):
             order = point_of(before), point_of(after), bool(is_strict)
             # the file of a call and the slot of a close are named by the order alone
-            named = {"calls": order[1][1:2], "closes": order[0][2:3], "holds": order[1:2]}.get(rule, ())
+            named = {"calls": order[1][1:2], "closes": order[0][2:3], "holds": (order[:2],)}.get(rule, ())
             try:
                 adds = reason.order(rule, lines, access, premises) if not named else getattr(reason, f"_{rule}")(lines, access, [], *named)
                 want(adds == order, f"it adds {adds}, not {order}")

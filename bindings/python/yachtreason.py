@@ -138,7 +138,8 @@ class Words:
         found = f"{self._who(it.lines[1])} found a file at slot {it.slot} by line {it.lines[1]}"
         if it.before == it.after:
             return f"{found}, where no file can have been"
-        return f"{found}, which can only have been {name_of(it.after.file)}"
+        file = (it.after if it.after.kind == "gone" else it.before).file
+        return f"{found}, which can only have been {name_of(file)}"
 
     def _differs(self, it: Step) -> str:
         return "accesses of two calls are not at the same time"
