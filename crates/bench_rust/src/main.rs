@@ -2,14 +2,15 @@
 //! plain, unproved Rust tables of the same words, and all next to arc-swap, crossbeam-epoch,
 //! sharded-slab and a lock of std, in turn in one process. Each line has the times of one round,
 //! for `bench/ratios.py`. With the argument `tails` it prints how long single calls take instead,
-//! and with `searches` how long the crate needs in tables that are nearly full. With `calls` it
-//! makes one call in a loop.
+//! and with `searches` how long the crate needs in tables that are nearly full. With `memory` it
+//! prints how many bytes tables of the crate take. With `calls` it makes one call in a loop.
 mod access;
 mod bindings;
 mod calls;
 mod exports;
 mod lasting_words;
 mod locked;
+mod memory;
 mod others;
 mod proved;
 mod searches;
@@ -97,6 +98,7 @@ fn main() {
     match first.as_str() {
         "tails" => return tails::print_all(),
         "searches" => return searches::print_all(),
+        "memory" => return memory::print_all(),
         "calls" => {
             let [table, calls, times] = [(); 3].map(|()| words.next().unwrap_or_default());
             return calls::run(&table, &calls, times.parse().unwrap_or(0));

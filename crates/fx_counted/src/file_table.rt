@@ -1,9 +1,11 @@
 //! The implementations of `SharedTable` and `FileTable` for the lock-free table. Of its calls only
 //! `put_any` may wait.
-ghost use Rattle.std.specs.Prelude.{◌≡◌, length, map, All};
+ghost use Rattle.std.specs.Prelude.{◌≡◌, length, map, All, refl, ℕ, ◌≤◌};
 ghost use Rattle.fx_table.specs.Closing.{ClosesTable};
 ghost use Rattle.fx_table.specs.Pass.{IsIdle};
 ghost use Rattle.fx_counted.specs.Tables.{view_of, opening_of_table, IsPassOfTable};
+ghost use mathlib.Core.Path.{subst};
+ghost use Rattle.fx_plain.specs.declared.table.TheConstants.{MOST_SLOTS};
 
 use crate::pass::CountedPass;
 use crate::table::CountedTable;
@@ -14,8 +16,6 @@ use std::alloc::Global;
 use std::sync::Wait;
 
 impl SharedTable for CountedTable {
-    ghost use Rattle.fx_counted.specs.Tables.{view_of, opening_of_table, IsPassOfTable};
-
     type Pass = CountedPass;
 
     ghost opening = { opening_of_table };
@@ -100,10 +100,6 @@ impl SharedTable for CountedTable {
 }
 
 impl FileTable for CountedTable {
-    ghost use Rattle.std.specs.Prelude.{refl, ℕ, ◌≤◌};
-    ghost use mathlib.Core.Path.{subst};
-    ghost use Rattle.fx_plain.specs.declared.table.TheConstants.{MOST_SLOTS};
-
     fn open(
         alloc: Global,
         plain: PlainTable,

@@ -1,4 +1,12 @@
 //! The rule of the lock-free table, and its fourteen kinds of step.
+ghost use Rattle.fx_counted.specs.Agrees.{Agrees};
+ghost use Rattle.fx_counted.specs.Cuts.{first_view, without_first, first_alone, together, spent};
+ghost use Rattle.fx_counted.specs.Effects.{Births, Looks, Installs, Retires, Releases, Rests};
+ghost use Rattle.fx_counted.specs.Effects.{SaysFull, Exchanges, DrawsChain, GoesOn};
+ghost use Rattle.fx_counted.specs.declared.view.Change.TheVariants.{Same, Outside};
+ghost use Rattle.fx_counted.specs.Settling.{Observes};
+ghost use Rattle.fx_counted.specs.Showing.{shown_view, HasLearned};
+
 use crate::view::{Start, View};
 use atomic_table::{Join, Play, Split, TableRule};
 use fx_base::OpenFile;
@@ -9,9 +17,6 @@ use fx_seen::Learning;
 pub struct OneHistory;
 
 impl TableRule<Option<OpenFile>, View, Start> for OneHistory {
-    ghost use Rattle.fx_counted.specs.Agrees.{Agrees};
-    ghost use Rattle.fx_counted.specs.Cuts.{first_view};
-
     ghost holds = { Agrees };
 
     ghost first = { first_view };
@@ -21,8 +26,6 @@ impl TableRule<Option<OpenFile>, View, Start> for OneHistory {
 pub struct Deal;
 
 impl Split<View> for Deal {
-    ghost use Rattle.fx_counted.specs.Cuts.{without_first, first_alone};
-
     ghost left = { without_first };
 
     ghost right = { first_alone };
@@ -32,8 +35,6 @@ impl Split<View> for Deal {
 pub struct Gather;
 
 impl Join<View> for Gather {
-    ghost use Rattle.fx_counted.specs.Cuts.{together, spent};
-
     ghost both = { together };
 
     ghost spent = { spent };
@@ -44,8 +45,6 @@ impl Join<View> for Gather {
 pub struct Birth;
 
 impl Play<Option<OpenFile>, View> for Birth {
-    ghost use Rattle.fx_counted.specs.Effects.{Births};
-
     ghost then = { Births };
 }
 
@@ -53,8 +52,6 @@ impl Play<Option<OpenFile>, View> for Birth {
 pub struct Look;
 
 impl Play<Option<OpenFile>, View> for Look {
-    ghost use Rattle.fx_counted.specs.Effects.{Looks};
-
     ghost then = { Looks };
 }
 
@@ -62,8 +59,6 @@ impl Play<Option<OpenFile>, View> for Look {
 pub struct Install;
 
 impl Play<Option<OpenFile>, View> for Install {
-    ghost use Rattle.fx_counted.specs.Effects.{Installs};
-
     ghost then = { Installs };
 }
 
@@ -72,8 +67,6 @@ impl Play<Option<OpenFile>, View> for Install {
 pub struct Retire;
 
 impl Play<Option<OpenFile>, View> for Retire {
-    ghost use Rattle.fx_counted.specs.Effects.{Retires};
-
     ghost then = { Retires };
 }
 
@@ -82,8 +75,6 @@ impl Play<Option<OpenFile>, View> for Retire {
 pub struct Release;
 
 impl Play<Option<OpenFile>, View> for Release {
-    ghost use Rattle.fx_counted.specs.Effects.{Releases};
-
     ghost then = { Releases };
 }
 
@@ -91,8 +82,6 @@ impl Play<Option<OpenFile>, View> for Release {
 pub struct Rest;
 
 impl Play<Option<OpenFile>, View> for Rest {
-    ghost use Rattle.fx_counted.specs.Effects.{Rests};
-
     ghost then = { Rests };
 }
 
@@ -101,8 +90,6 @@ impl Play<Option<OpenFile>, View> for Rest {
 pub struct Answer;
 
 impl Play<Option<OpenFile>, View> for Answer {
-    ghost use Rattle.fx_counted.specs.Effects.{SaysFull};
-
     ghost then = { SaysFull };
 }
 
@@ -110,8 +97,6 @@ impl Play<Option<OpenFile>, View> for Answer {
 pub struct Exchange;
 
 impl Play<Option<OpenFile>, View> for Exchange {
-    ghost use Rattle.fx_counted.specs.Effects.{Exchanges};
-
     ghost then = { Exchanges };
 }
 
@@ -119,8 +104,6 @@ impl Play<Option<OpenFile>, View> for Exchange {
 pub struct Draw;
 
 impl Play<Option<OpenFile>, View> for Draw {
-    ghost use Rattle.fx_counted.specs.Effects.{DrawsChain};
-
     ghost then = { DrawsChain };
 }
 
@@ -148,9 +131,6 @@ impl Play<Option<OpenFile>, View> for Take {
 pub struct Begin;
 
 impl Play<Option<OpenFile>, View> for Begin {
-    ghost use Rattle.fx_counted.specs.declared.view.Change.TheVariants.{Same};
-    ghost use Rattle.fx_counted.specs.Effects.{GoesOn};
-
     ghost then = { GoesOn Same };
 }
 
@@ -158,9 +138,6 @@ impl Play<Option<OpenFile>, View> for Begin {
 pub struct End;
 
 impl Play<Option<OpenFile>, View> for End {
-    ghost use Rattle.fx_counted.specs.declared.view.Change.TheVariants.{Outside};
-    ghost use Rattle.fx_counted.specs.Effects.{GoesOn};
-
     ghost then = { GoesOn Outside };
 }
 
@@ -168,9 +145,6 @@ impl Play<Option<OpenFile>, View> for End {
 pub struct Load;
 
 impl Play<Option<OpenFile>, View> for Load {
-    ghost use Rattle.fx_counted.specs.declared.view.Change.TheVariants.{Same};
-    ghost use Rattle.fx_counted.specs.Effects.{GoesOn};
-
     ghost then = { GoesOn Same };
 }
 
@@ -178,8 +152,6 @@ impl Play<Option<OpenFile>, View> for Load {
 pub struct Observe;
 
 impl Play<Option<OpenFile>, View> for Observe {
-    ghost use Rattle.fx_counted.specs.Settling.{Observes};
-
     ghost then = { Observes };
 }
 
@@ -187,8 +159,6 @@ impl Play<Option<OpenFile>, View> for Observe {
 pub struct Show;
 
 impl Split<View> for Show {
-    ghost use Rattle.fx_counted.specs.Showing.{shown_view};
-
     ghost left = { λ v. v };
 
     ghost right = { shown_view };
@@ -198,7 +168,5 @@ impl Split<View> for Show {
 pub struct Learn;
 
 impl Learning<View> for Learn {
-    ghost use Rattle.fx_counted.specs.Showing.{HasLearned};
-
     ghost then = { HasLearned };
 }

@@ -19,8 +19,6 @@ pub struct CountedSeen {
 }
 
 impl RealTime for CountedTable {
-    ghost use Rattle.fx_counted.specs.Showing.{shown_of, IsSeenOf};
-
     type Seen = CountedSeen;
 
     ghost shown = { shown_of };

@@ -9,7 +9,7 @@ use Rattle.std_heap.proofs.Global.TheLaws as heap
 use Rattle.fx_direct.specs.contracts.slots.DirectSlots as DirectSlots
 use Rattle.fx_direct.proofs.slots.DirectSlots.TheLaws as slots
 use Rattle.fx_direct_c.specs.contracts.handle.MachineHandle as MachineHandle
-use Rattle.fx_direct_c.specs.contracts.parts.PartsOfBox as Parts
+use Rattle.fx_box.specs.contracts.BoxParts as Parts
 
 abbrev pub E : Bx
 E = record { row = DirectSlots.the_row; laws = slots.the_row_laws; al = record { row = Heap.the_row; laws = heap.the_row_laws; g = ghosts; d = dict; drops = impl [] tnil dnil } }

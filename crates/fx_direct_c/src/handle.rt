@@ -4,7 +4,7 @@ ghost use Rattle.fx_direct.specs.declared.slots.DirectSlots.{DirectSlots};
 ghost use Rattle.fx_direct_c.specs.MachineMemory.{machine_owns, machine_place_coded};
 ghost use Rattle.fx_direct_c.specs.MachineMemory.{machine_place_owns, slots_coded};
 
-use crate::parts::PartsOfBox;
+use fx_box::BoxParts;
 use fx_direct::DirectSlots;
 use std::alloc::Global;
 use std::marker::Model;
@@ -44,11 +44,11 @@ impl MachineHandle {
     }
 
     // Returns the box's parts.
-    fn into_parts(self) -> PartsOfBox<DirectSlots, Global>
+    fn into_parts(self) -> BoxParts<DirectSlots, Global>
         ensures { result.value ≡ self.slots }
     {
         let MachineHandle { ptr, alloc } = self;
-        PartsOfBox {
+        BoxParts {
             ptr: ptr as *mut DirectSlots,
             alloc,
         }
@@ -85,10 +85,10 @@ unsafe impl Send for MachinePlace {}
 
 impl MachinePlace {
     // Returns a place with the machine of these parts.
-    fn of_parts(parts: PartsOfBox<DirectSlots, Global>) -> MachinePlace
+    fn of_parts(parts: BoxParts<DirectSlots, Global>) -> MachinePlace
         ensures { result.slots ≡ Some parts.value }
     {
-        let PartsOfBox { ptr, alloc } = parts;
+        let BoxParts { ptr, alloc } = parts;
         MachinePlace {
             ptr: ptr as *mut OpaqueMachine,
             alloc,
@@ -99,6 +99,6 @@ impl MachinePlace {
     pub fn of(machine: Box<DirectSlots, Global>) -> MachinePlace
         ensures { result.slots ≡ Some machine.value }
     {
-        MachinePlace::of_parts(PartsOfBox::of(machine))
+        MachinePlace::of_parts(BoxParts::of(machine))
     }
 }

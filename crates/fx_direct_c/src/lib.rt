@@ -6,4 +6,3 @@ mod answers;
 mod codes;
 mod exports;
 mod handle;
-mod parts;

@@ -9,7 +9,7 @@ use Rattle.std_heap.proofs.Global.TheLaws as heap
 use Rattle.fx_server.specs.contracts.worker.TableWorker as TableWorker
 use Rattle.fx_server.proofs.worker.TableWorker.TheLaws as worker
 use Rattle.fx_server.specs.contracts.handle.Handle as Handle
-use Rattle.fx_server.specs.contracts.parts.BoxParts as Parts
+use Rattle.fx_box.specs.contracts.BoxParts as Parts
 
 abbrev pub E : Bx
 E = record { row = TableWorker.the_row; laws = worker.the_row_laws; al = record { row = Heap.the_row; laws = heap.the_row_laws; g = ghosts; d = dict; drops = impl [] tnil dnil } }

@@ -108,6 +108,11 @@ abbrev pub HasLabel : PassView → Hold → FoundFile → Type 0
 HasLabel v hold found = (f : File) → v.doing ≡ Holding f hold
     → (found.tag ≡ f.identity.tag) × (found.number ≡ number_of_mark f.identity.mark)
 
+-- this is the number of the file that the pass holds by this hold
+abbrev pub HasNumber : PassView → Hold → ℕ → Type 0
+HasNumber v hold number = (f : File) → v.doing ≡ Holding f hold
+    → number ≡ number_of_mark f.identity.mark
+
 -- the hold that a look-up returned is noted, and its file is returned
 abbrev pub Notes : PassView → Result Hold TableFault → Result FoundFile ServerRefusal → Option Held
     → Type 0

@@ -6,7 +6,7 @@ ghost use Rattle.fx_server.specs.Workers.{IsGood, its_pass};
 
 use crate::answers::{LookAnswer, PlaceAnswer, Placed, RemoveAnswer, ServerRefusal};
 use crate::shared::file_with;
-use crate::worker::{TableWorker, not_found, not_removed, note, retire, tag_of};
+use crate::worker::{TableWorker, not_found, not_removed, note_key, retire, tag_of};
 use fx_lasting::{
     Key, KeyFault, KeyLook, KeyPut, KeyRemoval, KeyReplacement, KeyTaken, PutByKey, PutOverKey,
     TakenByKey,
@@ -36,7 +36,7 @@ impl TableWorker {
         let freed = tag_of(freed);
         let released = tag_of(released);
         let found = match found {
-            Ok(hold) => note(table, &mut self.pass, &mut self.held, Ok(hold)),
+            Ok(hold) => Ok(note_key(table, &mut self.pass, &mut self.held, hold, number)),
             Err(fault) => Err(key_refusal(fault)),
         };
         LookAnswer {

@@ -3,8 +3,8 @@ ghost use Rattle.std.specs.Prelude.{◌≡◌, Option, Some};
 ghost use Rattle.fx_server.specs.declared.worker.TableWorker.{TableWorker};
 ghost use Rattle.fx_server.specs.Handle.{handle_owns, place_coded, place_owns, worker_coded};
 
-use crate::parts::BoxParts;
 use crate::worker::TableWorker;
+use fx_box::BoxParts;
 use std::alloc::Global;
 use std::marker::Model;
 

@@ -18,7 +18,6 @@ mod installing;
 pub mod laws;
 mod opening;
 pub mod outcomes;
-mod parts;
 mod placing;
 mod putting;
 mod seeing;

@@ -1,9 +1,9 @@
 //! A pass together with its table.
-ghost use Rattle.std.specs.Prelude.{◌≡◌, None, Err, IfOk, option_map};
+ghost use Rattle.std.specs.Prelude.{◌≡◌, None, Ok, Err, IfOk, option_map};
 ghost use Rattle.fx_table.specs.Pass.{IsHoldOf, IsRetiredOf};
 ghost use Rattle.fx_lasting.specs.Tables.{view_of, opening_of_table, IsPassOfTable};
-ghost use Rattle.fx_server.specs.Workers.{IsGood, LooksUp, Notes, ReleasesHeld, RemovesFrom};
-ghost use Rattle.fx_server.specs.Workers.{RetiresAs};
+ghost use Rattle.fx_server.specs.Workers.{HasNumber, IsGood, LooksUp, Notes, ReleasesHeld};
+ghost use Rattle.fx_server.specs.Workers.{RemovesFrom, RetiresAs};
 
 use crate::answers::{FoundFile, LookAnswer, Removal, RemoveAnswer, ServerRefusal};
 use crate::file_numbers::FileNumbers;
@@ -170,6 +170,29 @@ pub(crate) fn note(
             Err(ServerRefusal::Empty)
         }
     }
+}
+
+// Notes the hold that a look-up by key returned, and returns the file's tag, and its number, which
+// is the key's.
+#[inline(always)]
+pub(crate) fn note_key(
+    table: &LastingTable,
+    pass: &mut LastingPass,
+    held: &mut Option<Held>,
+    hold: Hold,
+    number: u64,
+) -> FoundFile
+    requires fits { IsPassOfTable table.now pass.old }
+    requires holds { IsHoldOf (view_of pass.old) hold }
+    requires number { HasNumber (view_of pass.old) hold number }
+    ensures fits { IsPassOfTable table.now pass.new }
+    ensures same { view_of pass.new ≡ view_of pass.old }
+    ensures notes { Notes (view_of pass.old) (Ok hold) (Ok result) held.new }
+{
+    let tag = table.tag_of(pass, &hold);
+    let Hold { node, entry } = hold;
+    *held = Some(Held { node, entry });
+    FoundFile { tag, number }
 }
 
 // Returns the result of a look-up that was refused.

@@ -1,22 +1,26 @@
-//! Removals by a key by one pass. No clause says which of them one pass makes, and which ones it
-//! leaves to two passes: those at a hot slot alone. Nor does a clause say that the file comes out
-//! at its retirement if nobody else uses it.
+//! Removals and replacements by a key by one pass. No clause says which of them one pass makes, and
+//! which ones it leaves to two passes: those at a hot slot alone. Nor does a clause say that the
+//! file comes out at its retirement if nobody else uses it.
 ghost use Rattle.std.specs.Prelude.{◌≡◌, All, length};
 ghost use Rattle.fx_table.specs.Pass.{IsIdle};
 ghost use Rattle.fx_lasting.specs.Tables.{IsPassOfTable, opening_of_table, view_of};
 
 use crate::setting::Host;
 use fx_base::{Mark, OpenFile};
-use fx_lasting::{Key, KeyFault, KeyRemoval, KeyTaken, LastingPass, LastingTable, TakenByKey};
+use fx_lasting::{
+    Key, KeyFault, KeyPut, KeyRemoval, KeyReplacement, KeyTaken, LastingPass, LastingTable,
+    PutByKey, PutOverKey, TakenByKey,
+};
 use fx_table::LookUp;
 
 // The takes after which the slot of a table with two passes is hot, and some more.
 const LOOKS: u32 = 40;
 
-// The result of a removal.
+// The result of a removal, or of a replacement.
 #[derive(Clone, Copy, Debug, PartialEq, Eq)]
 enum Outcome {
     Removed,
+    Replaced,
     Missed(KeyFault),
     Hot,
 }
@@ -46,8 +50,7 @@ fn put<H: Host>(rt: &H, table: &LastingTable, pass: &mut LastingPass, i: u32) ->
     ensures { IsPassOfTable table.now pass.new }
 {
     assert!(rt; table.is_idle(pass) && 0 < table.size() && 0 < table.numbers_left(pass));
-    let file = OpenFile::new(Mark::Registered { k: 1, i }, 0, 0);
-    let (key, replaced) = table.put_key(pass, 0, file);
+    let (key, replaced) = table.put_key(pass, 0, file_of(i));
     let None = replaced else {
         panic!(rt; "an empty slot")
     };
@@ -103,6 +106,75 @@ fn take_by_two<H: Host>(
     true
 }
 
+// The file that these numbers name.
+fn file_of(i: u32) -> OpenFile {
+    OpenFile::new(Mark::Registered { k: 1, i }, 0, 0)
+}
+
+// Replaces the file of a key by one pass. The old file comes out at its retirement.
+fn replace<H: Host>(
+    rt: &H,
+    table: &LastingTable,
+    pass: &mut LastingPass,
+    key: Key,
+    i: u32,
+) -> Outcome
+    requires { IsPassOfTable table.now pass.old }
+    ensures { IsPassOfTable table.now pass.new }
+{
+    assert!(rt; table.is_idle(pass) && 0 < table.numbers_left(pass));
+    let KeyReplacement { put, released } = table.put_key_alone(pass, key, file_of(i));
+    discard(released);
+    match put {
+        PutByKey::Replaced(retired) => {
+            table.retire(pass, retired).expect(rt, "the file").discard();
+            Outcome::Replaced
+        }
+        PutByKey::Missed(fault, file) => {
+            file.discard();
+            Outcome::Missed(fault)
+        }
+        PutByKey::Hot(file) => {
+            file.discard();
+            Outcome::Hot
+        }
+    }
+}
+
+// Replaces the file of a key by two passes.
+fn replace_by_two<H: Host>(
+    rt: &H,
+    table: &LastingTable,
+    holder: &mut LastingPass,
+    pass: &mut LastingPass,
+    key: Key,
+    i: u32,
+) -> bool
+    requires holder { IsPassOfTable table.now holder.old }
+    requires pass { IsPassOfTable table.now pass.old }
+    ensures holder { IsPassOfTable table.now holder.new }
+    ensures pass { IsPassOfTable table.now pass.new }
+{
+    assert!(rt; table.is_idle(holder) && table.is_idle(pass) && 0 < table.numbers_left(pass));
+    let KeyPut {
+        put,
+        freed,
+        released,
+    } = table.put_over_key(holder, pass, key, file_of(i));
+    discard(freed);
+    discard(released);
+    match put {
+        PutOverKey::Replaced(retired) => {
+            discard(table.retire(pass, retired));
+            true
+        }
+        PutOverKey::Missed(_, file) => {
+            file.discard();
+            false
+        }
+    }
+}
+
 // Looks the slot up, and releases its file, so often that the slot is hot.
 fn heat<H: Host>(rt: &H, table: &LastingTable, pass: &mut LastingPass)
     requires { IsPassOfTable table.now pass.old }
@@ -143,7 +215,35 @@ fn remove_some<H: Host>(
     assert!(rt; table.is_idle(reader) && table.is_idle(pass));
 }
 
-// Removes files by the two passes of a list.
+// Replaces files by their keys, one after another, of which two are at a hot slot.
+fn replace_some<H: Host>(
+    rt: &H,
+    table: &LastingTable,
+    reader: &mut LastingPass,
+    pass: &mut LastingPass,
+)
+    requires reader { IsPassOfTable table.now reader.old × IsIdle (view_of reader.old) }
+    requires pass { IsPassOfTable table.now pass.old × IsIdle (view_of pass.old) }
+    ensures reader { IsPassOfTable table.now reader.new × IsIdle (view_of reader.new) }
+    ensures pass { IsPassOfTable table.now pass.new × IsIdle (view_of pass.new) }
+{
+    let first = put(rt, table, pass, 4);
+    let second = Key::new(0, Mark::Registered { k: 1, i: 5 });
+    let third = Key::new(0, Mark::Registered { k: 1, i: 6 });
+    assert!(rt; replace(rt, table, pass, second, 5) == Outcome::Missed(KeyFault::Other));
+    assert!(rt; replace(rt, table, pass, first, 5) == Outcome::Replaced);
+    assert!(rt; replace(rt, table, pass, first, 6) == Outcome::Missed(KeyFault::Other));
+    heat(rt, table, reader);
+    assert!(rt; replace(rt, table, pass, second, 6) == Outcome::Hot);
+    assert!(rt; replace_by_two(rt, table, reader, pass, second, 6));
+    assert!(rt; replace(rt, table, pass, third, 7) == Outcome::Replaced);
+    let last = Key::new(0, Mark::Registered { k: 1, i: 7 });
+    assert!(rt; take(rt, table, pass, last) == Outcome::Removed);
+    assert!(rt; replace(rt, table, pass, last, 8) == Outcome::Missed(KeyFault::Empty));
+    assert!(rt; table.is_idle(reader) && table.is_idle(pass));
+}
+
+// Removes and replaces files by the two passes of a list.
 fn remove_between<H: Host>(rt: &H, table: &LastingTable, passes: &mut Vec<LastingPass>)
     requires two { length passes.old.items ≡ 2 }
     requires ready { All (λ p. IsPassOfTable table.now p × IsIdle (view_of p)) passes.old.items }
@@ -153,13 +253,14 @@ fn remove_between<H: Host>(rt: &H, table: &LastingTable, passes: &mut Vec<Lastin
     let mut reader = passes.pop().unwrap();
     let mut pass = passes.pop().unwrap();
     remove_some(rt, table, &mut reader, &mut pass);
+    replace_some(rt, table, &mut reader, &mut pass);
     passes.push_reserved(pass);
     passes.push_reserved(reader);
 }
 
-// A cold slot is emptied by one pass, and a hot one is left to two.
+// At a cold slot a file is removed and replaced by one pass, and a hot one is left to two.
 #[test]
-fn removals_by_one_pass(rt: HostRuntime) {
+fn changes_by_one_pass(rt: HostRuntime) {
     let (table, mut passes) = open_empty(&rt);
     remove_between(&rt, &table, &mut passes);
     let size = table.size() as usize;

@@ -160,10 +160,8 @@ impl LastingTable {
             }
             Taken::Other(node) => {
                 let (file, released) = self.unplace(&mut pass.seat, own, node);
-                return KeyReplacement {
-                    put: PutByKey::Missed(KeyFault::Other, file),
-                    released,
-                };
+                let put = PutByKey::Missed(KeyFault::Other, file);
+                return KeyReplacement { put, released };
             }
         };
         match self.try_renewal(&mut pass.seat, key.slot, node, own, lost, identity) {
@@ -178,10 +176,8 @@ impl LastingTable {
             }
             Err(miss) => {
                 let (file, released) = self.unplace(&mut pass.seat, own, node);
-                KeyReplacement {
-                    put: PutByKey::Missed(fault_of(miss), file),
-                    released,
-                }
+                let put = PutByKey::Missed(fault_of(miss), file);
+                KeyReplacement { put, released }
             }
         }
     }

@@ -1,31 +1,12 @@
 -- `as_mut` lends the worker at the pointer, and the handle follows it.
-use Rattle.std.proofs.Common.{◌≡◌, ℕ, List, [], ◌∷◌, refl, sym, ap, ◌∙◌}
-use Rattle.std.proofs.raw_atomic.Walks.{proved}
-use Rattle.std.proofs.VecSteps.Shapes.{after}
-use seplogic.Ra.Ura.{Ura}
-use base.Fraction.{full_share}
-use base.Logic.{ent, sep, never, fst∗}
-use base.Fml.{GName, Fml, ftrue, fsep, flft}
-use mir.Syntax.{named}
-use mir.Val.{Val, vptr}
+use Rattle.fx_box.proofs.Walking.{◌≡◌, ℕ, List, [], ◌∷◌, refl, sym, ap, ◌∙◌, proved, after, Ura, full_share, ent, sep, never, fst∗, GName, Fml, ftrue}
+use Rattle.fx_box.proofs.Walking.{fsep, flft, named, Val, vptr, tables, Logic, sem, ‵, raw, ◌⊛◌, some, later, at_ret, ◌$◌, ◌∵◌, !, qed, done, move}
+use Rattle.fx_box.proofs.Walking.{keep, use1, split, split3, join, fsplit, fsplit3, fjoin, fjoin3, fpack, pick, await, rewrite, suffices, frame}
+use Rattle.fx_box.proofs.Walking.{group, enter, of_opd, load, addr, stop, fld, first, blocks, exec, returns, alloc_all, pass_all, free_all, look_at}
+use Rattle.fx_box.proofs.Walking.{get, through, sets, sets_last, env, whole, sub, look_in, no, follows, Part, lends_Part, shows, cell_at, lone, mem}
+use Rattle.fx_box.proofs.Walking.{part_at, part_of, Ptr, block_ptr, in_a_block, null_ptr, MutRef, mut_vals, mut_Tells, plain, mut_ref_to, nothing}
+use Rattle.fx_box.proofs.Walking.{opens, peeks, shape, to, Struct, Stays, walk_of, says, stay_dropped, Goes-spent_ref, ends_at}
 use mir.Raw.{raw as bare}
-use contract.Running.{tables}
-use types.Logic.{Logic, sem}
-use types.Kit.{‵, raw, ◌⊛◌, some, later, at_ret, ◌$◌, ◌∵◌, !, qed, done, move, keep, use1, split, split3, join, fsplit, fsplit3, fjoin, fjoin3, fpack, pick, await, rewrite, suffices, frame, group}
-use types.Run.{enter, of_opd, load, addr, stop, fld, first, blocks, exec, returns}
-use types.ByLocal.{alloc_all, pass_all, free_all, look_at, get, through, sets, sets_last, env}
-use types.Part.{whole, sub, look_in}
-use denote.Exit.{no}
-use denote.Follow.{follows, Part, lends_Part}
-use denote.Laws.{shows}
-use denote.Memory.{cell_at, lone, mem, part_at, part_of}
-use denote.RawPtr.{Ptr, block_ptr, in_a_block, null_ptr}
-use denote.Ref.{MutRef, mut_vals, mut_Tells}
-use denote.Signature.{plain, mut_ref_to}
-use denote.Steps.{nothing, opens, peeks}
-use denote.Struct.Owning.{shape, to}
-use denote.Struct.Struct.{Struct}
-use denote.Triple.Walked.{Stays, walk_of, says, stay_dropped, Goes-spent_ref, ends_at}
 use Rattle.fx_server.specs.Handle.{handle_owns, may_free}
 use Rattle.fx_server.specs.Lending.{with_worker}
 use Rattle.fx_server.specs.contracts.handle.Handle.{the_row as R, the_type}

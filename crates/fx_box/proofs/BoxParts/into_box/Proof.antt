@@ -1,48 +1,26 @@
 -- `into_box` hands what the parts own to `from_raw`.
-use mathlib.Core.Path.{◌≡◌, refl, sym, subst, ap}
-use mathlib.Core.List.{List, [], ◌∷◌, ◌++◌}
+use Rattle.fx_box.proofs.Walking.{◌≡◌, refl, sym, subst, ap, List, [], ◌∷◌, ◌++◌, Ura, Fn, inst_fn, Val, vptr, SProp, ent, id⊢, ftrue, fsep, flft}
+use Rattle.fx_box.proofs.Walking.{◌⊑◌, Memory, Routine, WpFn, Tables, Logic, Fun, fact, tables, tables_of, fm_of, WpFn-mono, Item, at_ret, ‵, raw}
+use Rattle.fx_box.proofs.Walking.{◌⊛◌, some, later, ◌$◌, ◌∵◌, !, qed, by, move, drop, use1, join, split, split3, pick, rewrite, fsplit, fjoin}
+use Rattle.fx_box.proofs.Walking.{suffices, await, done, whole, sub, stop, fld, no_more, and_then, of_opd, returns, enter, first, blocks, exec}
+use Rattle.fx_box.proofs.Walking.{alloc_all, pass_all, free_all, look_at, get, get_in, sets, env, RattleType, no, block_ptr, plain, heard, nothing}
+use Rattle.fx_box.proofs.Walking.{only, Ended, Clauses, triple_of, Triple, Contract, entered, says, Stays, stay_dropped, walk_of, ends_at, walk_Meets}
+use Rattle.fx_box.proofs.Walking.{token, Goes-blank, box_owns, Bx, D, R, P, B, word, box_typed, box_out, box_in}
 use lib.Dec.{T}
-use seplogic.Ra.Ura.{Ura}
-use mir.Syntax.{Fn, Body, place, copy, assign, rv_opd, seq, return}
-use mir.MapTy.{inst_fn}
-use mir.Val.{Val, vptr, has_ty, WT}
-use base.Logic.{SProp, ent, id⊢}
-use base.Fml.{ftrue, fsep, flft}
-use contract.BorrowLft.{◌⊑◌}
-use prog.Memory.{Memory}
-use prog.Routine.{Routine}
-use prog.Wp.{WpFn, Tables}
-use types.Logic.{Logic}
-use contract.Monad.{Fun, fact}
-use contract.Running.{tables, tables_of}
-use sound.WpLaws.{fm_of, WpFn-mono}
-use types.Kit.{Item, at_ret, ‵, raw, ◌⊛◌, some, later, ◌$◌, ◌∵◌, !, qed, by, move, drop, use1, join, split, split3, pick, rewrite, fsplit, fjoin, feq_i, suffices, await, done}
-use types.Part.{whole, sub}
-use types.Run.{stop, fld, no_more, and_then, of_opd, returns, enter, first, blocks, exec}
-use types.ByLocal.{alloc_all, pass_all, free_all, look_at, get, get_in, sets, lands_last, env}
-use denote.RattleType.{RattleType}
-use denote.Exit.{no}
-use denote.RawPtr.{block_ptr}
-use denote.Signature.{plain}
-use denote.Steps.{heard, nothing, only}
+use mir.Syntax.{Body, place, copy, assign, rv_opd, seq, return}
+use mir.Val.{has_ty, WT}
+use types.Kit.{feq_i}
+use types.ByLocal.{lands_last}
 use denote.Triple.Call.{calls_at_last}
-use denote.Triple.Clauses.{Ended, Clauses}
-use denote.Triple.Spec.{triple_of}
-use denote.Triple.Statement.{Triple, Contract}
-use denote.Triple.Table.{entered}
-use denote.Triple.Walked.{says, Stays, stay_dropped, walk_of, ends_at, walk_Meets}
-use Rattle.core.proofs.alloc.Calls.{token, Goes-blank}
-use Rattle.std_alloc.specs.Box.Ownership.{box_owns}
-use Rattle.std_alloc.proofs.BoxSteps.Form.{Bx, D, R, P, B, args, box_ty, word, box_typed}
-use Rattle.std_alloc.proofs.BoxSteps.Steps.{box_out, box_in}
-use Rattle.fx_direct_c.specs.contracts.parts.PartsOfBox as parts
+use Rattle.std_alloc.proofs.BoxSteps.Form.{args, box_ty}
+use Rattle.fx_box.specs.contracts.BoxParts as parts
 use Rattle.std_alloc.specs.contracts.boxed.Box.from_raw as Fr
 use Rattle.std_alloc.proofs.boxed.Box.from_raw.Symbol as raw_sym
 use Rattle.std_alloc.proofs.boxed.Box.from_raw.Met as raw_met
-use Rattle.fx_direct_c.specs.contracts.parts.PartsOfBox.into_box as F
-use Rattle.fx_direct_c.specs.contracts.parts.PartsOfBox.into_box.Key.{name as #self}
-use Rattle.fx_direct_c.proofs.parts.PartsOfBox.into_box.Statement as stated
-use Rattle.fx_direct_c.proofs.parts.PartsOfBox.into_box.Code as code
+use Rattle.fx_box.specs.contracts.BoxParts.into_box as F
+use Rattle.fx_box.specs.contracts.BoxParts.into_box.Key.{name as #self}
+use Rattle.fx_box.proofs.BoxParts.into_box.Statement as stated
+use Rattle.fx_box.proofs.BoxParts.into_box.Code as code
 
 abbrev rest : Body
 rest = seq (assign (place 0 []) (rv_opd (copy (place 4 [])))) return

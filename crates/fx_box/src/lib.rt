@@ -1,4 +1,6 @@
-//! A box with its pointer and its allocator in sight.
+//! A box with its pointer and its allocator in sight, for handles of C.
+#![tactic(auto)]
+
 ghost use Rattle.std.specs.Prelude.{◌≡◌};
 ghost use Rattle.std.specs.Box.Ownership.{box_owns};
 
