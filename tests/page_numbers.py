@@ -20,6 +20,7 @@ import re
 import statistics
 
 from bench.ratios import read_kept, title
+from scripts import crate_times
 from scripts.repository import ROOT, files_of, read
 
 ROWS = "tests/numbers.txt"
@@ -156,7 +157,7 @@ def python():
 
 def liburing():
     """Returns the least version of liburing."""
-    return found("kernel/play-on-kernel", r"liburing (\S+) or later")
+    return found("kernel/built.bash", r"liburing (\S+) or later")
 
 
 def linux(parts):
@@ -216,7 +217,7 @@ def found(path, pattern):
 
 
 def number(path, pattern):
-    return int(found(path, pattern))
+    return int(found(path, pattern).replace(",", ""))
 
 
 def on_four_threads(pattern):
@@ -224,11 +225,6 @@ def on_four_threads(pattern):
     rows = [re.split(r" {2,}", it.strip()) for it in read("docs/use/SPEED.md").splitlines()]
     numbers = sorted((it[3] for it in rows if len(it) == 4 and re.match(pattern, it[0])), key=float)
     return " to ".join([numbers[0], *numbers[1:][-1:]])
-
-
-def tails(pattern, word):
-    """Returns the microseconds after a word in the rows of bench/tails.txt that a pattern begins, in their order."""
-    return sorted(int(it) / 1000 for it in re.findall(rf"^tails: {pattern}.*? {word} (\d+)", read("bench/tails.txt"), re.MULTILINE))
 
 
 @functools.cache
@@ -275,8 +271,8 @@ def calls(name, *tables):
 
 
 def busy(table, names, word):
-    """Returns the least and the greatest microseconds after a word of calls of a table in bench/busy_tails.txt, in the three runs' medians."""
-    those = sorted(of_runs("bench/busy_tails.txt", f"{table}, {writing} writing: {name}", word) / 1000 for writing in (1, 58) for name in names.split(", "))
+    """Returns the least and the greatest microseconds after a word of calls of a table in bench/tails.txt, in the three runs' medians."""
+    those = sorted(of_runs("bench/tails.txt", f"{table}, {writing} writing: {name}", word) / 1000 for writing in (1, 58) for name in names.split(", "))
     return those[0], those[-1]
 
 
@@ -285,10 +281,37 @@ def of_runs(path, name, word):
     return statistics.median(map(int, found(path, rf"^\w+: {name}: .*?\b{word} ([\d ]+)").split()))
 
 
-def measured(path, pattern):
-    """Returns the number of a kept log that a pattern finds, with one decimal, or the least and the greatest of several."""
-    numbers = sorted(map(float, re.findall(pattern, read(path))))
-    return " to ".join(f"{it:.1f}" for it in [numbers[0], *numbers[1:][-1:]])
+def measured(path, pattern, decimals=1):
+    """Returns the number of a kept log that a pattern finds, rounded, or the least and the greatest of several."""
+    numbers = sorted(float(it.replace(",", "")) for it in re.findall(pattern, read(path), re.MULTILINE))
+    if not numbers:
+        raise ValueError(f"{path} has nothing of {pattern}")
+    return " to ".join(dict.fromkeys(f"{round(it, decimals):,.{max(decimals, 0)}f}" for it in [numbers[0], numbers[-1]]))
+
+
+def judged(name):
+    """Returns what bench/fixcheck.txt has of texts as they were played, and of spoiled ones: the undecided ones, the longest run, the most
+    memory."""
+    rows = [found("bench/fixcheck.txt", rf"^{re.escape(name)}, {it}: (.*)$").split("; ") for it in ("played", "spoiled")]
+    counts = [[int(it) for it in re.findall(r"\d+", verdicts)] for verdicts, _ in rows]
+    return " ".join(f"{those[-1]} of {sum(those)} {float(most.split(' s')[0]):.1f} s{most.split(' s')[1]}" for those, (_, most) in zip(counts, rows))
+
+
+def stale(calls):
+    """Returns the wrong logs of this many calls in bench/recording.txt, of tables whose looks are stale more and more seldom."""
+    return " | ".join(re.findall(rf"^stale .*: (\d+) of \d+ not legal; {calls} calls", read("bench/recording.txt"), re.MULTILINE))
+
+
+def program(name):
+    """Returns the ratio of the instructions of a script in bench/program.txt."""
+    return found("bench/program.txt", rf"^bench: {re.escape(name)}: ([\d.]+) times the plain")
+
+
+def minutes(*roots):
+    """Returns the CPU minutes of scripts/seconds.txt that it takes to prove these crates and all that they depend on, or all crates."""
+    below = crate_times.crates()
+    those = {it for root in roots for it in crate_times.needed(root, below)} or below
+    return round(sum(sum(crate_times.measured().get(it, (crate_times.UNMEASURED, 0))) for it in those) / 60)
 
 
 def whole(path, pattern):
@@ -296,8 +319,8 @@ def whole(path, pattern):
     return round(float(found(path, pattern)))
 
 
-FUNCTIONS = (answer, bits, busy, calls, constant_of, counted, crate, date, entries, found, gate, lasting, liburing, line, lines, linux, measured, narrow, number, of_runs,
-             on_four_threads, python, ratio, round, span, status, tails, version, whole, width, width_of_slots)
+FUNCTIONS = (answer, bits, busy, calls, constant_of, counted, crate, date, entries, found, gate, judged, lasting, liburing, line, lines, linux, measured, minutes, narrow,
+             number, of_runs, on_four_threads, program, python, ratio, round, span, stale, status, version, whole, width, width_of_slots)
 SOURCES = Sources({it.__name__: it for it in FUNCTIONS})
 
 

@@ -1,7 +1,7 @@
 """Tests what judges an answer with wrong ones: a history with a line left out or changed, an order with steps of a chain left out or
-exchanged, an order of another text, the outcome of a failing allocation, the allocations between two marks, a false verdict, one that names
-another command or line, and one that names a line too many or too few of a conflict. Each function yields the answers of its kind,
-and whether each is judged as it should. tests/check-checks checks the numbers."""
+exchanged, an order of another text, the outcome of a failing allocation, a false verdict, one that names another command or line, and one
+that names a line too many or too few of a conflict. Each function yields the answers of its kind, and whether each is judged as it should.
+tests/check-checks checks the numbers."""
 import os
 import re
 
@@ -42,7 +42,6 @@ def kinds(fixcheck):
     yield "orders of another text", 98, other_orders()
     yield "lines that aren't an order", 21, no_orders()
     yield "outcomes of a failing allocation", 15, outcomes()
-    yield "allocations between marks", 6, allocations()
     yield "verdicts", 12, verdicts()
     yield "names in verdicts", 9, names_told()
     yield "lines that have no order", 84, unordered(fixcheck)
@@ -133,15 +132,6 @@ def outcomes():
     ]
     for status, text, message, may_be in rows:
         yield f"status {status} with {text!r}", (those.kind(status, text, message) is not None) == may_be
-
-
-def allocations():
-    """Allocations between two marks: one too many, one too few, and where there may be any."""
-    marks = [["0", "a"], ["1", "b"], ["-", "c"], ["0", "d"], ["0", "e"]]
-    rows = [([9, 9, 8, 3, 3], 0), ([9, 8, 7, 3, 3], 1), ([9, 9, 9, 3, 3], 1), ([9, 9, 8, 8, 8], 0), ([9, 9, 8, 3, 2], 1), ([9, 8, 8, 3, 1], 3)]
-    wrong_of = module("tests/check-allocations").wrong_counts
-    for before, wrong in rows:
-        yield f"allocations {before}", len(wrong_of(marks, before)) == wrong
 
 
 def verdicts():
