@@ -23,8 +23,8 @@
  *   the calls: by a lock, by starting or joining a thread, or by a sequentially consistent atomic
  *   operation. The same holds of yacht_open before all other calls of a table, and of yacht_free
  *   after them.
- * - A value is installed once: it is neither in a table nor held when it is passed to yacht_insert,
- *   yacht_try_insert or yacht_replace_at.
+ * - A value is installed once: it is neither in a table nor held when it is passed to a call that
+ *   installs it, or returned to yacht_insert_with.
  * - The drop function returns: it throws no C++ exception, makes no longjmp and doesn't end its
  *   thread. It doesn't use the handle in whose call it runs. It waits for no lock that a thread may
  *   hold around a call of this header.

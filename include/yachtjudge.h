@@ -35,7 +35,8 @@ const char *yacht_judge_version(void);
 /* What the functions return. */
 enum {
     YACHT_LEGAL = 0,       /* a judge: the script may print the text, or the log has a flight */
-    YACHT_NOT_LEGAL = 1,   /* a judge: the script doesn't print the text, or the log has no flight */
+    YACHT_NOT_LEGAL = 1,   /* a judge: the script doesn't print the text, or the log has no flight
+                            * in which each request finds memory */
     YACHT_UNDECIDED = 2,   /* a judge: neither was shown within the limits; or no reason is found */
     YACHT_BAD_SCRIPT = 3,  /* all: the bytes are not a script */
     YACHT_JUDGE_NO_MEMORY = 4, /* all: an allocation failed */
@@ -274,8 +275,9 @@ typedef struct yacht_reason {
 /* Looks for the reason why a log of calls in flight has no flight up to and with the event at a
  * position, such as the one that yacht_judge_events writes. The first steps of the reason are
  * written to `steps`, at most steps_length. Each follows from the log and from steps before it.
- * Returns YACHT_NOT_LEGAL if it finds a reason, YACHT_UNDECIDED if it finds none or no event has
- * this position, YACHT_BAD_SCRIPT, YACHT_JUDGE_NO_MEMORY, YACHT_MALFORMED or YACHT_TOO_MANY_SLOTS,
+ * Returns YACHT_NOT_LEGAL if it finds a reason: then there is no such flight in which each request
+ * finds memory. Returns YACHT_UNDECIDED if it finds none or no event has this position,
+ * YACHT_BAD_SCRIPT, YACHT_JUDGE_NO_MEMORY, YACHT_MALFORMED or YACHT_TOO_MANY_SLOTS,
  * and writes *reason. */
 uint32_t yacht_explain_events(const uint8_t *script, size_t script_length, uint32_t slots,
                               const yacht_request *requests, size_t requests_length,

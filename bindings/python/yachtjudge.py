@@ -69,9 +69,10 @@ class NoMemory(MemoryError):
 class Verdict:
     """A verdict: `word` is 'legal', 'not legal' or 'undecided'. It is true if it is 'legal'.
 
-    Of a text that is not legal, `commands` is the number of commands that may have printed its first `at` bytes; no play prints a beginning
-    of the text with one command more. `expected` is advice: the likeliest text there, or a line in words, or the reason if no order of a
-    submission's requests explains its lines. Of an undecided text, `submission` was not decided within the limits, counted from 1."""
+    Of a text that is not legal, `commands` is the number of commands that may have printed its first `at` bytes; no play prints a
+    beginning of the text with one command more, unless a `closed` or `tag` line follows it. `expected` is advice: the likeliest text
+    there, or a line in words, or the reason if no order of a submission's requests explains its lines. Of an undecided text, `submission`
+    was not decided within the limits, counted from 1."""
 
     word: Literal["legal", "not legal", "undecided"]
     commands: int = 0

@@ -3,8 +3,8 @@
 //! it.
 //!
 //! To record a table of your own, implement [`Table`] and [`Handle`] for it: four calls.
-//! `src/tables.rs` has a table of std in 60 lines, and `examples/sharded_slab` one that chooses
-//! its slots by itself. Without its default feature `yachtbanyan` this crate needs no library.
+//! `src/tables.rs` has a table of std, and `examples/sharded_slab` one that chooses its slots by
+//! itself. Without its default feature `yachtbanyan` this crate needs no library.
 //!
 //! A ticket of one shared counter orders the lines of all threads. A call's ticket is taken before
 //! it begins, and its answer's after it returned, so a call whose answer is before another call in

@@ -82,6 +82,26 @@ impl<'r, T> Guard<'r, T> {
         Key::new(self.slot, self.number)
     }
 
+    /// Returns the same guard, part by part: the compiler can keep those in registers.
+    #[inline(always)]
+    pub(super) fn moved(self) -> Guard<'r, T> {
+        let guard = ManuallyDrop::new(self);
+        let Guard {
+            value,
+            number,
+            reader,
+            place,
+            slot,
+        } = *guard;
+        Guard {
+            value,
+            number,
+            reader,
+            place,
+            slot,
+        }
+    }
+
     /// Ends the hold, and gives its seat back. Returns the value if this closed it.
     #[inline]
     pub(super) fn end(self) -> Option<Box<T>> {

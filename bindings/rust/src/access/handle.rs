@@ -150,9 +150,9 @@ impl<T> Handle<T> {
     /// thread.
     ///
     /// # Errors
-    /// `Full` with the value if at one moment during the call every slot had a value, `Again` with
-    /// the value if no slot was free when it was looked at, and others were filling or emptying
-    /// slots.
+    /// With the value: `Full` if at one moment during the call every slot had a value; `Again` if
+    /// no slot was free when it was looked at, and others were filling or emptying slots; `Making`
+    /// within the function of an [`insert_with`](Handle::insert_with) of this handle.
     ///
     /// ```
     /// use yachtbanyan::{Reason, Table};

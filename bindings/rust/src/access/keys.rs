@@ -32,7 +32,7 @@ fn of_guard<T>(removed: Removed<T>, last: Option<Box<T>>) -> Result<Old<T>, Remo
             other.map(|old| old.map(|it| *it))
         }
     };
-    drop_unused(Some(unused));
+    drop_unused(unused);
     Ok(old?)
 }
 
@@ -142,6 +142,7 @@ impl<T> Handle<T> {
     /// assert_eq!(*handle.get(second)?, "second");
     /// # Ok::<(), Box<dyn std::error::Error>>(())
     /// ```
+    #[inline]
     pub fn replace(&self, key: Key, value: T) -> Result<(Key, Old<T>), Refused<T>> {
         let ((values, core), value) = (self.parts(), self.store(value));
         // SAFETY: the seat is this handle's (one user), and holds nothing between two calls.
@@ -150,7 +151,7 @@ impl<T> Handle<T> {
             Ok((fresh, old)) => Ok((fresh, old.map(|it| storage::take(&self.spare, it)))),
             Err((value, error)) => Err(self.refuse(value, error.into())),
         };
-        drop_unused(Some(unused));
+        drop_unused(unused);
         replaced
     }
 
@@ -180,7 +181,7 @@ impl<T> Handle<T> {
         // SAFETY: the seat is this handle's (one user), and holds nothing between two calls.
         let (old, unused) = unsafe { values.remove(core, key) };
         let old = old.map(|old| old.map(|it| storage::take(&self.spare, it)));
-        drop_unused(Some(unused));
+        drop_unused(unused);
         Ok(old?)
     }
 }

@@ -1,8 +1,9 @@
 //! Readers.
+use super::core::{self, Outcome};
 use super::guard::Guard;
 use super::seats::{Installer, Place};
 use super::table::Table;
-use super::values::{drop_unused, Looked, Wanted};
+use super::values::{add_unused, drop_unused, frees, At, Held, Wanted};
 use crate::errors::{GetError, NoSeat};
 use crate::iter::Iter;
 use crate::key::Key;
@@ -96,7 +97,7 @@ impl<T> Reader<T> {
     /// ```
     #[inline]
     pub fn get_at(&self, slot: u32) -> Result<Guard<'_, T>, GetError> {
-        self.find(Wanted::At(slot))
+        self.find(At(slot))
     }
 
     /// Returns a guard of the value with this key. It is a look-up, as [`Reader::get_at`].
@@ -116,54 +117,58 @@ impl<T> Reader<T> {
     /// ```
     #[inline]
     pub fn get(&self, key: Key) -> Result<Guard<'_, T>, GetError> {
-        self.find(Wanted::With(key))
+        self.find(key)
     }
 
+    // Makes the guard of a look-up that finds a value and frees none. All else is done by
+    // `find_by_another` and `finish`. They aren't inlined, and a guard of theirs is moved, so that
+    // this one stays in registers.
     #[inline(always)]
-    fn find(&self, wanted: Wanted) -> Result<Guard<'_, T>, GetError> {
+    fn find(&self, wanted: impl Wanted) -> Result<Guard<'_, T>, GetError> {
         if self.is_busy.get() {
-            return self.find_by_another(wanted);
+            return Ok(self.find_by_another(wanted)?.moved());
         }
-        let values = self.table.values();
+        let (values, mut out) = (self.table.values(), Outcome::default());
         // SAFETY: the seat is this reader's (one user), and no guard uses it.
-        let looked = unsafe { values.look(self.own.core, wanted) };
-        match looked {
-            Looked {
-                found: Ok(held),
-                unused: None,
-            } => {
-                self.is_busy.set(true);
-                Ok(Guard::new(self, held, self.own, wanted.slot()))
-            }
-            other => self.finish(self.own, wanted.slot(), other),
+        let answer = unsafe { values.look(self.own.core, wanted, &mut out) };
+        if answer != core::DONE || frees(&out) {
+            return Ok(self.finish(self.own, wanted.slot(), answer, &out)?.moved());
         }
+        self.is_busy.set(true);
+        Ok(Guard::new(self, Held::of(&out), self.own, wanted.slot()))
     }
 
-    // Looks up by a seat of the table. This and `finish` aren't inlined, so that a look-up that
-    // needs neither is small enough to be inlined.
+    // Looks up by a seat of the table.
     #[inline(never)]
-    fn find_by_another(&self, wanted: Wanted) -> Result<Guard<'_, T>, GetError> {
-        let values = self.table.values();
+    fn find_by_another(&self, wanted: impl Wanted) -> Result<Guard<'_, T>, GetError> {
+        let (values, mut out) = (self.table.values(), Outcome::default());
         let place = values.seats.claim_guard().map_err(GetError::NoSeat)?;
         // SAFETY: the seat is this call's (one user).
-        let looked = unsafe { values.look(place.core, wanted) };
-        self.finish(place, wanted.slot(), looked)
+        let answer = unsafe { values.look(place.core, wanted, &mut out) };
+        self.finish(place, wanted.slot(), answer, &out)
     }
 
-    // Turns the result of a look-up into a guard, which has the look-up's seat, or into an error.
+    // Turns the answer and the outcome of a look-up into a guard, which has the look-up's seat, or
+    // into an error. Drops what the look-up was the last to use.
     #[inline(never)]
-    fn finish(&self, place: Place, slot: u32, looked: Looked<T>) -> Result<Guard<'_, T>, GetError> {
-        let guard = match looked.found {
-            Err(answer) => {
-                self.end(place.number);
-                Err(self.table.values().get_error(answer, slot))
-            }
-            Ok(held) => {
-                self.note(place.number);
-                Ok(Guard::new(self, held, place, slot))
-            }
+    fn finish(
+        &self,
+        place: Place,
+        slot: u32,
+        answer: i64,
+        out: &Outcome,
+    ) -> Result<Guard<'_, T>, GetError> {
+        let mut unused = Vec::new();
+        // SAFETY: the core closed these files in the look-up (`found`).
+        unsafe { add_unused::<T>(&mut unused, out) };
+        let guard = if answer == core::DONE {
+            self.note(place.number);
+            Ok(Guard::new(self, Held::of(out), place, slot))
+        } else {
+            self.end(place.number);
+            Err(self.table.values().get_error(answer, slot))
         };
-        drop_unused(looked.unused);
+        drop_unused(unused);
         guard
     }
 

@@ -1,8 +1,9 @@
 //! The table.
+use super::core::{self, Outcome};
 use super::guard::OwnedGuard;
 use super::handle::Handle;
 use super::reader::Reader;
-use super::values::{drop_unused, Looked, Values, Wanted};
+use super::values::{add_unused, drop_unused, At, Held, Values, Wanted};
 use crate::errors::{GetError, NoSeat, OpenError, Reason, Refused, RemoveError};
 use crate::key::Key;
 use crate::old::Old;
@@ -138,20 +139,22 @@ impl<T> Table<T> {
     /// # Ok::<(), Box<dyn std::error::Error>>(())
     /// ```
     pub fn get_owned_at(&self, slot: u32) -> Result<OwnedGuard<T>, GetError> {
-        self.find_owned(Wanted::At(slot))
+        self.find_owned(At(slot))
     }
 
-    pub(super) fn find_owned(&self, wanted: Wanted) -> Result<OwnedGuard<T>, GetError> {
+    pub(super) fn find_owned(&self, wanted: impl Wanted) -> Result<OwnedGuard<T>, GetError> {
         let (seats, slot) = (&self.values.seats, wanted.slot());
         let place = seats.claim_guard().map_err(GetError::NoSeat)?;
+        let (mut out, mut unused) = (Outcome::default(), Vec::new());
         // SAFETY: the seat is this call's (one user).
-        let Looked { found, unused } = unsafe { self.values.look(place.core, wanted) };
-        let guard = match found {
-            Err(answer) => {
-                seats.give_back(place.number);
-                Err(self.values.get_error(answer, slot))
-            }
-            Ok(held) => Ok(OwnedGuard::new(self.clone(), held, place, slot)),
+        let answer = unsafe { self.values.look(place.core, wanted, &mut out) };
+        // SAFETY: the core closed these files in the look-up (`found`).
+        unsafe { add_unused::<T>(&mut unused, &out) };
+        let guard = if answer == core::DONE {
+            Ok(OwnedGuard::new(self.clone(), Held::of(&out), place, slot))
+        } else {
+            seats.give_back(place.number);
+            Err(self.values.get_error(answer, slot))
         };
         drop_unused(unused);
         guard
@@ -257,7 +260,7 @@ impl<T> Table<T> {
         // SAFETY: the seat is this call's (one user).
         let (sees, unused) = unsafe { self.values.sees(call.core(), slot) };
         drop(call);
-        drop_unused(Some(unused));
+        drop_unused(unused);
         Ok(sees)
     }
 }

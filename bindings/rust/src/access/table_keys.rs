@@ -2,7 +2,7 @@
 use super::guard::OwnedGuard;
 use super::keys::remove_by_call;
 use super::table::Table;
-use super::values::{drop_unused, Wanted};
+use super::values::drop_unused;
 use crate::errors::{GetError, Reason, Refused, RemoveError};
 use crate::key::Key;
 use crate::old::Old;
@@ -25,7 +25,7 @@ impl<T> Table<T> {
     /// # Ok::<(), Box<dyn std::error::Error>>(())
     /// ```
     pub fn get_owned(&self, key: Key) -> Result<OwnedGuard<T>, GetError> {
-        self.find_owned(Wanted::With(key))
+        self.find_owned(key)
     }
 
     /// Installs a value in place of the one with this key, by a seat for this call, as
@@ -60,7 +60,7 @@ impl<T> Table<T> {
             Ok((fresh, old)) => Ok((fresh, old.map(|it| *it))),
             Err((value, error)) => Err(Refused::new(*value, error.into())),
         };
-        drop_unused(Some(unused));
+        drop_unused(unused);
         replaced
     }
 
@@ -86,7 +86,7 @@ impl<T> Table<T> {
     pub fn remove(&self, key: Key) -> Result<Old<T>, RemoveError> {
         let (old, unused) = remove_by_call(self.values(), key)?;
         let old = old.map(|old| old.map(|it| *it));
-        drop_unused(Some(unused));
+        drop_unused(unused);
         Ok(old?)
     }
 }

@@ -26,32 +26,61 @@ pub(super) struct Held<T> {
     pub(super) number: Option<NonZeroU64>,
 }
 
-/// What a look-up looks for: the value at a slot, or the one with a key.
-#[derive(Clone, Copy)]
-pub(super) enum Wanted {
-    At(u32),
-    With(Key),
+impl<T> Held<T> {
+    /// Returns the value of the outcome of a look-up that found one. The tag and the number are
+    /// those of the file that the worker holds (`found`).
+    #[inline(always)]
+    pub(super) fn of(out: &Outcome) -> Held<T> {
+        Held {
+            value: out.tag as usize as *const T,
+            number: NonZeroU64::new(out.number),
+        }
+    }
 }
 
-impl Wanted {
-    #[inline]
-    pub(super) fn slot(self) -> u32 {
-        match self {
-            Wanted::At(slot) => slot,
-            Wanted::With(key) => key.slot(),
-        }
+/// What a look-up looks for: a slot's value, or the value with a key. It is passed in registers.
+pub(super) trait Wanted: Copy {
+    fn slot(self) -> u32;
+
+    /// Calls the core. Returns its answer.
+    ///
+    /// # Safety
+    /// As of `Values::look`. `out` may be written.
+    unsafe fn look(self, core: *mut Core, out: *mut Outcome) -> i64;
+}
+
+/// The value at a slot.
+#[derive(Clone, Copy)]
+pub(super) struct At(pub(super) u32);
+
+impl Wanted for At {
+    #[inline(always)]
+    fn slot(self) -> u32 {
+        self.0
+    }
+
+    #[inline(always)]
+    unsafe fn look(self, core: *mut Core, out: *mut Outcome) -> i64 {
+        // SAFETY: as the caller ensures.
+        unsafe { core::yacht_core_get_at(core, self.0, out) }
+    }
+}
+
+impl Wanted for Key {
+    #[inline(always)]
+    fn slot(self) -> u32 {
+        Key::slot(self)
+    }
+
+    #[inline(always)]
+    unsafe fn look(self, core: *mut Core, out: *mut Outcome) -> i64 {
+        // SAFETY: as the caller ensures.
+        unsafe { core::yacht_core_get(core, Key::slot(self), self.bits_of_number(), out) }
     }
 }
 
 /// Values that a call was the last to use, to be dropped at its end.
 pub(super) type Unused<T> = Vec<Box<T>>;
-
-/// The result of a look-up: the value that the seat holds now, or the core's number of the reason
-/// why there is none; and the values that this look-up was the last to use, if there are any.
-pub(super) struct Looked<T> {
-    pub(super) found: Result<Held<T>, i64>,
-    pub(super) unused: Option<Unused<T>>,
-}
 
 /// The reason why a round of an installation at any slot installed nothing.
 pub(super) enum Round {
@@ -76,14 +105,14 @@ pub(super) fn drop_last<T>(freed: Option<Box<T>>) {
 /// Drops the values that a call was the last to use. A call does this last, since a drop may panic:
 /// the others are dropped then, too.
 #[inline]
-pub(super) fn drop_unused<T>(unused: Option<Unused<T>>) {
+pub(super) fn drop_unused<T>(unused: Unused<T>) {
     #[cold]
     #[inline(never)]
     fn drop_all<T>(unused: Unused<T>) {
         drop(unused);
     }
 
-    if let Some(unused) = unused {
+    if !unused.is_empty() {
         drop_all(unused);
     }
 }
@@ -137,36 +166,25 @@ impl<T> Values<T> {
         Reason::Full { slots }
     }
 
-    /// Looks up a slot or a key. If it finds a value, the seat holds that value until `release`.
+    /// Looks up a slot or a key. Returns the core's answer. If it is `DONE`, the seat holds the
+    /// value of the outcome ([`Held::of`]) until `release`. The caller drops the values that the
+    /// look-up was the last to use (`add_unused`).
     ///
     /// # Safety
     /// The core's worker is of a seat that the caller has (one user). It holds nothing.
     #[inline(always)]
-    pub(super) unsafe fn look(&self, core: *mut Core, wanted: Wanted) -> Looked<T> {
-        let mut out = Outcome::default();
+    pub(super) unsafe fn look(
+        &self,
+        core: *mut Core,
+        wanted: impl Wanted,
+        out: &mut Outcome,
+    ) -> i64 {
         // SAFETY: no other call uses the core's worker meanwhile.
-        let answer = unsafe {
-            match wanted {
-                Wanted::At(slot) => core::yacht_core_get_at(core, slot, &mut out),
-                Wanted::With(key) => {
-                    let (slot, number) = (key.slot(), key.bits_of_number());
-                    core::yacht_core_get(core, slot, number, &mut out)
-                }
-            }
-        };
-        let found = if answer == core::DONE {
+        let answer = unsafe { wanted.look(core, out) };
+        if answer == core::DONE {
             order::acquire(out.tag);
-            // The tag and the number are those of the file that the worker holds (`found`).
-            Ok(Held {
-                value: out.tag as usize as *const T,
-                number: NonZeroU64::new(out.number),
-            })
-        } else {
-            Err(answer)
-        };
-        // SAFETY: the core closed these files in this call (`found`).
-        let unused = (out.freed | out.released != 0).then(|| unsafe { unused_of(&out) });
-        Looked { found, unused }
+        }
+        answer
     }
 
     /// Returns the error of a call that has this number of the core.
@@ -200,14 +218,16 @@ impl<T> Values<T> {
     /// # Safety
     /// As of `look`.
     pub(super) unsafe fn sees(&self, core: *mut Core, slot: u32) -> (bool, Unused<T>) {
+        let (mut out, mut unused) = (Outcome::default(), Vec::new());
         // SAFETY: as the caller ensures.
-        let Looked { found, unused } = unsafe { self.look(core, Wanted::At(slot)) };
-        let mut unused = unused.unwrap_or_default();
-        if let Ok(held) = &found {
+        let sees = unsafe { self.look(core, At(slot), &mut out) } == core::DONE;
+        // SAFETY: the core closed these files in the look-up (`found`).
+        unsafe { add_unused(&mut unused, &out) };
+        if sees {
             // SAFETY: the seat holds this value, to which there is no reference.
-            unused.extend(unsafe { self.release(core, held.value) });
+            unused.extend(unsafe { self.release(core, Held::of(&out).value) });
         }
-        (found.is_ok(), unused)
+        (sees, unused)
     }
 
     /// Installs a value at a slot. Returns its key, and what was there, or `Err` with the value if
@@ -374,7 +394,7 @@ impl<T> Values<T> {
     ///
     /// # Safety
     /// As of `replace_at`.
-    #[inline]
+    #[inline(always)]
     #[allow(clippy::type_complexity)]
     pub(super) unsafe fn replace(
         &self,
@@ -431,13 +451,19 @@ unsafe fn unused_of<T>(out: &Outcome) -> Unused<T> {
     tags.map(|tag| unsafe { value_of(tag) }).collect()
 }
 
+/// Checks whether a call was the last to use some value.
+#[inline(always)]
+pub(super) fn frees(out: &Outcome) -> bool {
+    out.freed | out.released != 0
+}
+
 /// Adds the values that a call was the last to use.
 ///
 /// # Safety
 /// As of `unused_of`.
 #[inline]
-unsafe fn add_unused<T>(unused: &mut Unused<T>, out: &Outcome) {
-    if out.freed | out.released != 0 {
+pub(super) unsafe fn add_unused<T>(unused: &mut Unused<T>, out: &Outcome) {
+    if frees(out) {
         // SAFETY: as the caller ensures.
         unused.extend(unsafe { unused_of(out) });
     }

@@ -57,10 +57,11 @@ impl Worker {
         (installs && self.holder.is_none()).then_some(READER)
     }
 
-    // Notes that the worker holds the file of a node. Writes its tag and its number.
-    fn hold(&mut self, node: usize, out: &mut Outcome) -> i64 {
+    // Notes that the worker holds the file of a node. Writes its tag, and its number, which is
+    // loaded unless a call by key has done so.
+    fn hold(&mut self, node: usize, number: Option<u64>, out: &mut Outcome) -> i64 {
         out.tag = self.table.tag(node).load(sync::SeqCst);
-        out.number = self.table.number(node).load(sync::SeqCst);
+        out.number = number.unwrap_or_else(|| self.table.number(node).load(sync::SeqCst));
         self.held = Some(node);
         DONE
     }
@@ -257,7 +258,7 @@ pub(crate) unsafe fn yacht_core_get_at(handle: *mut Core, slot: u32, out: *mut O
     let Worker { table, pass, .. } = &mut *it;
     let Looked { found, freed } = table.look_up(pass, slot as usize);
     out.freed = freed.unwrap_or(0);
-    found.map_or(EMPTY, |(node, _)| it.hold(node, out))
+    found.map_or(EMPTY, |(node, _)| it.hold(node, None, out))
 }
 
 pub(crate) unsafe fn yacht_core_get(
@@ -273,7 +274,7 @@ pub(crate) unsafe fn yacht_core_get(
     }
     let Worker { table, pass, .. } = &mut *it;
     match look_key(table, pass, slot, number, out) {
-        Ok(node) => it.hold(node, out),
+        Ok(node) => it.hold(node, Some(number), out),
         Err(refusal) => refusal,
     }
 }
