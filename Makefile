@@ -65,7 +65,7 @@ help-all: help
 	@echo '  make allocation-failures      runs scripts and makes calls, failing each allocation in turn'
 	@echo '  make allocations              counts allocations in the calls that must make none'
 	@echo '  make bindings                 tests the libraries from C, Rust and Python'
-	@echo '  make steps                    runs small programs on the lock-free table, its steps in every order'
+	@echo '  make steps                    runs small programs on the lasting table, its steps in every order'
 	@echo '  make mistakes                 makes the mistakes that a user may make, and expects an answer to each'
 	@echo '  make checks                   tests the test scripts: each must catch a deliberately broken program'
 	@echo 'Measure, further:'
@@ -146,7 +146,9 @@ must-spend:
 	@tests/check-must-spend
 
 allocations:
-	@tests/check-allocations
+	@scripts/build-program
+	@scripts/build-program bench_tables bench_tables
+	@tests/check-allocations bin/fixfiles bin/bench_tables
 
 wrong-bodies:
 	@tests/check-wrong-bodies --prover

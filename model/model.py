@@ -410,17 +410,18 @@ class Player:
         self.submissions += 1
         return self.lines_of(chains_of(requests)) + self.closed_lines()
 
+    def completions(self, nth, chain):
+        """Yields the completion of each request of the nth chain, once it is done."""
+        is_severed = False
+        for member, (request, linked_by) in enumerate(chain, 1):
+            place = self.submissions, nth, member
+            res, got = (-ECANCELED, b"") if is_severed else self.perform(place, request)
+            is_severed |= severs(request, linked_by, res)
+            yield completion_line(place, res, got)
+
     def lines_of(self, chains):
         """The completions of a submission's chains, which are played in their order."""
-        lines = []
-        for nth, chain in enumerate(chains, 1):
-            is_severed = False
-            for member, (request, linked_by) in enumerate(chain, 1):
-                place = self.submissions, nth, member
-                res, got = (-ECANCELED, b"") if is_severed else self.perform(place, request)
-                is_severed |= severs(request, linked_by, res)
-                lines.append(completion_line(place, res, got))
-        return lines
+        return [line for nth, chain in enumerate(chains, 1) for line in self.completions(nth, chain)]
 
     def closed_lines(self):
         """A line for each file that was closed since the last lines, in order of mark, and then one for each of their tags."""
