@@ -10,10 +10,13 @@ use std::thread;
 // seconds, since a busy machine may run the others late.
 const MOST_TURNS: u32 = 10_000_000;
 
-// Waits until a count reaches `least`. After one chain has waited in vain, which is recorded, no
-// other chain waits.
-fn wait_for(count: &AtomicU32, least: u32, is_late: &AtomicBool) {
-    for _ in 0..MOST_TURNS {
+// The same where the others can't come. On a busy machine one turn takes a millisecond and more.
+const TURNS_IN_VAIN: u32 = 2_000;
+
+// Waits until a count reaches `least`, for `turns` turns. After one chain has waited in vain, which
+// is recorded, no other chain waits.
+fn wait_for(count: &AtomicU32, least: u32, turns: u32, is_late: &AtomicBool) {
+    for _ in 0..turns {
         if count.load(Ordering::SeqCst) >= least || is_late.load(Ordering::SeqCst) {
             return;
         }
@@ -30,17 +33,19 @@ fn wait_for(count: &AtomicU32, least: u32, is_late: &AtomicBool) {
 struct Meeting {
     held: u32,
     chains: u32,
+    turns: u32,
     came: AtomicU32,
     left: AtomicU32,
     is_late: AtomicBool,
 }
 
 impl Meeting {
-    // Creates a gate that nobody has reached.
-    fn new(held: u32, chains: u32) -> Meeting {
+    // Creates a gate that nobody has reached, at which a chain waits for `turns` turns at most.
+    fn new(held: u32, chains: u32, turns: u32) -> Meeting {
         Meeting {
             held,
             chains,
+            turns,
             came: AtomicU32::new(0),
             left: AtomicU32::new(0),
             is_late: AtomicBool::new(false),
@@ -57,7 +62,7 @@ impl Gate for Meeting {
             (held, chain, _) if chain <= held => (&self.came, self.chains),
             _ => return,
         };
-        wait_for(count, least, &self.is_late);
+        wait_for(count, least, self.turns, &self.is_late);
     }
 
     fn after(&self, _place: Place) {
@@ -65,11 +70,11 @@ impl Gate for Meeting {
     }
 }
 
-// Checks whether the first `held` chains of a script meet, and whether the gate is called once
-// before each member and once after it.
-fn meet<H: Host>(rt: &H, script: &[u8], players: Players, held: u32, chains: u32) -> bool {
-    let meeting = Meeting::new(held, chains);
-    play(rt, script, players, &meeting);
+// Checks whether the chains of a script meet at a gate, and whether the gate is called once before
+// each member and once after it.
+fn meet<H: Host>(rt: &H, script: &[u8], players: Players, meeting: &Meeting) -> bool {
+    let chains = meeting.chains;
+    play(rt, script, players, meeting);
     let (came, left) = (&meeting.came, &meeting.left);
     came.load(Ordering::SeqCst) == chains
         && left.load(Ordering::SeqCst) == chains
@@ -86,7 +91,8 @@ fn each_number_of_workers_play_beside_each_other(rt: HostRuntime) {
     for workers in 1..17 {
         let script = &CLOSES[8 * (16 - workers as usize)..];
         for table in TABLES {
-            assert!(rt; meet(&rt, script, (table, workers), workers, workers));
+            let meeting = Meeting::new(workers, workers, MOST_TURNS);
+            assert!(rt; meet(&rt, script, (table, workers), &meeting));
         }
     }
 }
@@ -97,9 +103,10 @@ fn each_number_of_workers_play_beside_each_other(rt: HostRuntime) {
 #[test]
 fn submit_shares_out_chains_itself(rt: HostRuntime) {
     let script = &CLOSES[8 * 13..];
-    for (table, is_free) in [(Table::Words, true), (Table::Baton, false)] {
-        assert!(rt; meet(&rt, script, (table, 2), 1, 3) == is_free);
-    }
+    let free = Meeting::new(1, 3, MOST_TURNS);
+    assert!(rt; meet(&rt, script, (Table::Words, 2), &free));
+    let guarded = Meeting::new(1, 3, TURNS_IN_VAIN);
+    assert!(rt; !meet(&rt, script, (Table::Baton, 2), &guarded));
 }
 
 #[test]
@@ -110,7 +117,7 @@ fn an_update_between_an_open_and_its_read(rt: HostRuntime) {
     let expected = b"sparse 0\n1.1.1 0\n1.1.2 2 6869\n1.2.1 1\nclosed 1.1.1.0 a.txt\nteardown\n\
                    closed 1.2.1.0 b.txt\n";
     for table in TABLES {
-        let gate = Meeting::new(0, 2);
+        let gate = Meeting::new(0, 2, MOST_TURNS);
         let text = play(&rt, script.as_bytes(), (table, 2), &gate);
         assert!(rt; text.as_slice() == expected.as_slice() && !gate.is_late.load(Ordering::SeqCst));
     }
