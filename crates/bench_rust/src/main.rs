@@ -83,9 +83,9 @@ fn large_round(name: &str, _: &str, row: Row, threads: usize) {
 }
 
 /// Measures `rounds` rounds of each row whose name contains a text.
-fn measure(rows: &str, round: Round, threads: usize, rounds: usize, wanted: &str) {
+fn measure(rows: &str, round: Round, threads: usize, rounds: usize, part: &str) {
     for (name, words) in rows.lines().filter_map(|it| it.split_once(": ")) {
-        let Some(row) = Row::of(words).filter(|_| name.contains(wanted)) else {
+        let Some(row) = Row::of(words).filter(|_| name.contains(part)) else {
             continue;
         };
         (0..rounds).for_each(|_| round(name, words, row, threads));
@@ -106,10 +106,10 @@ fn main() {
         _ => {}
     }
     let rounds = first.parse().unwrap_or(7);
-    let wanted = words.next().unwrap_or_default();
+    let part = words.next().unwrap_or_default();
     // arc-swap visits every thread that it has seen, so the rows with few threads come first
     for threads in [1, 2, 4] {
-        measure(ROWS, round, threads, rounds, &wanted);
-        measure(LARGE_ROWS, large_round, threads, rounds, &wanted);
+        measure(ROWS, round, threads, rounds, &part);
+        measure(LARGE_ROWS, large_round, threads, rounds, &part);
     }
 }

@@ -106,8 +106,8 @@ impl Words {
                 self.control.0.fetch_sub(ONE_CHANGE - 1, SeqCst);
                 return Some(slot);
             }
-            let told = self.control.0.fetch_sub(ONE_CHANGE, SeqCst);
-            if told == ONE_CHANGE + BIAS + self.pairs.len() as u64 {
+            let before = self.control.0.fetch_sub(ONE_CHANGE, SeqCst);
+            if before == ONE_CHANGE + BIAS + self.pairs.len() as u64 {
                 return None;
             }
             std::thread::yield_now();
