@@ -161,8 +161,8 @@ def liburing():
 
 
 def linux(parts):
-    """Returns the version of the kernel that docs/use/LINUX.md speaks of, or its first parts."""
-    return ".".join(found("docs/use/LINUX.md", r"^Found on kernel ([\d.]+) ").split(".")[:parts])
+    """Returns the version of the kernel on which conform was run, or its first parts."""
+    return ".".join(found("bench/conform.txt", r"^# kernel ([\d.]+)-").split(".")[:parts])
 
 
 def line(path, text):
