@@ -289,6 +289,11 @@ def measured(path, pattern, decimals=1):
     return " to ".join(dict.fromkeys(f"{round(it, decimals):,.{max(decimals, 0)}f}" for it in [numbers[0], numbers[-1]]))
 
 
+def middle(path, pattern):
+    """Returns the median of the numbers of a kept log that a pattern finds."""
+    return f"{statistics.median(map(float, re.findall(pattern, read(path), re.MULTILINE))):.2f}"
+
+
 def judged(name):
     """Returns what bench/fixcheck.txt has of texts as they were played, and of spoiled ones: the undecided ones, the longest run, the most
     memory."""
@@ -319,7 +324,7 @@ def whole(path, pattern):
     return round(float(found(path, pattern)))
 
 
-FUNCTIONS = (answer, bits, busy, calls, constant_of, counted, crate, date, entries, found, gate, judged, lasting, liburing, line, lines, linux, measured, minutes, narrow,
+FUNCTIONS = (answer, bits, busy, calls, constant_of, counted, crate, date, entries, found, gate, judged, lasting, liburing, line, lines, linux, measured, middle, minutes, narrow,
              number, of_runs, on_four_threads, program, python, ratio, round, span, stale, status, version, whole, width, width_of_slots)
 SOURCES = Sources({it.__name__: it for it in FUNCTIONS})
 
