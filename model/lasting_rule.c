@@ -40,14 +40,13 @@ static const struct family families[] = {
     {"two passes, one slot in the range, calls by key, another pass looks up", 2, 1, 1, 1, {PUT_ANY | TAKE_KEY | PUT_KEY, LOOK | REMOVE}, false},
     {"two passes, one slot, hot after 2 takes, calls by key", 2, 1, 2, 0, {PUT_KEY | PUT, PUT_KEY | TAKE_KEY}, false},
     {"two passes, one slot, hot after 2 takes, calls by key, another pass makes all requests", 2, 1, 2, 0, {TAKE_KEY | PUT_KEY, REQUESTS}, false},
-    {"two passes, two slots in the range, removals by key, one allocates", 2, 2, 1, 1, {PUT_ANY | TAKE_KEY, TAKE_KEY}, false},
+    {"two passes, two slots in the range, a removal by key, another pass allocates", 2, 2, 1, 1, {PUT_ANY, TAKE_KEY}, false},
     {"three passes, one slot in the range, a removal by key", 3, 1, 1, 1, {TAKE_KEY, PUT_ANY, LOOK}, false},
     {"three passes, one slot in the range, two removals by key", 3, 1, 1, 1, {TAKE_KEY, TAKE_KEY, PUT_ANY}, false},
-    {"three passes, one slot, two removals by key, another pass replaces", 3, 1, 1, 0, {TAKE_KEY, TAKE_KEY, PUT}, false},
 };
 
 /* The families with which the search for a wrong table begins. */
-enum { FIRST_OF_HOLDS = sizeof families / sizeof families[0] - 8, FIRST_OF_KEYS = FIRST_OF_HOLDS - 6 };
+enum { FIRST_OF_HOLDS = sizeof families / sizeof families[0] - 7, FIRST_OF_KEYS = FIRST_OF_HOLDS - 6 };
 
 static int first_family(int table) {
     return table < WRONG_KEYS ? 0 : table < WRONG_HOLDS ? FIRST_OF_KEYS : FIRST_OF_HOLDS;
@@ -59,12 +58,24 @@ static bool has_announced(const struct pass *it) {
     return it->step == CONFIRM || it->step == WITHDRAW || it->step == GUARDED || (it->step == LIST && it->holds);
 }
 
+/* The node that the hold word of a pass may name beside 0: one that it announces or holds, or that
+ * it removed by its last step. */
+static int node_of_hold(const struct pass *it) {
+    if (it->step == GUARDED) {
+        return it->holds;
+    }
+    if (is_by_key(it)) {
+        return it->guards != BY_HOLD_WORD ? 0 : it->holds ? it->holds : it->named;
+    }
+    return has_announced(it) || it->guards ? it->node : 0;
+}
+
 /* The takes of a node's file that are still to be dropped. */
 static int takes_kept(const struct state *s, int node) {
     int kept = 0;
     for (int who = 0; who < family->passes; who++) {
         const struct pass *it = &s->pass[who];
-        kept += it->holds == node && (it->step == COUNTED || it->step == HEAT || is_by_key(it));
+        kept += it->holds == node && (it->step == COUNTED || it->step == HEAT || (is_by_key(it) && it->guards == BY_TAKE));
     }
     return kept;
 }
@@ -168,14 +179,13 @@ static void check_pass(const struct state *s, int who) {
     bool is_look = it->call == LOOK || it->call == TAKE_IF || it->call == TAKE_KEY, is_put = it->call == PUT && it->step != SEEK;
     bool is_keyed = it->call == TAKE_IF || it->call == PUT_IF;
     int words = (family->passes + PER_WORD - 1) / PER_WORD;
-    int most = it->call == TAKE_KEY ? 10 + TRIES : it->call == PUT_KEY ? 7 + TRIES : is_look ? 8 : it->call == RELEASE ? 3 : it->call == REMOVE ? 5 : is_put ? 3 : is_keyed ? 5 + TRIES
+    int most = it->call == TAKE_KEY ? 16 + TRIES : it->call == PUT_KEY ? 8 + TRIES : is_look ? 8 : it->call == RELEASE ? 3 : it->call == REMOVE ? 5 : is_put ? 3 : is_keyed ? 5 + TRIES
         : 2 * family->passes + words + 1;
     want(it->call == PUT_ANY || it->step == SEEK || it->steps + (is_look ? 1 : 0) < most || it->step == IDLE, "a call has too many steps");
     int hold = s->hold[who] & ~MARK;
     bool has_bit = s->list[who / PER_WORD] >> who % PER_WORD & 1;
     want(has_bit == it->is_listed, "the list has the wrong bit for a pass");
-    want(hold == 0 || (has_announced(it) && hold == it->node) || (it->step == GUARDED && hold == it->holds),
-         "a hold word names what its pass doesn't announce");
+    want(hold == 0 || hold == node_of_hold(it), "a hold word names what its pass doesn't announce");
 }
 
 /* Checks the words of the range. A wrong table of them is judged by its answers, and at rest. */

@@ -164,15 +164,15 @@ static void end_node(struct pass *it) {
     } else if (it->call == PUT_ANY) {
         it->node = 0;
         it->step = BEGIN;
-    } else if (is_by_key(it) && it->holds) {
-        it->step = LET_GO;
+    } else if (is_by_key(it)) {
+        go_on_by_key(it);
     } else {
         begin_call(it, 0, IDLE);
     }
 }
 
 /* Drops a take or a mark from a node's word. If the word was 2, the file is closed. */
-static void drop(struct state *s, struct pass *it) {
+void drop(struct state *s, struct pass *it) {
     int last = wrong == free_word_of_a_closed_file ? LAST - 1 : wrong == closed_one_too_early ? LAST + 1
         : wrong == closed_one_too_late ? LAST - 1 : LAST;
     int found = s->word[it->node];
@@ -237,14 +237,14 @@ static void glance(struct state *s, struct pass *it) {
 
 /* Adds the bit of the pass to the list. Its first look-up takes what the slot names, hot or
  * cold. */
-static void list(struct state *s, struct pass *it, int who) {
+void list(struct state *s, struct pass *it, int who) {
     uint8_t *word = &s->list[who / PER_WORD], bit = 1 << who % PER_WORD;
     *word = wrong == listed_by_a_store ? bit : *word + bit;
     it->is_listed = 1;
     if (it->holds) {
         hold_until_release(it, GUARDED);
     } else {
-        it->step = TAKE;
+        it->step = it->call == PUT_KEY ? AIM : it->call == TAKE_KEY ? first_by_key(it) : TAKE;
     }
 }
 
@@ -281,7 +281,7 @@ static void confirm(struct state *s, struct pass *it, int who) {
 }
 
 /* Empties the hold word of the pass, and returns whether it was marked. */
-static bool empty_hold(struct state *s, const struct pass *it, int who, enum wrong by_a_store) {
+bool empty_hold(struct state *s, const struct pass *it, int who, enum wrong by_a_store) {
     int found = wrong == by_a_store ? it->node : s->hold[who];
     s->hold[who] = 0;
     want((found & ~MARK) == it->node, "a hold word names another node");
@@ -319,20 +319,21 @@ static void heat(struct state *s, struct pass *it) {
 
 /* Goes on with a round: to the next listed pass of the word that was loaded, to the next word, or
  * to its end. */
-static void go_on(struct pass *it, int who) {
+void go_on_with_round(struct pass *it, int who) {
+    bool visits_own = it->guards && wrong == stepped_down_after_the_visits;
     int end = wrong == last_pass_not_visited ? family->passes - 1 : family->passes;
     for (; it->next < end; it->next++) {
         if (it->next == it->words * PER_WORD) {
             it->step = SKIM;
             return;
         }
-        if (it->next != who && (it->last >> it->next % PER_WORD & 1)) {
+        if ((it->next != who || visits_own) && (it->last >> it->next % PER_WORD & 1)) {
             it->step = VISIT;
             return;
         }
     }
     it->next = it->words = it->last = 0;
-    it->step = it->call != RETIREMENT ? SWAP : wrong == finish_before_the_visits ? RETIRE : FINISH;
+    it->step = it->call != RETIREMENT ? SWAP : visits_own ? STEP_DOWN : wrong == finish_before_the_visits ? RETIRE : FINISH;
 }
 
 static void skim(struct state *s, struct pass *it, int who) {
@@ -340,13 +341,13 @@ static void skim(struct state *s, struct pass *it, int who) {
     if (it->call != RETIREMENT && wrong == skimmed_before_the_swap) {
         it->step = first_of_removal();
     } else {
-        go_on(it, who);
+        go_on_with_round(it, who);
     }
 }
 
 static void visit_next(struct pass *it, int who) {
     it->next++;
-    go_on(it, who);
+    go_on_with_round(it, who);
 }
 
 /* After a swap the pass retires what it found. */
@@ -367,10 +368,13 @@ void end_change(struct pass *it, int who) {
     it->words = found.words;
     it->last = found.last;
     it->next = found.heat && wrong != no_visits && wrong != scan_before_the_swap ? 0 : family->passes;
-    if (wrong == finish_before_the_visits) {
+    it->guards = found.guards == BY_HOLD_WORD && wrong != hold_word_outlives_the_hold;
+    if (it->guards && wrong != stepped_down_after_the_visits) {
+        it->step = STEP_DOWN;
+    } else if (wrong == finish_before_the_visits) {
         it->step = FINISH;
     } else {
-        go_on(it, who);
+        go_on_with_round(it, who);
     }
 }
 
@@ -434,7 +438,7 @@ static void finish(struct state *s, struct pass *it, int who) {
         close_file(s, it->node);
         it->step = may_park(it, who) ? PARK : REST;
     } else if (wrong == finish_before_the_visits) {
-        go_on(it, who);
+        go_on_with_round(it, who);
     } else {
         it->step = RETIRE;
     }
@@ -473,7 +477,7 @@ static void seek(struct state *s, struct pass *it, int who) {
 
 static enum step after_birth(const struct pass *it) {
     bool is_early = wrong == raise_before_the_fill && family->group_len && it->call == PUT;
-    return it->call == PUT_ANY ? PEEK : is_early ? RAISE_EARLY : it->call == PUT_KEY ? first_by_key() : SWAP;
+    return it->call == PUT_ANY ? PEEK : is_early ? RAISE_EARLY : it->call == PUT_KEY ? first_by_key(it) : SWAP;
 }
 
 /* Gets the place of a node for a new file, and puts the file there. */
@@ -625,10 +629,10 @@ static void begin_at(struct state *s, struct pass *it, int who, int call, int sl
     } else if (call == TAKE_IF || call == PUT_IF) {
         see(s, it, who);
     } else if (is_by_key(it)) {
-        begin_by_key(s, it);
+        begin_by_key(s, it, who);
     } else if (call == REMOVE && wrong == scan_before_the_swap && s->is_full[slot] && s->heat[slot]) {
         it->node = node_at(slot);
-        go_on(it, who);
+        go_on_with_round(it, who);
     } else if (call == REMOVE && wrong == skimmed_before_the_swap && s->heat[slot]) {
         it->step = SKIM;
     } else if (call == REMOVE && wrong == kept_by_a_load_before_the_swap && stock) {
@@ -676,49 +680,15 @@ static bool begin_nth(struct state *s, struct pass *it, int who, int nth) {
     return false;
 }
 
-bool take_step(void *state, int who, int nth) {
-    struct state *s = state;
-    struct pass *it = &s->pass[who];
-    const struct state before = *s;
-    exchanged = 0;
-    if (who >= family->passes) {
-        return false;
-    }
-    if (it->step == IDLE) {
-        return begin_nth(s, it, who, nth);
-    }
-    if ((nth > 0 && it->step != COMPARE) || is_kept(s, who)) {
-        return false;
-    }
-    if (it->step == GUARDED || it->step == COUNTED) {
-        it->node = it->holds;
-    }
-    it->steps += it->call != PUT_ANY;
+static void take_other_step(struct state *s, struct pass *it, int who) {
     switch ((enum step)it->step) {
     case IDLE: break;
     case LIST: list(s, it, who); break;
     case ANNOUNCE: announce(s, it, who); break;
     case CONFIRM: confirm(s, it, who); break;
     case WITHDRAW: it->step = empty_hold(s, it, who, withdrawal_by_a_store) ? DROP : TAKE; break;
-    case TAKE:
-        if (is_by_key(it)) {
-            take_for_key(s, it);
-        } else {
-            take(s, it);
-        }
-        break;
-    case HEAT:
-        if (is_by_key(it)) {
-            heat_for_key(s, it);
-        } else {
-            heat(s, it);
-        }
-        break;
-    case COMPARE:
-        if (!compare_key(it, nth)) {
-            return false;
-        }
-        break;
+    case TAKE: take(s, it); break;
+    case HEAT: heat(s, it); break;
     case GUARDED:
         if (empty_hold(s, it, who, release_by_a_store)) {
             it->step = DROP;
@@ -727,7 +697,6 @@ bool take_step(void *state, int who, int nth) {
             begin_call(it, 0, IDLE);
         }
         break;
-    case LET_GO: it->node = it->holds; drop(s, it); break;
     case COUNTED:
     case DROP: drop(s, it); break;
     case REST: rest(s, it); break;
@@ -737,9 +706,7 @@ bool take_step(void *state, int who, int nth) {
     case RESUME: resume(s, it); break;
     case FINISH_EARLY: it->last = s->word[node_at(it->slot)]; it->step = first_of_removal(); break;
     case SWAP:
-        if (is_by_key(it)) {
-            exchange_by_key(s, it, who);
-        } else if (it->key) {
+        if (it->key) {
             exchange_if(s, it, who);
         } else {
             swap(s, it, who);
@@ -753,6 +720,29 @@ bool take_step(void *state, int who, int nth) {
     case PEEK: peek(s, it, who); break;
     case EXCHANGE: exchange_empty(s, it, who); break;
     default: take_step_of_range(s, it, who); break;
+    }
+}
+
+bool take_step(void *state, int who, int nth) {
+    struct state *s = state;
+    struct pass *it = &s->pass[who];
+    const struct state before = *s;
+    exchanged = 0;
+    if (who >= family->passes) {
+        return false;
+    }
+    if (it->step == IDLE) {
+        return begin_nth(s, it, who, nth);
+    }
+    if (nth >= (it->step == COMPARE ? ways_to_compare(it) : 1) || is_kept(s, who)) {
+        return false;
+    }
+    if (it->step == GUARDED || it->step == COUNTED) {
+        it->node = it->holds;
+    }
+    it->steps += it->call != PUT_ANY;
+    if (!take_step_by_key(s, it, who, nth)) {
+        take_other_step(s, it, who);
     }
     note_changes(s);
     count_changes(&before, s, who);

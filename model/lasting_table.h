@@ -30,7 +30,7 @@ enum { MOST_CARRIED = 1 };
 enum step {
     IDLE, LIST, ANNOUNCE, CONFIRM, WITHDRAW, DROP, TAKE, HEAT, GUARDED, COUNTED, REST, SEEK, BIRTH, LOWER, CHECK, BREAK,
     SWAP, RAISE, SKIM, VISIT, MARK_HOLD, FINISH, RETIRE, PEEK, EXCHANGE, PEEK_GROUP, DECIDE_FIRST, BEGIN, ASK, COUNT,
-    DECIDE, RAISE_EARLY, LOWER_LATE, PARK, RESUME, FINISH_EARLY, COMPARE, LET_GO
+    DECIDE, RAISE_EARLY, LOWER_LATE, PARK, RESUME, FINISH_EARLY, AIM, COMPARE, LET_GO, STEP_DOWN
 };
 
 /* The right table and wrong ones: each is the right one with one change. */
@@ -56,7 +56,10 @@ enum step {
     X(missed_removal_is_not_raised) X(lower_after_the_exchange) X(file_of_the_node_is_not_held) \
     X(kept_while_a_slot_names_it) \
     X(key_without_a_hold) X(own_take_is_forgotten) X(own_take_is_dropped_twice) X(key_is_compared_before_the_hold) \
-    X(hold_is_lost) X(missed_key_is_not_raised) X(low_bits_are_ignored)
+    X(hold_is_lost) X(missed_key_is_not_raised) X(low_bits_are_ignored) \
+    X(announced_key_is_not_confirmed) X(announced_after_the_comparison) X(hold_word_counts_as_a_take) \
+    X(hold_word_outlives_the_hold) X(stepped_down_before_the_exchange) X(stepped_down_after_the_visits) \
+    X(vain_announcement_stays)
 enum wrong { TABLES(AS_MEMBER) WRONG_TABLES, WRONG_RANGES = question_is_loaded_once, WRONG_KEYS = node_is_not_compared, WRONG_HOLDS = key_without_a_hold };
 
 struct family {
@@ -99,7 +102,13 @@ struct pass {
      * began. In the model: the file that the call means was closed, and the number of times that
      * others changed the slot's word since the call began, or since it took the slot. */
     uint8_t key, is_stale, changes;
+    /* How a call by key holds the file: by its hold word from the announcement on, until the pass
+     * has stepped down; or by a take, also after an announcement in vain. */
+    uint8_t guards;
 };
+
+/* The values of `guards`. */
+enum { BY_TAKE, BY_HOLD_WORD, IN_VAIN };
 
 struct state {
     /* Slot words: whether a file is there; the takes; and the number of passes that heated the
@@ -140,19 +149,25 @@ enum step after_scan(void);
 void end_change(struct pass *it, int who);
 
 /* A call by key in one pass (lasting_key.c): whether the pass makes one; its first step after a
- * load, or after the birth of a node; and its steps. */
+ * load, or after the birth of a node; and the step after one on a node. */
 bool is_by_key(const struct pass *it);
-enum step first_by_key(void);
-void begin_by_key(struct state *s, struct pass *it);
-void take_for_key(struct state *s, struct pass *it);
-void heat_for_key(struct state *s, struct pass *it);
-bool compare_key(struct pass *it, int nth);
-void exchange_by_key(struct state *s, struct pass *it, int who);
+void begin_by_key(struct state *s, struct pass *it, int who);
+enum step first_by_key(const struct pass *it);
+void go_on_by_key(struct pass *it);
+/* The ways of a comparison. Makes a step, if it is one of a call by key. */
+int ways_to_compare(const struct pass *it);
+bool take_step_by_key(struct state *s, struct pass *it, int who, int nth);
 /* Notes what a call expects in its slot's word, makes its swap, and ends it after its last try. */
 void expect(const struct state *s, struct pass *it);
 void swap(struct state *s, struct pass *it, int who);
 void miss(struct pass *it);
 void hold_file(struct state *s, struct pass *it, int node);
+/* Lists the pass. Drops a take or a mark from a node's word. Empties the hold word of the pass, and
+ * returns whether it was marked. Goes on with a round of visits. */
+void list(struct state *s, struct pass *it, int who);
+void drop(struct state *s, struct pass *it);
+bool empty_hold(struct state *s, const struct pass *it, int who, enum wrong by_a_store);
+void go_on_with_round(struct pass *it, int who);
 
 /* Makes a step of lasting_range.c. */
 void take_step_of_range(struct state *s, struct pass *it, int who);
