@@ -40,7 +40,7 @@ enum {
     YACHT_UNDECIDED = 2,   /* a judge: neither was shown within the limits; or no reason is found */
     YACHT_BAD_SCRIPT = 3,  /* all: the bytes are not a script */
     YACHT_JUDGE_NO_MEMORY = 4, /* all: an allocation failed */
-    YACHT_FAULTY = 5,      /* yacht_judge_events: an event can't follow those before it in a log */
+    YACHT_FAULTY = 5,      /* a judge: an event can't follow those before it in a log */
     YACHT_MALFORMED = 6,   /* of a log: an event can't be read */
     YACHT_TOO_MANY_SLOTS = 7, /* of a log: the table has more than YACHT_MOST_LOG_SLOTS */
     YACHT_ALL = 0,         /* yacht_outcomes: all texts are listed */
@@ -172,8 +172,8 @@ enum { YACHT_MOST_LOG_SLOTS = 1048576 };
 /* The details of a verdict on a log. A field is 0 unless its number is returned. */
 typedef struct yacht_judgement {
     /* YACHT_NOT_LEGAL: the position of the event, from 0, up to and with which the log has no
-     * flight in which each request finds memory; YACHT_FAULTY, YACHT_MALFORMED: of the first event
-     * with a fault or a flaw */
+     * flight in which each request finds memory, or none by whole updates; YACHT_FAULTY,
+     * YACHT_MALFORMED: of the first event with a fault or a flaw */
     uint64_t at;
     uint32_t fault; /* YACHT_FAULTY, YACHT_MALFORMED: the number of the fault or of the flaw */
     uint32_t line;  /* YACHT_BAD_SCRIPT: as in a verdict */
@@ -192,6 +192,15 @@ uint32_t yacht_judge_events(const uint8_t *script, size_t script_length, uint32_
                             const int32_t *entries, size_t entries_length, const uint8_t *bytes,
                             size_t bytes_length, const yacht_event *events, size_t events_length,
                             uint32_t states, uint32_t memory, yacht_judgement *judgement);
+
+/* Judges a log as yacht_judge_events does, by whole updates: each update is one step, as on Linux,
+ * not one for each entry. A log that is legal by whole updates is legal. */
+uint32_t yacht_judge_whole_updates(const uint8_t *script, size_t script_length, uint32_t slots,
+                                   const yacht_request *requests, size_t requests_length,
+                                   const int32_t *entries, size_t entries_length,
+                                   const uint8_t *bytes, size_t bytes_length,
+                                   const yacht_event *events, size_t events_length, uint32_t states,
+                                   uint32_t memory, yacht_judgement *judgement);
 
 /* The kinds of the points in time of a flight, and the fields that each uses beside `kind`. */
 enum {

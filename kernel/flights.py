@@ -1,6 +1,5 @@
 """Records calls in flight on this machine's kernel (kernel/flight), and has the verified judge decide on the logs
-(bindings/python/yachtlog.py), for kernel/conform. Whole updates, which are Linux's and no rule of MODEL.md, are a question to the oracle
-model/flight_states.py."""
+(bindings/python/yachtlog.py), for kernel/conform. Whole updates are Linux's and no rule of MODEL.md: the judge has an option for them."""
 import glob
 import os
 import subprocess
@@ -55,20 +54,13 @@ def recorded(program, words, seed):
     return log, "" if status == 0 else f"the recorder ended with status {status}: {complaint}"
 
 
-def whole_updates(log):
-    """Judges a log with each update as one step, as Linux makes it. The verified judge takes it as a step for each entry, as MODEL.md says."""
-    from model import flight_states
-
-    return flight_states.judged(log, is_whole=True)
-
-
 def complaint_of(yachtlog, log, is_whole=False):
     """Returns what the judge says of a log that is not legal, or is none, and whether it is undecided."""
     try:
         read = yachtlog.Log(log)
     except yachtlog.BadLog as fault:
         return f"not a log: {fault}", False
-    verdict = whole_updates(read) if is_whole else read.judge()
+    verdict = read.judge(whole_updates=is_whole)
     if verdict.word == "not legal":
         line = log.splitlines()[verdict.line - 1]
         return f"not legal: line {verdict.line} of the log: {line}", False

@@ -1,6 +1,5 @@
 """An oracle for logs of calls in flight (docs/inside/FLIGHT.md): all states that a flight may have reached, line by line. It shares the reader of
-lines with the module yachtlog, and nothing with the verified judge. tests/check-flights compares both. It alone can take each update as one
-step, which kernel/conform asks of Linux."""
+lines with the module yachtlog, and nothing with the verified judge. tests/check-flights compares both, also by whole updates."""
 from __future__ import annotations
 
 from bisect import bisect_left

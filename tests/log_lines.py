@@ -160,7 +160,9 @@ WHY_STALE = """    2.1.0 was gone from slot 0 after close 3, which answered 0, s
 WHY_WRONG = "    open 2 answered 7 at line 6, which such a request never answers\n"
 WHY_EARLY = "    look 3 held 2.1.0 from line 8 on, and it was closed by line 11\n"
 WHY_GONE = "since close 2.2 found a file at slot 0 by line 7, which can only have been 2.1.0\n"
-FILES = {"right": OPENED, "wrong": OPENED.replace("done 2.1 0", "done 2.1 7"), "none": "x\n", "stale": f"{STALE}free 5\nsettled\n".replace("call 3", MORE),
+# an update as one step: a read of its first slot finds its file, a later one of its second none
+BETWEEN = f"{HEAD}call 2 update 0 0,0\ncall 3 read 0 0 1\ndone 3.1 1 61\ncall 4 read 1 0 1\ndone 4.1 -9\n"
+FILES = {"right": OPENED, "between": BETWEEN, "beside": BETWEEN.replace("call 4", "call 5 close 1\ncall 4"), "wrong": OPENED.replace("done 2.1 0", "done 2.1 7"), "none": "x\n", "stale": f"{STALE}free 5\nsettled\n".replace("call 3", MORE),
          "early": f"{HEAD}{EARLIER}{HELD}{''.join(REMOVERS)}closed 2.1.0 a\nfree 3\n",
          "gone": f"{HEAD}call 2 open b any link ; close 0\ndone 2.1 0\ndone 2.2 0\ncall 3 read 0 0 1\ndone 3.1 1 62\n"}
 ARGUMENTS = [
@@ -180,6 +182,10 @@ ARGUMENTS = [
     (["--shorten", "early"], NOT_LEGAL, f"^{HEAD}{HELD}({'|'.join(REMOVERS)})closed 2.1.0 a\n.*early: not legal: line 11: closed 2.1.0 a\n{WHY_EARLY}$"),
     (["--full-reason", "gone"], NOT_LEGAL, f"gone: not legal: line 9: done 3.1 1 62\n.*{WHY_GONE}"),
     (["--shorten", "none"], NOT_A_LOG, "not a log: line 1"),
+    (["between"], LEGAL, "between: legal\n$"),
+    (["--whole-updates", "right", "between"], NOT_LEGAL, "right: legal\n.*between: not legal: line 9: done 4.1 -9\n$"),
+    (["--whole-updates", "--shorten", "between"], NOT_LEGAL, f"^{BETWEEN}.*between: not legal: line 9: done 4.1 -9\n$"),
+    (["--whole-updates", "beside"], LEGAL, "beside: legal\n$"),
     (["right", "right"], LEGAL, "right: legal\n.*right: legal\n$"),
     (["right", "wrong", "none", "/nonexistent"], NOT_LEGAL, "right: legal\n.*wrong: not legal: line 6: done 2.1 7\n.*none: not a log: line 1: "),
     (["none", "/nonexistent", "wrong"], NOT_LEGAL, "not legal"),
@@ -226,7 +232,11 @@ WRONG = [
     ("yachtlines", "if result == ENOMEM and not self.lacking", "if False"),
     ("yachtlog", "if it.line < self.lacking", "if True"),
     ("yachtlog", 'return Verdict("undecided", self.lacking)', 'return Verdict("legal")'),
-    ("yachtlog", "yachtjudge.judge_events(self, before, states, memory)", "yachtjudge.judge_events(self, before)"),
+    ("yachtlog", "yachtjudge.judge_events(self, before, states, memory, ", "yachtjudge.judge_events(self, before, "),
+    ("yachtlog", "memory, whole_updates=whole_updates)\n        except", "memory)\n        except"),
+    ("yachtlog", "Log(text).judge(states, memory, whole_updates=whole_updates)", "Log(text).judge(states, memory)"),
+    ("yachtlog", "log.shortened(verdict, options.states, options.memory, whole_updates=options.whole_updates)",
+     "log.shortened(verdict, options.states, options.memory)"),
     ("yachtlog", "        verdict = Verdict(verdict.word, log.source.count", "        return log, verdict, []\n        verdict = Verdict(verdict.word, log.source.count"),
     ("yachtlog", "    except MemoryError:", "    except ZeroDivisionError:"),
     ("yachtshorten", "yield call, [answer.found[0]]", "return"),

@@ -102,7 +102,8 @@ class Outcomes:
 class LogVerdict:
     """A verdict on a log: `word` is 'legal', 'not legal' or 'undecided'. It is true if it is 'legal'.
 
-    Up to and with the line `line`, from 1, a log that is not legal has no flight in which each request finds memory."""
+    Up to and with the line `line`, from 1, a log that is not legal has no flight in which each request finds memory, or none by whole updates
+    if they were required."""
 
     word: Literal["legal", "not legal", "undecided"]
     line: int = 0
@@ -237,6 +238,8 @@ _library.yacht_judge_events.argtypes = [
     c_uint32,
     POINTER(_Judgement),
 ]
+_library.yacht_judge_whole_updates.restype = c_uint32
+_library.yacht_judge_whole_updates.argtypes = _library.yacht_judge_events.argtypes
 _library.yacht_explain_events.restype = c_uint32
 _library.yacht_explain_events.argtypes = [
     POINTER(c_uint8),
@@ -374,14 +377,17 @@ class _Passed:
         return steps[: reason.steps]
 
 
-def judge_events(log: yachtlog.Log, events: Sequence[yachtlog.Event] | None = None, states: int = STATES, memory: int = MEMORY) -> LogVerdict:
+def judge_events(log: yachtlog.Log, events: Sequence[yachtlog.Event] | None = None, states: int = STATES, memory: int = MEMORY, *,
+                 whole_updates: bool = False) -> LogVerdict:
     """Decides whether a log of calls in flight that yachtlog has read is legal, by searches of at most `states` states and `memory` MiB. Its
-    events are those of the log, without its tags, or others of the same calls. A log with an answer -12 is undecided.
+    events are those of the log, without its tags, or others of the same calls. With `whole_updates` each update is one step, not one for each
+    entry. A log with an answer -12 is undecided.
 
     Raises BadEvent if an event has a fault, or says what no call can; BadScript if its files aren't a catalogue; NoMemory if an allocation
     fails; TypeError or ValueError if a limit is none; and ValueError if two files have one name, or the table has too many slots."""
     limits, passed, judgement = _limits(states, memory), _Passed(log, events), _Judgement()
-    code = _library.yacht_judge_events(*passed.arguments, *limits, byref(judgement))
+    judge_log = _library.yacht_judge_whole_updates if whole_updates else _library.yacht_judge_events
+    code = judge_log(*passed.arguments, *limits, byref(judgement))
     passed.check(code, judgement.at, judgement.fault)
     if code == NOT_LEGAL:
         return LogVerdict("not legal", passed.events[judgement.at].line)

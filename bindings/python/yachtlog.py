@@ -1,10 +1,11 @@
 """Logs of calls in flight (docs/inside/FLIGHT.md): reads a log as the recorders print it, and has the verified judge decide whether it is legal
 (yachtjudge.judge_events). That the lines are read rightly is tested.
 
-    python3 yachtlog.py [--full-reason] [--states N] [--memory MIB] LOG..
+    python3 yachtlog.py [--full-reason] [--whole-updates] [--states N] [--memory MIB] LOG..
 
 prints for each log `legal`, `not legal` with the line at which no flight is left and the reason, `undecided`, or `not a log` with the first
-line that no log has there. Of a long reason the last sentences are printed, and with --full-reason all of them. A log `-` is read from
+line that no log has there. Of a long reason the last sentences are printed, and with --full-reason all of them. With --whole-updates each
+update must be one step, as on Linux; a log that is not legal for that alone has no reason. A log `-` is read from
 standard input. `python3 yachtlog.py --shorten LOG` prints a log with fewer calls and the same wrong line. Without the library yachtjudge a
 log is read, and not judged.
 
@@ -52,25 +53,25 @@ class Verdict(NamedTuple):
 class Log(Lines):
     """A log: its catalogue, its slots, its calls and its events. Raises BadLog for a text that is not a log."""
 
-    def judge(self, states: int = STATES, memory: int = MEMORY) -> Verdict:
-        """Judges the log by the verified judge, with at most `states` states and `memory` MiB in a search. If it is legal and has tags, it
-        is judged again with the tag of each file in place of its close.
+    def judge(self, states: int = STATES, memory: int = MEMORY, *, whole_updates: bool = False) -> Verdict:
+        """Judges the log by the verified judge, with at most `states` states and `memory` MiB in a search; with `whole_updates` each update
+        must be one step. If it is legal and has tags, it is judged again with the tag of each file in place of its close.
 
         Raises ImportError if the library yachtjudge is missing, and what yachtjudge.judge_events raises."""
         verdict = Verdict("legal")
         for events in self.readings():
-            verdict = self._verdict(events, states, memory)
+            verdict = self._verdict(events, states, memory, whole_updates)
             if verdict.word != "legal":
                 break
         return verdict
 
-    def _verdict(self, events: list[Event], states: int, memory: int) -> Verdict:
+    def _verdict(self, events: list[Event], states: int, memory: int, whole_updates: bool) -> Verdict:
         """Judges events. The judge doesn't decide a log with an answer -12, but it may refuse the beginning before that."""
         import yachtjudge
 
         before = [it for it in events if it.line < self.lacking] if self.lacking else events
         try:
-            verdict = yachtjudge.judge_events(self, before, states, memory)
+            verdict = yachtjudge.judge_events(self, before, states, memory, whole_updates=whole_updates)
         except yachtjudge.BadEvent as bad:
             raise BadLog(bad.line, bad.fault) from bad
         if verdict.word == "not legal" or len(before) == len(events):
@@ -96,13 +97,13 @@ class Log(Lines):
                 return Words(self, events, steps).sentences()
         return []
 
-    def shortened(self, verdict: Verdict, states: int = STATES, memory: int = MEMORY) -> str:
+    def shortened(self, verdict: Verdict, states: int = STATES, memory: int = MEMORY, *, whole_updates: bool = False) -> str:
         """Returns the log up to the line of its verdict, 'not legal', with fewer calls: a log of which this is the first wrong line, too. After
         50 seconds no further log is tried."""
         from yachtshorten import Shortening
 
         def is_wrong(text: str) -> bool:
-            return Log(text).judge(states, memory) == ("not legal", text.count("\n"))
+            return Log(text).judge(states, memory, whole_updates=whole_updates) == ("not legal", text.count("\n"))
 
         shortening = Shortening(self, self.source, verdict.line)
         return shortening.text(shortening.shortest(is_wrong))
@@ -127,6 +128,7 @@ def arguments() -> argparse.Namespace:
     parser.add_argument("logs", nargs="+", metavar="LOG", help="the path of a log, or - for standard input")
     parser.add_argument("--states", type=limit, default=STATES, metavar="N", help=f"largest number of states of a search (default {STATES})")
     parser.add_argument("--full-reason", action="store_true", help=f"print the whole reason, not its last {SENTENCES} sentences")
+    parser.add_argument("--whole-updates", action="store_true", help="each update must be one step, not one for each entry")
     parser.add_argument("--shorten", action="store_true", help="print a log with fewer calls and the same wrong line, and the verdict on standard error")
     parser.add_argument("--memory", type=limit, default=MEMORY, metavar="MIB", help=f"largest number of MiB for them (default {MEMORY})")
     options = parser.parse_args()
@@ -145,11 +147,11 @@ def content_of(path: str) -> bytes:
 def judged(path: str, options: argparse.Namespace) -> tuple[Log, Verdict, list[str]]:
     """Returns a log, or with --shorten one with fewer calls if it isn't legal; the verdict on it; and its reason."""
     log = Log(content_of(path))
-    verdict = log.judge(options.states, options.memory)
+    verdict = log.judge(options.states, options.memory, whole_updates=options.whole_updates)
     if verdict.word != "not legal":
         return log, verdict, []
     if options.shorten:
-        log = Log(log.shortened(verdict, options.states, options.memory))
+        log = Log(log.shortened(verdict, options.states, options.memory, whole_updates=options.whole_updates))
         verdict = Verdict(verdict.word, log.source.count("\n"))
     return log, verdict, log.reason(verdict.line)
 

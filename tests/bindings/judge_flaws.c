@@ -8,6 +8,8 @@ static judge_log held;
 static yacht_event *const events = held.events;
 static yacht_request *const requests = held.requests;
 static yacht_judgement judgement;
+/* by whole updates */
+static int is_whole;
 
 /* Makes a log of these lines, for changes of its structs. */
 static void lines(const char *text) {
@@ -18,9 +20,9 @@ static void lines(const char *text) {
 
 static int is(uint32_t verdict, uint64_t at, uint32_t fault) {
     memset(&judgement, '?', sizeof judgement);
-    uint32_t found = yacht_judge_events((const uint8_t *)catalogue, strlen(catalogue), 2, requests, held.requests_length, held.entries,
-                                        held.entries_length, held.bytes, held.bytes_length, events, held.events_length, YACHT_STATES, YACHT_MEMORY,
-                                        &judgement);
+    uint32_t found = (is_whole ? yacht_judge_whole_updates : yacht_judge_events)(
+        (const uint8_t *)catalogue, strlen(catalogue), 2, requests, held.requests_length, held.entries, held.entries_length, held.bytes,
+        held.bytes_length, events, held.events_length, YACHT_STATES, YACHT_MEMORY, &judgement);
     return found == verdict && judgement.at == at && judgement.fault == fault && judgement.line == 0;
 }
 
@@ -60,9 +62,18 @@ static void ranges(void) {
     WANT(is(YACHT_NOT_LEGAL, 1, 0));
 }
 
+/* a read of an update's first slot finds its file, and a later one of its second slot none */
+static void between(void) {
+    lines("call 2 update 0 0,0\ncall 3 read 0 0 1\ndone 3.1 1 61\ncall 4 read 1 0 1\ndone 4.1 -9\ndone 2.1 2");
+    WANT(is_whole ? is(YACHT_NOT_LEGAL, 4, 0) : is(YACHT_LEGAL, 0, 0));
+}
+
 int main(void) {
-    faults();
-    flaws();
-    ranges();
+    for (is_whole = 0; is_whole < 2; is_whole++) {
+        faults();
+        flaws();
+        ranges();
+        between();
+    }
     return report("flaws");
 }

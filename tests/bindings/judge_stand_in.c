@@ -84,6 +84,14 @@ uint32_t yacht_judge_events(const uint8_t *script, size_t script_length, uint32_
     return it->number;
 }
 
+/* by whole updates as by their entries: no row has such a question */
+uint32_t yacht_judge_whole_updates(const uint8_t *script, size_t script_length, uint32_t slots, const yacht_request *requests, size_t requests_length,
+                                   const int32_t *entries, size_t entries_length, const uint8_t *bytes, size_t bytes_length, const yacht_event *events,
+                                   size_t events_length, uint32_t states, uint32_t memory, yacht_judgement *judgement) {
+    return yacht_judge_events(script, script_length, slots, requests, requests_length, entries, entries_length, bytes, bytes_length, events,
+                              events_length, states, memory, judgement);
+}
+
 uint32_t yacht_explain_events(const uint8_t *script, size_t script_length, uint32_t slots, const yacht_request *requests, size_t requests_length,
                               const int32_t *entries, size_t entries_length, const uint8_t *bytes, size_t bytes_length, const yacht_event *events,
                               size_t events_length, uint64_t at, yacht_step *steps, size_t steps_length, yacht_reason *reason) {

@@ -53,9 +53,13 @@ want(outcome(lambda: judge_events(tagged, tagged.events[:3])) == LogVerdict("leg
 # an update as one step: a read of its first slot finds its file, and a later one of its second
 # slot finds none
 between = log("call 2 update 0 0,0", "call 3 read 0 0 1", "done 3.1 1 61", "call 4 read 1 0 1", "done 4.1 -9", "done 2.1 2")
+at_once = log("call 2 update 0 0,-2,0", "done 2.1 -22", "call 3 update 0 0,-1", "done 3.1 2")
 want(outcome(between.judge) == ("legal", 0), "no request comes between two entries of an update")
-want(flight_states.judged(between, is_whole=True) == ("not legal", 9), "a request comes between two entries of an update of one step")
-want(flight_states.judged(log("call 2 update 0 0,-2,0", "done 2.1 -22", "call 3 update 0 0,-1", "done 3.1 2"), is_whole=True).word == "legal", "an update isn't one step")
+want(flight_states.judged(between, is_whole=True) == outcome(lambda: between.judge(whole_updates=True)) == ("not legal", 9),
+     "a request comes between two entries of an update of one step")
+want(flight_states.judged(at_once, is_whole=True).word == at_once.judge(whole_updates=True).word == "legal", "an update isn't one step")
+want(judge_events(between, whole_updates=True) == LogVerdict("not legal", 9) and between.reason(9) == [],
+     "a log that is legal but by whole updates has a reason")
 
 # the reason of a log, by its lines and the numbers of its calls: the look finds a file that left
 # before the look was called

@@ -83,7 +83,7 @@ in_python() {
     want 'the judge from Python is wrong over the examples' judges_examples
     want 'the judge from Python is wrong' judges_rows judge_rows 208
     want 'the judge from Python is wrong over the stand-in' over_the_stand_in_of_rows
-    want 'the judge of logs from Python is wrong' judges_rows log_rows 48
+    want 'the judge of logs from Python is wrong' judges_rows log_rows 49
     want 'the verified judge of yachtlog is wrong' proved_logs
     want 'a missing library is not explained' without_library "$room" "$room/libyachtjudge.so.5 was not found."
     echo > "$room/libyachtjudge.so.5"
@@ -160,6 +160,8 @@ yachtevents s/max(self._log.file_of(mark), 0)/0/
 yachtevents s/elif answer.result == EBADF:/elif True:/
 yachtlog s/"undecided": 6/"undecided": 0/
 yachtlog s/        return NO_MEMORY$/        return MISSING/
-yachtlog s/judge_events(self, before, states, memory)/judge_events(self, before, memory, states)/
+yachtlog s/judge_events(self, before, states, memory, /judge_events(self, before, memory, states, /
+yachtjudge s/yacht_judge_whole_updates if whole_updates/yacht_judge_events if whole_updates/
+yachtjudge s/ if whole_updates else _library.yacht_judge_events$//
 END
 }

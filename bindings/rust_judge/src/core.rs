@@ -177,6 +177,22 @@ unsafe extern "C" {
         memory: u32,
         judgement: *mut Judgement,
     ) -> u32;
+    pub(crate) fn yacht_judge_whole_updates(
+        script: *const u8,
+        script_length: usize,
+        slots: u32,
+        requests: *const Request,
+        requests_length: usize,
+        entries: *const i32,
+        entries_length: usize,
+        bytes: *const u8,
+        bytes_length: usize,
+        events: *const Event,
+        events_length: usize,
+        states: u32,
+        memory: u32,
+        judgement: *mut Judgement,
+    ) -> u32;
     pub(crate) fn yacht_explain_events(
         script: *const u8,
         script_length: usize,

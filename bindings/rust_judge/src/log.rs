@@ -82,7 +82,8 @@ pub struct File {
 pub enum LogVerdict {
     /// The log has a flight: the rules allow what it shows.
     Legal,
-    /// Up to and with this event, the log has no flight in which each request finds memory.
+    /// Up to and with this event, the log has no flight in which each request finds memory, or none
+    /// by whole updates if they were required.
     NotLegal {
         /// The position of the event, from 0.
         at: usize,
@@ -296,10 +297,44 @@ impl Log {
     /// # Errors
     /// Any [`JudgeError`].
     pub fn judge(&self, limits: Limits) -> Result<LogVerdict, JudgeError> {
+        self.judge_by(false, limits)
+    }
+
+    /// Judges the log by whole updates, by searches within the limits: each update is one step, as
+    /// on Linux, not one for each entry. A log that is legal by whole updates is legal.
+    ///
+    /// ```
+    /// use yachtjudge::{Limits, Link, Log, LogVerdict, Op, Request};
+    ///
+    /// let one = |op| [Request { op, link: Link::None }];
+    /// let mut log = Log::new("file page.html 68656c6c6f\n", 2);
+    /// let both = log.call(&one(Op::Update { slot: 0, entries: vec![0, 0] }));
+    /// let first = log.call(&one(Op::Read { slot: 0, first: 0, count: 5 }));
+    /// log.done(first, 1, 5, b"hello");
+    /// let second = log.call(&one(Op::Read { slot: 1, first: 0, count: 5 }));
+    /// log.done(second, 1, -9, b"");
+    /// log.done(both, 1, 2, b"");
+    /// assert_eq!(log.judge(Limits::default()), Ok(LogVerdict::Legal));
+    /// let verdict = log.judge_whole_updates(Limits::default());
+    /// assert_eq!(verdict, Ok(LogVerdict::NotLegal { at: 4 }));
+    /// ```
+    ///
+    /// # Errors
+    /// Any [`JudgeError`].
+    pub fn judge_whole_updates(&self, limits: Limits) -> Result<LogVerdict, JudgeError> {
+        self.judge_by(true, limits)
+    }
+
+    fn judge_by(&self, whole: bool, limits: Limits) -> Result<LogVerdict, JudgeError> {
+        let judge = if whole {
+            core::yacht_judge_whole_updates
+        } else {
+            core::yacht_judge_events
+        };
         let mut judgement = core::Judgement::default();
         // SAFETY: the slices are valid for their lengths, and the written value overlaps none.
         let number = unsafe {
-            core::yacht_judge_events(
+            judge(
                 self.catalogue.as_ptr(),
                 self.catalogue.len(),
                 self.slots,

@@ -4,12 +4,13 @@ use Rattle.check_flight.proofs.Words.{Contains-append_right, FlightSetting, Happ
 use Rattle.check_flight.proofs.Words.{Looks, Moment, Option, RingState, WasLogged, ap, arith, by_equality, contains_head, either_way, if◌then◌else◌}
 use Rattle.check_flight.proofs.Words.{inl, inr, leb-true, log_of, made_by, nat_le, setting_of, sym, ℕ, ⊎_elim, ◌++◌, ◌∙◌, ◌∷◌, ◌≡◌, ◌≤◌, ◌⊎◌, []}
 use Rattle.check_flight.proofs.Words.{length, refl, ◌-◌, subst, Contains-push_cases, get_or_append_left, get_or_at, run_at, length-append, rules_of}
-use Rattle.check_flight.proofs.Words.{append-nil, append_assoc, IsNumbered, runs_with, AreReached, AreAnswers, AreFollowed, ArePassed, HasNoFlight}
+use Rattle.check_flight.proofs.Words.{append-nil, append_assoc, IsNumbered, runs_with, AreReached, AreAnswers, AreFollowed, ArePassed, HasNoFlightBy}
+use Rattle.check_flight.proofs.Words.{Bool, IsInTurnIf, IsTrue, IsWholeIf}
 use Rattle.check_flight.proofs.Words.{IsStopped, GoesOnTo, FlightView, Called, Freed, FileClosed, AllSettled, MayFollow}
 use Rattle.check_flight.specs.Refutations.{IsRefutation, IsRefutedFrom}
 use Rattle.fx_flight.proofs.Beginnings.{lasts, logged as was_logged}
 use Rattle.fx_flight.proofs.InTime.{made_by-parts, in_log as was_read, seen as was_seen}
-use Rattle.check_flight.proofs.Steps.{event_leads, followed_on, looks_on, not_stopped, shifted}
+use Rattle.check_flight.proofs.Steps.{event_leads, followed_on, in_turn, looks_on, not_stopped, shifted}
 
 -- a look that was answered is past the size, or what it found first is its answer
 abbrev HasLooked : ℕ → List Moment → ℕ → Option Identity → Type 0
@@ -74,69 +75,75 @@ no_calls = record {
   once = λ id slot other inside. absurd (let few = inside.1 in omega arith);
 }
 
-module _ (old : RingState) (log : List Happening) where
+module _ (whole : Bool) (old : RingState) (log : List Happening) where
   -- where a flight's last moment is an access
   module _ (answers : ℕ → List Completed) (fits : AreAnswers log answers) (runs : List (List Asked)) (read : List Happening)
-      (calls : AreCalls runs read) (fronts : List FlightView) (closed : AreFollowed old.catalogue old.size log (length runs) fronts) where
+      (calls : AreCalls runs read) (fronts : List FlightView) (closed : AreFollowed whole old.catalogue old.size log (length runs) fronts) where
     abbrev Comes : List Moment → Type 0
     Comes flight = (state : FlightView) × Contains fronts state × GoesOnTo old runs flight state
 
     goes_on : (flight : List Moment)
         → ((e : Happening) (before : List Moment) → IsFlight (setting_of old answers) (Logged e ∷ before)
+        → IsWholeIf whole (setting_of old answers) (Logged e ∷ before)
         → AreLooksSeen old.size log (Logged e ∷ before) → log_of before ++ e ∷ [] ≡ read
         → Comes (Logged e ∷ before))
         → ([] ≡ read → Comes [])
-        → IsFlight (setting_of old answers) flight → AreLooksSeen old.size log flight → log_of flight ≡ read → Comes flight
-    goes_on [] event start is seen whole = start whole
-    goes_on (Logged e ∷ flight) event start is seen whole = event e flight is seen whole
-    goes_on (Accesses x ∷ flight) event start is seen whole =
-        let (state, inside, to) = goes_on flight event start is.0 (seen_before old.size log (Accesses x) flight seen) whole in
-        let these = rw (← whole) at calls in
+        → IsFlight (setting_of old answers) flight → IsWholeIf whole (setting_of old answers) flight → AreLooksSeen old.size log flight
+        → log_of flight ≡ read → Comes flight
+    goes_on [] event start is steps seen all = start all
+    goes_on (Logged e ∷ flight) event start is steps seen all = event e flight is steps seen all
+    goes_on (Accesses x ∷ flight) event start is steps seen all =
+        let (state, inside, to) = goes_on flight event start is.0 (λ yes. (steps yes).0) (seen_before old.size log (Accesses x) flight seen) all in
+        let these = rw (← all) at calls in
         let (each, denied) = closed state inside in
+        let turn : IsInTurnIf whole (length runs) state x.chain = λ yes.
+        in_turn old log answers fits these to x.chain (λ other apart. (steps yes).1 other (λ (e : x.chain ≡ other). apart (sym e))) in
         ⊎_elim
-        (λ chain. followed_on old log answers fits these to x chain.0 is.1.0 chain.1 chain.2 fronts each)
-        (λ look. (state, inside, looks_on old log answers fits these to x is.1.0 look.2 look.3 look.4 seen denied))
+        (λ chain. followed_on old log answers fits these to whole x chain.0 is.1.0 chain.1 chain.2 fronts each turn)
+        (λ look. (state, inside, looks_on old log answers fits these to whole x is.1.0 look.2 look.3 look.4 seen denied turn))
         is.1.1
 
   -- the first state
   pub from_start : (fronts : List FlightView) (start : FlightView) → Contains fronts start → GoesOnTo old [] [] start
-      → AreFollowed old.catalogue old.size log 0 fronts → AreReached old log [] [] fronts
-  from_start fronts start inside leads closed answers fits flight is seen whole =
+      → AreFollowed whole old.catalogue old.size log 0 fronts → AreReached whole old log [] [] fronts
+  from_start fronts start inside leads closed answers fits flight is steps seen all =
       goes_on answers fits [] [] no_calls fronts closed flight
-      (λ e before of seen whole. absurd (never_empty (log_of before) e whole)) (λ _. (start, inside, leads)) is seen whole
+      (λ e before of by seen all. absurd (never_empty (log_of before) e all)) (λ _. (start, inside, leads)) is steps seen all
 
   -- one event more
   pub all_next : {runs : List (List Asked)} {read : List Happening} (e : Happening) (states nexts fronts : List FlightView)
-      → AreReached old log runs read states → AreCalls runs read → IsNumbered (length runs) e
+      → AreReached whole old log runs read states → AreCalls runs read → IsNumbered (length runs) e
       → AreCalls (runs_with runs e) (read ++ e ∷ [])
-      → ArePassed (rules_of old.catalogue old.size) log runs read states nexts e
+      → ArePassed whole (rules_of old.catalogue old.size) log runs read states nexts e
       → ((state : FlightView) → Contains nexts state → Contains fronts state)
-      → AreFollowed old.catalogue old.size log (length (runs_with runs e)) fronts
-      → AreReached old log (runs_with runs e) (read ++ e ∷ []) fronts
-  all_next {runs} {read} e states nexts fronts all calls numbered more passed within closed answers fits flight is seen whole =
+      → AreFollowed whole old.catalogue old.size log (length (runs_with runs e)) fronts
+      → AreReached whole old log (runs_with runs e) (read ++ e ∷ []) fronts
+  all_next {runs} {read} e states nexts fronts all calls numbered more passed within closed answers fits flight is steps seen whole_log =
       goes_on answers fits (runs_with runs e) (read ++ e ∷ []) more fronts closed flight
-      (λ f before of found same.
+      (λ f before of by found same.
       let (read_same, event_same) = lasts (log_of before) read same in
-      let (state, inside, to) = all answers fits before of.0 (seen_before old.size log (Logged f) before found) read_same in
+      let (state, inside, to) = all answers fits before of.0 (λ yes. (by yes).0) (seen_before old.size log (Logged f) before found) read_same in
       let may = subst (λ (g : Happening). MayFollow (setting_of old answers) before g) event_same of.1 in
+      let these : AreCalls runs (log_of before) = subst (λ (xs : List Happening). AreCalls runs xs) (sym read_same) calls in
+      let turn : IsInTurnIf whole (length runs) state 0 = λ yes. in_turn old log answers fits these to 0 (λ other _. (by yes).1 other tt) in
       ⊎_elim
-      (λ stopped. absurd (not_stopped old log answers fits (subst (λ (xs : List Happening). AreCalls runs xs) (sym read_same) calls) to e may
+      (λ stopped. absurd (not_stopped old log answers fits these to e may
       (subst (λ (xs : List Happening). IsStopped (rules_of old.catalogue old.size) log runs xs state e) (sym read_same) stopped)))
       (λ led.
       let lead = event_leads old e to numbered led.2 in
       (led.0, within led.0 led.1, subst (λ (g : Happening). GoesOnTo old (runs_with runs e) (Logged g ∷ before) led.0) (sym event_same) lead))
-      (passed state inside))
-      (λ empty. absurd (never_empty read e (sym empty))) is seen whole
+      (passed state inside turn))
+      (λ empty. absurd (never_empty read e (sym empty))) is steps seen whole_log
 
   -- where no state is left
-  pub none_left : {runs : List (List Asked)} → AreReached old log runs log [] → AreCalls runs log → HasNoFlight old log
-  none_left {runs} all calls is memory =
+  pub none_left : {runs : List (List Asked)} → AreReached whole old log runs log [] → AreCalls runs log → HasNoFlightBy whole old log
+  none_left {runs} all calls (is, steps) memory =
       let fits : AreAnswers log is.answers = record {
         seen = λ id c inside. answered_in old is.answers is.flight is.is id c (was_logged is.flight (Answered id c) (rw is.same inside));
         memory = memory;
       } in
       let seen = looks_seen (setting_of old is.answers) runs log is.flight calls is.is is.same in
-      let (state, (k, few, at), to) = all is.answers fits is.flight is.is seen is.same in
+      let (state, (k, few, at), to) = all is.answers fits is.flight is.is steps seen is.same in
       absurd (omega arith)
 
 -- the calls with one event more
@@ -211,18 +218,19 @@ module _ {runs : List (List Asked)} {read : List Happening} (calls : AreCalls ru
   calls_with AllSettled numbered = no_call AllSettled (λ _ _ is. cc) (λ _ _ is. cc)
 
 -- from the states of what was read on
-module _ (old : RingState) (log : List Happening) where
+module _ (whole : Bool) (old : RingState) (log : List Happening) where
   refuted_from : (rest read : List Happening) (runs : List (List Asked)) (states : List FlightView) → read ++ rest ≡ log
-      → AreReached old log runs read states → AreCalls runs read → IsRefutedFrom old log runs read states rest → HasNoFlight old log
-  refuted_from [] read runs states whole all calls none =
-      let same : read ≡ log = sym (append-nil read) ∙ whole in
-      none_left old log {runs = runs} (subst (λ (l : List Happening). AreReached old log runs l []) same
-      (subst (λ (l : List FlightView). AreReached old log runs read l) none all)) (subst (λ (l : List Happening). AreCalls runs l) same calls)
-  refuted_from (event ∷ rest) read runs states whole all calls (nexts, next, refuted) =
+      → AreReached whole old log runs read states → AreCalls runs read → IsRefutedFrom whole old log runs read states rest
+      → HasNoFlightBy whole old log
+  refuted_from [] read runs states is_log all calls none =
+      let same : read ≡ log = sym (append-nil read) ∙ is_log in
+      none_left whole old log {runs = runs} (subst (λ (l : List Happening). AreReached whole old log runs l []) same
+      (subst (λ (l : List FlightView). AreReached whole old log runs read l) none all)) (subst (λ (l : List Happening). AreCalls runs l) same calls)
+  refuted_from (event ∷ rest) read runs states is_log all calls (nexts, next, refuted) =
       let more = calls_with calls event next.numbered in
-      let together : (read ++ event ∷ []) ++ rest ≡ log = append_assoc read (event ∷ []) rest ∙ whole in
+      let together : (read ++ event ∷ []) ++ rest ≡ log = append_assoc read (event ∷ []) rest ∙ is_log in
       refuted_from rest (read ++ event ∷ []) (runs_with runs event) nexts together
-      (all_next old log event states nexts nexts all calls next.numbered more next.passed (λ state inside. inside) next.closed) more refuted
+      (all_next whole old log event states nexts nexts all calls next.numbered more next.passed (λ state inside. inside) next.closed) more refuted
 
-  pub refuted : (states : List FlightView) → IsRefutation old log states → HasNoFlight old log
-  refuted states is = refuted_from log [] [] states refl (from_start old log states is.start is.inside is.leads is.closed) no_calls is.refuted
+  pub refuted : (states : List FlightView) → IsRefutation whole old log states → HasNoFlightBy whole old log
+  refuted states is = refuted_from log [] [] states refl (from_start whole old log states is.start is.inside is.leads is.closed) no_calls is.refuted

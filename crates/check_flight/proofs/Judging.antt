@@ -10,8 +10,8 @@ use Rattle.check_flight.proofs.Words.{not_begun, table_of_slots, drop, file_Deci
 use Rattle.check_flight.proofs.Words.{first_of_call, Happening, same_file, IsAccessFollowed, IsCallFollowed, IsFrontOf, IsWhollyFollowed}
 use Rattle.check_flight.proofs.Words.{catalogue_in, flight_view, flight_views, log_in, rest_of, runs_of_calls, IsOneDenied, IsStateFollowed, AreFewer}
 use Rattle.check_flight.proofs.Words.{AreWith, AreWithout, FlightView, LeadsByCall, StepsByAccess, ChainCall, JudgedLog, WaitingLook, IsMarked}
-use Rattle.check_flight.proofs.Words.{file_number, IndexSet, Updates, FlightState}
-use Rattle.check_outcomes.specs.Stands.{HasEachNext, StepsChain, rest_in}
+use Rattle.check_flight.proofs.Words.{file_number, IndexSet, Updates, FlightState, IsInTurnIf, IsTrue, length-drop, Place, moved}
+use Rattle.check_outcomes.specs.Stands.{HasEachNext, StepsChain, rest_for, rest_in}
 use Rattle.fx_table.proofs.SumLemmas.{contains_map, contains_tail}
 use Rattle.std.proofs.lemmas.Bool.{cases_lt, le-leb, leb-false, lt-leb}
 use Rattle.std.proofs.lemmas.List.Elements.{All-contains, All-contains_itself, All-filter, filter_passes}
@@ -72,6 +72,27 @@ open_rest runs state id j is =
     let later : nat_le id state.base ≡ false = lt-leb id state.base (omega arith) in
     let at : id - 1 - state.base ≡ j = omega arith in
     rw (later, at) refl
+
+-- a call with members left has made the accesses that the list has
+left_made : (place : Place) (requests : List Asked) (made : ℕ) → 0 < length requests → (rest_for place requests made).made ≡ made
+left_made place [] made some = absurd (omega arith)
+left_made place (request ∷ requests) made some = refl
+
+pub amid_rest : (runs : List (List Asked)) (state : FlightState) (j : ℕ) {progress : Progress}
+    → slice_index_or state.chains.items j not_begun ≡ progress → progress.done < length (run_at runs (state.base + j + 1))
+    → (rest_of runs state (state.base + j + 1)).made ≡ progress.made
+amid_rest runs state j {progress} here few =
+    let run : List Asked = run_at runs (state.base + j + 1) in
+    ap (λ (r : Rest). r.made) (open_rest runs state (state.base + j + 1) j refl)
+    ∙ (ap (λ (p : Progress). (rest_in (first_of_call (state.base + j + 1)) run p).made) here
+    ∙ left_made (moved (first_of_call (state.base + j + 1)) progress.done) (drop progress.done run) progress.made
+    (omega (arith, few, length-drop progress.done run)))
+
+-- no other call is in turn while one is amid its update
+pub not_in_turn : (log : JudgedLog) (runs : List (List Asked)) (state : FlightState) (amid id : ℕ) → 1 ≤ amid → amid ≤ length runs
+    → (amid ≡ id → ⊥) → ((rest_of runs state amid).made ≡ 0 → ⊥) → IsTrue log.whole
+    → IsInTurnIf log.whole (length runs) (flight_view runs state) id → ⊥
+not_in_turn log runs state amid id low high apart begun whole turn = begun (turn whole amid low high apart)
 
 -- another call is where it was
 same_other : (runs : List (List Asked)) (base j : ℕ) (chains : List Progress) (after : Progress) (other : ℕ) → 1 ≤ other
@@ -218,16 +239,16 @@ read_more events at event few is =
 pub passed_by : (log : JudgedLog) (runs : List (List Asked)) (read : List Happening) (nexts : List FlightState) (state : FlightState) (event : Happening)
     (passage : Passage) → IsPassage log runs read state event passage → IsTakenIn nexts passage
     → IsStatePassed log runs read nexts event (flight_view runs state)
-passed_by log runs read nexts state event Stops is inside = inl is
-passed_by log runs read nexts state event (Leads next) is inside =
+passed_by log runs read nexts state event Stops is inside turn = inl (is turn)
+passed_by log runs read nexts state event (Leads next) is inside turn =
     inr (flight_view (runs_with runs event) next, inside (runs_with runs event), is)
-passed_by log runs read nexts state event IsUnfit is inside = absurd inside
+passed_by log runs read nexts state event IsUnfit is inside turn = absurd inside
 
 pub followed_by : (log : JudgedLog) (runs : List (List Asked)) (states : List FlightState) (state : FlightState) (id : ℕ) (a : Access)
     (passage : Passage) → IsAccessPassage log runs state id a passage → IsTakenIn states passage → IsAccessFollowed log runs states state id a
-followed_by log runs states state id a Stops is inside permits = inl (is permits)
-followed_by log runs states state id a (Leads next) is inside permits = inr (flight_view runs next, inside runs, is)
-followed_by log runs states state id a IsUnfit is inside permits = absurd inside
+followed_by log runs states state id a Stops is inside permits turn = inl (is permits turn)
+followed_by log runs states state id a (Leads next) is inside permits turn = inr (flight_view runs next, inside runs, is)
+followed_by log runs states state id a IsUnfit is inside permits turn = absurd inside
 
 -- Lists that go on.
 
@@ -254,8 +275,8 @@ views_more runs before after is view inside =
 
 pub access_more : (log : JudgedLog) (runs : List (List Asked)) (before after : List FlightState) (state : FlightState) (id : ℕ) (a : Access)
     → IsFrontOf before after → IsAccessFollowed log runs before state id a → IsAccessFollowed log runs after state id a
-access_more log runs before after state id a is followed permits =
-    ⊎_elim (λ denied. inl denied) (λ led. inr (led.0, views_more runs before after is led.0 led.1, led.2)) (followed permits)
+access_more log runs before after state id a is followed permits turn =
+    ⊎_elim (λ denied. inl denied) (λ led. inr (led.0, views_more runs before after is led.0 led.1, led.2)) (followed permits turn)
 
 pub call_more : (log : JudgedLog) (runs : List (List Asked)) (before after : List FlightState) (state : FlightState) (id : ℕ)
     → IsFrontOf before after → IsCallFollowed log runs before state id → IsCallFollowed log runs after state id
@@ -280,13 +301,14 @@ call_followed log runs states state id choices each size all a next permits =
 
 -- each call
 pub state_followed : (log : JudgedLog) (runs : List (List Asked)) (states : List FlightState) (state : FlightState) (calls : ℕ)
-    → ((k : ℕ) → k < calls - state.base → IsCallFollowed log runs states state (state.base + k + 1))
-    → IsStateFollowed (catalogue_in log) log.setting.size (log_in log) calls (flight_views runs states) (flight_view runs state)
-state_followed log runs states state calls each id low high a next permits = ⊎_elim
+    → calls ≡ length runs → ((k : ℕ) → k < calls - state.base → IsCallFollowed log runs states state (state.base + k + 1))
+    → IsStateFollowed log.whole (catalogue_in log) log.setting.size (log_in log) calls (flight_views runs states) (flight_view runs state)
+state_followed log runs states state calls same each id low high a next permits turn = ⊎_elim
     (λ (late : state.base < id).
     let k : ℕ = id - 1 - state.base in
     let is : state.base + k + 1 ≡ id = omega arith in
-    (subst (IsCallFollowed log runs states state) is (each k (omega arith))) a next permits)
+    (subst (IsCallFollowed log runs states state) is (each k (omega arith))) a next permits
+    (subst (λ (n : ℕ). IsInTurnIf log.whole n (flight_view runs state) id) same turn))
     (λ (early : id ≤ state.base). absurd (rw (le-leb id state.base early) at next))
     (cases_lt state.base id)
 

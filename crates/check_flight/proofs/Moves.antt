@@ -9,7 +9,10 @@ use Rattle.check_flight.proofs.Words.{length-take-le, take-take, take_more, Happ
 use Rattle.check_flight.proofs.Words.{first_of_call, Accesses, IsLookDone, Logged, MayAccess, MayFollow, Moment, WasLogged, made_by, taken_in}
 use Rattle.check_flight.proofs.Words.{IsCallDone, IsMemberMade, HasMadeFlight, IsCallMade, IsRingOf, accesses_in, accesses_of_plan, answers_in}
 use Rattle.check_flight.proofs.Words.{AreCallsMade, AreFilesTaken, AreFoundHeld, IsLookAnswered, IsCallLogged, IsMarked, IsPlanned, answers_of_plan}
-use Rattle.check_flight.proofs.Words.{begun_by, HeldFile, IndexSet, AreWithout, setting_of, JudgedLog, FlightCall}
+use Rattle.check_flight.proofs.Words.{begun_by, HeldFile, IndexSet, AreWithout, setting_of, JudgedLog, FlightCall, subst, None, IsTrue}
+use Rattle.check_flight.proofs.Words.{IsBetweenMembers, FlightSetting}
+use Rattle.check_flight.specs.Player.{IsMembersEnd}
+use Rattle.fx_flight.specs.Whole.{AreOfMembers}
 use Rattle.check_flight.specs.declared.plan.CallKind.{CallKind}
 use Rattle.check_flight.specs.declared.plan.CallKind.TheVariants.{Look, Chain as ChainCall}
 use Rattle.check_flight.specs.declared.plan.CallPlan.{CallPlan}
@@ -84,6 +87,18 @@ planned_at log plans i id kind plan number few is planned =
     let own : answers_in plans id ≡ answers_of_plan plan = rw number (answers_at plans i plan few ∙ ap answers_of_plan (sym is)) in
     rw (mine, own) planned
 
+-- a call stays between members if it makes no access
+still_between : (s : FlightSetting) (flight : List Moment) (m : Moment) (id : ℕ) → made_by id (m ∷ flight) ≡ made_by id flight
+    → IsBetweenMembers s flight id → IsBetweenMembers s (m ∷ flight) id
+still_between s flight m id same (inl none) = inl (same ∙ none)
+still_between s flight m id same (inr (inl (slot, was))) = inr (inl (slot, shifted flight was))
+still_between s flight m id same (inr (inr (requests, was, of))) =
+    inr (inr (requests, shifted flight was, subst (λ (l : List Access). AreOfMembers s id requests l) (sym same) of))
+
+-- no call is amid an update
+at_rest : {amid : Option ℕ} (id : ℕ) → amid ≡ None → amid ≡ Some id → ⊥
+at_rest id none one = let bad : None ≡ Some id = sym none ∙ one in cc bad
+
 module _ (old : RingState) (log : JudgedLog) (plans : List CallPlan) (ring : IsRingOf old log) where
   -- what holds by the ring
   by_ring : (id : ℕ) (requests : List Asked) (accesses : List Access) (answers : List Completed) → IsCallDone log id requests accesses answers
@@ -123,6 +138,26 @@ module _ (old : RingState) (log : JudgedLog) (plans : List CallPlan) (ring : IsR
       → made_by other (Accesses (record { chain = id; access = a }) ∷ flight) ≡ made_by other flight
   other_made flight id other a apart = rw (ne_eqb id other apart) refl
 
+  -- the call has made all accesses of its first members
+  ends_between : (flight : List Moment) (id : ℕ) (kind : CallKind) (plan : CallPlan) (made : ℕ) → IsCallLogged log plans flight id kind
+      → accesses_in plans id ≡ plan.accesses.items → answers_in plans id ≡ answers_of_plan plan
+      → made_by id flight ≡ take made (accesses_in plans id) → IsMembersEnd log id kind plan made
+      → IsBetweenMembers (setting_of old (answers_in plans)) flight id
+  ends_between flight id (ChainCall requests) plan made logged accesses answers own (count, done) =
+      let is : made_by id flight ≡ take made plan.accesses.items = rw accesses at own in
+      inr (inr (
+        all_asked requests.now,
+        logged.0,
+        record {
+          count = count;
+          answered = take count (answers_of_plan plan);
+          later = drop count (answers_of_plan plan);
+          answer = answers ∙ sym (take-append-drop count (answers_of_plan plan));
+          done = rw is (by_ring _ _ _ _ done);
+        },
+      ))
+  ends_between flight id (Look slot) plan made logged accesses answers own ended = inr (inl (slot, logged.0))
+
   pub moves_access : {read : List Happening} (player next : FlightPlayer) (i : ℕ) (call after : FlightCall) (a : Access)
       → i < length player.calls.items → slice_index_or player.calls.items i call ≡ call
       → call.made < length (accesses_in plans (i + 1)) → a ≡ slice_index_or (accesses_in plans (i + 1)) call.made a
@@ -132,9 +167,13 @@ module _ (old : RingState) (log : JudgedLog) (plans : List CallPlan) (ring : IsR
       → table_of_slots next.slots ≡ table_with (table_of_slots player.slots) a
       → next.removed.items ≡ player.removed.items ++ option_to_list (file_removed_by a)
       → ((file : Identity) → file_removed_by a ≡ Some file → IsMarked player.closed file → ⊥)
+      → (plan : CallPlan) → accesses_in plans (i + 1) ≡ plan.accesses.items → answers_in plans (i + 1) ≡ answers_of_plan plan
+      → ((other : ℕ) → player.amid ≡ Some other → (other ≡ i + 1 → ⊥) → ⊥)
+      → (IsTrue log.whole → (next.amid ≡ Some (i + 1) → ⊥) → IsMembersEnd log (i + 1) call.kind plan (call.made + 1))
       → HasMadeFlight old log plans read player
-      → HasMadeFlight old log plans read (record player { slots = next.slots; calls = next.calls; removed = next.removed })
-  moves_access {read} player next i call after a few here left is permits own more calls slots removed unclosed so_far =
+      → HasMadeFlight old log plans read
+      (record player { slots = next.slots; calls = next.calls; removed = next.removed; amid = next.amid })
+  moves_access {read} player next i call after a few here left is permits own more calls slots removed unclosed plan accesses answers turn ends so_far =
       let flight : List Moment = so_far.flight in
       let id : ℕ = i + 1 in
       let files = so_far.files in
@@ -150,9 +189,21 @@ module _ (old : RingState) (log : JudgedLog) (plans : List CallPlan) (ring : IsR
       } in
       let long : length next.calls.items ≡ length player.calls.items =
       ap (λ (l : List FlightCall). length l) calls ∙ length-set player.calls.items i after in
+      let others : (other : ℕ) → IsTrue log.whole → (id ≡ other → ⊥) → IsBetweenMembers (setting_of old (answers_in plans)) flight other =
+      λ other yes apart. so_far.between yes other (λ (amid : player.amid ≡ Some other). turn other amid (λ (same : other ≡ id). apart (sym same))) in
       record {
         flight = moment ∷ flight;
         is = (so_far.is, (rw (← so_far.table) permits, may_access flight id call.kind call.made a it.logged it.made left made is));
+        whole = λ yes. (so_far.whole yes, λ other apart. others other yes apart);
+        between = λ yes other amid. ⊎_elim
+            (λ (same : other ≡ id).
+            let kept : next.amid ≡ Some id → ⊥ = λ (is : next.amid ≡ Some id). amid (is ∙ ap Some (sym same)) in
+            subst (λ (n : ℕ). IsBetweenMembers (setting_of old (answers_in plans)) (moment ∷ flight) n) (sym same) (ends_between (moment ∷ flight) id call.kind plan (call.made + 1) (shifted flight it.logged.0, it.logged.1) accesses answers
+            (own_made flight id a ∙ made) (ends yes kept)))
+            (λ (apart : other ≡ id → ⊥).
+            let differ : id ≡ other → ⊥ = λ (same : id ≡ other). apart (sym same) in
+            still_between (setting_of old (answers_in plans)) flight moment other (other_made flight id other a differ) (others other yes differ))
+            (cases_eq other id);
         logged = so_far.logged;
         table = slots ∙ ap (λ (t : Table). table_with t a) so_far.table;
         calls = record {
@@ -192,13 +243,15 @@ module _ (old : RingState) (log : JudgedLog) (plans : List CallPlan) (ring : IsR
 
   -- one that may follow
   follows : {read : List Happening} {player : FlightPlayer} (next : FlightPlayer) (e : Happening) (so_far : HasMadeFlight old log plans read player)
-      → MayFollow (setting_of old (answers_in plans)) so_far.flight e → table_of_slots next.slots ≡ table_of_slots player.slots
+      → player.amid ≡ None → MayFollow (setting_of old (answers_in plans)) so_far.flight e → table_of_slots next.slots ≡ table_of_slots player.slots
       → AreCallsMade log plans (Logged e ∷ so_far.flight) next.calls.items
       → AreFilesTaken (Logged e ∷ so_far.flight) next.removed.items next.closed → AreFoundHeld (Logged e ∷ so_far.flight) next.holds.items
       → HasMadeFlight old log plans (read ++ e ∷ []) next
-  follows next e so_far may table calls files holds = record {
+  follows next e so_far rests may table calls files holds = record {
     flight = Logged e ∷ so_far.flight;
     is = (so_far.is, may);
+    whole = λ yes. (so_far.whole yes, λ id other. so_far.between yes id (at_rest id rests));
+    between = λ yes id apart. still_between (setting_of old (answers_in plans)) so_far.flight (Logged e) id refl (so_far.between yes id (at_rest id rests));
     logged = ap (λ (l : List Happening). l ++ e ∷ []) so_far.logged;
     table = table ∙ so_far.table;
     calls = calls;
@@ -208,10 +261,11 @@ module _ (old : RingState) (log : JudgedLog) (plans : List CallPlan) (ring : IsR
 
   -- one that changes nothing
   pub moves_event : {read : List Happening} {player : FlightPlayer} (e : Happening) → ((file : Identity) → e ≡ FileClosed file → ⊥)
-      → ((id : ℕ) (found : Option Identity) → e ≡ LookAnswered id found → ⊥) → (so_far : HasMadeFlight old log plans read player)
+      → ((id : ℕ) (found : Option Identity) → e ≡ LookAnswered id found → ⊥) → player.amid ≡ None
+      → (so_far : HasMadeFlight old log plans read player)
       → MayFollow (setting_of old (answers_in plans)) so_far.flight e → HasMadeFlight old log plans (read ++ e ∷ []) player
-  moves_event {read} {player} e close look so_far may =
-      follows player e so_far may refl (calls_on e so_far.calls) (files_on e close so_far.files)
+  moves_event {read} {player} e close look rests so_far may =
+      follows player e so_far rests may refl (calls_on e so_far.calls) (files_on e close so_far.files)
       (held_on so_far.flight player.holds.items e look so_far.holds)
 
   -- a call may begin if its plan fits it
@@ -224,9 +278,9 @@ module _ (old : RingState) (log : JudgedLog) (plans : List CallPlan) (ring : IsR
   pub moves_begin : {read : List Happening} (player next : FlightPlayer) (kind : CallKind) {id : ℕ} → id ≡ length player.calls.items + 1
       → IsPlanned log id kind (accesses_in plans id) (answers_in plans id)
       → next.calls.items ≡ player.calls.items ++ record { kind = kind; made = 0 } ∷ []
-      → HasMadeFlight old log plans read player
+      → player.amid ≡ None → HasMadeFlight old log plans read player
       → HasMadeFlight old log plans (read ++ begun_by id kind ∷ []) (record player { calls = next.calls })
-  moves_begin {read} player next kind {id} is planned calls so_far =
+  moves_begin {read} player next kind {id} is planned calls rests so_far =
       let flight : List Moment = so_far.flight in
       let before : List FlightCall = player.calls.items in
       let call : FlightCall = record { kind = kind; made = 0 } in
@@ -236,7 +290,7 @@ module _ (old : RingState) (log : JudgedLog) (plans : List CallPlan) (ring : IsR
         made = so_far.calls.unmade id (omega arith);
       } in
       let long : length next.calls.items ≡ length before + 1 = ap (λ (l : List FlightCall). length l) calls ∙ length-append before (call ∷ []) in
-      follows (record player { calls = next.calls }) e so_far (may_begin flight id kind planned) refl
+      follows (record player { calls = next.calls }) e so_far rests (may_begin flight id kind planned) refl
       (record {
         each = λ k d low. rw calls (⊎_elim
             (λ (same : k ≡ length before).
@@ -254,8 +308,8 @@ module _ (old : RingState) (log : JudgedLog) (plans : List CallPlan) (ring : IsR
       → id ≡ i + 1 → i < length player.calls.items → slice_index_or player.calls.items i call ≡ call
       → ((flight : List Moment) → IsCallLogged log plans flight id call.kind → WasLogged flight (Called id requests))
       → i < length plans → slice_index_or plans i plan ≡ plan → IsMemberMade log plan requests call.made id c
-      → HasMadeFlight old log plans read player → HasMadeFlight old log plans (read ++ Answered id c ∷ []) player
-  moves_answer {read} {player} i {id} {call} {plan} {c} {requests} number few here chain within there member so_far =
+      → player.amid ≡ None → HasMadeFlight old log plans read player → HasMadeFlight old log plans (read ++ Answered id c ∷ []) player
+  moves_answer {read} {player} i {id} {call} {plan} {c} {requests} number few here chain within there member rests so_far =
       let flight : List Moment = so_far.flight in
       let it : IsCallMade log plans flight id call = rw (here, ← number) at (so_far.calls.each i call few) in
       let A : List Completed = answers_of_plan plan in
@@ -276,7 +330,7 @@ module _ (old : RingState) (log : JudgedLog) (plans : List CallPlan) (ring : IsR
       ∙ ap (λ (l : List Access). l ++ drop member.own (take call.made mine)) (take-take member.own call.made mine member.few) in
       let done : IsChainDone old.catalogue old.size (first_of_call id) (take (length earlier + 1) requests)
       (take member.own mine) (earlier ++ c ∷ []) = rw (count, ← upto) (by_ring _ _ _ _ member.done) in
-      moves_event (Answered id c) (λ file same. cc) (λ other found same. cc) so_far (
+      moves_event (Answered id c) (λ file same. cc) (λ other found same. cc) rests so_far (
         requests,
         chain flight it.logged,
         record {
@@ -295,13 +349,13 @@ module _ (old : RingState) (log : JudgedLog) (plans : List CallPlan) (ring : IsR
       → ((hold : HeldFile) → Contains player.holds.items hold → hold.file ≡ file → ⊥)
       → AreWithout player.removed.items file next.removed.items → (Contains next.removed.items file → ⊥)
       → ((other : Identity) → (file ≡ other) ⊎ IsMarked player.closed other → IsMarked next.closed other)
-      → HasMadeFlight old log plans read player
+      → player.amid ≡ None → HasMadeFlight old log plans read player
       → HasMadeFlight old log plans (read ++ FileClosed file ∷ []) (record player { removed = next.removed; closed = next.closed })
-  moves_close {read} player next file inside unheld without gone closed so_far =
+  moves_close {read} player next file inside unheld without gone closed rests so_far =
       let flight : List Moment = so_far.flight in
       let files = so_far.files in
       let e : Happening = FileClosed file in
-      follows (record player { removed = next.removed; closed = next.closed }) e so_far
+      follows (record player { removed = next.removed; closed = next.closed }) e so_far rests
       (record {
         removed = (files.left file inside).0;
         once = (files.left file inside).1;
@@ -329,15 +383,15 @@ module _ (old : RingState) (log : JudgedLog) (plans : List CallPlan) (ring : IsR
   pub moves_found : {read : List Happening} (player next : FlightPlayer) (id : ℕ) (found : Option Identity) → IsLookAnswered log plans player id found
       → ((hold : HeldFile) → Contains player.holds.items hold → Contains next.holds.items hold)
       → ((file : Identity) → found ≡ Some file → Contains next.holds.items (record { id = id; file = file }))
-      → HasMadeFlight old log plans read player
+      → player.amid ≡ None → HasMadeFlight old log plans read player
       → HasMadeFlight old log plans (read ++ LookAnswered id found ∷ []) (record player { holds = next.holds })
-  moves_found {read} player next id found has holds more so_far =
+  moves_found {read} player next id found has holds more rests so_far =
       let flight : List Moment = so_far.flight in
       let e : Happening = LookAnswered id found in
       let it : IsCallMade log plans flight id has.call = rw (has.here, ← has.is) at (so_far.calls.each has.at has.call has.inside) in
       let logged : IsCallLogged log plans flight id (Look has.slot) = rw has.kind at it.logged in
       let done : IsLookDone old.size has.slot (made_by id flight) found = rw (ring.size, it.made) has.done in
-      follows (record player { holds = next.holds }) e so_far
+      follows (record player { holds = next.holds }) e so_far rests
       (has.slot, logged.0, done, λ file same was. has.unclosed file same (so_far.files.closed file was)) refl (calls_on e so_far.calls)
       (files_on e (λ file same. cc) so_far.files)
       (λ other file was. ⊎_elim
@@ -352,23 +406,23 @@ module _ (old : RingState) (log : JudgedLog) (plans : List CallPlan) (ring : IsR
   -- the end of a hold
   pub moves_free : {read : List Happening} (player next : FlightPlayer) (id : ℕ)
       → ((hold : HeldFile) → Contains player.holds.items hold → (hold.id ≡ id → ⊥) → Contains next.holds.items hold)
-      → HasMadeFlight old log plans read player
+      → player.amid ≡ None → HasMadeFlight old log plans read player
       → HasMadeFlight old log plans (read ++ Freed id ∷ []) (record player { holds = next.holds })
-  moves_free {read} player next id holds so_far =
+  moves_free {read} player next id holds rests so_far =
       let flight : List Moment = so_far.flight in
       let e : Happening = Freed id in
       let on = held_on flight player.holds.items e (λ other found same. cc) so_far.holds in
-      follows (record player { holds = next.holds }) e so_far tt refl (calls_on e so_far.calls) (files_on e (λ file same. cc) so_far.files)
+      follows (record player { holds = next.holds }) e so_far rests tt refl (calls_on e so_far.calls) (files_on e (λ file same. cc) so_far.files)
       (λ other file was. ⊎_elim
       (λ held. ⊎_elim (λ (same : other ≡ id). inr (rw same (contains_head (Logged e) flight)))
       (λ (apart : other ≡ id → ⊥). inl (holds (record { id = other; file = file }) held apart)) (cases_eq other id))
       (λ freed. inr freed) (on other file was))
 
   -- the end of a wait for all closes
-  pub moves_end : {read : List Happening} {player : FlightPlayer} → player.removed.items ≡ [] → HasMadeFlight old log plans read player
-      → HasMadeFlight old log plans (read ++ AllSettled ∷ []) player
-  moves_end none so_far =
-      moves_event AllSettled (λ file same. cc) (λ id found same. cc) so_far
+  pub moves_end : {read : List Happening} {player : FlightPlayer} → player.removed.items ≡ [] → player.amid ≡ None
+      → HasMadeFlight old log plans read player → HasMadeFlight old log plans (read ++ AllSettled ∷ []) player
+  moves_end none rests so_far =
+      moves_event AllSettled (λ file same. cc) (λ id found same. cc) rests so_far
       (λ file inside. ⊎_elim (λ still. let it = rw none at still in absurd (let few = it.1 in omega arith)) (λ was. was)
       (so_far.files.taken file inside))
 
@@ -378,6 +432,8 @@ module _ (old : RingState) (log : JudgedLog) (plans : List CallPlan) (ring : IsR
   moves_first player table calls removed = record {
     flight = [];
     is = tt;
+    whole = λ yes. tt;
+    between = λ yes id apart. inl refl;
     logged = refl;
     table = table;
     calls = record { each = λ k d low. absurd (let few = rw calls at low in omega arith); unmade = λ id high. refl };

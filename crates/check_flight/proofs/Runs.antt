@@ -80,6 +80,17 @@ module _ (rules : Rules) where
       let few = behind_fewer place request requests (rules.answer place request None) (settled_fewer (next_member place) requests) in
       ⊎_elim (λ none. rw none (omega (arith, few))) (λ some. rw some (omega arith)) (cases_Bool (rules.count request == 0))
 
+  behind_made : (place : Place) (request : Asked) (requests : List Asked) (c : Completed)
+      → (settled_at rules (next_member place) requests).1.made ≡ 0 → (behind rules place request requests c).1.made ≡ 0
+  behind_made place request requests c rest = ⊎_elim (λ cut. rw cut refl) (λ on. rw on rest) (cases_Bool (severs request c))
+
+  -- the next request that reaches the table has made no access
+  pub settled_made : (place : Place) (requests : List Asked) → (settled_at rules place requests).1.made ≡ 0
+  settled_made place [] = refl
+  settled_made place (request ∷ requests) =
+      let rest = behind_made place request requests (rules.answer place request None) (settled_made (next_member place) requests) in
+      ⊎_elim (λ none. rw none rest) (λ some. rw some refl) (cases_Bool (rules.count request == 0))
+
   step_fewer : (place : Place) (requests : List Asked) (made : ℕ) (a : Access)
       → length (step_of rules place requests made a).1.requests ≤ length requests
   step_fewer place [] made a = omega arith
@@ -106,8 +117,10 @@ module _ (rules : Rules) where
       ap (λ (r : Rest). rest_after rules r (b ∷ own)) more ∙ own_after place request requests (made + 1) b own (omega arith)
 
   module _ (catalogue : List FileEntry) (size : ℕ) (right : AreRight catalogue size rules) where
+    -- no more are left than that, and the next one has made no access
     abbrev Few : Rest → List Access → ℕ → List Asked → Type 0
-    Few rest accesses done requests = length (rest_after rules rest accesses).requests + done ≤ length requests
+    Few rest accesses done requests =
+        (length (rest_after rules rest accesses).requests + done ≤ length requests) × ((rest_after rules rest accesses).made ≡ 0)
 
     few_canceled : (place : Place) (requests : List Asked) (m : ℕ) (cs : List Completed) → cs ≡ canceled place (take m requests)
         → length cs ≤ length requests
@@ -120,8 +133,8 @@ module _ (rules : Rules) where
         (IsChainDone catalogue size (next_member place) (take m requests) others cs)
         → Few (behind rules place request requests c).1 others (suc (length cs)) (request ∷ requests)
     few_behind place request requests m c others cs goes = either_way (severs request c)
-        (λ cut x. rw (cut, over_stays others) (omega (arith, few_canceled (next_member place) requests m cs x.1)))
-        (λ on x. rw on (omega (arith, goes x)))
+        (λ cut x. rw (cut, over_stays others) (omega (arith, few_canceled (next_member place) requests m cs x.1), refl))
+        (λ on x. let it = goes x in rw on (omega (arith, it.0), it.1))
 
     -- after the accesses of the first request, or at once if it makes none
     first_own : (place : Place) (request : Asked) (requests : List Asked) (mine others : List Access) (c : Completed) (done : ℕ)
@@ -138,13 +151,13 @@ module _ (rules : Rules) where
         subst (λ (r : Rest). Few r others done (request ∷ requests))
         (sym (ap (λ (r : Rest). rest_after rules r (a ∷ mine)) some ∙ own_after place request requests 0 a mine (omega arith))) (rw is at goes)
 
-    -- the first members are done, so no more are left than those after them
+    -- the first members are done, so no more are left than those after them, and none has begun
     pub done_members : (place : Place) (requests : List Asked) (m : ℕ) (own : List Access) (cs : List Completed) → AllByRecursion HasMemory cs
         → IsChainDone catalogue size place (take m requests) own cs
         → Few (settled_at rules place requests).1 own (length cs) requests
     done_members place requests zero own cs memory x =
-        rw (x.0, x.1) (omega (arith, settled_fewer place requests))
-    done_members place [] (suc m) own cs memory x = rw (x.0, x.1) (omega arith)
+        rw (x.0, x.1) (omega (arith, settled_fewer place requests), settled_made place requests)
+    done_members place [] (suc m) own cs memory x = rw (x.0, x.1) (omega arith, refl)
     done_members place (request ∷ requests) (suc m) own cs memory x =
         let (mine, others, c, later, are, whole, done, on) = x in
         let mem = rw whole at memory in
@@ -169,10 +182,18 @@ one_chain requests (x ∷ []) d many first len =
 one_chain requests (x ∷ y ∷ chains) d many first len = absurd (omega arith)
 
 -- the first members of a call are done
+pub first_done : (log : JudgedLog) (plan : CallPlan) (requests : List Request) (id m own : ℕ) (accesses : List Access) (answers : List Completion)
+    → accesses ≡ plan.accesses.items → answers ≡ plan.answers.items
+    → IsCallDone log id (all_asked (take m requests)) (take own accesses) (all_completed (take m answers))
+    → IsCallDone log id (take m (all_asked requests)) (take own plan.accesses.items) (take m (answers_of_plan plan))
+first_done log plan requests id m own accesses answers those these done =
+    rw (take-map asked_of m requests, take-map completed_of m plan.answers.items, ← those, ← these) done
+
+-- up to one of them
 pub member_done : (log : JudgedLog) (plan : CallPlan) (requests : List Request) (id m own : ℕ) (accesses : List Access) (answers : List Completion) → 1 ≤ m
     → accesses ≡ plan.accesses.items → answers ≡ plan.answers.items
     → IsCallDone log id (all_asked (take m requests)) (take own accesses) (all_completed (take m answers))
     → IsCallDone log id (take (m - 1 + 1) (all_asked requests)) (take own plan.accesses.items) (take (m - 1 + 1) (answers_of_plan plan))
 member_done log plan requests id m own accesses answers some those these done =
     let n : m - 1 + 1 ≡ m = omega arith in
-    rw (n, take-map asked_of m requests, take-map completed_of m plan.answers.items, ← those, ← these) done
+    rw n (first_done log plan requests id m own accesses answers those these done)

@@ -9,13 +9,13 @@ use Rattle.check_flight.proofs.Words.{AreCalls, IsLed, IsOneDenied, IsStopped, S
 use Rattle.check_flight.proofs.Words.{IsStateFollowed, GoesOnTo, FlightView, rest_after, setting_of, IsNumbered, runs_with, WaitingLook, Happening}
 use Rattle.check_flight.proofs.Words.{Called, Answered, LookCalled, LookAnswered, Freed, FileClosed, AllSettled, first_of_call, Accesses, IsBegun}
 use Rattle.check_flight.proofs.Words.{IsLookDone, Logged, MayFollow, Moment, WasLogged, log_of, made_by, taken_in, table_left_by, Permits, Looks}
-use Rattle.check_flight.proofs.Words.{both_parts}
+use Rattle.check_flight.proofs.Words.{both_parts, Bool, IsBetweenMembers, IsInTurn, IsInTurnIf}
 use Rattle.check_flight.specs.States.{origin_of}
 use Rattle.check_outcomes.proofs.Playing.{OfChain, steps_on}
 use Rattle.check_outcomes.proofs.Requests.{are_right}
 use Rattle.fx_flight.proofs.Chains.{answer_place}
 use Rattle.fx_flight.proofs.InTime.{size_stays, in_log as was_read}
-use Rattle.check_flight.proofs.Runs.{AreAt, chain_at, member_at, same_place, after_both, after_fewer, done_members, over_stays}
+use Rattle.check_flight.proofs.Runs.{AreAt, chain_at, member_at, same_place, after_both, after_fewer, done_members, over_stays, settled_made}
 use Rattle.fx_flight.proofs.Beginnings.{logged as was_logged}
 
 -- A flight's events are those of its log.
@@ -233,8 +233,8 @@ module _ (old : RingState) where
           let start : Rest = origin_of rules id requests in
           let whole : answers id ≡ (is.earlier ++ c ∷ []) ++ is.later = is.answer ∙ sym (append_assoc is.earlier (c ∷ []) is.later) in
           let parts = both_parts HasMemory (is.earlier ++ c ∷ []) is.later (subst (AllByRecursion HasMemory) whole (fits.memory id)) in
-          let few = done_members rules old.catalogue old.size (are_right old.catalogue old.size) (first_of_call id) requests
-          (length is.earlier + 1) is.own (is.earlier ++ c ∷ []) parts.0 is.done in
+          let few = (done_members rules old.catalogue old.size (are_right old.catalogue old.size) (first_of_call id) requests
+          (length is.earlier + 1) is.own (is.earlier ++ c ∷ []) parts.0 is.done).0 in
           let fewer = after_fewer rules (rest_after rules start is.own) is.others in
           let both : rest_after rules start (made_by id flight) ≡ rest_after rules (rest_after rules start is.own) is.others =
           ap (rest_after rules start) is.accesses ∙ after_both rules start is.own is.others in
@@ -251,6 +251,30 @@ module _ (old : RingState) where
           let stop : length (run_at runs id) < length (state.rests id).requests + c.place.member = stopped in
           omega arith
 
+      -- a call between members has not begun its next one
+      between_made : (id : ℕ) → 1 ≤ id → id ≤ length runs → IsBetweenMembers (setting_of old answers) flight id → (state.rests id).made ≡ 0
+      between_made id low high (inl none) =
+          ap (λ (r : Rest). r.made) (to.rests id low high)
+          ∙ (ap (λ (l : List Access). (rest_after rules (origin_of rules id (run_at runs id)) l).made) none
+          ∙ settled_made rules (first_of_call id) (run_at runs id))
+      between_made id low high (inr (inl (slot, was))) =
+          let none = (calls.look id slot (was_read flight (LookCalled id slot) was)).2 in
+          let start : origin_of rules id (run_at runs id) ≡ over = rw none refl in
+          ap (λ (r : Rest). r.made) (to.rests id low high
+          ∙ (ap (λ (r : Rest). rest_after rules r (made_by id flight)) start ∙ over_stays rules (made_by id flight)))
+      between_made id low high (inr (inr (requests, was, of))) =
+          let same = (calls.chain id requests (was_read flight (Called id requests) was)).2 in
+          let parts = both_parts HasMemory of.answered of.later (subst (AllByRecursion HasMemory) of.answer (fits.memory id)) in
+          let it = (done_members rules old.catalogue old.size (are_right old.catalogue old.size) (first_of_call id) requests of.count
+          (made_by id flight) of.answered parts.0 of.done).1 in
+          ap (λ (r : Rest). r.made) (to.rests id low high)
+          ∙ subst (λ (own : List Asked). (rest_after rules (origin_of rules id own) (made_by id flight)).made ≡ 0) same it
+
+      -- a call is in turn if all others are between members
+      pub in_turn : (id : ℕ) → ((other : ℕ) → (other ≡ id → ⊥) → IsBetweenMembers (setting_of old answers) flight other)
+          → IsInTurn (length runs) state id
+      in_turn id all other low high apart = between_made other low high (all other apart)
+
       -- a look that waits isn't a chain
       apart_from : (x : ChainAccess) (requests : List Asked) → WasLogged flight (Called x.chain requests)
           → IsBegun (setting_of old answers) x.chain requests (made_by x.chain flight ++ x.access ∷ [])
@@ -265,12 +289,13 @@ module _ (old : RingState) where
           omega arith
 
       -- an access that a chain may make is followed
-      pub followed_on : (x : ChainAccess) (requests : List Asked) → Permits (table_left_by (table_of old) flight) x.access
+      pub followed_on : (whole : Bool) (x : ChainAccess) (requests : List Asked) → Permits (table_left_by (table_of old) flight) x.access
           → WasLogged flight (Called x.chain requests)
           → IsBegun (setting_of old answers) x.chain requests (made_by x.chain flight ++ x.access ∷ [])
-          → (fronts : List FlightView) → IsStateFollowed old.catalogue old.size log (length runs) fronts state
+          → (fronts : List FlightView) → IsStateFollowed whole old.catalogue old.size log (length runs) fronts state
+          → IsInTurnIf whole (length runs) state x.chain
           → (next : FlightView) × Contains fronts next × GoesOnTo old runs (Accesses x ∷ flight) next
-      followed_on x requests permits was begun fronts each =
+      followed_on whole x requests permits was begun fronts each turn =
           let (low, high, same) = calls.chain x.chain requests (was_read flight (Called x.chain requests) was) in
           let here : state.rests x.chain ≡ rest_after rules (origin_of rules x.chain requests) (made_by x.chain flight) =
           rw same (to.rests x.chain low high) in
@@ -279,32 +304,34 @@ module _ (old : RingState) where
           (λ denied. absurd (not_denied x.chain (step rules (state.rests x.chain) x.access).0
           (begun_at x.chain requests (made_by x.chain flight ++ x.access ∷ []) begun) (rw here answered) denied))
           (λ led. (led.0, led.1, access_leads x to high led.2 (apart_from x requests was begun)))
-          (each x.chain low high x.access (rw here next) (rw to.table permits))
+          (each x.chain low high x.access (rw here next) (rw to.table permits) turn)
 
       -- a look that waits can't make this access, since the log denies what it finds
-      waits_not : (x : ChainAccess) {slot : ℕ} {found : Option Identity} → Permits (table_left_by (table_of old) flight) x.access
+      waits_not : (whole : Bool) (x : ChainAccess) {slot : ℕ} {found : Option Identity} → Permits (table_left_by (table_of old) flight) x.access
           → WasLogged flight (LookCalled x.chain slot) → made_by x.chain flight ≡ [] → x.access ≡ Looks slot found
-          → AreLooksSeen old.size log (Accesses x ∷ flight) → AreWaitsDenied log state
+          → AreLooksSeen old.size log (Accesses x ∷ flight) → AreWaitsDenied whole log (length runs) state
+          → IsInTurnIf whole (length runs) state x.chain
           → (look : WaitingLook) → Contains state.waiting look → x.chain ≡ look.id → ⊥
-      waits_not x {slot} {found} permits was none is seen denied look inside same =
+      waits_not whole x {slot} {found} permits was none is seen denied turn look inside same =
           let there = was_read flight (LookCalled look.id look.slot) (to.waits look inside).0 in
           let slots : slot ≡ look.slot = calls.once x.chain slot look.slot (was_read flight (LookCalled x.chain slot) was) (subst (λ (n : ℕ). Contains (log_of flight) (LookCalled n look.slot)) (sym same) there) in
           let here : Permits (table_left_by (table_of old) flight) (Looks slot found) = rw is at permits in
           let size : (table_left_by (table_of old) flight).size ≡ old.size = size_stays (table_of old) flight in
-          let (answer, logged, differs) = denied look found inside (rw (← slots, to.table) here) in
+          let own_turn = subst (λ (n : ℕ). IsInTurnIf whole (length runs) state n) same turn in
+          let (answer, logged, differs) = denied look found inside (rw (← slots, to.table) here) own_turn in
           let own : made_by x.chain (Accesses x ∷ flight) ≡ Looks slot found ∷ [] =
           rw (eq-eqb x.chain x.chain refl) (ap (λ (l : List Access). l ++ x.access ∷ []) none ∙ ap (λ (a : Access). a ∷ []) is) in
           let low = here.0 in
           differs (seen x.chain slot found answer [] (shifted flight was) (omega arith) own (subst (λ (n : ℕ). Contains log (LookAnswered n answer)) (sym same) logged))
 
       -- an access that a look may make changes no state
-      pub looks_on : (x : ChainAccess) {slot : ℕ} {found : Option Identity} → Permits (table_left_by (table_of old) flight) x.access
+      pub looks_on : (whole : Bool) (x : ChainAccess) {slot : ℕ} {found : Option Identity} → Permits (table_left_by (table_of old) flight) x.access
           → WasLogged flight (LookCalled x.chain slot) → made_by x.chain flight ≡ [] → x.access ≡ Looks slot found
-          → AreLooksSeen old.size log (Accesses x ∷ flight) → AreWaitsDenied log state
-          → GoesOnTo old runs (Accesses x ∷ flight) state
-      looks_on x {slot} permits was none is seen denied =
+          → AreLooksSeen old.size log (Accesses x ∷ flight) → AreWaitsDenied whole log (length runs) state
+          → IsInTurnIf whole (length runs) state x.chain → GoesOnTo old runs (Accesses x ∷ flight) state
+      looks_on whole x {slot} permits was none is seen denied turn =
           let (low, high, empty) = calls.look x.chain slot (was_read flight (LookCalled x.chain slot) was) in
-          look_leads x to is low high empty (waits_not x permits was none is seen denied)
+          look_leads x to is low high empty (waits_not whole x permits was none is seen denied turn)
 
       -- the answer of a look that may come is possible in the state
       found_not_stopped : (id : ℕ) (found : Option Identity) → MayFollow (setting_of old answers) flight (LookAnswered id found)

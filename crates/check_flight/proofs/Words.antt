@@ -24,7 +24,7 @@ pub use Rattle.check_flight.specs.Player.{IsLookAnswered, IsMarked, IsMemberMade
 pub use Rattle.check_flight.specs.Player.{answers_in, answers_of_plan, begun_by, file_number}
 pub use Rattle.check_flight.specs.States.{AreAnswers, AreCalls, AreFewer, AreFollowed, AreLooksSeen, ArePassed, AreReached, AreWaitsDenied, AreWith}
 pub use Rattle.check_flight.specs.States.{AreWithout, FlightView, GoesOnTo, HasNoFlight, IsLed, IsNumbered, IsOneDenied, IsStateFollowed, IsStopped}
-pub use Rattle.check_flight.specs.States.{LeadsByCall, StepsByAccess, rest_after, runs_with, setting_of}
+pub use Rattle.check_flight.specs.States.{HasNoFlightBy, IsInTurn, IsInTurnIf, LeadsByCall, StepsByAccess, rest_after, runs_with, setting_of}
 pub use Rattle.check_flight.specs.declared.player.HeldFile.{HeldFile}
 pub use Rattle.check_flight.specs.declared.judged.ChainCall.{ChainCall}
 pub use Rattle.check_flight.specs.declared.judged.JudgedLog.{JudgedLog}
@@ -36,10 +36,11 @@ pub use Rattle.check_outcomes.proofs.ChainAccesses.{AreRight, last_of, settles}
 pub use Rattle.check_outcomes.proofs.Lists.{inside_at, one_more_at, one_more_of}
 pub use Rattle.fx_flight.specs.Events.{all_happenings, first_of_call, happening_of}
 pub use Rattle.fx_flight.specs.Flight.{IsLookDone}
+pub use Rattle.fx_flight.specs.Whole.{IsBetweenMembers, IsOfOthers, IsWhole, IsWholeIf}
 pub use Rattle.fx_flight.specs.declared.event.LogEvent.{LogEvent}
 pub use Rattle.fx_order.proofs.Apart.{same_file}
 pub use Rattle.indexmap.specs.IndexSet.{IndexSet, Updates}
-pub use Rattle.std.proofs.Common.{nat_eq, nat_le}
+pub use Rattle.std.proofs.Common.{IsTrue, nat_eq, nat_le}
 pub use Rattle.std.proofs.Math.Seq.{drop-cons}
 pub use Rattle.std.proofs.lemmas.Bool.{leb-true}
 pub use Rattle.std.proofs.lemmas.Fn.{filter_same}

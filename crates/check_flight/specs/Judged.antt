@@ -1,7 +1,7 @@
 -- The states of the judge, as contracts see them, the effect of an event on a state, and a step
 -- from one front to the next.
 use Rattle.std.specs.Prelude.{◌≡◌, ℕ, ◌-◌, ◌≤◌, nat_le, List, length, map, take, slice_index_or}
-use Rattle.std.specs.Prelude.{if◌then◌else◌, ◌⊎◌, [], drop, Contains, Option}
+use Rattle.std.specs.Prelude.{if◌then◌else◌, ◌⊎◌, [], drop, Bool, Contains, Option}
 use Rattle.fx_base.specs.Catalogue.{FileEntry}
 use Rattle.fx_base.specs.Identity.{Identity}
 use Rattle.fx_chain.specs.Operation.{Asked, all_asked}
@@ -14,9 +14,9 @@ use Rattle.check_outcomes.specs.Stands.{rest_in}
 use Rattle.check_outcomes.specs.Views.{not_begun, run_at}
 use Rattle.fx_flight.specs.Events.{Happening, all_happenings, first_of_call, AllSettled}
 use Rattle.check_flight.specs.States.{AreWaitsDenied, FlightView, IsFollowed, IsLookDenied}
-use Rattle.check_flight.specs.States.{IsStateFollowed, AreFollowed, ArePassed, HasNoFlight, IsLed}
+use Rattle.check_flight.specs.States.{IsStateFollowed, AreFollowed, ArePassed, HasNoFlightBy, IsLed}
 use Rattle.check_flight.specs.States.{IsNumbered, IsOneDenied, IsStopped, StepsByAccess, runs_with}
-use Rattle.check_flight.specs.States.{AreCalls, AreReached}
+use Rattle.check_flight.specs.States.{AreCalls, AreReached, IsInTurnIf}
 use Rattle.fx_ring.specs.Ring.{RingState}
 use Rattle.check_flight.specs.declared.reached.ReachedStates.{ReachedStates}
 use Rattle.check_flight.specs.declared.judged.ChainCall.{ChainCall}
@@ -78,6 +78,7 @@ abbrev pub IsAccessFollowed : JudgedLog → List (List Asked) → List FlightSta
     → Access → Type 0
 IsAccessFollowed log runs states state id a =
     Permits (table_of_slots state.slots) a
+    → IsInTurnIf log.whole (length runs) (flight_view runs state) id
     → IsFollowed (rules_of_log log) (log_in log) (flight_views runs states)
     (flight_view runs state) id a
 
@@ -92,14 +93,16 @@ IsCallFollowed log runs states state id =
 -- denied
 abbrev pub IsWhollyFollowed : JudgedLog → List ChainCall → List FlightState → FlightView → Type 0
 IsWhollyFollowed log calls states state =
-    IsStateFollowed (catalogue_in log) log.setting.size (log_in log) (length calls)
-    (flight_views (runs_of_calls calls) states) state × AreWaitsDenied (log_in log) state
+    IsStateFollowed log.whole (catalogue_in log) log.setting.size (log_in log)
+    (length (runs_of_calls calls)) (flight_views (runs_of_calls calls) states) state
+    × AreWaitsDenied log.whole (log_in log) (length (runs_of_calls calls)) state
 
 -- the event after `read` does this to the state
 abbrev pub IsPassage : JudgedLog → List (List Asked) → List Happening → FlightState → Happening
     → Passage → Type 0
 IsPassage log runs read state event Stops =
-    IsStopped (rules_of_log log) (log_in log) runs read (flight_view runs state) event
+    IsInTurnIf log.whole (length runs) (flight_view runs state) 0
+    → IsStopped (rules_of_log log) (log_in log) runs read (flight_view runs state) event
 IsPassage log runs read state event (Leads next) =
     IsLed (rules_of_log log) (flight_view runs state)
     (flight_view (runs_with runs event) next) event
@@ -109,6 +112,7 @@ IsPassage log runs read state event IsUnfit = Unit {0}
 abbrev pub IsAccessPassage : JudgedLog → List (List Asked) → FlightState → ℕ → Access → Passage
     → Type 0
 IsAccessPassage log runs state id a Stops = Permits (table_of_slots state.slots) a
+    → IsInTurnIf log.whole (length runs) (flight_view runs state) id
     → IsOneDenied (log_in log) (step (rules_of_log log) (rest_of runs state id) a).0
 IsAccessPassage log runs state id a (Leads next) =
     StepsByAccess (rules_of_log log) (flight_view runs state) id a (flight_view runs next)
@@ -125,7 +129,8 @@ IsTakenIn states IsUnfit = ⊥
 abbrev pub IsStatePassed : JudgedLog → List (List Asked) → List Happening → List FlightState
     → Happening → FlightView → Type 0
 IsStatePassed log runs read nexts event state =
-    IsStopped (rules_of_log log) (log_in log) runs read state event
+    IsInTurnIf log.whole (length runs) state 0
+    → IsStopped (rules_of_log log) (log_in log) runs read state event
     ⊎ ((next : FlightView) × Contains (flight_views (runs_with runs event) nexts) next
     × IsLed (rules_of_log log) state next event)
 
@@ -138,34 +143,36 @@ pub record IsNextFront (log : JudgedLog) (at : ℕ) (calls : List ChainCall)
     (states : List FlightState) (more : List ChainCall) (nexts : List FlightState) : Type 0 where
   pub runs : runs_of_calls more ≡ runs_with (runs_of_calls calls) (event_at log at)
   pub numbered : IsNumbered (length calls) (event_at log at)
-  pub passed : ArePassed (rules_of_log log) (log_in log) (runs_of_calls calls)
+  pub passed : ArePassed log.whole (rules_of_log log) (log_in log) (runs_of_calls calls)
       (take at (log_in log)) (flight_views (runs_of_calls calls) states)
       (flight_views (runs_with (runs_of_calls calls) (event_at log at)) nexts) (event_at log at)
-  pub closed : AreFollowed (catalogue_in log) log.setting.size (log_in log) (length more)
-      (flight_views (runs_of_calls more) nexts)
+  pub closed : AreFollowed log.whole (catalogue_in log) log.setting.size (log_in log)
+      (length (runs_of_calls more)) (flight_views (runs_of_calls more) nexts)
 
 -- each flight of the first `at` events leads to one of these states, if its answers are those of
--- the log
-pub record IsReachedBy (old : RingState) (log : List Happening) (at : ℕ) (calls : List ChainCall)
-    (states : List FlightState) : Type 0 where
+-- the log; with `whole` each one by whole updates
+pub record IsReachedBy (whole : Bool) (old : RingState) (log : List Happening) (at : ℕ)
+    (calls : List ChainCall) (states : List FlightState) : Type 0 where
   pub within : at ≤ length log
   pub called : AreCalls (runs_of_calls calls) (take at log)
-  pub reached : AreReached old log (runs_of_calls calls) (take at log)
+  pub reached : AreReached whole old log (runs_of_calls calls) (take at log)
       (flight_views (runs_of_calls calls) states)
 
-abbrev pub IsReached : RingState → List Happening → ReachedStates → Type 0
-IsReached old log reached =
-    IsReachedBy old log reached.at reached.calls.items reached.front.states.items
+abbrev pub IsReached : Bool → RingState → List Happening → ReachedStates → Type 0
+IsReached whole old log reached =
+    IsReachedBy whole old log reached.at reached.calls.items reached.front.states.items
 
 -- the same of a log from these slots on
 abbrev pub IsReachedFrom : JudgedLog → Slots → List Happening → ReachedStates → Type 0
 IsReachedFrom log slots events reached = (submissions registrations : ℕ)
-    → IsReached (ring_of_slots (catalogue_in log) slots submissions registrations) events reached
+    → IsReached log.whole (ring_of_slots (catalogue_in log) slots submissions registrations) events
+    reached
 
--- these events have no flight from these slots on
+-- these events have no flight from these slots on, or none by whole updates
 abbrev pub HaveNoFlight : JudgedLog → Slots → List Happening → Type 0
 HaveNoFlight log slots events = (submissions registrations : ℕ)
-    → HasNoFlight (ring_of_slots (catalogue_in log) slots submissions registrations) events
+    → HasNoFlightBy log.whole
+    (ring_of_slots (catalogue_in log) slots submissions registrations) events
 
 -- the table has as many slots as the log says
 abbrev pub IsTableOf : JudgedLog → Slots → Type 0
@@ -176,6 +183,14 @@ pub record IsInitialState (slots : Slots) (state : FlightState) : Type 0 where
   pub table : table_of_slots state.slots ≡ table_of_slots slots
   pub removed : state.removed.items ≡ []
   pub waiting : state.waiting.items ≡ []
+
+-- a look that waits in a state, and is in turn there, finds what the log denies
+abbrev pub IsWaitDeniedIn : JudgedLog → List ChainCall → FlightState → WaitingLook → Type 0
+IsWaitDeniedIn log calls state look = (found : Option Identity)
+    → Permits (table_of_slots state.slots) (Looks look.slot found)
+    → IsInTurnIf log.whole (length (runs_of_calls calls))
+    (flight_view (runs_of_calls calls) state) look.id
+    → IsLookDenied (log_in log) look.id found
 
 -- a look that waits in a table with these slots finds there what the log denies
 abbrev pub IsWaitDenied : JudgedLog → Slots → WaitingLook → Type 0

@@ -1,6 +1,7 @@
 -- A flight that the player makes move by move.
-use Rattle.std.specs.Prelude.{◌≡◌, ◌⊎◌, ℕ, ◌+◌, ◌*◌, ◌-◌, ◌%◌, ◌<◌, ◌≤◌, true, List, [], ◌∷◌}
-use Rattle.std.specs.Prelude.{length, map, take, slice_index_or, nat_eq, Contains, Option, Some}
+use Rattle.std.specs.Prelude.{◌≡◌, ◌⊎◌, ℕ, ◌+◌, ◌*◌, ◌-◌, ◌%◌, ◌<◌, ◌≤◌, true, List, [], ◌∷◌, ◌++◌}
+use Rattle.std.specs.Prelude.{length, map, take, slice_index_or, nat_eq, Contains, IsTrue, None}
+use Rattle.std.specs.Prelude.{Option, Some}
 use Rattle.indexmap.specs.IndexSet.{IndexSet, contains}
 use Rattle.fx_base.specs.Identity.{Identity}
 use Rattle.fx_base.specs.declared.mark.Mark.{Mark}
@@ -16,7 +17,8 @@ use Rattle.fx_order.specs.declared.access.Access.TheVariants.{Looks}
 use Rattle.fx_flight.specs.Events.{Happening, Called, LookCalled, LookAnswered, Freed, FileClosed}
 use Rattle.fx_flight.specs.Events.{first_of_call}
 use Rattle.fx_flight.specs.Flight.{IsFlight, IsLookDone, Moment, WasLogged, log_of, made_by}
-use Rattle.fx_flight.specs.Flight.{table_left_by, taken_in}
+use Rattle.fx_flight.specs.Flight.{FlightSetting, table_left_by, taken_in}
+use Rattle.fx_flight.specs.Whole.{IsBetweenMembers, IsWholeIf}
 use Rattle.check_flight.specs.Judged.{catalogue_in}
 use Rattle.check_flight.specs.States.{setting_of}
 use Rattle.check_flight.specs.declared.player.HeldFile.{HeldFile}
@@ -63,6 +65,23 @@ pub record IsMemberMade (log : JudgedLog) (plan : CallPlan) (requests : List Ask
 abbrev pub IsLookPlan : ℕ → List Access → Type 0
 IsLookPlan slot accesses =
     (accesses ≡ []) ⊎ ((found : Option Identity) × (accesses ≡ Looks slot found ∷ []))
+
+-- this number of accesses of a chain are all accesses of its first members
+abbrev pub AreMembersDone : JudgedLog → ℕ → List Asked → CallPlan → ℕ → Type 0
+AreMembersDone log id requests plan made =
+    (count : ℕ) × IsCallDone log id (take count requests) (take made plan.accesses.items)
+    (take count (answers_of_plan plan))
+
+-- a call that made this number of its accesses is a look, or these are all accesses of its first
+-- members
+abbrev pub IsMembersEnd : JudgedLog → ℕ → CallKind → CallPlan → ℕ → Type 0
+IsMembersEnd log id (Chain requests) plan made =
+    AreMembersDone log id (all_asked requests.now) plan made
+IsMembersEnd log id (Look slot) plan made = Unit {0}
+
+-- each call but this one is between members
+abbrev pub AreBetween : FlightSetting → List Moment → Option ℕ → Type 0
+AreBetween s flight amid = (id : ℕ) → (amid ≡ Some id → ⊥) → IsBetweenMembers s flight id
 
 -- the event that begins a call
 abbrev pub begun_by : ℕ → CallKind → Happening
@@ -127,6 +146,8 @@ pub record HasMadeFlight (old : RingState) (log : JudgedLog) (plans : List CallP
     (read : List Happening) (player : FlightPlayer) : Type 0 where
   pub flight : List Moment
   pub is : IsFlight (setting_of old (answers_in plans)) flight
+  pub whole : IsWholeIf log.whole (setting_of old (answers_in plans)) flight
+  pub between : IsTrue log.whole → AreBetween (setting_of old (answers_in plans)) flight player.amid
   pub logged : log_of flight ≡ read
   pub table : table_of_slots player.slots ≡ table_left_by (table_of old) flight
   pub calls : AreCallsMade log plans flight player.calls.items
@@ -157,3 +178,9 @@ abbrev pub MovesOn : JudgedLog → List CallPlan → List Happening → FlightPl
     → FlightPlayer → Type 0
 MovesOn log plans read player more next = (old : RingState) → IsRingOf old log
     → HasMadeFlight old log plans read player → HasMadeFlight old log plans more next
+
+-- a flight with an event more follows, if no call is amid an update
+abbrev pub Follows : JudgedLog → List CallPlan → List Happening → FlightPlayer → Happening
+    → FlightPlayer → Type 0
+Follows log plans read player event next =
+    player.amid ≡ None → MovesOn log plans read player (read ++ event ∷ []) next

@@ -1,6 +1,6 @@
 -- The states that a flight can reach: the table, where each call is, the files that were removed,
 -- and the looks that wait.
-use Rattle.std.specs.Prelude.{◌≡◌, ◌⊎◌, ◌↔◌, ℕ, ◌+◌, ◌<◌, ◌≤◌, List, []}
+use Rattle.std.specs.Prelude.{◌≡◌, ◌⊎◌, ◌↔◌, ℕ, ◌+◌, ◌<◌, ◌≤◌, Bool, IsTrue, List, []}
 use Rattle.std.specs.Prelude.{◌∷◌, ◌++◌, length, Contains, Option, Some}
 use Rattle.std.specs.List.{AllByRecursion}
 use Rattle.fx_base.specs.Catalogue.{FileEntry}
@@ -18,6 +18,7 @@ use Rattle.fx_flight.specs.Events.{Happening, Called, Answered, LookCalled, Look
 use Rattle.fx_flight.specs.Events.{FileClosed, AllSettled, first_of_call}
 use Rattle.fx_flight.specs.Flight.{FlightSetting, HasFlight, IsFlight, IsLookDone, Moment}
 use Rattle.fx_flight.specs.Flight.{WasLogged, log_of, made_by, taken_in, table_left_by}
+use Rattle.fx_flight.specs.Whole.{IsLegalBy, IsWholeIf}
 use Rattle.check_flight.specs.declared.state.WaitingLook.{WaitingLook}
 
 pub record FlightView : Type 0 where
@@ -68,31 +69,44 @@ pub record StepsByAccess (rules : Rules) (state : FlightView) (id : ℕ) (a : Ac
   pub removed : AreWith state.removed (file_removed_by a) next.removed
   pub waiting : AreFewer state.waiting next.waiting
 
+-- no other call has begun an update and not ended it
+abbrev pub IsInTurn : ℕ → FlightView → ℕ → Type 0
+IsInTurn calls state id = (other : ℕ) → 1 ≤ other → other ≤ calls → (other ≡ id → ⊥)
+    → (state.rests other).made ≡ 0
+
+-- the same, if each update must be one step. An event is of call 0
+abbrev pub IsInTurnIf : Bool → ℕ → FlightView → ℕ → Type 0
+IsInTurnIf whole calls state id = IsTrue whole → IsInTurn calls state id
+
 -- an access answers what the log denies, or leads to one of the states
 abbrev pub IsFollowed : Rules → List Happening → List FlightView → FlightView → ℕ → Access → Type 0
 IsFollowed rules log states state id a =
     IsOneDenied log (step rules (state.rests id) a).0
     ⊎ ((next : FlightView) × Contains states next × StepsByAccess rules state id a next)
 
--- each access that a call may make next, up to this number, is followed
-abbrev pub IsStateFollowed : List FileEntry → ℕ → List Happening → ℕ → List FlightView → FlightView
-    → Type 0
-IsStateFollowed catalogue size log calls states state =
+-- each access that a call may make next, up to this number, is followed; with `whole` if the call
+-- is in turn
+abbrev pub IsStateFollowed : Bool → List FileEntry → ℕ → List Happening → ℕ → List FlightView
+    → FlightView → Type 0
+IsStateFollowed whole catalogue size log calls states state =
     (id : ℕ) → 1 ≤ id → id ≤ calls → (a : Access) → IsNext catalogue size (state.rests id) a
-    → Permits state.table a
+    → Permits state.table a → IsInTurnIf whole calls state id
     → IsFollowed (rules_of catalogue size) log states state id a
 
--- a look that waits finds now what the log denies, or no file since its slot is past the size
-abbrev pub AreWaitsDenied : List Happening → FlightView → Type 0
-AreWaitsDenied log state =
+-- a look that waits finds now what the log denies, or no file since its slot is past the size; with
+-- `whole` if the look is in turn
+abbrev pub AreWaitsDenied : Bool → List Happening → ℕ → FlightView → Type 0
+AreWaitsDenied whole log calls state =
     (look : WaitingLook) (found : Option Identity) → Contains state.waiting look
-    → Permits state.table (Looks look.slot found) → IsLookDenied log look.id found
+    → Permits state.table (Looks look.slot found) → IsInTurnIf whole calls state look.id
+    → IsLookDenied log look.id found
 
 -- what a call may do next in each state leads to one of them, or is denied
-abbrev pub AreFollowed : List FileEntry → ℕ → List Happening → ℕ → List FlightView → Type 0
-AreFollowed catalogue size log calls states =
+abbrev pub AreFollowed : Bool → List FileEntry → ℕ → List Happening → ℕ → List FlightView → Type 0
+AreFollowed whole catalogue size log calls states =
     (state : FlightView) → Contains states state
-    → IsStateFollowed catalogue size log calls states state × AreWaitsDenied log state
+    → IsStateFollowed whole catalogue size log calls states state
+    × AreWaitsDenied whole log calls state
 
 -- a call of a chain leads from one state to the other
 pub record LeadsByCall (rules : Rules) (state : FlightView) (id : ℕ) (requests : List Asked)
@@ -160,11 +174,12 @@ IsLed rules state next (Freed id) = next ≡ state
 IsLed rules state next (FileClosed file) = LeadsByClose state file next
 IsLed rules state next AllSettled = next ≡ state
 
--- each state is stopped, or led to one of the others
-abbrev pub ArePassed : Rules → List Happening → List (List Asked) → List Happening
+-- each state is stopped, or led to one of the others; with `whole` if no update has begun there and
+-- not ended
+abbrev pub ArePassed : Bool → Rules → List Happening → List (List Asked) → List Happening
     → List FlightView → List FlightView → Happening → Type 0
-ArePassed rules log runs read states nexts event =
-    (state : FlightView) → Contains states state
+ArePassed whole rules log runs read states nexts event =
+    (state : FlightView) → Contains states state → IsInTurnIf whole (length runs) state 0
     → IsStopped rules log runs read state event
     ⊎ ((next : FlightView) × Contains nexts next × IsLed rules state next event)
 
@@ -206,12 +221,14 @@ AreLooksSeen size log flight =
     → made_by id flight ≡ Looks slot found ∷ more
     → Contains log (LookAnswered id seen) → seen ≡ found
 
--- each flight of what was read leads to one of the states, if its answers are those of the log
-abbrev pub AreReached : RingState → List Happening → List (List Asked) → List Happening
+-- each flight of what was read leads to one of the states, if its answers are those of the log;
+-- with `whole` each one by whole updates
+abbrev pub AreReached : Bool → RingState → List Happening → List (List Asked) → List Happening
     → List FlightView → Type 0
-AreReached old log runs read states =
+AreReached whole old log runs read states =
     (answers : ℕ → List Completed) → AreAnswers log answers → (flight : List Moment)
-    → IsFlight (setting_of old answers) flight → AreLooksSeen old.size log flight
+    → IsFlight (setting_of old answers) flight → IsWholeIf whole (setting_of old answers) flight
+    → AreLooksSeen old.size log flight
     → log_of flight ≡ read
     → (state : FlightView) × Contains states state × GoesOnTo old runs flight state
 
@@ -228,6 +245,11 @@ pub record AreCalls (runs : List (List Asked)) (read : List Happening) : Type 0 
 abbrev pub HasNoFlight : RingState → List Happening → Type 0
 HasNoFlight old log = (is : HasFlight first_of_call old log)
     → ((id : ℕ) → AllByRecursion HasMemory (is.answers id)) → ⊥
+
+-- the same of flights by whole updates, with `whole`
+abbrev pub HasNoFlightBy : Bool → RingState → List Happening → Type 0
+HasNoFlightBy whole old log = (is : IsLegalBy whole old log)
+    → ((id : ℕ) → AllByRecursion HasMemory (is.0.answers id)) → ⊥
 
 -- the chains that are called after an event
 abbrev pub runs_with : List (List Asked) → Happening → List (List Asked)

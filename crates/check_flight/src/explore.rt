@@ -1,11 +1,10 @@
 //! All states that flights reach after an event: those to which it leads from the states of a
 //! front, and each state that accesses reach from them.
-ghost use Rattle.std.specs.Prelude.{◌≡◌, ◌+◌, ◌<◌, ◌≤◌, IfOk, IfSome, IsTrue, List, length, take};
-ghost use Rattle.fx_chain.specs.Operation.{Asked};
+ghost use Rattle.std.specs.Prelude.{◌≡◌, ◌+◌, ◌<◌, ◌≤◌, IfOk, IfSome, IsTrue, length, take};
 ghost use Rattle.fx_flight.specs.Events.{happening_of};
 ghost use Rattle.fx_order.specs.Slots.{table_of_slots};
 ghost use Rattle.check_outcomes.specs.Stands.{HasEachNext};
-ghost use Rattle.check_flight.specs.Judged.{IsCallFollowed, IsFrontOf, IsWhollyFollowed};
+ghost use Rattle.check_flight.specs.Judged.{IsCallFollowed, IsFrontOf, IsWaitDeniedIn, IsWhollyFollowed};
 ghost use Rattle.check_flight.specs.Judged.{catalogue_in, flight_view, flight_views, log_in, rest_of};
 ghost use Rattle.check_flight.specs.Judged.{rules_of_log, runs_of_calls};
 ghost use Rattle.check_flight.specs.States.{AreFollowed, ArePassed, AreWaitsDenied, runs_with};
@@ -14,8 +13,9 @@ use crate::call::{first_place, members_at};
 use crate::front::Front;
 use crate::judged::{ChainCall, JudgedLog};
 use crate::passage::passage_of;
-use crate::state::{FlightState, waits};
+use crate::state::{FlightState, WaitingLook, waits};
 use crate::step::by_access;
+use crate::turn::is_out_of_turn;
 use check_outcomes::chain_accesses;
 use fx_base::NoMemory;
 use fx_flight::LogEvent;
@@ -32,8 +32,8 @@ pub(crate) fn pass_all(
     nexts: &mut Front,
 ) -> Result<bool, NoMemory>
     requires { at ≤ length log.now.events.now }
-    ensures { IfOk result (λ yes. IsTrue yes → ArePassed (rules_of_log log.now) (log_in log.now)
-        (runs_of_calls calls.now) (take at (log_in log.now))
+    ensures { IfOk result (λ yes. IsTrue yes → ArePassed log.now.whole (rules_of_log log.now)
+        (log_in log.now) (runs_of_calls calls.now) (take at (log_in log.now))
         (flight_views (runs_of_calls calls.now) front.now.states.items)
         (flight_views (runs_with (runs_of_calls calls.now) (happening_of event.now))
         nexts.new.states.items) (happening_of event.now)) }
@@ -101,13 +101,28 @@ fn follow_call(
     Ok(true)
 }
 
-// Checks whether each look that waits in a state finds there what the log denies.
-fn are_waits_denied(log: &JudgedLog<'_>, state: &FlightState) -> bool
-    ensures { IsTrue result → (runs : List (List Asked))
-        → AreWaitsDenied (log_in log.now) (flight_view runs state.now) }
+// Checks whether a look that waits in a state finds there what the log denies, or isn't in turn.
+fn is_wait_denied(
+    log: &JudgedLog<'_>,
+    calls: &[ChainCall<'_>],
+    state: &FlightState,
+    look: &WaitingLook,
+) -> bool
+    ensures { IsTrue result → IsWaitDeniedIn log.now calls.now state.now look.now }
+{
+    if is_out_of_turn(log, calls, state, look.id as usize) {
+        return true;
+    }
+    waits(log, &state.slots, look)
+}
+
+// Checks whether each look that waits in a state finds there what the log denies, or isn't in turn.
+fn are_waits_denied(log: &JudgedLog<'_>, calls: &[ChainCall<'_>], state: &FlightState) -> bool
+    ensures { IsTrue result → AreWaitsDenied log.now.whole (log_in log.now)
+        (length (runs_of_calls calls.now)) (flight_view (runs_of_calls calls.now) state.now) }
 {
     for look in &state.waiting {
-        if !waits(log, &state.slots, look) {
+        if !is_wait_denied(log, calls, state, look) {
             return false;
         }
     }
@@ -132,7 +147,7 @@ fn follow(
             return Ok(false);
         }
     }
-    Ok(are_waits_denied(log, state))
+    Ok(are_waits_denied(log, calls, state))
 }
 
 /// Adds each state that accesses reach. Returns whether each access is followed, and there are at
@@ -144,8 +159,9 @@ pub(crate) fn follow_all(
     most: usize,
 ) -> Result<bool, NoMemory>
     ensures kept { IfOk result (λ _. IsFrontOf front.old.states.items front.new.states.items) }
-    ensures followed { IfOk result (λ yes. IsTrue yes → AreFollowed (catalogue_in log.now)
-        log.now.setting.size (log_in log.now) (length calls.now)
+    ensures followed { IfOk result (λ yes. IsTrue yes → AreFollowed log.now.whole
+        (catalogue_in log.now) log.now.setting.size (log_in log.now)
+        (length (runs_of_calls calls.now))
         (flight_views (runs_of_calls calls.now) front.new.states.items)) }
 {
     for number in 0..most {

@@ -17,6 +17,8 @@ pub(crate) struct JudgedLog<'a> {
     pub(crate) setting: OrderSetting<'a>,
     /// The events.
     pub(crate) events: &'a [LogEvent],
+    /// Set if each update must be one step.
+    pub(crate) whole: bool,
     /// The positions of answers, closes and holds among the events. Each is a hint.
     pub(crate) positions: &'a LogPositions,
     pub ghost catalogued: { IsCatalogue setting.catalogue.now },

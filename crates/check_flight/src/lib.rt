@@ -22,6 +22,7 @@ mod refute;
 mod search;
 mod state;
 mod step;
+mod turn;
 mod verdict;
 mod wrong;
 

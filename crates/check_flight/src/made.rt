@@ -1,10 +1,10 @@
 //! Checks whether an answer, or the file that a look found, is that of the accesses that a call has
 //! made so far.
-ghost use Rattle.std.specs.Prelude.{◌≡◌, Contains, IfOk, IsTrue, take};
+ghost use Rattle.std.specs.Prelude.{◌≡◌, Contains, IfOk, IsTrue, Some, take};
 ghost use Rattle.fx_chain.specs.Completed.{all_completed, completed_of};
 ghost use Rattle.fx_chain.specs.Operation.{all_asked};
 ghost use Rattle.fx_flight.specs.Flight.{IsLookDone};
-ghost use Rattle.check_flight.specs.Player.{IsLookPlan, IsMemberMade, IsPlanned};
+ghost use Rattle.check_flight.specs.Player.{AreMembersDone, IsLookPlan, IsMemberMade, IsMembersEnd, IsPlanned};
 
 use crate::judged::JudgedLog;
 use crate::plan::{CallKind, CallPlan, are_done};
@@ -19,18 +19,98 @@ pub(crate) fn has_file(files: &[Closed], file: Closed) -> bool
     files.contains(&file)
 }
 
+// Returns the number of accesses that a member of a call makes that has this answer. A hint.
+fn accesses_of(log: &JudgedLog<'_>, request: &Request, answer: &Completion) -> usize {
+    if answer.res == -Errno::ECANCELED.code() {
+        return 0;
+    }
+    count_of(log.setting.catalogue, log.setting.size, request)
+}
+
 // Returns the number of accesses that the first members of a call make that have these answers. A
 // hint.
 fn accesses_made(log: &JudgedLog<'_>, requests: &[Request], answers: &[Completion]) -> usize {
-    let setting = &log.setting;
     let mut count: usize = 0;
     for i in 0..requests.len().min(answers.len()) {
-        if answers[i].res != -Errno::ECANCELED.code() {
-            let own = count_of(setting.catalogue, setting.size, &requests[i]);
-            count = count.saturating_add(own);
-        }
+        count = count.saturating_add(accesses_of(log, &requests[i], &answers[i]));
     }
     count
+}
+
+// Returns the number of first members of a call that make this number of accesses, or 0 if no
+// number of members does. A hint.
+fn members_made(
+    log: &JudgedLog<'_>,
+    requests: &[Request],
+    answers: &[Completion],
+    made: usize,
+) -> usize {
+    let mut count: usize = 0;
+    for i in 0..requests.len().min(answers.len()) {
+        count = count.saturating_add(accesses_of(log, &requests[i], &answers[i]));
+        if count == made {
+            return i + 1;
+        }
+    }
+    0
+}
+
+// Checks whether this number of accesses of a chain are all accesses of its first members.
+fn are_members_done(
+    log: &JudgedLog<'_>,
+    plan: &CallPlan,
+    requests: &[Request],
+    id: u32,
+    made: usize,
+) -> Result<bool, NoMemory>
+    ensures { IfOk result (λ yes. IsTrue yes
+        → AreMembersDone log.now id (all_asked requests.now) plan.now made) }
+{
+    let m = members_made(log, requests, &plan.answers, made);
+    if m == 0 || m > plan.answers.len() || m > requests.len() || made > plan.accesses.len() {
+        return Ok(false);
+    }
+    let (requests, answers) = (&requests[..m], &plan.answers[..m]);
+    are_done(log, id, requests, &plan.accesses[..made], answers)
+}
+
+// Checks whether a call that made this number of its accesses is a look, or these are all accesses
+// of its first members.
+fn is_members_end(
+    log: &JudgedLog<'_>,
+    plan: &CallPlan,
+    kind: CallKind<'_>,
+    id: u32,
+    made: usize,
+) -> Result<bool, NoMemory>
+    ensures { IfOk result (λ yes. IsTrue yes
+        → IsMembersEnd log.now id kind.entry plan.now made) }
+{
+    match kind {
+        CallKind::Chain(requests) => are_members_done(log, plan, requests, id, made),
+        CallKind::Look(_) => Ok(true),
+    }
+}
+
+/// Returns the call that is amid a whole update once a call made this number of its accesses.
+pub(crate) fn amid_after(
+    log: &JudgedLog<'_>,
+    plan: &CallPlan,
+    kind: CallKind<'_>,
+    id: u32,
+    made: usize,
+) -> Result<Option<u32>, NoMemory>
+    ensures { IfOk result (λ amid. IsTrue log.now.whole → (amid ≡ Some id → ⊥)
+        → IsMembersEnd log.now id kind.entry plan.now made) }
+{
+    if !log.whole {
+        return Ok(None);
+    }
+    let ends = is_members_end(log, plan, kind, id, made)?;
+    if ends {
+        return Ok(None);
+    }
+    Ok(Some(id))
 }
 
 // Checks whether both answers are the same.

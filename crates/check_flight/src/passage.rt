@@ -6,14 +6,14 @@ ghost use Rattle.fx_chain.specs.Operation.{Asked, all_asked};
 ghost use Rattle.fx_flight.specs.Events.{Called, FileClosed, Happening, LookCalled, happening_of};
 ghost use Rattle.fx_flight.specs.Flight.{IsLookDone};
 ghost use Rattle.check_outcomes.specs.Views.{run_at};
-ghost use Rattle.check_flight.specs.Judged.{flight_view, log_in, rest_of, runs_of_calls, IsPassage};
-ghost use Rattle.check_flight.specs.States.{IsNumbered, IsUnmade};
-ghost use Rattle.check_flight.specs.declared.passage.Passage.TheVariants.{Stops};
+ghost use Rattle.check_flight.specs.Judged.{flight_view, log_in, rest_of, rules_of_log, runs_of_calls, IsPassage};
+ghost use Rattle.check_flight.specs.States.{IsNumbered, IsStopped, IsUnmade};
 
 use crate::call::{first_place, members_at};
 use crate::judged::{ChainCall, JudgedLog};
 use crate::log::was_closed;
 use crate::state::{FlightState, WaitingLook, remove_file, still_waiting, trimmed};
+use crate::turn::is_out_of_turn;
 use check_outcomes::{Progress, settle};
 use fx_base::{Closed, NoMemory};
 use fx_chain::{Completion, Request};
@@ -163,8 +163,9 @@ fn is_stopped(
     state: &FlightState,
 ) -> bool
     requires { at ≤ length log.now.events.now }
-    ensures { IsTrue result → IsPassage log.now (runs_of_calls calls.now)
-        (take at (log_in log.now)) state.now (happening_of event.now) Stops }
+    ensures { IsTrue result → IsStopped (rules_of_log log.now) (log_in log.now)
+        (runs_of_calls calls.now) (take at (log_in log.now))
+        (flight_view (runs_of_calls calls.now) state.now) (happening_of event.now) }
 {
     match event {
         LogEvent::Done(c) => is_early(calls, state, c),
@@ -197,6 +198,9 @@ pub(crate) fn passage_of(
     ensures { IfOk result (λ passage. IsPassage log.now (runs_of_calls calls.now)
         (take at (log_in log.now)) state.now (happening_of event.now) passage) }
 {
+    if is_out_of_turn(log, calls, state, 0) {
+        return Ok(Passage::Stops);
+    }
     if is_stopped(log, calls, at, event, state) {
         return Ok(Passage::Stops);
     }

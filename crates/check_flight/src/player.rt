@@ -1,5 +1,5 @@
 //! A player of a flight: it makes a proposed flight move by move, and checks each move.
-ghost use Rattle.std.specs.Prelude.{◌≡◌, ◌++◌, [], ◌∷◌, ℕ, Contains, IfOk, IsTrue, List, Some};
+ghost use Rattle.std.specs.Prelude.{◌≡◌, ◌++◌, [], ◌∷◌, ℕ, Contains, IfOk, IsTrue, List, None, Some};
 ghost use Rattle.std.specs.Prelude.{length};
 ghost use Rattle.std.specs.Option.{option_to_list};
 ghost use Rattle.indexmap.specs.IndexSet.{IsEmpty};
@@ -7,17 +7,17 @@ ghost use Rattle.fx_base.specs.Identity.{Identity};
 ghost use Rattle.fx_chain.specs.Completed.{completed_of};
 ghost use Rattle.fx_flight.specs.Events.{Answered, FileClosed, AllSettled, Happening, Freed, LookAnswered};
 ghost use Rattle.fx_flight.specs.Events.{happening_of};
-ghost use Rattle.fx_flight.specs.Flight.{IsLegalLog};
+ghost use Rattle.fx_flight.specs.Whole.{IsLegalBy};
 ghost use Rattle.fx_order.specs.Access.{file_removed_by};
 ghost use Rattle.fx_order.specs.Slots.{ring_of_slots, table_of_slots};
 ghost use Rattle.check_flight.specs.Judged.{catalogue_in, log_in};
-ghost use Rattle.check_flight.specs.Player.{IsLookAnswered, IsMarked, MovesOn, begun_by};
+ghost use Rattle.check_flight.specs.Player.{Follows, IsLookAnswered, IsMarked, MovesOn, begun_by};
 ghost use Rattle.check_flight.specs.declared.judged.JudgedLog.{JudgedLog as TheLog};
 ghost use Rattle.check_flight.specs.declared.plan.CallPlan.{CallPlan as Plan};
 ghost use Rattle.check_flight.specs.declared.player.HeldFile.{HeldFile as TheHold};
 
 use crate::judged::JudgedLog;
-use crate::made::{has_file, is_look_made, is_member_made, is_planned};
+use crate::made::{amid_after, has_file, is_look_made, is_member_made, is_planned};
 use crate::plan::{CallKind, CallPlan, FlightPlan};
 use crate::positions::file_number;
 use crate::state::remove_file;
@@ -59,6 +59,8 @@ pub(crate) struct FlightPlayer<'a> {
     pub(crate) holds: Vec<HeldFile>,
     /// The numbers of the files that are closed.
     pub(crate) closed: IndexSet<u64>,
+    /// The number of the call that is amid a whole update, if one is.
+    pub(crate) amid: Option<u32>,
 }
 
 // Adds the file that an access takes from its slot.
@@ -115,6 +117,7 @@ impl<'a> FlightPlayer<'a> {
             removed: Vec::new(alloc),
             holds: Vec::new(alloc),
             closed: IndexSet::new(alloc),
+            amid: None,
         })
     }
 
@@ -129,17 +132,32 @@ impl<'a> FlightPlayer<'a> {
         }
     }
 
+    // Checks whether another call than this one is amid a whole update.
+    fn is_out_of_turn(&self, id: u32) -> bool
+        ensures { (other : ℕ) → self.now.amid ≡ Some other → (other ≡ id → ⊥) → IsTrue result }
+    {
+        match self.amid {
+            Some(other) => other != id,
+            None => false,
+        }
+    }
+
     /// Makes the next access of a call, if it is permitted. Returns whether it is.
-    pub(crate) fn access(&mut self, plans: &[CallPlan], id: u32) -> Result<bool, NoMemory>
-        ensures { IfOk result (λ yes. IsTrue yes → (log : TheLog) (read : List Happening)
-            → MovesOn log plans.now read self.old read self.new) }
+    pub(crate) fn access(
+        &mut self,
+        log: &JudgedLog<'_>,
+        plans: &[CallPlan],
+        id: u32,
+    ) -> Result<bool, NoMemory>
+        ensures { IfOk result (λ yes. IsTrue yes → (read : List Happening)
+            → MovesOn log.now plans.now read self.old read self.new) }
     {
         let i = (id as usize).saturating_sub(1);
-        if id == 0 || i >= self.calls.len() || i >= plans.len() {
+        if id == 0 || i >= self.calls.len() || i >= plans.len() || self.is_out_of_turn(id) {
             return Ok(false);
         }
-        let made = self.calls[i].made;
-        let Some(access) = plans[i].accesses.get(made) else {
+        let call = self.calls[i];
+        let Some(access) = plans[i].accesses.get(call.made) else {
             return Ok(false);
         };
         if !self.slots.permits(access) || self.is_marked(access.removed()) {
@@ -147,7 +165,9 @@ impl<'a> FlightPlayer<'a> {
         }
         add_removed(&mut self.removed, access)?;
         self.slots.make(access);
-        self.calls[i].made = made + 1;
+        self.calls[i].made = call.made + 1;
+        let amid = amid_after(log, &plans[i], call.kind, id, call.made + 1)?;
+        self.amid = amid;
         Ok(true)
     }
 
@@ -160,8 +180,7 @@ impl<'a> FlightPlayer<'a> {
         kind: CallKind<'a>,
     ) -> Result<bool, NoMemory>
         ensures { IfOk result (λ yes. IsTrue yes → (read : List Happening)
-            → MovesOn log.now plans.now read self.old
-            (read ++ begun_by id kind.entry ∷ []) self.new) }
+            → Follows log.now plans.now read self.old (begun_by id kind.entry) self.new) }
     {
         let i = self.calls.len();
         if id == 0 || id as usize - 1 != i || i >= plans.len() {
@@ -207,8 +226,7 @@ impl<'a> FlightPlayer<'a> {
         found: Option<Closed>,
     ) -> Result<bool, NoMemory>
         ensures { IfOk result (λ yes. IsTrue yes → (read : List Happening)
-            → MovesOn log.now plans.now read self.old
-            (read ++ LookAnswered id found ∷ []) self.new) }
+            → Follows log.now plans.now read self.old (LookAnswered id found) self.new) }
     {
         if !self.has_found(log, plans, id, found) {
             return Ok(false);
@@ -220,7 +238,7 @@ impl<'a> FlightPlayer<'a> {
     // Notes that the hold of a look begins to end.
     fn free(&mut self, id: u32)
         ensures { (log : TheLog) (plans : List Plan) (read : List Happening)
-            → MovesOn log plans read self.old (read ++ Freed id ∷ []) self.new }
+            → Follows log plans read self.old (Freed id) self.new }
     {
         self.holds.retain(|hold| hold.id != id);
     }
@@ -233,8 +251,8 @@ impl<'a> FlightPlayer<'a> {
         c: &Completion,
     ) -> Result<bool, NoMemory>
         ensures { IfOk result (λ yes. IsTrue yes → (read : List Happening)
-            → MovesOn log.now plans.now read self.now
-            (read ++ Answered c.now.place.submission (completed_of c.now) ∷ []) self.now) }
+            → Follows log.now plans.now read self.now
+            (Answered c.now.place.submission (completed_of c.now)) self.now) }
     {
         let id = c.place.submission as usize;
         if id == 0 || id > self.calls.len() || id > plans.len() {
@@ -253,7 +271,7 @@ impl<'a> FlightPlayer<'a> {
     fn close(&mut self, file: Closed) -> Result<bool, NoMemory>
         ensures { IfOk result (λ yes. IsTrue yes → (log : TheLog) (plans : List Plan)
             (read : List Happening)
-            → MovesOn log plans read self.old (read ++ FileClosed file ∷ []) self.new) }
+            → Follows log plans read self.old (FileClosed file) self.new) }
     {
         if !has_file(&self.removed, file) || is_held(&self.holds, file) {
             return Ok(false);
@@ -267,21 +285,20 @@ impl<'a> FlightPlayer<'a> {
     fn may_settle(&self) -> bool
         ensures { IsTrue result → (log : TheLog) (plans : List Plan)
             (read : List Happening)
-            → MovesOn log plans read self.now (read ++ AllSettled ∷ []) self.now }
+            → Follows log plans read self.now AllSettled self.now }
     {
         self.removed.is_empty()
     }
 
-    /// Goes on by an event. Returns whether it may follow.
-    pub(crate) fn event(
+    // Goes on by an event, if no call is amid a whole update. Returns whether it may follow.
+    fn follow(
         &mut self,
         log: &JudgedLog<'_>,
         plans: &[CallPlan],
         event: &'a LogEvent,
     ) -> Result<bool, NoMemory>
         ensures { IfOk result (λ yes. IsTrue yes → (read : List Happening)
-            → MovesOn log.now plans.now read self.old
-            (read ++ happening_of event.now ∷ []) self.new) }
+            → Follows log.now plans.now read self.old (happening_of event.now) self.new) }
     {
         match event {
             LogEvent::Call { id, chain } => {
@@ -299,6 +316,23 @@ impl<'a> FlightPlayer<'a> {
         }
     }
 
+    /// Goes on by an event. Returns whether it may follow.
+    pub(crate) fn event(
+        &mut self,
+        log: &JudgedLog<'_>,
+        plans: &[CallPlan],
+        event: &'a LogEvent,
+    ) -> Result<bool, NoMemory>
+        ensures { IfOk result (λ yes. IsTrue yes → (read : List Happening)
+            → MovesOn log.now plans.now read self.old
+            (read ++ happening_of event.now ∷ []) self.new) }
+    {
+        match self.amid {
+            Some(_) => Ok(false),
+            None => self.follow(log, plans, event),
+        }
+    }
+
     // Goes on by the moves of a plan, through all events of the log. Returns whether each of them
     // may be made.
     fn play(&mut self, log: &JudgedLog<'a>, plan: &FlightPlan) -> Result<bool, NoMemory>
@@ -308,7 +342,7 @@ impl<'a> FlightPlayer<'a> {
         let mut at = 0;
         for made in &plan.moves {
             if made.call != 0 {
-                if !self.access(&plan.calls, made.call)? {
+                if !self.access(log, &plan.calls, made.call)? {
                     return Ok(false);
                 }
                 continue;
@@ -332,7 +366,8 @@ pub(crate) fn is_flight(
     plan: &FlightPlan,
 ) -> Result<bool, NoMemory>
     requires { log.now.setting.size ≡ length slots.now.at.items }
-    ensures { IfOk result (λ yes. IsTrue yes → (submissions registrations : ℕ) → IsLegalLog
+    ensures { IfOk result (λ yes. IsTrue yes → (submissions registrations : ℕ)
+        → IsLegalBy log.now.whole
         (ring_of_slots (catalogue_in log.now) slots.now submissions registrations)
         (log_in log.now)) }
 {

@@ -1,6 +1,6 @@
 //! The states that flights of a log reach after its first events, saved for longer beginnings of
 //! the log.
-ghost use Rattle.std.specs.Prelude.{◌≡◌, ◌<◌, ℕ, IfOk, IfSome, IsTrue, List, length};
+ghost use Rattle.std.specs.Prelude.{◌≡◌, ◌<◌, ℕ, Bool, IfOk, IfSome, IsTrue, List, length};
 ghost use Rattle.fx_base.specs.Catalogue.{FileEntry};
 ghost use Rattle.fx_order.specs.Slots.{ring_of_slots};
 ghost use Rattle.fx_order.specs.declared.slots.Slots.{Slots};
@@ -64,8 +64,8 @@ fn advance<'a>(
 impl<'a> ReachedStates<'a> {
     /// Returns the one state before the first event.
     pub(crate) fn first(alloc: Global, slots: &Slots) -> Result<ReachedStates<'a>, NoMemory>
-        ensures { IfOk result (λ first. (catalogue : List FileEntry) (log : List Happening)
-            (submissions registrations : ℕ) → IsReached
+        ensures { IfOk result (λ first. (whole : Bool) (catalogue : List FileEntry)
+            (log : List Happening) (submissions registrations : ℕ) → IsReached whole
             (ring_of_slots catalogue slots.now submissions registrations) log first) }
     {
         let state = first_state(alloc, slots)?;
@@ -79,8 +79,8 @@ impl<'a> ReachedStates<'a> {
 
     /// Returns a copy.
     pub(crate) fn copy(&self, alloc: Global) -> Result<ReachedStates<'a>, NoMemory>
-        ensures { IfOk result (λ copy. (old : RingState) (log : List Happening)
-            → IsReached old log self.now → IsReached old log copy) }
+        ensures { IfOk result (λ copy. (whole : Bool) (old : RingState) (log : List Happening)
+            → IsReached whole old log self.now → IsReached whole old log copy) }
     {
         Ok(ReachedStates {
             at: self.at,

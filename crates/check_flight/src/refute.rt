@@ -15,6 +15,7 @@ pub(crate) fn beginning_of<'a>(log: &JudgedLog<'a>, count: usize) -> JudgedLog<'
     ensures events { log_in result ≡ take count (log_in log.now) }
     ensures catalogue { catalogue_in result ≡ catalogue_in log.now }
     ensures size { result.setting.size ≡ log.now.setting.size }
+    ensures whole { result.whole ≡ log.now.whole }
 {
     JudgedLog {
         setting: OrderSetting {
@@ -23,6 +24,7 @@ pub(crate) fn beginning_of<'a>(log: &JudgedLog<'a>, count: usize) -> JudgedLog<'
             size: log.setting.size,
         },
         events: &log.events[..count],
+        whole: log.whole,
         positions: log.positions,
     }
 }

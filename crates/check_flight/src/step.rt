@@ -14,7 +14,8 @@ ghost use Rattle.check_flight.specs.States.{AreFewer};
 use crate::call::{first_place, members_at};
 use crate::judged::{ChainCall, JudgedLog};
 use crate::passage::Passage;
-use crate::state::{FlightState, still_waiting};
+use crate::state::FlightState;
+use crate::turn::{is_out_of_turn, waiting_after};
 use check_outcomes::{Progress, removed_after, step};
 use fx_base::NoMemory;
 use fx_chain::Completion;
@@ -82,7 +83,7 @@ fn moved_state(
     next.chains[j] = after;
     next.slots.make(access);
     next.removed = removed_after(alloc, &state.removed, access)?;
-    next.waiting = still_waiting(log, &next.slots, &state.waiting)?;
+    next.waiting = waiting_after(log, &next.slots, &state.waiting, after)?;
     Ok(next)
 }
 
@@ -102,6 +103,9 @@ pub(crate) fn by_access(
         (state.now.base + j + 1) access.now) }
 {
     if !state.slots.permits(access) {
+        return Ok(Passage::Stops);
+    }
+    if is_out_of_turn(log, calls, state, state.base + j + 1) {
         return Ok(Passage::Stops);
     }
     let Some(after) = progress_after(log, calls, state, j, access, answered)? else {

@@ -5,9 +5,9 @@ ghost use Rattle.fx_base.specs.Catalogue.{IsCatalogue};
 ghost use Rattle.fx_order.specs.Slots.{ring_of_slots};
 ghost use Rattle.fx_flight.specs.Events.{all_happenings};
 ghost use Rattle.fx_flight.specs.Faults.{fault_of_log};
-ghost use Rattle.fx_flight.specs.Flight.{IsLegalLog};
+ghost use Rattle.fx_flight.specs.Whole.{IsLegalBy};
 ghost use Rattle.check_flight.specs.Judged.{catalogue_in, log_in, HaveNoFlight, IsReachedFrom, IsTableOf};
-ghost use Rattle.check_flight.specs.States.{HasNoFlight};
+ghost use Rattle.check_flight.specs.States.{HasNoFlightBy};
 ghost use Rattle.check_flight.specs.declared.verdict.Decision.TheVariants.{Flight, Wrong};
 ghost use Rattle.check_flight.specs.declared.verdict.FlightVerdict.TheVariants.{Faulty, Legal, NotLegal};
 
@@ -31,12 +31,12 @@ pub enum FlightVerdict {
     /// The events aren't a log.
     Faulty(LogFault),
     /// Up to and with the event at this position, from 0, the log has no flight in which each
-    /// request finds memory.
+    /// request finds memory, or none by whole updates if that is required.
     NotLegal {
         /// The position of the event.
         at: usize,
     },
-    /// The log has a flight.
+    /// The log has a flight, by whole updates if that is required.
     Legal,
     /// Nothing was shown: the log may be legal or not.
     Undecided,
@@ -198,8 +198,8 @@ fn has_flight(
     search: &mut Search,
 ) -> Result<bool, NoMemory>
     requires { log.now.setting.size ≡ length slots.now.at.items }
-    ensures { IfOk result (λ yes. IsTrue yes → (submissions registrations : ℕ) → IsLegalLog
-        (ring_of_slots (catalogue_in log.now) slots.now submissions registrations)
+    ensures { IfOk result (λ yes. IsTrue yes → (submissions registrations : ℕ) → IsLegalBy
+        log.now.whole (ring_of_slots (catalogue_in log.now) slots.now submissions registrations)
         (log_in log.now)) }
 {
     if !propose(log, slots, most, search)? {
@@ -218,7 +218,8 @@ fn decide_wholly(
 ) -> Result<Decision, NoMemory>
     requires { IsTableOf log.now slots.now }
     ensures flight { IfOk result (λ found. found ≡ Flight → (submissions registrations : ℕ)
-        → IsLegalLog (ring_of_slots (catalogue_in log.now) slots.now submissions registrations)
+        → IsLegalBy log.now.whole
+        (ring_of_slots (catalogue_in log.now) slots.now submissions registrations)
         (log_in log.now)) }
     ensures wrong { IfOk result (λ found. (count : ℕ) → found ≡ Wrong count
         → HaveNoFlight log.now slots.now (take count (log_in log.now))) }
@@ -245,7 +246,8 @@ fn decide_quickly(
 ) -> Result<Decision, NoMemory>
     requires { IsTableOf log.now slots.now }
     ensures flight { IfOk result (λ found. found ≡ Flight → (submissions registrations : ℕ)
-        → IsLegalLog (ring_of_slots (catalogue_in log.now) slots.now submissions registrations)
+        → IsLegalBy log.now.whole
+        (ring_of_slots (catalogue_in log.now) slots.now submissions registrations)
         (log_in log.now)) }
     ensures wrong { IfOk result (λ found. (count : ℕ) → found ≡ Wrong count
         → HaveNoFlight log.now slots.now (take count (log_in log.now))) }
@@ -267,7 +269,8 @@ fn decide_quickly(
 fn decide(log: &JudgedLog<'_>, slots: &Slots, most: usize) -> Result<Decision, NoMemory>
     requires { IsTableOf log.now slots.now }
     ensures flight { IfOk result (λ found. found ≡ Flight → (submissions registrations : ℕ)
-        → IsLegalLog (ring_of_slots (catalogue_in log.now) slots.now submissions registrations)
+        → IsLegalBy log.now.whole
+        (ring_of_slots (catalogue_in log.now) slots.now submissions registrations)
         (log_in log.now)) }
     ensures wrong { IfOk result (λ found. (count : ℕ) → found ≡ Wrong count
         → HaveNoFlight log.now slots.now (take count (log_in log.now))) }
@@ -297,7 +300,8 @@ fn lacks_memory(events: &[LogEvent]) -> bool {
 }
 
 /// Judges the events of a log whose table has these slots at first: its size is constant, and no
-/// file of it is closed. A log with an answer -12 is undecided.
+/// file of it is closed. With `whole` each update is one step, not one for each entry. A log with
+/// an answer -12 is undecided.
 ///
 /// # Errors
 /// `NoMemory` if an allocation fails.
@@ -306,6 +310,7 @@ pub fn judge_events(
     catalogue: &Catalogue,
     slots: &Slots,
     events: &[LogEvent],
+    whole: bool,
     limits: Limits,
 ) -> Result<FlightVerdict, NoMemory>
     requires catalogue { IsCatalogue catalogue.now }
@@ -314,11 +319,11 @@ pub fn judge_events(
         → (verdict ≡ Faulty fault)
         ↔ (fault_of_log 0 [] (all_happenings events.now) ≡ Some fault)) }
     ensures legal { IfOk result (λ verdict. verdict ≡ Legal → (submissions registrations : ℕ)
-        → IsLegalLog (ring_of_slots catalogue.now slots.now submissions registrations)
+        → IsLegalBy whole (ring_of_slots catalogue.now slots.now submissions registrations)
         (all_happenings events.now)) }
     ensures not_legal { IfOk result (λ verdict. (at : ℕ) → verdict ≡ NotLegal at
         → (submissions registrations : ℕ)
-        → HasNoFlight (ring_of_slots catalogue.now slots.now submissions registrations)
+        → HasNoFlightBy whole (ring_of_slots catalogue.now slots.now submissions registrations)
         (all_happenings (take (at + 1) events.now))) }
 {
     if let Some(fault) = fault_of_log(alloc, events)? {
@@ -335,6 +340,7 @@ pub fn judge_events(
             size: slots.at.len() as u32,
         },
         events,
+        whole,
         positions: &positions,
     };
     let most = room_for(slots, limits);

@@ -87,7 +87,7 @@ fn verdict_on(
     let (range, at) = ((0, 1), vec![in alloc; None; 1]?);
     let (states, bytes) = (1000, 1 << 20);
     let limits = Limits { states, bytes };
-    judge_events(alloc, catalogue, &Slots { range, at }, &log, limits)
+    judge_events(alloc, catalogue, &Slots { range, at }, &log, false, limits)
 }
 
 // Prints a verdict. A line that can't be written changes nothing.

@@ -1,5 +1,5 @@
 -- The names that most proofs of this crate use.
-pub use Rattle.check_flight.proofs.Words.{AllByRecursion, Bool, Contains, Happening, HasNoFlight, List, LogEvent, None, Option, RingState, Slots}
+pub use Rattle.check_flight.proofs.Words.{AllByRecursion, Bool, Contains, Happening, HasNoFlightBy, List, LogEvent, None, Option, RingState, Slots}
 pub use Rattle.check_flight.proofs.Words.{Some, Table, [], all_asked, all_happenings, ap, append-nil, arith, asked_of, drop, false, happening_of}
 pub use Rattle.check_flight.proofs.Words.{if◌then◌else◌, length, length-map, map, map-append, ne_eqb, refl, ring_of_slots, slice_index_or, subst, sym}
 pub use Rattle.check_flight.proofs.Words.{table_of_slots, take, take-map, take_more, true, ℕ, ◌++◌, ◌+◌, ◌<◌, ◌==◌, ◌∙◌, ◌∷◌, ◌≡◌, ◌≤◌}
@@ -8,7 +8,7 @@ pub use Rattle.fx_judge.specs.Arrays.{Arrays, arrays_in, asked_passed, happening
 pub use Rattle.fx_judge.specs.Flaws.{event_flaw, flaw_of_log, request_flaw, requests_flaw}
 pub use Rattle.fx_judge.specs.Outcomes.{joined, lengths_in}
 pub use Rattle.fx_judge.specs.Logs.{AreLogEvents, HasLogFault, HasNotHappened, IsFlightVerdict, IsNumberOf, IsReadable, PassedLog, arrays_of}
-pub use Rattle.fx_judge.specs.Logs.{events_passed, passed, ring_passed}
+pub use Rattle.fx_judge.specs.Logs.{HasNotHappenedBy, MayHaveHappened, MayHaveHappenedBy, events_passed, passed, ring_passed}
 pub use Rattle.fx_judge.specs.declared.codes.TheConstants.{FAULTY, LEGAL, NOT_LEGAL, UNDECIDED}
 pub use Rattle.fx_language.specs.Script.{IsScript}
 pub use Rattle.std.proofs.Common.{Global, String, string_eq}

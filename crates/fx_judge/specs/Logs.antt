@@ -1,5 +1,5 @@
 -- The meaning of a verdict's number, for a log that C passes.
-use Rattle.std.specs.Prelude.{◌≡◌, ◌↔◌, ℕ, ◌+◌, List, [], ℤ, take, Some, None}
+use Rattle.std.specs.Prelude.{◌≡◌, ◌↔◌, ℕ, ◌+◌, Bool, List, [], ℤ, take, Some, None}
 use Rattle.fx_base.specs.Catalogue.{FileEntry}
 use Rattle.fx_language.specs.Script.{IsScript, Meaning}
 use Rattle.fx_ring.specs.Registration.{registered_sparse}
@@ -7,12 +7,13 @@ use Rattle.fx_ring.specs.Ring.{RingState, new_ring}
 use Rattle.fx_flight.specs.Events.{Happening}
 use Rattle.fx_flight.specs.Faults.{IsFaultless, fault_of_log}
 use Rattle.fx_flight.specs.Flight.{IsLegalLog}
+use Rattle.fx_flight.specs.Whole.{IsLegalBy}
 use Rattle.fx_flight.specs.declared.fault.EventFault.{EventFault}
 use Rattle.fx_flight.specs.declared.fault.EventFault.TheVariants.{WrongNumber, NotOneChain}
 use Rattle.fx_flight.specs.declared.fault.EventFault.TheVariants.{NotCalled, OutOfTurn}
 use Rattle.fx_flight.specs.declared.fault.EventFault.TheVariants.{AnsweredTwice, NotHeld, StillOpen}
 use Rattle.fx_flight.specs.declared.fault.LogFault.{LogFault}
-use Rattle.check_flight.specs.States.{HasNoFlight}
+use Rattle.check_flight.specs.States.{HasNoFlight, HasNoFlightBy}
 use Rattle.check_flight.specs.declared.verdict.FlightVerdict.{FlightVerdict}
 use Rattle.check_flight.specs.declared.verdict.FlightVerdict.TheVariants.{Faulty, NotLegal, Legal}
 use Rattle.check_flight.specs.declared.verdict.FlightVerdict.TheVariants.{Undecided}
@@ -115,13 +116,28 @@ pub record HasNotHappened (p : PassedLog) (at : ℕ) : Type 0 where
   pub readable : IsReadable p catalogue
   pub none : HasNoFlight (ring_passed p catalogue) (take (at + 1) (events_passed p catalogue))
 
+-- the log has a flight; with `whole` it is one by whole updates
+pub record MayHaveHappenedBy (whole : Bool) (p : PassedLog) : Type 0 where
+  pub catalogue : List FileEntry
+  pub readable : IsReadable p catalogue
+  pub legal : IsLegalBy whole (ring_passed p catalogue) (events_passed p catalogue)
+
+-- up to and with the event at this position, the log has no flight in which each request finds
+-- memory; with `whole` none by whole updates
+pub record HasNotHappenedBy (whole : Bool) (p : PassedLog) (at : ℕ) : Type 0 where
+  pub catalogue : List FileEntry
+  pub readable : IsReadable p catalogue
+  pub none : HasNoFlightBy whole (ring_passed p catalogue)
+      (take (at + 1) (events_passed p catalogue))
+
 -- the verdict of the judge of events
-pub record IsFlightVerdict (ring : RingState) (log : List Happening) (verdict : FlightVerdict)
-    : Type 0 where
+pub record IsFlightVerdict (whole : Bool) (ring : RingState) (log : List Happening)
+    (verdict : FlightVerdict) : Type 0 where
   pub fault : (fault : LogFault)
       → (verdict ≡ Faulty fault) ↔ (fault_of_log 0 [] log ≡ Some fault)
-  pub legal : verdict ≡ Legal → IsLegalLog ring log
-  pub not_legal : (at : ℕ) → verdict ≡ NotLegal at → HasNoFlight ring (take (at + 1) log)
+  pub legal : verdict ≡ Legal → IsLegalBy whole ring log
+  pub not_legal : (at : ℕ) → verdict ≡ NotLegal at
+      → HasNoFlightBy whole ring (take (at + 1) log)
 
 -- the number and the details of a verdict
 abbrev pub IsNumberOf : FlightVerdict → ℕ → YachtJudgement → Type 0

@@ -1,11 +1,12 @@
 //! The verdict on a log of calls in flight.
-ghost use Rattle.std.specs.Prelude.{◌≡◌, ◌≤◌, ◌<◌, IfOk, None};
+ghost use Rattle.std.specs.Prelude.{◌≡◌, ◌≤◌, ◌<◌, IfOk, None, true};
 ghost use Rattle.fx_base.specs.Catalogue.{IsCatalogue};
 ghost use Rattle.fx_order.specs.Slots.{table_of_slots};
 ghost use Rattle.fx_ring.specs.Registration.{registered_sparse};
 ghost use Rattle.fx_ring.specs.Ring.{new_ring};
 ghost use Rattle.fx_judge.specs.Arrays.{arrays_in, log_passed};
 ghost use Rattle.fx_judge.specs.Logs.{HasFlaw, HasLogFault, MayHaveHappened, AreLogEvents, HasNotHappened, IsNumberOf};
+ghost use Rattle.fx_judge.specs.Logs.{HasNotHappenedBy, MayHaveHappenedBy};
 ghost use Rattle.fx_judge.specs.Logs.{IsFlightVerdict, number_of_fault, passed};
 ghost use Rattle.fx_judge.specs.Verdicts.{HasFaultOnLine};
 
@@ -83,30 +84,28 @@ pub fn empty_slots(alloc: Global, n: u32) -> Result<Slots, NoMemory>
     Ok(Slots { range: (0, n), at })
 }
 
-// Judges a log whose events can be read.
+// Judges a log whose events can be read; with `whole` each update is one step.
 fn verdict_on(
     arrays: &LogArrays<'_>,
     slots: u32,
     events: &[YachtEvent],
+    whole: bool,
     limits: Limits,
 ) -> Result<FlightVerdict, NoMemory>
     requires few { slots ≤ MOST_LOG_SLOTS }
     requires catalogue { IsCatalogue arrays.now.catalogue.now }
     ensures { IfOk result
-        (IsFlightVerdict (registered_sparse (new_ring arrays.now.catalogue.now) slots)
+        (IsFlightVerdict whole (registered_sparse (new_ring arrays.now.catalogue.now) slots)
         (log_passed (arrays_in arrays.now) events.now)) }
 {
     let log = arrays.log(events)?;
     let slots = empty_slots(arrays.alloc, slots)?;
-    let verdict = judge_events(arrays.alloc, arrays.catalogue, &slots, &log, limits)?;
+    let verdict = judge_events(arrays.alloc, arrays.catalogue, &slots, &log, whole, limits)?;
     Ok(verdict)
 }
 
-/// Judges a log of calls in flight, by searches of at most `states` states and `memory` MiB. Its
-/// table has `slots` slots, which are empty at first. The files of `script` are the catalogue; its
-/// commands are not looked at. It returns `LEGAL`, `NOT_LEGAL`, `UNDECIDED`, `BAD_SCRIPT`,
-/// `NO_MEMORY`, `FAULTY`, `MALFORMED` or `TOO_MANY_SLOTS`.
-pub fn judge_log(
+// Judges a log of calls in flight; with `whole` each update is one step.
+fn judge_log_by(
     alloc: Global,
     script: &[u8],
     slots: u32,
@@ -114,16 +113,18 @@ pub fn judge_log(
     entries: &[i32],
     bytes: &[u8],
     events: &[YachtEvent],
+    whole: bool,
     states: u32,
     memory: u32,
     judgement: &mut YachtJudgement,
 ) -> u32
     ensures known { result ≤ TOO_MANY_SLOTS }
     ensures legal { result ≡ LEGAL
-        → MayHaveHappened (passed script.now slots requests.now entries.now bytes.now events.now) }
+        → MayHaveHappenedBy whole
+        (passed script.now slots requests.now entries.now bytes.now events.now) }
     ensures not_legal { result ≡ NOT_LEGAL
-        → HasNotHappened (passed script.now slots requests.now entries.now bytes.now events.now)
-        judgement.new.at }
+        → HasNotHappenedBy whole
+        (passed script.now slots requests.now entries.now bytes.now events.now) judgement.new.at }
     ensures judged { result ≤ UNDECIDED
         → AreLogEvents (passed script.now slots requests.now entries.now bytes.now events.now) }
     ensures faulty { result ≡ FAULTY
@@ -163,8 +164,83 @@ pub fn judge_log(
         judgement.fault = flaw.flaw;
         return MALFORMED;
     }
-    let Ok(verdict) = verdict_on(&arrays, slots, events, limits_of(states, memory)) else {
+    let Ok(verdict) = verdict_on(&arrays, slots, events, whole, limits_of(states, memory)) else {
         return NO_MEMORY;
     };
     number(verdict, judgement)
+}
+
+/// Judges a log of calls in flight, by searches of at most `states` states and `memory` MiB. Its
+/// table has `slots` slots, which are empty at first. The files of `script` are the catalogue; its
+/// commands are not looked at. It returns `LEGAL`, `NOT_LEGAL`, `UNDECIDED`, `BAD_SCRIPT`,
+/// `NO_MEMORY`, `FAULTY`, `MALFORMED` or `TOO_MANY_SLOTS`.
+pub fn judge_log(
+    alloc: Global,
+    script: &[u8],
+    slots: u32,
+    requests: &[YachtRequest],
+    entries: &[i32],
+    bytes: &[u8],
+    events: &[YachtEvent],
+    states: u32,
+    memory: u32,
+    judgement: &mut YachtJudgement,
+) -> u32
+    ensures known { result ≤ TOO_MANY_SLOTS }
+    ensures legal { result ≡ LEGAL
+        → MayHaveHappened (passed script.now slots requests.now entries.now bytes.now events.now) }
+    ensures not_legal { result ≡ NOT_LEGAL
+        → HasNotHappened (passed script.now slots requests.now entries.now bytes.now events.now)
+        judgement.new.at }
+    ensures judged { result ≤ UNDECIDED
+        → AreLogEvents (passed script.now slots requests.now entries.now bytes.now events.now) }
+    ensures faulty { result ≡ FAULTY
+        → HasLogFault (passed script.now slots requests.now entries.now bytes.now events.now)
+        judgement.new.at judgement.new.fault }
+    ensures malformed { result ≡ MALFORMED
+        → HasFlaw (passed script.now slots requests.now entries.now bytes.now events.now)
+        judgement.new.at judgement.new.fault }
+    ensures bad_script { result ≡ BAD_SCRIPT → HasFaultOnLine script.now judgement.new.line }
+    ensures too_many { result ≡ TOO_MANY_SLOTS → MOST_LOG_SLOTS < slots }
+{
+    judge_log_by(
+        alloc, script, slots, requests, entries, bytes, events, false, states, memory, judgement,
+    )
+}
+
+/// Judges a log as `judge_log` does, by whole updates: each update is one step, not one for each
+/// entry.
+pub fn judge_whole_updates(
+    alloc: Global,
+    script: &[u8],
+    slots: u32,
+    requests: &[YachtRequest],
+    entries: &[i32],
+    bytes: &[u8],
+    events: &[YachtEvent],
+    states: u32,
+    memory: u32,
+    judgement: &mut YachtJudgement,
+) -> u32
+    ensures known { result ≤ TOO_MANY_SLOTS }
+    ensures legal { result ≡ LEGAL
+        → MayHaveHappenedBy true
+        (passed script.now slots requests.now entries.now bytes.now events.now) }
+    ensures not_legal { result ≡ NOT_LEGAL
+        → HasNotHappenedBy true
+        (passed script.now slots requests.now entries.now bytes.now events.now) judgement.new.at }
+    ensures judged { result ≤ UNDECIDED
+        → AreLogEvents (passed script.now slots requests.now entries.now bytes.now events.now) }
+    ensures faulty { result ≡ FAULTY
+        → HasLogFault (passed script.now slots requests.now entries.now bytes.now events.now)
+        judgement.new.at judgement.new.fault }
+    ensures malformed { result ≡ MALFORMED
+        → HasFlaw (passed script.now slots requests.now entries.now bytes.now events.now)
+        judgement.new.at judgement.new.fault }
+    ensures bad_script { result ≡ BAD_SCRIPT → HasFaultOnLine script.now judgement.new.line }
+    ensures too_many { result ≡ TOO_MANY_SLOTS → MOST_LOG_SLOTS < slots }
+{
+    judge_log_by(
+        alloc, script, slots, requests, entries, bytes, events, true, states, memory, judgement,
+    )
 }

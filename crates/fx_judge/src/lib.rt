@@ -16,7 +16,7 @@ mod reasons;
 mod steps;
 
 pub use events::{YachtEvent, YachtRequest};
-pub use flights::{YachtJudgement, judge_log};
+pub use flights::{YachtJudgement, judge_log, judge_whole_updates};
 pub use judge::{YachtVerdict, judge_text};
 pub use outcomes::{YachtTexts, list_texts};
 pub use reasons::{YachtReason, explain_log};

@@ -1,7 +1,7 @@
 //! The functions that C calls. Each has the contract of the call of `fx_judge` that it makes.
 ghost use Rattle.std.specs.Prelude.{◌≡◌, ◌≤◌, ◌<◌, true, false};
 ghost use Rattle.fx_judge.specs.Logs.{AreLogEvents, HasFlaw, HasLogFault, HasNotHappened};
-ghost use Rattle.fx_judge.specs.Logs.{MayHaveHappened, passed};
+ghost use Rattle.fx_judge.specs.Logs.{HasNotHappenedBy, MayHaveHappened, MayHaveHappenedBy, passed};
 ghost use Rattle.fx_judge.specs.Outcomes.{AreOutcomes};
 ghost use Rattle.fx_judge.specs.Verdicts.{HasFaultOnLine, IsNotPrinted, MayBePrinted};
 ghost use Rattle.fx_judge.specs.declared.codes.TheConstants.{ALL, BAD_SCRIPT, FAULTY, LEGAL};
@@ -11,7 +11,7 @@ ghost use Rattle.fx_judge.specs.declared.codes.TheConstants.{TOO_MANY_SLOTS, UND
 
 use fx_judge::{
     YachtEvent, YachtJudgement, YachtReason, YachtRequest, YachtStep, YachtTexts, YachtVerdict,
-    explain_log, judge_log, judge_text, list_texts,
+    explain_log, judge_log, judge_text, judge_whole_updates, list_texts,
 };
 use std::alloc::Global;
 
@@ -87,6 +87,43 @@ pub extern "C" fn yacht_judge_events(
     ensures too_many { result ≡ TOO_MANY_SLOTS → MOST_LOG_SLOTS < slots }
 {
     judge_log(
+        alloc, script, slots, requests, entries, bytes, events, states, memory, judgement,
+    )
+}
+
+/// Judges a log of calls in flight by whole updates: `fx_judge::judge_whole_updates`.
+#[unsafe(no_mangle)]
+pub extern "C" fn yacht_judge_whole_updates(
+    alloc: Global,
+    script: &[u8],
+    slots: u32,
+    requests: &[YachtRequest],
+    entries: &[i32],
+    bytes: &[u8],
+    events: &[YachtEvent],
+    states: u32,
+    memory: u32,
+    judgement: &mut YachtJudgement,
+) -> u32
+    ensures known { result ≤ TOO_MANY_SLOTS }
+    ensures legal { result ≡ LEGAL
+        → MayHaveHappenedBy true
+        (passed script.now slots requests.now entries.now bytes.now events.now) }
+    ensures not_legal { result ≡ NOT_LEGAL
+        → HasNotHappenedBy true
+        (passed script.now slots requests.now entries.now bytes.now events.now) judgement.new.at }
+    ensures judged { result ≤ UNDECIDED
+        → AreLogEvents (passed script.now slots requests.now entries.now bytes.now events.now) }
+    ensures faulty { result ≡ FAULTY
+        → HasLogFault (passed script.now slots requests.now entries.now bytes.now events.now)
+        judgement.new.at judgement.new.fault }
+    ensures malformed { result ≡ MALFORMED
+        → HasFlaw (passed script.now slots requests.now entries.now bytes.now events.now)
+        judgement.new.at judgement.new.fault }
+    ensures bad_script { result ≡ BAD_SCRIPT → HasFaultOnLine script.now judgement.new.line }
+    ensures too_many { result ≡ TOO_MANY_SLOTS → MOST_LOG_SLOTS < slots }
+{
+    judge_whole_updates(
         alloc, script, slots, requests, entries, bytes, events, states, memory, judgement,
     )
 }

@@ -1,4 +1,4 @@
-use Rattle.check_flight.proofs.Words.{◌+◌, length, arith, below_more, IsCallFollowed, runs_of_calls}
+use Rattle.check_flight.proofs.Words.{◌+◌, length, length-map, refl, requests_of, arith, below_more, IsCallFollowed, runs_of_calls}
 use Rattle.check_flight.proofs.Judging.{call_more, front_on, state_followed}
 use Rattle.check_flight.proofs.explore.follow.Goals as goal
 
@@ -16,8 +16,8 @@ pub returns : goal.returns
 returns c = record {
   kept = c.loop-j.invariant.kept;
   followed = λ it. (
-    state_followed c.args.log.now (runs_of_calls c.args.calls.now) c.loop-j.front.states.items c.args.state.now (length c.args.calls.now)
-        (λ k low. c.loop-j.invariant.followed k (omega (arith, low, c.loop-j-test.false))),
-    c.are_waits_denied.ensures it (runs_of_calls c.args.calls.now),
+    state_followed c.args.log.now (runs_of_calls c.args.calls.now) c.loop-j.front.states.items c.args.state.now (length (runs_of_calls c.args.calls.now)) refl
+        (λ k low. c.loop-j.invariant.followed k (omega (arith, low, c.loop-j-test.false, length-map c.args.calls.now requests_of))),
+    c.are_waits_denied.ensures it,
   );
 }

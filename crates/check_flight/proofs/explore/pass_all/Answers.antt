@@ -12,9 +12,9 @@ loop-state-preserved c =
     one_more_of
     (λ (state : FlightState). IsStatePassed c.args.log.now (runs_of_calls c.args.calls.now) (take c.args.at (log_in c.args.log.now))
     c.take_in.new.self.states.items (happening_of c.args.event.now) (flight_view (runs_of_calls c.args.calls.now) state)) states
-    (λ k d low. ⊎_elim (λ stopped. inl stopped)
+    (λ k d low turn. ⊎_elim (λ stopped. inl stopped)
     (λ led. inr (led.0, views_more runs c.loop-state.nexts.states.items c.take_in.new.self.states.items next.kept led.0 led.1, led.2))
-    (c.loop-state.invariant k d low))
+    (c.loop-state.invariant k d low turn))
     (rw items at c.loop-state-test.true) (rw items at c.state-item.is) (passed_by c.args.log.now (runs_of_calls c.args.calls.now)
     (take c.args.at (log_in c.args.log.now)) c.take_in.new.self.states.items c.state-item.result (happening_of c.args.event.now) c.in_ok-passage.passage
     c.in_ok-passage.ensures (next.taken c.if-not-branch.false))

@@ -3,7 +3,7 @@ use Rattle.check_flight.proofs.Judging.{called, denied_call}
 use Rattle.check_flight.proofs.passage.by_call.Goals as goal
 
 pub returns-then-is_one_denied : goal.returns-then-is_one_denied
-returns-then-is_one_denied c = λ read.
+returns-then-is_one_denied c = λ read _.
     let settled = rw (c.first_place.ensures, c.new-answered.ensures.items) at c.in_ok-done.ensures.recorded in
     denied_call (log_in c.args.log.now) (rules_of_log c.args.log.now) (length c.args.calls.now) (omega arith) (ap all_asked c.in-Some.ensures) settled
     (rw c.deref.ensures.value at (c.is_one_denied.ensures c.if-is_one_denied.true))

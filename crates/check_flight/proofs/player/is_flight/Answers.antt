@@ -13,5 +13,5 @@ returns c =
     let begun = moves_first old log plans ring c.in_ok-player.player c.in_ok-player.ensures.slots c.in_ok-player.ensures.calls
     c.in_ok-player.ensures.removed in
     let made = moves whole old ring begun in
-    record { answers = answers_in plans; flight = made.flight; is = made.is; same = made.logged })
+    (record { answers = answers_in plans; flight = made.flight; is = made.is; same = made.logged }, made.whole))
     c.play.ensures

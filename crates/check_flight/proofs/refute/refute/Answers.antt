@@ -8,8 +8,8 @@ returns-then-is_empty c = λ slots size from submissions registrations.
     let events = take c.args.count (log_in log) in
     let own = c.beginning_of-beginning in
     let end = c.in-Some.end in
-    let (to, whole) = reached_by log own.result slots events c.args.from end own.ensures.events own.ensures.catalogue own.ensures.size size
+    let (to, whole) = reached_by log own.result slots events c.args.from end own.ensures.events own.ensures.catalogue own.ensures.size own.ensures.whole size
     (rw c.in-Some.is at c.in_ok-end.ensures) from in
     let none = eqb-true _ 0 (sym c.is_empty.ensures ∙ c.if-is_empty.true) in
-    reached_last (ring_of_slots (catalogue_in log) slots submissions registrations) events end.at end.calls.items end.front.states.items whole
+    reached_last log.whole (ring_of_slots (catalogue_in log) slots submissions registrations) events end.at end.calls.items end.front.states.items whole
     (omega (arith, none, end.front.states.ok.0)) (to submissions registrations)

@@ -2,8 +2,11 @@ use Rattle.check_flight.proofs.Words.{◌+◌, ◌∙◌, Rest, ap, file_removed
 use Rattle.check_flight.proofs.Judging.{are_with, open_rest, stepped}
 use Rattle.check_flight.proofs.step.by_access.Goals as goal
 
+pub returns-then-is_out_of_turn : goal.returns-then-is_out_of_turn
+returns-then-is_out_of_turn c = λ permits turn. absurd (c.is_out_of_turn.ensures c.if-is_out_of_turn.true turn)
+
 pub returns-then-is_one_denied : goal.returns-then-is_one_denied
-returns-then-is_one_denied c = λ permits.
+returns-then-is_one_denied c = λ permits _.
     let log = c.args.log.now in
     let state = c.args.state.now in
     let own = rw c.in-Some.is at c.in_ok-after.ensures.steps in

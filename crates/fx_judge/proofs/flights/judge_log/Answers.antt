@@ -1,21 +1,8 @@
-use Rattle.fx_judge.proofs.Words.{◌∙◌, sym, passed}
-use Rattle.fx_judge.proofs.LogVerdicts.{a_log, faulty, is_readable, not_legal}
+use Rattle.fx_judge.proofs.LogVerdicts.{has_not_happened, may_have_happened}
 use Rattle.fx_judge.proofs.flights.judge_log.Goals as goal
 
+pub returns-clause-legal : goal.returns-clause-legal
+returns-clause-legal c = λ is. may_have_happened (c.judge_log_by.ensures.legal is)
+
 pub returns-clause-not_legal : goal.returns-clause-not_legal
-returns-clause-not_legal c =
-    let p = passed c.args.script.now c.args.slots c.args.requests.now c.args.entries.now c.args.bytes.now c.args.events.now in
-    let readable = is_readable p c.in-Ok.read c.catalogue.result.now c.in-Ok.ensures.script c.catalogue.ensures.value (sym c.flaw_of_log.ensures ∙ c.in_default.is) in
-    not_legal readable c.number.result c.number.new.judgement c.in-Ok-verdict_on.verdict c.in-Ok-verdict_on.ensures c.number.ensures
-
-pub returns-clause-judged : goal.returns-clause-judged
-returns-clause-judged c =
-    let p = passed c.args.script.now c.args.slots c.args.requests.now c.args.entries.now c.args.bytes.now c.args.events.now in
-    let readable = is_readable p c.in-Ok.read c.catalogue.result.now c.in-Ok.ensures.script c.catalogue.ensures.value (sym c.flaw_of_log.ensures ∙ c.in_default.is) in
-    a_log readable c.number.result c.number.new.judgement c.in-Ok-verdict_on.verdict c.in-Ok-verdict_on.ensures c.number.ensures
-
-pub returns-clause-faulty : goal.returns-clause-faulty
-returns-clause-faulty c =
-    let p = passed c.args.script.now c.args.slots c.args.requests.now c.args.entries.now c.args.bytes.now c.args.events.now in
-    let readable = is_readable p c.in-Ok.read c.catalogue.result.now c.in-Ok.ensures.script c.catalogue.ensures.value (sym c.flaw_of_log.ensures ∙ c.in_default.is) in
-    faulty readable c.number.result c.number.new.judgement c.in-Ok-verdict_on.verdict c.in-Ok-verdict_on.ensures c.number.ensures
+returns-clause-not_legal c = λ is. has_not_happened (c.judge_log_by.ensures.not_legal is)

@@ -9,7 +9,7 @@ returns-in-Chain c =
     let i = c.args.c.now.place.submission - 1 in
     let within : i < length plans = omega (arith, c.if-id-plans.false, c.if-id-eq0.false) in
     IfOk-weaker c.is_member_made.result _ _
-    (λ yes member it read old ring so_far. moves_answer old c.args.log.now plans ring i (omega (arith, c.if-id-eq0.false))
+    (λ yes member it read rests old ring so_far. moves_answer old c.args.log.now plans ring i (omega (arith, c.if-id-eq0.false))
     (omega (arith, c.if-id-len.false, c.if-id-eq0.false, self.calls.ok.0)) (sym c.index-call.ensures)
-    (λ flight logged. (rw c.in-Chain.is at logged).0) within (sym c.index-plans-id.is) (member it) so_far)
+    (λ flight logged. (rw c.in-Chain.is at logged).0) within (sym c.index-plans-id.is) (member it) rests so_far)
     c.is_member_made.ensures

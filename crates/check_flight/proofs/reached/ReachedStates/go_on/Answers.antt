@@ -19,7 +19,7 @@ returns c = λ slots size before.
     let whole = length-map log.events.now happening_of in (
       λ submissions registrations.
           let own = c.loop-at.invariant slots size before submissions registrations in
-          subst (λ (n : ℕ). IsReachedBy (ring_of_slots (catalogue_in log) slots submissions registrations) (log_in log) n c.loop-at.calls.items
+          subst (λ (n : ℕ). IsReachedBy log.whole (ring_of_slots (catalogue_in log) slots submissions registrations) (log_in log) n c.loop-at.calls.items
           c.loop-at.front.states.items) (omega (arith, own.within, c.loop-at-test.false, whole)) own,
       omega (arith, whole),
     )
