@@ -67,8 +67,8 @@ IsLookPlan slot accesses =
     (accesses ≡ []) ⊎ ((found : Option Identity) × (accesses ≡ Looks slot found ∷ []))
 
 -- this number of accesses of a chain are all accesses of its first members
-abbrev pub AreMembersDone : JudgedLog → ℕ → List Asked → CallPlan → ℕ → Type 0
-AreMembersDone log id requests plan made =
+abbrev pub AreWholeMembers : JudgedLog → ℕ → List Asked → CallPlan → ℕ → Type 0
+AreWholeMembers log id requests plan made =
     (count : ℕ) × IsCallDone log id (take count requests) (take made plan.accesses.items)
     (take count (answers_of_plan plan))
 
@@ -76,7 +76,7 @@ AreMembersDone log id requests plan made =
 -- members
 abbrev pub IsMembersEnd : JudgedLog → ℕ → CallKind → CallPlan → ℕ → Type 0
 IsMembersEnd log id (Chain requests) plan made =
-    AreMembersDone log id (all_asked requests.now) plan made
+    AreWholeMembers log id (all_asked requests.now) plan made
 IsMembersEnd log id (Look slot) plan made = Unit {0}
 
 -- each call but this one is between members

@@ -4,7 +4,7 @@ ghost use Rattle.std.specs.Prelude.{◌≡◌, Contains, IfOk, IsTrue, Some, tak
 ghost use Rattle.fx_chain.specs.Completed.{all_completed, completed_of};
 ghost use Rattle.fx_chain.specs.Operation.{all_asked};
 ghost use Rattle.fx_flight.specs.Flight.{IsLookDone};
-ghost use Rattle.check_flight.specs.Player.{AreMembersDone, IsLookPlan, IsMemberMade, IsMembersEnd, IsPlanned};
+ghost use Rattle.check_flight.specs.Player.{AreWholeMembers, IsLookPlan, IsMemberMade, IsMembersEnd, IsPlanned};
 
 use crate::judged::JudgedLog;
 use crate::plan::{CallKind, CallPlan, are_done};
@@ -64,7 +64,7 @@ fn are_members_done(
     made: usize,
 ) -> Result<bool, NoMemory>
     ensures { IfOk result (λ yes. IsTrue yes
-        → AreMembersDone log.now id (all_asked requests.now) plan.now made) }
+        → AreWholeMembers log.now id (all_asked requests.now) plan.now made) }
 {
     let m = members_made(log, requests, &plan.answers, made);
     if m == 0 || m > plan.answers.len() || m > requests.len() || made > plan.accesses.len() {
