@@ -239,7 +239,22 @@ _library.yacht_judge_events.argtypes = [
     POINTER(_Judgement),
 ]
 _library.yacht_judge_whole_updates.restype = c_uint32
-_library.yacht_judge_whole_updates.argtypes = _library.yacht_judge_events.argtypes
+_library.yacht_judge_whole_updates.argtypes = [
+    POINTER(c_uint8),
+    c_size_t,
+    c_uint32,
+    POINTER(_Request),
+    c_size_t,
+    POINTER(c_int32),
+    c_size_t,
+    POINTER(c_uint8),
+    c_size_t,
+    POINTER(_Event),
+    c_size_t,
+    c_uint32,
+    c_uint32,
+    POINTER(_Judgement),
+]
 _library.yacht_explain_events.restype = c_uint32
 _library.yacht_explain_events.argtypes = [
     POINTER(c_uint8),
