@@ -162,7 +162,8 @@ WHY_EARLY = "    look 3 held 2.1.0 from line 8 on, and it was closed by line 11\
 WHY_GONE = "since close 2.2 found a file at slot 0 by line 7, which can only have been 2.1.0\n"
 # an update as one step: a read of its first slot finds its file, a later one of its second none
 BETWEEN = f"{HEAD}call 2 update 0 0,0\ncall 3 read 0 0 1\ndone 3.1 1 61\ncall 4 read 1 0 1\ndone 4.1 -9\n"
-FILES = {"right": OPENED, "between": BETWEEN, "beside": BETWEEN.replace("call 4", "call 5 close 1\ncall 4"), "wrong": OPENED.replace("done 2.1 0", "done 2.1 7"), "none": "x\n", "stale": f"{STALE}free 5\nsettled\n".replace("call 3", MORE),
+FILES = {"between": BETWEEN.replace("call 2", "call 6 close 1\ndone 6.1 -9\ncall 2"), "beside": BETWEEN.replace("call 4", "call 5 close 1\ncall 4"),
+         "right": OPENED, "wrong": OPENED.replace("done 2.1 0", "done 2.1 7"), "none": "x\n", "stale": f"{STALE}free 5\nsettled\n".replace("call 3", MORE),
          "early": f"{HEAD}{EARLIER}{HELD}{''.join(REMOVERS)}closed 2.1.0 a\nfree 3\n",
          "gone": f"{HEAD}call 2 open b any link ; close 0\ndone 2.1 0\ndone 2.2 0\ncall 3 read 0 0 1\ndone 3.1 1 62\n"}
 ARGUMENTS = [
@@ -183,7 +184,7 @@ ARGUMENTS = [
     (["--full-reason", "gone"], NOT_LEGAL, f"gone: not legal: line 9: done 3.1 1 62\n.*{WHY_GONE}"),
     (["--shorten", "none"], NOT_A_LOG, "not a log: line 1"),
     (["between"], LEGAL, "between: legal\n$"),
-    (["--whole-updates", "right", "between"], NOT_LEGAL, "right: legal\n.*between: not legal: line 9: done 4.1 -9\n$"),
+    (["--whole-updates", "right", "between"], NOT_LEGAL, "right: legal\n.*between: not legal: line 11: done 4.1 -9\n$"),
     (["--whole-updates", "--shorten", "between"], NOT_LEGAL, f"^{BETWEEN}.*between: not legal: line 9: done 4.1 -9\n$"),
     (["--whole-updates", "beside"], LEGAL, "beside: legal\n$"),
     (["right", "right"], LEGAL, "right: legal\n.*right: legal\n$"),
@@ -301,7 +302,7 @@ def without_memory(name):
     """Lets a call of the judge find no memory."""
     import yachtjudge
 
-    def fails(*_):
+    def fails(*_, **_options):
         raise yachtjudge.NoMemory
 
     kept = getattr(yachtjudge, name)
