@@ -302,6 +302,18 @@ def judged(name):
     return " ".join(f"{those[-1]} of {sum(those)} {float(most.split(' s')[0]):.1f} s{most.split(' s')[1]}" for those, (_, most) in zip(counts, rows))
 
 
+def judged_one(name, decimals=2):
+    """Returns the CPU seconds and the memory of a verdict in bench/fixcheck.txt on one text."""
+    seconds, memory = re.search(r"; ([\d.]+) s, (\d+ MiB)$", found("bench/fixcheck.txt", rf"^{re.escape(name)}, .*")).groups()
+    return f"{float(seconds):.{decimals}f} s and {memory}"
+
+
+def loads(path):
+    """Returns the least and the greatest load of the machine that a kept log has."""
+    those = sorted(round(float(it)) for it in re.findall(r"\ba load of ([\d.]+)", read(path)))
+    return " to ".join(dict.fromkeys(map(str, [those[0], those[-1]])))
+
+
 def stale(calls):
     """Returns the wrong logs of this many calls in bench/recording.txt, of tables whose looks are stale more and more seldom."""
     return " | ".join(re.findall(rf"^stale .*: (\d+) of \d+ not legal; {calls} calls", read("bench/recording.txt"), re.MULTILINE))
@@ -324,7 +336,7 @@ def whole(path, pattern):
     return round(float(found(path, pattern)))
 
 
-FUNCTIONS = (answer, bits, busy, calls, constant_of, counted, crate, date, entries, found, gate, judged, lasting, liburing, line, lines, linux, measured, middle, minutes, narrow,
+FUNCTIONS = (answer, bits, busy, calls, constant_of, counted, crate, date, entries, found, gate, judged, judged_one, lasting, liburing, line, lines, linux, loads, measured, middle, minutes, narrow,
              number, of_runs, on_four_threads, program, python, ratio, round, span, stale, status, version, whole, width, width_of_slots)
 SOURCES = Sources({it.__name__: it for it in FUNCTIONS})
 
