@@ -1,5 +1,6 @@
 -- The places of a call's steps.
-use Rattle.fx_lasting.proofs.Frames.{alone_cases}
+use Rattle.fx_lasting.proofs.Words.{File, HoldsBesides, Placement, Renewing, Relieving, Nearing}
+use Rattle.fx_lasting.proofs.Frames.{HasBesides, alone_cases}
 use Rattle.fx_lasting.proofs.Words.{subst, ◌≡◌, ◌<◌, ◌≤◌, ℕ, ◌*◌, arith, ⊎_elim, Start, LastingTable, list_place, slot_place, hold_place, node_place}
 use Rattle.fx_lasting.proofs.Words.{word_of, hold_word_of, nodes_of, slots_of, HasPlace, IsAtWork, Sat, Emptying, LastingPass, IsPassOfTable}
 use Rattle.fx_lasting.proofs.Words.{Option, Closed, List, Bool, cond, le-ltb, length, pass_in, get_elem?, some, ◌∙◌, sym, mul-le-mul_right, ap}
@@ -64,11 +65,19 @@ number_inside t {n} l is = omega (arith, l, is, t.words, t.same_size, t.key.0)
 pub number_word : (t : LastingTable) (n : ℕ) {i : ℕ} → i ≡ number_place t.size t.passes n → i ≡ number_word_of t.table.shared.key n
 number_word t n is = omega (arith, is, t.same_size, t.key.0)
 
+-- the node on which a pass has placed a file, if it has another node besides
+besides_inside : {k : Start} {p n : ℕ} {l : Placement} {m : Sat} → IsAtWork k p m → HasBesides m.0.work n l → n < nodes_of k
+besides_inside {k} {n = n} {l = l} {m = m} at has = ⊎_elim
+    (λ (z : (f : File) × (held : ℕ) × HoldsBesides m.0.work f held n l). ⊎_elim
+    (λ (is : m.0.work ≡ Renewing z.0 z.1 n l). let both : (z.1 < nodes_of k) × (n < nodes_of k) = its_inside at is in both.1)
+    (λ (is : m.0.work ≡ Relieving z.0 z.1 n l). let both : (z.1 < nodes_of k) × (n < nodes_of k) = its_inside at is in both.1) z.2)
+    (λ (z : (i : ℕ) × (m.0.work ≡ Nearing i n l)). let both : (z.0 < nodes_of k) × (n < nodes_of k) = its_inside at z.1 in both.1) has
+
 -- the node whose place is with the pass
 pub place_inside : {k : Start} {p n : ℕ} {x : Option Closed} {m : Sat} → IsAtWork k p m → HasPlace n x m → n < nodes_of k
 place_inside {k = k} {n = n} {m = m} at has = ⊎_elim (λ (e : m.0.work ≡ Emptying n). its_inside at e)
-    (λ e. ⊎_elim (λ is. its_inside at is) (λ z. let same : z.2 ≡ n = cc (sym z.5) in let both : (z.1 < nodes_of k) × (z.2 < nodes_of k) = its_inside at z.4 in
-    subst (λ (i : ℕ). i < nodes_of k) same both.1)
+    (λ e. ⊎_elim (λ is. its_inside at is) (λ z. let same : z.0 ≡ n = cc (sym z.3) in
+    subst (λ (i : ℕ). i < nodes_of k) same (besides_inside at z.2))
     (alone_cases m.0.work e.1)) has.work
 
 -- a table has few nodes

@@ -52,7 +52,7 @@ module _ (turn : Turn) (h' front : List Event) (words' : List ℕ) (d : Work) (g
     pub hold_words : (p : ℕ) → p ≢ x.number → 0 < p → word_at words' (hold_word_of v.start p) ≡ word_at st.words (hold_word_of v.start p)
     pub counts : RangeCounts (state_after_all v.start h').at (range_at_start v.start) (set st.views id (w turn calm_after)) words'
     pub taken : (n : ℕ) → taking n d ≡ taking n v.work
-    pub owners : (d ≡ v.work) ⊎ (busy v.work ≡ 0)
+    pub owners : (alone_in d ≡ alone_in v.work) ⊎ (busy v.work ≡ 0)
     pub held : held_by h' x.number ≡ held_in d
     pub allowed : IsAllowed x.stock l d
     pub lists : (p : ℕ) → p ≤ 1024 → ListGoesOn x.number l p (word_at st.words (list_place p)) (word_at words' (list_place p))
@@ -74,7 +74,7 @@ module _ (turn : Turn) (h' front : List Event) (words' : List ℕ) (d : Work) (g
         nodes = λ n l. node_same (slots_of v.start) r.node_of n (omega arith) (s.node_words n)
             (let t = sum_set (taken_of n) st.views id v (w turn calm_after) here in let e = s.taken n in omega arith)
             refl refl (r.phase n) (λ i f is there. (at_is i, ap count_in (s.slot_words i (inside n l i f is)))) (r.nodes.each n l);
-        owners = λ n l. ⊎_elim (λ same. owner_same st.views id v (w turn calm_after) here (ap alone_in same) n (r.phase n) (r.nodes.owners n l))
+        owners = λ n l. ⊎_elim (λ same. owner_same st.views id v (w turn calm_after) here same n (r.phase n) (r.nodes.owners n l))
             (λ none. owner_stays st.views id v (w turn calm_after) here n (λ bad. omega arith) (r.phase n) (r.nodes.owners n l)) s.owners;
         labels = λ n l. labels_same v.start _ _ _ (written_in (r.phase n)) (s.label_words n) (r.nodes.labels n l);
         removed = λ number. ap (λ (f : ℕ → Option File). f number) s.files.removed ∙ r.nodes.removed number;
@@ -123,7 +123,7 @@ module _ (turn : Turn) (new : ℕ) (d : Work) where
   pub record Own (h' : List Event) : Type 0 where
     pub files : LeavesFiles turn h'
     pub taken : (n : ℕ) → taking n d ≡ taking n v.work
-    pub owners : busy v.work ≡ 0
+    pub owners : (alone_in d ≡ alone_in v.work) ⊎ (busy v.work ≡ 0)
     pub held : held_by h' x.number ≡ held_in d
     pub allowed : IsAllowed x.stock x.listed d
     pub hold : HoldAgrees new (r.debt x.number) d
@@ -145,7 +145,7 @@ module _ (turn : Turn) (new : ℕ) (d : Work) where
         hold_words = λ p other more. hold_else turn x.number low high new p other;
         counts = range_left turn (own_after h') s.files.at (hold_alike turn x.number low high new) refl refl;
         taken = s.taken;
-        owners = inr s.owners;
+        owners = s.owners;
         held = s.held;
         allowed = s.allowed;
         lists = λ p few. inl (hold_list turn x.number low high new p few);
@@ -178,7 +178,7 @@ module _ (turn : Turn) (d : Work) (g : Glance) where
   pub record Reads (h' : List Event) : Type 0 where
     pub files : LeavesFiles turn h'
     pub taken : (n : ℕ) → taking n d ≡ taking n v.work
-    pub owners : (d ≡ v.work) ⊎ (busy v.work ≡ 0)
+    pub owners : (alone_in d ≡ alone_in v.work) ⊎ (busy v.work ≡ 0)
     pub held : held_by h' x.number ≡ held_in d
     pub allowed : IsAllowed x.stock x.listed d
     pub its : Keeps turn (read_after h') id x.number d g

@@ -1,5 +1,5 @@
 -- A step of one seat leaves other seats, slots and nodes as they were.
-use Rattle.fx_lasting.proofs.Words.{alone_in, Placement, Renewing}
+use Rattle.fx_lasting.proofs.Words.{alone_in, Placement, Renewing, Nearing, Relieving, HoldsBesides}
 use Rattle.fx_lasting.proofs.Words.{◌≡◌, ◌≢◌, ℕ, ◌+◌, ◌<◌, ◌≤◌, List, set, sym, refl, ap, ◌∙◌, subst, arith, Option, Some, None, File, inl, inr, some}
 use Rattle.fx_lasting.proofs.Words.{some-injective, get_elem?, set_here, set_else, stands_at, ⊎_elim, ◌⊎◌, dite, ℕ_discrete, dec_le, SlotAgrees}
 use Rattle.fx_lasting.proofs.Words.{NodeAgrees, OwnerAgrees, WorkAgrees, LogAgrees, HoldAgrees, GuardAgrees, Does, GlanceAgrees, Heats, MayBeUnmarked}
@@ -15,19 +15,29 @@ use Rattle.fx_lasting.proofs.Keeping.{Turn, After, Keeps, w, word_at, slot_word}
 abbrev pub busy : Work → ℕ
 busy (Placing n w) = n + 1
 busy (Renewing f held n w) = n + 1
+busy (Nearing m n w) = n + 1
+busy (Relieving f held n w) = n + 1
 busy (Retiring f n takes next marks) = n + 1
 busy (Emptying n) = n + 1
 busy (Keeping n lost) = n + 1
 busy _ = 0
 
--- what a pass does with a node alone is its whole work, or it holds a file besides
-pub alone_cases : (w : Work) {d : Work} → alone_in w ≡ d
-    → (w ≡ d) ⊎ ((f : File) × (held n : ℕ) × (l : Placement) × (w ≡ Renewing f held n l) × (d ≡ Placing n l))
-alone_cases (Renewing f held n l) is = inr (f, held, n, l, refl, sym is)
+-- a pass that has placed a file on this node holds the file of another node, or announces it
+abbrev pub HasBesides : Work → ℕ → Placement → Type 0
+HasBesides w n l = ((f : File) × (held : ℕ) × HoldsBesides w f held n l) ⊎ ((m : ℕ) × (w ≡ Nearing m n l))
+
+-- what a pass does with a node alone is its whole work, or it has another node besides
+pub alone_cases : (w : Work) {d : Work} → alone_in w ≡ d → (w ≡ d) ⊎ ((n : ℕ) × (l : Placement) × HasBesides w n l × (d ≡ Placing n l))
+alone_cases (Renewing f held n l) is = inr (n, l, inl (f, held, inl refl), sym is)
+alone_cases (Relieving f held n l) is = inr (n, l, inl (f, held, inr refl), sym is)
+alone_cases (Nearing m n l) is = inr (n, l, inr (m, refl), sym is)
 alone_cases _ is = inl is
 
 pub busy_alone : (w : Work) → busy w ≡ busy (alone_in w)
-busy_alone w = ⊎_elim (λ is. ap busy is) (λ z. ap busy z.4 ∙ sym (ap busy z.5)) (alone_cases w refl)
+busy_alone (Renewing f held n l) = refl
+busy_alone (Relieving f held n l) = refl
+busy_alone (Nearing m n l) = refl
+busy_alone _ = refl
 
 -- the label of a file, if there is one
 abbrev label_in : Option File → Written
@@ -123,6 +133,7 @@ module _ {at at' : ℕ → Option File} (size : ℕ) {takes_at takes_at' : ℕ �
     few_takes = o.few_takes;
     few_marks = o.few_marks;
     few_visits = o.few_visits;
+    unowed = λ is. owed ∙ o.unowed is;
   }
   node_same (retired f) same o = let a = o.counts in let b = o.somebody in record {
     file = file_same later homed o.file;
@@ -214,6 +225,8 @@ module _ (turn : Turn) (a : After turn) where
         (at.0, leaves.spare m z.number b.0 at.1 ((r.nodes.stocks j u z there has).here b.0 m b.1) n)
     work_stays (Placing m w) is at = (at.0, same_for at.1 refl)
     work_stays (Renewing f m own w) is at = (leaves.open_file j u f m other there (ap held_in is) at.0, (at.1.0, same_for at.1.1 refl))
+    work_stays (Nearing m own w) is at = (at.0, (at.1.0, same_for at.1.1 refl))
+    work_stays (Relieving f m own w) is at = (leaves.open_file j u f m other there (ap held_in is) at.0, (at.1.0, same_for at.1.1 refl))
     work_stays (Retiring f m t next marks) is at = (at.0, same_for at.1 refl)
     work_stays (Emptying m) is at = (at.0, same_for at.1 refl)
     work_stays (Keeping m lost) is at = (at.0, same_for at.1 refl)
@@ -240,6 +253,8 @@ module _ (turn : Turn) (a : After turn) where
     where
       go : (d : Work) → GuardAgrees (slot_word st.words) r.phase q (r.debt q) d → GuardAgrees (slot_word a.words) a.phase q (r.debt q) d
       go (Guarded f n) g = λ none. covers n (g none)
+      go (Relieving f n own w) g = λ none. covers n (g none)
+      go (Nearing n own w) g = tt
       go Idle g = tt
       go (Announced n) g = tt
       go (Counted f n) g = tt

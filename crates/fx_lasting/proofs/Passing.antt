@@ -1,5 +1,5 @@
 -- A pass between two calls, and what a call adds to it.
-use Rattle.fx_lasting.proofs.Words.{Renewing}
+use Rattle.fx_lasting.proofs.Words.{Renewing, Nearing, Relieving, HoldsAlone}
 use Rattle.fx_lasting.proofs.Words.{as_listed, get_elem?, some, ◌≡◌, ℕ, ◌+◌, ◌-◌, ◌≤◌, ◌<◌, ◌^◌, ◌⊎◌, List, [], sym, refl, ap, ◌∙◌, subst, arith}
 use Rattle.fx_lasting.proofs.Words.{Bool, true, false, Option, Some, None, Start, Sat, Work, Glance, Change, Nothing, Outside, Runs, IsAtWork}
 use Rattle.fx_lasting.proofs.Words.{as_swapped, nodes_of, set, part_of_pass, TableId, Idle, Counted, Guarded, Retiring, Keeping, LastingPass}
@@ -15,6 +15,7 @@ use Rattle.fx_table.specs.declared.values.Doing.TheVariants.{Retiring as Retires
 use Rattle.fx_table.specs.declared.values.Empty.{Empty}
 use Rattle.fx_table.specs.declared.values.LookFault.{LookFault}
 use Rattle.fx_table.specs.declared.values.LookFault.TheVariants.{Spent, Empty as EmptySlot}
+use Rattle.fx_lasting.specs.slots.PutAlone.{FreesFirst}
 use Rattle.fx_lasting.proofs.Running.{does_then, still_at_work, number_is, at_listed, at_swapped}
 
 -- the changes that a seat's steps make to its view
@@ -135,7 +136,10 @@ holds_on (Yielding g n) is = absurd (cc is)
 holds_on (Searching n) is = absurd (cc is)
 holds_on (Placing n l) is = absurd (cc is)
 holds_on (Renewing g n own l) {f} {hold} is = let same : g ≡ f = cc is in let value : hold_at g n ≡ hold = cc is in
-    inr (inr (own, l, λ i. Renewing (same i) (ap (λ (h : Hold). h.node) value i) own l))
+    inr (inr (own, l, inl (λ i. Renewing (same i) (ap (λ (h : Hold). h.node) value i) own l)))
+holds_on (Relieving g n own l) {f} {hold} is = let same : g ≡ f = cc is in let value : hold_at g n ≡ hold = cc is in
+    inr (inr (own, l, inr (λ i. Relieving (same i) (ap (λ (h : Hold). h.node) value i) own l)))
+holds_on (Nearing n own l) is = absurd (cc is)
 holds_on (Retiring g n t nx m) is = absurd (cc is)
 holds_on (Emptying n) is = absurd (cc is)
 holds_on (Keeping n lost) is = absurd (cc is)
@@ -255,6 +259,13 @@ module _ {id : TableId} {k : Start} {p : LastingPass} (fits : IsPassOf id k p) w
   pub its_counted : {f : File} {hold : Hold} → (view_of p).doing ≡ Holding f hold → p.guarded ≡ false → p.seat.me.0.work ≡ Counted f hold.node
   its_counted {f} {hold} = work_counted k.passes p.next_visit p.next_entry p.idle p.guarded p.keeps p.stock.items f hold p.seat.me.0.work fits.knows
 
+  pub holds_alone : {f : File} {hold : Hold} → (view_of p).doing ≡ Holding f hold → HoldsAlone p.seat.me.0.work f hold.node
+  holds_alone {f} {hold} is = go p.guarded refl
+    where
+      go : (b : Bool) → p.guarded ≡ b → HoldsAlone p.seat.me.0.work f hold.node
+      go true guards = inr (its_guarded is guards)
+      go false counts = inl (its_counted is counts)
+
   pub its_retiring : {f : File} {retired : Retired} → (view_of p).doing ≡ Retires f retired
       → IsToRetire k.passes p.next_visit f retired p.seat.me.0.work
   its_retiring {f} {retired} =
@@ -361,6 +372,17 @@ up_then k u v w slot (Err EmptySlot) (Some file) never before looked = (
   looked.1,
   adds_then (opening_of k) u v w [] ([] ▷ Close looked.0 ▷ Look slot None) DoesNothing DoesNothing no_use one_look before looked.2,
 )
+
+-- a look-up by a pass that may have freed a file before
+pub frees_then : (k : Start) (u v w : PassView) (slot : ℕ) (r : Result Hold LookFault) (freed : Option Closed) → r ≢ Err Spent
+    → FreesFirst (opening_of k) u freed v → LookedUp (opening_of k) v slot r None w → LookedUp (opening_of k) u slot r freed w
+frees_then k u v w slot r None never before looked = after_then k u v w [] slot r never before looked
+frees_then k u v w slot r (Some file) never before looked =
+    (before.0, before.1, after_then k u v w ([] ▷ Close before.0) slot r never before.2 looked)
+
+pub frees_number : (o : Opening) (u v : PassView) (freed : Option Closed) → FreesFirst o u freed v → v.number ≡ u.number
+frees_number o u v None before = before.number
+frees_number o u v (Some file) before = before.2.number
 
 -- a look-up after a withdrawal
 pub marks_then : {id : TableId} {k : Start} {p : LastingPass} (seated : IsSeatOf id k p) {m' : Sat} (w : PassView) (slot : ℕ) {n : ℕ}

@@ -1,5 +1,5 @@
 -- Some steps in a row, and the seat after them.
-use Rattle.fx_lasting.proofs.Words.{TakesAs, HoldsOn, Placement, Renewing, as_listed, as_asked, as_stocked, as_swapped, IsStockOf, Survey, true, set, set_here, set_else, length-set}
+use Rattle.fx_lasting.proofs.Words.{TakesAs, HoldsBesides, HoldsOn, Placement, Renewing, Relieving, as_listed, as_asked, as_stocked, as_swapped, IsStockOf, Survey, true, set, set_here, set_else, length-set}
 use Rattle.fx_lasting.proofs.Words.{stands_at, get_elem?, some, some-injective, ◌≡◌, ◌≤◌, ℕ, ◌+◌, List, [], ◌++◌, map, sym, refl, ap, ◌∙◌, subst}
 use Rattle.fx_lasting.proofs.Words.{arith, ◌▷▷◌, Action, Event, Sat, Stepped, Goes, Runs, Change, IsAtWork, Log, first_log, ◌∷◌, ◌-◌, ◌<◌, ⊎_elim}
 use Rattle.fx_lasting.proofs.Words.{inl, dite, ℕ_discrete, eq-eqb, ne_eqb, Option, Some, None, Closed, File, ◌▷◌, Release, Close, Look, Idle, Owing}
@@ -231,7 +231,10 @@ let_go_inside {n = n} {m = m} at has = ⊎_elim (λ (e : m.0.work ≡ Owing n). 
 
 -- the node whose file it holds is the table's
 pub held_inside : {k : Start} {p n : ℕ} {f : File} {m : Sat} → IsAtWork k p m → HoldsOn m.0.work f n → n < nodes_of k
-held_inside {k} {n = n} {f = f} {m = m} at holds = ⊎_elim (λ is. its_inside at is) (λ z. ⊎_elim (λ is. its_inside at is) (λ (is : (own : ℕ) × (l : Placement) × (m.0.work ≡ Renewing f n own l)). let both : (n < nodes_of k) × (is.0 < nodes_of k) = its_inside at is.2 in both.0) z) holds
+held_inside {k} {n = n} {f = f} {m = m} at holds = ⊎_elim (λ is. its_inside at is) (λ z. ⊎_elim (λ is. its_inside at is)
+    (λ (is : (own : ℕ) × (l : Placement) × HoldsBesides m.0.work f n own l). ⊎_elim
+    (λ (e : m.0.work ≡ Renewing f n is.0 is.1). let both : (n < nodes_of k) × (is.0 < nodes_of k) = its_inside at e in both.0)
+    (λ (e : m.0.work ≡ Relieving f n is.0 is.1). let both : (n < nodes_of k) × (is.0 < nodes_of k) = its_inside at e in both.0) is.2) z) holds
 
 -- a pass takes what a slot names: a file, or nothing
 pub took : {none : Work} {holding : File → ℕ → Work} {st : At} {m m' : Sat} {slot found : ℕ} → m.0.glance ≡ Cold slot → TakesAs none holding st m found m'

@@ -1,11 +1,11 @@
 -- One history has what all passes did, and each removed file that is open has a user.
-use Rattle.fx_lasting.proofs.Words.{Renewing}
+use Rattle.fx_lasting.proofs.Words.{Renewing, Nearing, Relieving, StillNames}
 use Rattle.fx_lasting.proofs.Frames.{alone_cases}
 use Rattle.fx_lasting.proofs.Words.{contents_of, Contains, contains_head, ◌≡◌, ℕ, suc, ◌+◌, ◌<◌, ◌≤◌, List, [], ◌∷◌, length, sym, refl, ap, ◌∙◌}
 use Rattle.fx_lasting.proofs.Words.{subst, arith, Some, None, some, get_elem?, ⊎_elim, dite, dec_le, eqb, Bool, true, false, cond, at_index}
 use Rattle.fx_lasting.proofs.Words.{found_sum, File, Agrees, NodeAgrees, WorkAgrees, HoldAgrees, HoldsAt, OwnerAgrees, Shared, Start, View, Work, Log}
-use Rattle.fx_lasting.proofs.Words.{Phase, Idle, Announced, Counted, Guarded, Owing, Yielding, Searching, Placing, Retiring, Emptying, Keeping, free}
-use Rattle.fx_lasting.proofs.Words.{placed, seated, leaving, retired, emptied, kept, file_in, removed_in, file_if_numbered, eq-eqb, taken_of, taking}
+use Rattle.fx_lasting.proofs.Words.{Phase, Idle, Announced, Counted, Guarded, Owing, Yielding, Searching, Placing, Retiring, Emptying, Keeping}
+use Rattle.fx_lasting.proofs.Words.{seated, leaving, retired, file_in, removed_in, file_if_numbered, eq-eqb, taken_of, taking}
 use Rattle.fx_lasting.proofs.Words.{owed, count_in, sum_by, bit_else, slots_of, nodes_of, word_of, state_after_all, state_at_start, node_of_number}
 use Rattle.fx_lasting.proofs.Words.{state_of, lt-ltb, ℕ_discrete, not, eqb-true, named_same, opening_is_start, numbered_anew, PassView}
 use Rattle.fx_plain.proofs.Cells.{named}
@@ -105,6 +105,8 @@ module _ (k : Start) (s : Shared) (r : Agrees k s) where
         go (Searching m) is at = absurd (omega arith)
         go (Placing m w) is at = absurd (omega arith)
         go (Renewing g m own w) is at = dite (ℕ_discrete m n) (λ same. same_file g (rw same at at.0)) (λ other. absurd (let a = bit_else n m other in omega arith))
+        go (Nearing m own w) is at = absurd (omega arith)
+        go (Relieving g m own w) is at = absurd (omega arith)
         go (Retiring g m t rd k) is at = absurd (omega arith)
         go (Emptying m) is at = absurd (omega arith)
         go (Keeping m lost) is at = absurd (omega arith)
@@ -113,6 +115,16 @@ module _ (k : Start) (s : Shared) (r : Agrees k s) where
     owes seat (Announced m) word debt is h at = ⊎_elim (λ clean. let a = clean.1 in absurd (omega arith)) (λ full. let a = full.1 in omega arith) h
     owes seat (Guarded g m) word debt is h at = ⊎_elim (λ clean. let a = clean.1 in absurd (omega arith))
         (λ full. let same : m ≡ n = (let a = full.1 in omega arith) in same_file g (rw same at at)) h
+    owes seat (Nearing m own w) word debt is h at = ⊎_elim (λ clean. let a = clean.1 in absurd (omega arith)) (λ full. let a = full.1 in omega arith) h
+    owes seat (Relieving g m own w) word debt is h at = ⊎_elim (λ clean. let a = clean.1 in absurd (omega arith))
+        (λ full. let same : m ≡ n = (let a = full.1 in omega arith) in same_file g (rw same at at.0)) h
+    owes seat (Retiring g m t rd e) word debt is h at = still rd.guarded h
+      where
+        still : (b : Bool) → StillNames b word debt m → g ≡ f
+        still true names = ⊎_elim (λ clean. let a = clean.1 in absurd (omega arith))
+            (λ full. let same : m ≡ n = (let a = full.1 in omega arith) in let its : HoldsAt k r.phase g m = (at.0, ap file_in at.1) in
+            same_file g (rw same at its)) names
+        still false unnamed = let a = unnamed.1 in absurd (omega arith)
     owes seat (Owing m) word debt is h at = let a = h.1 in omega arith
     owes seat (Yielding g m) word debt is h at = let same : m ≡ n = (let a = h.1 in omega arith) in same_file g (rw same at at)
     owes seat _ word debt is h at = let a = h.1 in absurd (omega arith)
@@ -132,7 +144,7 @@ module _ (k : Start) (s : Shared) (r : Agrees k s) where
   user_of : (number n : ℕ) (f : File) (ph : Phase) → r.phase n ≡ ph → Node n ph → OwnerAgrees s.views n ph → removed_in number ph ≡ Some f
       → (f.number ≡ number) × ((seat : ℕ) × (v : View) × (get_elem? s.views seat ≡ some v) × Uses f n v.work)
   user_of number n f (leaving seat t rd m g) at o who is = let e = found_file number g f is in
-      (e.1, (seat, who.0, who.1, ⊎_elim (λ its. subst (Uses f n) (sym its) e.0) (λ z. absurd (cc z.5)) (alone_cases who.0.work who.2)))
+      (e.1, (seat, who.0, who.1, ⊎_elim (λ its. subst (Uses f n) (sym its) e.0) (λ z. absurd (cc z.3)) (alone_cases who.0.work who.2)))
   user_of number n f (retired g) at o who is = let e = found_file number g f is in
       (e.1, somebody n f (ap file_in at ∙ ap (λ (x : File). Some x) e.0) o.somebody)
   user_of number n f _ at o who is = absurd (cc is)

@@ -5,7 +5,7 @@ pub use Rattle.atomic_table.specs.Table.{Act, keeps, Valid, stepped, carried_aft
 pub use Rattle.atomic_table.specs.Table.{put_back}
 pub use Rattle.fx_base.specs.declared.open_file.Closed.{Closed}
 pub use Rattle.fx_lasting.specs.holds.HoldsAgree.{IsIn, HoldAgrees, MayBeUnmarked, GuardAgrees, GlanceAgrees, Heats, LogAgrees, ViewAgrees, HoldsAt}
-pub use Rattle.fx_lasting.specs.holds.HoldsAgree.{WorkAgrees, IsAllowed, IsIdleIn, IsToVisit, NamesNode}
+pub use Rattle.fx_lasting.specs.holds.HoldsAgree.{WorkAgrees, IsAllowed, IsIdleIn, IsToVisit, NamesNode, StillNames}
 pub use Rattle.fx_lasting.specs.Agrees.{Agrees}
 pub use Rattle.fx_lasting.specs.nodes.NodesAgree.{NodeAgrees, Does, OwnerAgrees, Nodes, Home, IsFileOfNode, IsVacant, IsBorn, Labels}
 pub use Rattle.fx_lasting.specs.slots.SlotAgrees.{Names, IsSeated, SlotAgrees}
@@ -20,7 +20,7 @@ pub use Rattle.fx_lasting.specs.Laws.{ChecksKeep, BreaksKeep, BeginsKeep, Counts
 pub use Rattle.fx_lasting.specs.Laws.{LettingGoKeeps, SeeksKeep, BirthsKeep, RestsKeep, VisitsKeep, MarksKeep, ParksKeep, ResumesKeep, SettlesKeep}
 pub use Rattle.fx_lasting.specs.Laws.{HasItsPlace, RecallsTagKeep, TagsKeep, NumbersKeep, ReadsTagKeep, ReadsNumberKeep, RetiresKeep, IsInRange, ListsKeep, SkimsKeep}
 pub use Rattle.fx_lasting.specs.Laws.{IsPassed, SeesKeep, TakesIfKeep, SwapsIfKeep, ReplacesKeep, FinishesKeep, SwapsOutKeep}
-pub use Rattle.fx_lasting.specs.Laws.{SwapsHeldKeep, TakesHeldKeep}
+pub use Rattle.fx_lasting.specs.Laws.{MayAnnounce, StandsDownKeep, SwapsHeldKeep, TakesHeldKeep}
 pub use Rattle.fx_lasting.specs.nodes.LabelSteps.{RecallsTag, Tags, Numbers, ReadsTag, ReadsNumber}
 pub use Rattle.fx_lasting.specs.nodes.Labels.{number_of_mark, label_of, as_written, HasWritten}
 pub use Rattle.fx_lasting.specs.nodes.KeepSteps.{Parks, Resumes, SettlesNode}
@@ -35,6 +35,7 @@ pub use Rattle.fx_lasting.specs.Fields.{MayCarry}
 pub use Rattle.fx_lasting.specs.Passes.{alone_in, node_of_number, HasNoFile, Shared, Sat, state_at_start, slots_of, range_at_start, nodes_of, first_stock}
 pub use Rattle.fx_lasting.specs.Passes.{word_of, hold_word_of, logs_of, lengths, state_after_all, IsHistory, new_log, first_log, held_in, if_file}
 pub use Rattle.fx_lasting.specs.Passes.{held_of, taking, taken_of, tag_word_of, number_word_of, HoldsOn, contents_of, empty_slots}
+pub use Rattle.fx_lasting.specs.Passes.{HoldsAlone, HoldsBesides, IsRenewing, is_guarding}
 pub use Rattle.fx_lasting.specs.nodes.Stocks.{Whereabouts, at_slot, in_stock, IsInStock, NamesItsNode, IsStockOf, StockAgrees}
 pub use Rattle.fx_lasting.proofs.slot_lemmas.SlotWords.{name_of_file, same_full_name, name_made, full_name_made, file_entry_made, file_takes_made, file_heat_made}
 pub use Rattle.fx_lasting.proofs.slot_lemmas.SlotWords.{empty_name_made, empty_file_made, empty_takes_made, name_left, no_file_left, no_takes_left}
@@ -53,6 +54,7 @@ pub use Rattle.fx_lasting.specs.Effects.{Withdraws, glance_after, Takes, HeatsSl
 pub use Rattle.fx_lasting.specs.Effects.{IsInside, Stepped, Goes, Glances, Exchanges, LettingGo, Seeks, Births, Rests, Visits, Marks, Retires}
 pub use Rattle.fx_lasting.specs.Effects.{first_visit, retiring_work, Found, Installs, Removes, Turns, Asks, Peeks, as_asked, group_at, as_stocked}
 pub use Rattle.fx_lasting.specs.Effects.{IsWatching, MeetsOne, IsOvertaken, HasGap, as_swapped, NamesANode, Lowers, Checks, Breaks, Raises, Begins, Counts, Decides, Sees, TakesIf, Replaces}
+pub use Rattle.fx_lasting.specs.Effects.{HasAnnounced, HasItsHold, StandsDown, announcing, guarded_round, guarding, leaving_work, removal_work}
 pub use Rattle.fx_lasting.specs.holds.Visits.{HasVisited, round_to}
 pub use Rattle.fx_lasting.specs.nodes.Searches.{next_of}
 pub use Rattle.fx_lasting.specs.declared.view.Change.{Change}
@@ -69,7 +71,7 @@ pub use Rattle.fx_lasting.specs.declared.view.Watch.{Watch}
 pub use Rattle.fx_lasting.specs.slots.Watches.{ActsAt, HasActed, HasHeated, IsAsSeen, WatchAgrees, without_slot}
 pub use Rattle.fx_lasting.specs.declared.view.Work.{Work}
 pub use Rattle.fx_lasting.specs.declared.view.Work.TheVariants.{Idle, Announced, Counted, Guarded, Owing, Yielding, Searching, Placing, Renewing, Retiring}
-pub use Rattle.fx_lasting.specs.declared.view.Work.TheVariants.{Emptying, Keeping}
+pub use Rattle.fx_lasting.specs.declared.view.Work.TheVariants.{Nearing, Relieving, Emptying, Keeping}
 pub use Rattle.fx_lasting.specs.declared.view.Written.{Written}
 pub use Rattle.fx_lasting.specs.declared.view.Placement.{Placement}
 pub use Rattle.fx_lasting.specs.declared.view.Written.TheVariants.{Nothing as Unlabelled, Tag, Label}

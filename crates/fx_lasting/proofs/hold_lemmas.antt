@@ -9,6 +9,7 @@ pub mod Looking
 pub mod Taking
 pub mod Retiring
 pub mod Finishing
+pub mod StandingDown
 pub mod Visiting
 pub mod Skimming
 pub mod Rounds

@@ -1,7 +1,7 @@
 -- Each kind of step: its effect on the pass that makes it.
 use Rattle.std.specs.Prelude.{◌≡◌, ◌≢◌, ℕ, ◌+◌, ◌-◌, ◌*◌, ◌/◌, ◌<◌, ◌==◌, ◌⊎◌, nat_lt}
 use Rattle.std.specs.Prelude.{if◌then◌else◌, min}
-use Rattle.std.specs.Prelude.{◌≤◌, true, List, [], slice_set}
+use Rattle.std.specs.Prelude.{◌≤◌, Bool, true, false, List, [], slice_set}
 use mathlib.Core.Option.{some}
 use lib.ListN.{get_elem?}
 use Rattle.std.specs.Prelude.{◌∷◌, ◌++◌, map, Option, Some, None}
@@ -33,12 +33,14 @@ use Rattle.fx_lasting.specs.declared.view.Change.TheVariants.{Outside, Lowered, 
 use Rattle.fx_lasting.specs.declared.view.Glance.{Glance}
 use Rattle.fx_lasting.specs.declared.view.Glance.TheVariants.{None as Nothing, Hot, Cold, Heating}
 use Rattle.fx_lasting.specs.declared.view.Log.{Log}
+use Rattle.fx_lasting.specs.declared.view.Placement.{Placement}
 use Rattle.fx_lasting.specs.declared.view.Round.{Round}
 use Rattle.fx_lasting.specs.declared.view.Start.{Start}
 use Rattle.fx_lasting.specs.declared.view.Work.{Work}
 use Rattle.fx_lasting.specs.declared.view.Work.TheVariants.{Idle, Announced, Counted, Guarded}
 use Rattle.fx_lasting.specs.declared.view.Work.TheVariants.{Owing, Yielding, Searching, Placing}
-use Rattle.fx_lasting.specs.declared.view.Work.TheVariants.{Renewing, Retiring, Emptying, Keeping}
+use Rattle.fx_lasting.specs.declared.view.Work.TheVariants.{Renewing, Nearing, Relieving}
+use Rattle.fx_lasting.specs.declared.view.Work.TheVariants.{Retiring, Emptying, Keeping}
 use Rattle.fx_lasting.specs.declared.view.Written.TheVariants.{Nothing as Unlabelled}
 
 -- a step of a table whose places have an open file or none
@@ -76,6 +78,8 @@ IsInside k (Yielding f node) = node < nodes_of k
 IsInside k (Searching node) = node < nodes_of k
 IsInside k (Placing node placement) = node < nodes_of k
 IsInside k (Renewing f node own placement) = (node < nodes_of k) × (own < nodes_of k)
+IsInside k (Nearing node own placement) = (node < nodes_of k) × (own < nodes_of k)
+IsInside k (Relieving f node own placement) = (node < nodes_of k) × (own < nodes_of k)
 IsInside k (Retiring f node takes round marks) = node < nodes_of k
 IsInside k (Emptying node) = node < nodes_of k
 IsInside k (Keeping node lost) = node < nodes_of k
@@ -165,10 +169,26 @@ pub record Glances (st : At) (m : Sat) (found : ℕ) (m' : Sat) : Type 0 where
 pub record Lists (st : At) (m : Sat) (found : ℕ) (m' : Sat) : Type 0 where
   pub goes : Goes (as_listed m) [] m.0.work m.0.glance m'
 
+-- the work of a pass with this one, once its hold word names the node
+abbrev pub announcing : ℕ → Work → Work
+announcing node (Placing own placement) = Nearing node own placement
+announcing node _ = Announced node
+
+-- the work of a pass with this one, once it holds the file whose node it announced
+abbrev pub guarding : File → Work → Work
+guarding f (Announced node) = Guarded f node
+guarding f (Nearing node own placement) = Relieving f node own placement
+guarding f w = w
+
+-- the hold word of a pass names the node, and it holds nothing yet
+abbrev pub HasAnnounced : Work → ℕ → Type 0
+HasAnnounced w node = (w ≡ Announced node)
+    ⊎ ((own : ℕ) × (placement : Placement) × (w ≡ Nearing node own placement))
+
 -- Announce: the hold word names the node
 pub record Announces (st : At) (m : Sat) (found : ℕ) (m' : Sat) : Type 0 where
   pub goes : (slot node : ℕ) → m.0.glance ≡ Hot slot node
-      → Goes m [] (Announced node) m.0.glance m'
+      → Goes m [] (announcing node m.0.work) m.0.glance m'
 
 -- the word of a slot says of the file what its taker needs
 abbrev pub Shows : ℕ → File → Type 0
@@ -177,12 +197,13 @@ Shows found f = entry_in found ≡ f.identity.entry
 -- Confirm: where the slot is hot and names the node still, its file is held; else the announcement
 -- is to be withdrawn, and what the slot names now is to be taken
 pub record Confirms (st : At) (m : Sat) (found : ℕ) (m' : Sat) : Type 0 where
-  pub holds : (slot node : ℕ) → m.0.glance ≡ Hot slot node → m.0.work ≡ Announced node
+  pub holds : (slot node : ℕ) → m.0.glance ≡ Hot slot node → HasAnnounced m.0.work node
       → full_name_in found ≡ node + 1 → IsHot found
-      → (f : File) × Shows found f × Goes m ([] ▷ Look slot (Some f)) (Guarded f node) Nothing m'
-  pub moved : (slot node : ℕ) → m.0.glance ≡ Hot slot node → m.0.work ≡ Announced node
+      → (f : File) × Shows found f
+      × Goes m ([] ▷ Look slot (Some f)) (guarding f m.0.work) Nothing m'
+  pub moved : (slot node : ℕ) → m.0.glance ≡ Hot slot node → HasAnnounced m.0.work node
       → ((full_name_in found ≡ node + 1) × IsHot found → ⊥)
-      → Goes m [] (Announced node) (Cold slot) m'
+      → Goes m [] m.0.work (Cold slot) m'
 
 -- Withdraw: a mark that was found is owed
 pub record Withdraws (st : At) (m : Sat) (found : ℕ) (m' : Sat) : Type 0 where
@@ -265,6 +286,8 @@ pub record Births (st : At) (m : Sat) (found : ℕ) (m' : Sat) : Type 0 where
 abbrev pub rested : Work → Work
 rested (Placing node placement) = Searching node
 rested (Renewing f node own placement) = Counted f node
+rested (Nearing node own placement) = Announced node
+rested (Relieving f node own placement) = Guarded f node
 rested _ = Idle
 
 -- Rest: the place is home, without a file
@@ -277,7 +300,18 @@ abbrev pub round_at : Round → ℕ → Round
 round_at round pass = record round { next = pass + 1 }
 
 abbrev pub round_from : ℕ → ℕ → Round
-round_from place found = record { next = 64 * (place - 6) + 1; words = place - 5; last = found }
+round_from place found = record {
+  next = 64 * (place - 6) + 1;
+  words = place - 5;
+  last = found;
+  guarded = false;
+}
+
+-- Stand down: the hold word of a pass that removed the file that it held by it names no node
+pub record StandsDown (st : At) (m : Sat) (found : ℕ) (m' : Sat) : Type 0 where
+  pub goes : (f : File) (node takes : ℕ) (round : Round) (marks : ℕ)
+      → m.0.work ≡ Retiring f node takes round marks
+      → Goes m [] (Retiring f node takes (record round { guarded = false }) marks) m.0.glance m'
 
 -- Skim, of a word of the list: of its passes, those without their bits need no visit
 pub record Skims (st : At) (m : Sat) (found : ℕ) (m' : Sat) : Type 0 where
@@ -329,13 +363,30 @@ first_visit passes found = if heat_in found == 0 then passes + 1 else 1
 
 -- a round that begins with this pass, and has loaded no word of the list
 abbrev pub new_round : ℕ → Round
-new_round first = record { next = first; words = 0; last = 0 }
+new_round first = record { next = first; words = 0; last = 0; guarded = false }
 
--- what a pass does that removed this file, or found none
+-- one of a hot file that the pass held by its hold word
+abbrev pub guarded_round : Round
+guarded_round = record { next = 1; words = 0; last = 0; guarded = true }
+
+-- what a pass does that removed this file, or found none, and is to make this round
+abbrev pub removal_work : Round → ℕ → Option File → Work
+removal_work round found None = Idle
+removal_work round found (Some f) =
+    Retiring f (full_name_in found - 1) (count_in found) round 0
+
 abbrev pub retiring_work : Start → ℕ → Option File → Work
-retiring_work k found None = Idle
-retiring_work k found (Some f) =
-    Retiring f (full_name_in found - 1) (count_in found) (new_round (first_visit k.passes found)) 0
+retiring_work k found file = removal_work (new_round (first_visit k.passes found)) found file
+
+-- what a pass does that removed this file, which it held by its hold word or by a take
+abbrev pub leaving_work : Start → Bool → ℕ → File → Work
+leaving_work k true found f = removal_work guarded_round found (Some f)
+leaving_work k false found f = retiring_work k (found - 1) (Some f)
+
+-- the word of a slot whose file a pass holds so: it is hot, or has the pass's take
+abbrev pub HasItsHold : Bool → ℕ → Type 0
+HasItsHold true found = IsHot found
+HasItsHold false found = 0 < count_in found
 
 -- what a swap found
 abbrev pub Found : ℕ → Option File → Type 0

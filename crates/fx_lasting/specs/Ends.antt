@@ -11,12 +11,13 @@ use Rattle.fx_plain.specs.declared.event.Action.TheVariants.{Look, Release, Clos
 use Rattle.fx_table.specs.declared.values.Hold.{Hold}
 use Rattle.fx_table.specs.declared.values.LookFault.{LookFault}
 use Rattle.fx_table.specs.declared.values.LookFault.TheVariants.{Spent, Empty}
+use Rattle.fx_lasting.specs.Effects.{announcing, guarding}
 use Rattle.fx_lasting.specs.Passes.{Sat}
 use Rattle.fx_lasting.specs.Runs.{Runs}
 use Rattle.fx_lasting.specs.Tables.{hold_at}
 use Rattle.fx_lasting.specs.declared.view.Glance.TheVariants.{None as Nothing, Cold}
 use Rattle.fx_lasting.specs.declared.view.Work.{Work}
-use Rattle.fx_lasting.specs.declared.view.Work.TheVariants.{Idle, Announced, Counted, Guarded}
+use Rattle.fx_lasting.specs.declared.view.Work.TheVariants.{Idle, Counted}
 use Rattle.fx_lasting.specs.declared.view.Work.TheVariants.{Emptying, Keeping}
 
 -- some steps in a row, which leave its look-up and its account with the groups' words as they were
@@ -39,8 +40,9 @@ LetsFileGo m f most (Some file) m' =
 -- has, or it has to withdraw
 abbrev pub Guards : ℕ → ℕ → Sat → Option ℕ → Sat → Type 0
 Guards slot node m (Some entry) m' = (f : File) × (entry ≡ f.identity.entry)
-    × Runs m ([] ▷ Look slot (Some f)) (Guarded f node) Nothing m.0.change 2 m'
-Guards slot node m None m' = Runs m [] (Announced node) (Cold slot) m.0.change 2 m'
+    × Runs m ([] ▷ Look slot (Some f)) (guarding f (announcing node m.0.work)) Nothing m.0.change 2
+    m'
+Guards slot node m None m' = Runs m [] (announcing node m.0.work) (Cold slot) m.0.change 2 m'
 
 -- a pass that took what the slot names: it holds that file, or the slot is empty
 abbrev pub LooksByTake : ℕ → Sat → Result Hold LookFault → Sat → Type 0

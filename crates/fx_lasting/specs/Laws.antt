@@ -17,10 +17,10 @@ use Rattle.fx_lasting.specs.Fields.{heat_unit, birth_word, announced, mark, reti
 use Rattle.fx_lasting.specs.Fields.{bit_of, full_name_in, file_word_of, without_file, name_mask}
 use Rattle.fx_lasting.specs.Fields.{empty_word_of}
 use Rattle.fx_lasting.specs.Passes.{Sat, HasNoFile, slots_of, range_at_start, word_of}
-use Rattle.fx_lasting.specs.Passes.{alone_in, held_in, hold_word_of, HoldsOn, tag_word_of}
-use Rattle.fx_lasting.specs.Passes.{number_word_of}
+use Rattle.fx_lasting.specs.Passes.{alone_in, held_in, hold_word_of, HoldsAlone, HoldsBesides}
+use Rattle.fx_lasting.specs.Passes.{HoldsOn, number_word_of, tag_word_of}
 use Rattle.fx_lasting.specs.nodes.Stocks.{IsInStock}
-use Rattle.fx_lasting.specs.Effects.{At}
+use Rattle.fx_lasting.specs.Effects.{At, HasAnnounced}
 use Rattle.fx_lasting.specs.declared.life.layout.TheConstants.{MOST_INSTALLING}
 use Rattle.fx_lasting.specs.declared.view.Survey.TheVariants.{None as NotAsked, Covered}
 use Rattle.fx_lasting.specs.declared.view.Change.{Change}
@@ -35,7 +35,7 @@ use Rattle.fx_lasting.specs.declared.view.Work.{Work}
 use Rattle.fx_lasting.specs.declared.view.Work.TheVariants.{Idle, Announced, Counted, Guarded}
 use Rattle.fx_lasting.specs.declared.view.Work.TheVariants.{Owing}
 use Rattle.fx_lasting.specs.declared.view.Work.TheVariants.{Yielding, Searching, Placing, Retiring}
-use Rattle.fx_lasting.specs.declared.view.Work.TheVariants.{Renewing, Emptying, Keeping}
+use Rattle.fx_lasting.specs.declared.view.Work.TheVariants.{Emptying, Keeping}
 use Rattle.fx_lasting.specs.declared.view.Written.{Written}
 use Rattle.fx_lasting.specs.declared.view.Written.TheVariants.{Nothing as Unlabelled, Tag}
 
@@ -62,10 +62,15 @@ GlancesKeep tells = (k : Start) (slots id i slot : ℕ) (m : Sat) (x : Log) → 
     → DoesNothing m → slot < slots_of k → i ≡ slot_place slot
     → Allows (Agrees k) slots id m i (λ word. word) (tells (step slots i 0 0 none) m)
 
+-- the pass does nothing, or has placed a file
+abbrev pub MayAnnounce : Work → Type 0
+MayAnnounce w = (w ≡ Idle) ⊎ ((own : ℕ) × (placement : Placement) × (w ≡ Placing own placement))
+
 -- a listed pass that saw a hot slot stores its node's name in its hold word
 abbrev pub AnnouncesKeep : Kind → Type 0
 AnnouncesKeep tells = (k : Start) (slots id i slot node : ℕ) (m : Sat) (x : Log) → HasPass k m x
-    → x.listed ≡ true → m.0.work ≡ Idle → m.0.glance ≡ Hot slot node → i ≡ hold_word_of k x.number
+    → x.listed ≡ true → MayAnnounce m.0.work → m.0.glance ≡ Hot slot node
+    → i ≡ hold_word_of k x.number
     → Allows (Agrees k) slots id m i (λ _. announced node)
     (λ _. tells (step slots i (announced node) 0 none) m (announced node))
 
@@ -79,7 +84,7 @@ ListsKeep tells = (k : Start) (slots id i : ℕ) (m : Sat) (x : Log) → HasPass
 -- it loads the slot's word again
 abbrev pub ConfirmsKeep : Kind → Type 0
 ConfirmsKeep tells = (k : Start) (slots id i slot node : ℕ) (m : Sat) (x : Log) → HasPass k m x
-    → m.0.work ≡ Announced node → m.0.glance ≡ Hot slot node → i ≡ slot_place slot
+    → HasAnnounced m.0.work node → m.0.glance ≡ Hot slot node → i ≡ slot_place slot
     → Allows (Agrees k) slots id m i (λ word. word) (tells (step slots i 0 0 none) m)
 
 -- it swaps its announcement for 0
@@ -202,6 +207,13 @@ SettlesKeep tells = (k : Start) (slots id i n lost : ℕ) (m : Sat) (x : Log) �
     → m.0.work ≡ Keeping n lost → i ≡ word_of k n
     → Allows (Agrees k) slots id m i (λ _. 0) (λ _. tells (step slots i 0 0 none) m 0)
 
+-- a pass stores 0 in its hold word, which names the node whose file it has removed
+abbrev pub StandsDownKeep : Kind → Type 0
+StandsDownKeep tells = (k : Start) (slots id i node takes marks : ℕ) (round : Round) (f : File)
+    (m : Sat) (x : Log) → HasPass k m x → m.0.work ≡ Retiring f node takes round marks
+    → round.guarded ≡ true → i ≡ hold_word_of k x.number
+    → Allows (Agrees k) slots id m i (λ _. 0) (λ _. tells (step slots i 0 0 none) m 0)
+
 -- the pass is the one that retires a file, or one that the round needn't visit
 abbrev pub IsPassed : ℕ → Round → ℕ → Type 0
 IsPassed number round pass = (pass ≡ number) ⊎ IsIdleIn round pass
@@ -211,7 +223,7 @@ IsPassed number round pass = (pass ≡ number) ⊎ IsIdleIn round pass
 abbrev pub SkimsKeep : Kind → Type 0
 SkimsKeep tells = (k : Start) (slots id i node takes marks index : ℕ) (round : Round) (f : File)
     (m : Sat) (x : Log) → HasPass k m x → m.0.work ≡ Retiring f node takes round marks
-    → index < 16 → round.next ≤ 64 * index + 1
+    → round.guarded ≡ false → index < 16 → round.next ≤ 64 * index + 1
     → ((p : ℕ) → round.next ≤ p → p ≤ 64 * index → IsPassed x.number round p) → i ≡ 6 + index
     → Allows (Agrees k) slots id m i (λ word. word) (tells (step slots i 0 0 none) m)
 
@@ -219,7 +231,7 @@ SkimsKeep tells = (k : Start) (slots id i node takes marks index : ℕ) (round :
 abbrev pub VisitsKeep : Kind → Type 0
 VisitsKeep tells = (k : Start) (slots id i node takes marks pass : ℕ) (round : Round) (f : File)
     (m : Sat) (x : Log) → HasPass k m x → m.0.work ≡ Retiring f node takes round marks
-    → round.next ≤ pass → pass ≤ k.passes → pass ≢ x.number
+    → round.guarded ≡ false → round.next ≤ pass → pass ≤ k.passes → pass ≢ x.number
     → ((p : ℕ) → round.next ≤ p → p < pass → IsPassed x.number round p) → i ≡ hold_word_of k pass
     → Allows (Agrees k) slots id m i (λ word. word) (tells (step slots i 0 0 none) m)
 
@@ -227,7 +239,7 @@ VisitsKeep tells = (k : Start) (slots id i node takes marks pass : ℕ) (round :
 abbrev pub MarksKeep : Kind → Type 0
 MarksKeep tells = (k : Start) (slots id i node takes marks pass : ℕ) (round : Round) (f : File)
     (m : Sat) (x : Log) → HasPass k m x → m.0.work ≡ Retiring f node takes round marks
-    → round.next ≤ pass → pass ≤ k.passes → pass ≢ x.number
+    → round.guarded ≡ false → round.next ≤ pass → pass ≤ k.passes → pass ≢ x.number
     → ((p : ℕ) → round.next ≤ p → p < pass → IsPassed x.number round p) → i ≡ hold_word_of k pass
     → Allows (Agrees k) slots id m i
     (λ word. either (word == announced node) (announced node + mark) word)
@@ -237,6 +249,7 @@ MarksKeep tells = (k : Start) (slots id i node takes marks pass : ℕ) (round : 
 abbrev pub FinishesKeep : Kind → Type 0
 FinishesKeep tells = (k : Start) (slots id i node takes marks : ℕ) (round : Round) (f : File)
     (m : Sat) (x : Log) → HasPass k m x → m.0.work ≡ Retiring f node takes round marks
+    → round.guarded ≡ false
     → ((p : ℕ) → round.next ≤ p → p ≤ k.passes → IsPassed x.number round p) → i ≡ word_of k node
     → Allows (Agrees k) slots id m i (λ word. word) (tells (step slots i 0 0 none) m)
 
@@ -244,6 +257,7 @@ FinishesKeep tells = (k : Start) (slots id i node takes marks : ℕ) (round : Ro
 abbrev pub RetiresKeep : Kind → Type 0
 RetiresKeep tells = (k : Start) (slots id i node takes marks amount : ℕ) (round : Round) (f : File)
     (m : Sat) (x : Log) → HasPass k m x → m.0.work ≡ Retiring f node takes round marks
+    → round.guarded ≡ false
     → ((p : ℕ) → round.next ≤ p → p ≤ k.passes → IsPassed x.number round p) → i ≡ word_of k node
     → amount ≡ retirement_amount takes marks
     → Allows (Agrees k) slots id m i (λ word. (word + (2 ^ 64 - amount)) % 2 ^ 64)
@@ -393,11 +407,11 @@ SwapsIfKeep tells = (k : Start) (slots id i slot n old new : ℕ) (m : Sat) (x :
     → Allows (Agrees k) slots id m i (λ word. either (word == old) new word)
     (tells (step slots i old new none) m)
 
--- a pass that holds the file of a node by a take exchanges the word of a slot that it saw, which
--- names the node, for the word of an empty slot that names a node of its stock
+-- a pass that holds the file of a node exchanges the word of a slot that it saw, which names the
+-- node, for the word of an empty slot that names a node of its stock
 abbrev pub SwapsHeldKeep : Kind → Type 0
 SwapsHeldKeep tells = (k : Start) (slots id i slot n old new node : ℕ) (f : File) (m : Sat)
-    (x : Log) → HasPass k m x → m.0.work ≡ Counted f node → full_name_in old ≡ node + 1
+    (x : Log) → HasPass k m x → HoldsAlone m.0.work f node → full_name_in old ≡ node + 1
     → slot < slots_of k → IsOffCount k slot m.0.change → IsInStock x.stock n
     → i ≡ slot_place slot → new ≡ empty_word_of n
     → Allows (Agrees k) slots id m i (λ word. either (word == old) new word)
@@ -406,7 +420,7 @@ SwapsHeldKeep tells = (k : Start) (slots id i slot n old new node : ℕ) (f : Fi
 -- or for its name alone
 abbrev pub TakesHeldKeep : Kind → Type 0
 TakesHeldKeep tells = (k : Start) (slots id i slot old new node : ℕ) (f : File) (m : Sat)
-    (x : Log) → HasPass k m x → m.0.work ≡ Counted f node → full_name_in old ≡ node + 1
+    (x : Log) → HasPass k m x → HoldsAlone m.0.work f node → full_name_in old ≡ node + 1
     → slot < slots_of k → IsOffCount k slot m.0.change → i ≡ slot_place slot
     → new ≡ without_file old
     → Allows (Agrees k) slots id m i (λ word. either (word == old) new word)
@@ -421,12 +435,12 @@ ReplacesKeep tells = (k : Start) (slots id i slot n lost old new : ℕ) (file : 
     → Allows (Agrees k) slots id m i (λ word. either (word == old) new word)
     (tells (step slots i old new none) m)
 
--- a pass that holds the file of a node by a take, and has placed another one, exchanges the word of
--- a slot that it saw, which names the node, for the word of the file that it places
+-- a pass that holds the file of a node, and has placed another one, exchanges the word of a slot
+-- that it saw, which names the node, for the word of the file that it places
 abbrev pub ReplacesHeldKeep : Kind → Type 0
 ReplacesHeldKeep tells = (k : Start) (slots id i slot n lost old new node : ℕ) (file : Identity)
     (f : File) (m : Sat) (x : Log) → HasPass k m x
-    → m.0.work ≡ Renewing f node n (as_written lost (label_of file)) → m.1 ≡ (n, Some file) ∷ []
+    → HoldsBesides m.0.work f node n (as_written lost (label_of file)) → m.1 ≡ (n, Some file) ∷ []
     → file.entry < 2 ^ 8 → full_name_in old ≡ node + 1 → slot < slots_of k → m.0.change ≡ Outside
     → i ≡ slot_place slot → new ≡ file_word_of n file.entry + lost
     → Allows (Agrees k) slots id m i (λ word. either (word == old) new word)

@@ -2,7 +2,7 @@
 use Rattle.std.specs.Prelude.{◌≡◌, ℕ, ◌%◌, ◌⊎◌, ◌==◌, not, nat_lt, List}
 use Rattle.std.specs.Prelude.{[], ◌∷◌, map, Option, option_map, unwrap_or, replicate}
 use Rattle.std.specs.Prelude.{Some, None}
-use Rattle.std.specs.Prelude.{length, count_by, if◌then◌else◌, false}
+use Rattle.std.specs.Prelude.{length, count_by, if◌then◌else◌, Bool, true, false}
 use Rattle.atomic_table.specs.Table.{State as TableState, Me}
 use Rattle.fx_base.specs.Identity.{Identity}
 use Rattle.fx_plain.specs.Contents.{Contents, state_of}
@@ -22,6 +22,7 @@ use Rattle.fx_lasting.specs.declared.view.Work.{Work}
 use Rattle.fx_lasting.specs.declared.view.Work.TheVariants.{Idle, Counted, Guarded, Yielding}
 use Rattle.fx_lasting.specs.declared.view.Placement.{Placement}
 use Rattle.fx_lasting.specs.declared.view.Work.TheVariants.{Searching, Placing, Renewing}
+use Rattle.fx_lasting.specs.declared.view.Work.TheVariants.{Nearing, Relieving}
 
 -- the table as steps see it: a place has an open file or none
 abbrev pub Shared : Type 0
@@ -125,11 +126,21 @@ held_in (Counted f node) = Some f
 held_in (Guarded f node) = Some f
 held_in (Yielding f node) = Some f
 held_in (Renewing f node own placement) = Some f
+held_in (Relieving f node own placement) = Some f
 held_in _ = None
 
--- the pass holds the file of the node by a take, and is about to install another one in its place
+-- the pass holds the file of the node, by a take or by its hold word, and has no other node
+abbrev pub HoldsAlone : Work → File → ℕ → Type 0
+HoldsAlone w f node = (w ≡ Counted f node) ⊎ (w ≡ Guarded f node)
+
+-- the pass holds the file of the node so, and is about to install another one in its place
+abbrev pub HoldsBesides : Work → File → (node own : ℕ) → Placement → Type 0
+HoldsBesides w f node own placement =
+    (w ≡ Renewing f node own placement) ⊎ (w ≡ Relieving f node own placement)
+
 abbrev pub IsRenewing : Work → File → ℕ → Type 0
-IsRenewing w f node = (own : ℕ) × (placement : Placement) × (w ≡ Renewing f node own placement)
+IsRenewing w f node =
+    (own : ℕ) × (placement : Placement) × HoldsBesides w f node own placement
 
 -- the pass holds the file of the node, by a take or by its hold word
 abbrev pub HoldsOn : Work → File → ℕ → Type 0
@@ -138,7 +149,15 @@ HoldsOn w f node = (w ≡ Counted f node) ⊎ ((w ≡ Guarded f node) ⊎ IsRene
 -- the work that a pass does with a node alone
 abbrev pub alone_in : Work → Work
 alone_in (Renewing f node own placement) = Placing own placement
+alone_in (Nearing node own placement) = Placing own placement
+alone_in (Relieving f node own placement) = Placing own placement
 alone_in w = w
+
+-- the pass holds its file by its hold word
+abbrev pub is_guarding : Work → Bool
+is_guarding (Guarded f node) = true
+is_guarding (Relieving f node own placement) = true
+is_guarding _ = false
 
 -- the pass does nothing, or has found a free node
 abbrev pub HasNoFile : Work → Type 0

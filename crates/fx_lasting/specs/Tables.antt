@@ -25,7 +25,7 @@ use Rattle.fx_lasting.specs.declared.view.Start.{Start}
 use Rattle.fx_lasting.specs.declared.view.View.{View}
 use Rattle.fx_lasting.specs.declared.view.Work.{Work}
 use Rattle.fx_lasting.specs.declared.view.Work.TheVariants.{Idle, Searching, Counted, Guarded}
-use Rattle.fx_lasting.specs.declared.view.Work.TheVariants.{Renewing, Retiring, Keeping}
+use Rattle.fx_lasting.specs.declared.view.Work.TheVariants.{Renewing, Relieving, Retiring, Keeping}
 use Rattle.fx_lasting.specs.declared.pass.LastingPass.{LastingPass}
 use Rattle.fx_lasting.specs.declared.table.LastingTable.{LastingTable}
 
@@ -41,6 +41,7 @@ abbrev pub doing_in : Work → Doing
 doing_in (Counted f node) = Holding f (hold_at f node)
 doing_in (Guarded f node) = Holding f (hold_at f node)
 doing_in (Renewing f node own placement) = Holding f (hold_at f node)
+doing_in (Relieving f node own placement) = Holding f (hold_at f node)
 doing_in (Retiring f node takes round marks) = Retires f (retired_at f node takes)
 doing_in _ = DoesNothing
 

@@ -18,7 +18,7 @@ use Rattle.fx_lasting.specs.declared.view.Start.{Start}
 use Rattle.fx_lasting.specs.declared.view.View.{View}
 use Rattle.fx_lasting.specs.declared.view.Work.{Work}
 use Rattle.fx_lasting.specs.declared.view.Work.TheVariants.{Announced, Counted, Guarded, Owing}
-use Rattle.fx_lasting.specs.declared.view.Work.TheVariants.{Yielding, Renewing, Retiring}
+use Rattle.fx_lasting.specs.declared.view.Work.TheVariants.{Yielding, Renewing, Nearing, Relieving, Retiring}
 
 -- the pass of a seat that has one pass, as calls show it
 pub record IsPassAt (s : Shared) (seat : ℕ) (pass : PassView) : Type 0 where
@@ -55,7 +55,9 @@ Uses f node (Counted other n) = other ≡ f
 Uses f node (Guarded other n) = other ≡ f
 Uses f node (Yielding other n) = other ≡ f
 Uses f node (Renewing other n own placement) = other ≡ f
+Uses f node (Relieving other n own placement) = other ≡ f
 Uses f node (Announced n) = n ≡ node
+Uses f node (Nearing n own placement) = n ≡ node
 Uses f node (Owing n) = n ≡ node
 Uses f node _ = ⊥
 

@@ -32,55 +32,10 @@ pub struct KeyLook {
 pub struct KeyTaken {
     /// The removal of the file, which is to be retired, or the reason why nothing changed.
     pub taken: Result<Retired, KeyFault>,
-    /// A removed file that the holder's look-up was the last to use, to be closed.
+    /// A removed file that the look-up was the last to use, to be closed.
     pub freed: Option<OpenFile>,
-    /// A file that the holder's release was the last to use, to be closed.
-    pub released: Option<OpenFile>,
-}
-
-/// The result of a removal by key by one pass, without what is to be closed. It must be consumed:
-/// the compiler rejects a program that drops one.
-pub enum TakenByKey {
-    /// The file was removed, and is to be retired.
-    Removed(Retired),
-    /// Nothing was changed.
-    Missed(KeyFault),
-    /// Nothing was changed: the pass held the file of the key by its hold word, as it does at a hot
-    /// slot, and released it. A removal by two passes is to be made.
-    Hot,
-}
-
-/// The result of a removal by key by one pass. It must be consumed: the compiler rejects a program
-/// that drops one.
-pub struct KeyRemoval {
-    /// The removal of the file, or the reason why nothing changed.
-    pub taken: TakenByKey,
-    /// A removed file that the pass's look-up was the last to use, to be closed.
-    pub freed: Option<OpenFile>,
-    /// A file that the pass's release was the last to use, to be closed. It is `None` if the file
-    /// of the key was removed.
-    pub released: Option<OpenFile>,
-}
-
-/// The change that a replacement by key by one pass made. It must be consumed: the compiler rejects
-/// a program that drops one.
-pub enum PutByKey {
-    /// The slot has the new file. The file of the key is to be retired.
-    Replaced(Retired),
-    /// Nothing was changed. The new file comes back.
-    Missed(KeyFault, OpenFile),
-    /// Nothing was changed: the slot had a file and is hot. The new file comes back. A replacement
-    /// by two passes is to be made.
-    Hot(OpenFile),
-}
-
-/// The result of a replacement by key by one pass. It must be consumed: the compiler rejects a
-/// program that drops one.
-pub struct KeyReplacement {
-    /// The change that was made.
-    pub put: PutByKey,
-    /// A file that the pass's release was the last to use, to be closed. It is `None` if the file
-    /// of the key was replaced.
+    /// A file that the release was the last to use, to be closed. It is `None` if the call changed
+    /// the slot.
     pub released: Option<OpenFile>,
 }
 
@@ -98,8 +53,9 @@ pub enum PutOverKey {
 pub struct KeyPut {
     /// The change that was made.
     pub put: PutOverKey,
-    /// A removed file that the holder's look-up was the last to use, to be closed.
+    /// A removed file that the look-up was the last to use, to be closed.
     pub freed: Option<OpenFile>,
-    /// A file that the holder's release was the last to use, to be closed.
+    /// A file that the release was the last to use, to be closed. It is `None` if the call changed
+    /// the slot.
     pub released: Option<OpenFile>,
 }

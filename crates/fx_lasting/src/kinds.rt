@@ -224,6 +224,15 @@ impl Play<Option<OpenFile>, View> for Settling {
     ghost then = { SettlesNode };
 }
 
+/// Stand down: the hold word of a pass that removed the file that it held by it names no node.
+pub struct StandingDown;
+
+impl Play<Option<OpenFile>, View> for StandingDown {
+    ghost use Rattle.fx_lasting.specs.Effects.{StandsDown};
+
+    ghost then = { StandsDown };
+}
+
 /// Skim: a pass that removed a hot file reads which of 64 passes are listed, and so may announce
 /// its node.
 pub struct Skimming;
@@ -330,8 +339,8 @@ impl Play<Option<OpenFile>, View> for SwappingIf {
     ghost then = { SwapsIf };
 }
 
-/// Swap, if the slot still has the word that the pass saw, by a pass that holds the slot's file by
-/// a take: the slot is emptied for a close as by [`SwappingIf`], and the hold ends with the step.
+/// Swap, if the slot still has the word that the pass saw, by a pass that holds the slot's file: the
+/// slot is emptied for a close as by [`SwappingIf`], and the hold ends with the step.
 pub struct SwappingHeld;
 
 impl Play<Option<OpenFile>, View> for SwappingHeld {
@@ -340,7 +349,7 @@ impl Play<Option<OpenFile>, View> for SwappingHeld {
     ghost then = { SwapsHeld };
 }
 
-/// Aim: a pass loads a slot's word, to take what a cold slot names beside the file that it places.
+/// Aim: a pass loads a slot's word, to hold what the slot names beside the file that it places.
 pub struct Aiming;
 
 impl Play<Option<OpenFile>, View> for Aiming {
@@ -358,9 +367,9 @@ impl Play<Option<OpenFile>, View> for TakingBeside {
     ghost then = { TakesBeside };
 }
 
-/// Replace, if the slot still has the word that the pass saw, by a pass that holds the slot's file
-/// by a take: the slot gets the file that the pass places, as by [`Replacing`], and the hold ends
-/// with the step.
+/// Replace, if the slot still has the word that the pass saw, by a pass that holds the slot's file:
+/// the slot gets the file that the pass places, as by [`Replacing`], and the hold ends with the
+/// step.
 pub struct ReplacingHeld;
 
 impl Play<Option<OpenFile>, View> for ReplacingHeld {
@@ -370,8 +379,7 @@ impl Play<Option<OpenFile>, View> for ReplacingHeld {
 }
 
 /// Take, if the slot still has the word that the pass saw, by a pass without a stock that holds the
-/// slot's file by a take: the slot is emptied for a close as by [`TakingIf`], and the hold ends
-/// with the step.
+/// slot's file: the slot is emptied for a close as by [`TakingIf`], and the hold ends with the step.
 pub struct TakingHeld;
 
 impl Play<Option<OpenFile>, View> for TakingHeld {

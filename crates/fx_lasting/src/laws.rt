@@ -20,16 +20,16 @@ ghost use Rattle.fx_lasting.specs.Laws.{CountsKeep, DecidesKeep, PeeksKeep, Spli
 ghost use Rattle.fx_lasting.specs.Laws.{ClearsKeep, TakesOutKeep, SwapsOutKeep, InstallsKeep};
 ghost use Rattle.fx_lasting.specs.Laws.{ExchangesKeep, SeesKeep, TakesIfKeep, SwapsIfKeep};
 ghost use Rattle.fx_lasting.specs.Laws.{SwapsHeldKeep, TakesHeldKeep, ReplacesKeep, AimsKeep};
-ghost use Rattle.fx_lasting.specs.Laws.{TakesBesideKeep, ReplacesHeldKeep};
+ghost use Rattle.fx_lasting.specs.Laws.{TakesBesideKeep, ReplacesHeldKeep, StandsDownKeep};
 
 use crate::kinds::{
     Aiming, Announcing, Asking, Beginning, Birth, Breaking, Checking, Clearing, Confirming,
     Counting, Deal, Deciding, Exchanging, Finishing, Gather, Glancing, HeatingUp, Installing,
     Letting, Listing, Lowering, Marking, Numbering, OneHistory, Parking, Peeking, Raising,
     ReadingNumber, ReadingTag, RecallingTag, Replacing, ReplacingHeld, Resting, Resuming, Retire,
-    Seeing, Seeking, Settling, Skimming, SteppingDown, SwappingClear, SwappingHeld, SwappingIf,
-    SwappingTake, Tagging, Taking, TakingBeside, TakingHeld, TakingIf, TakingOut, Visiting,
-    Withdrawing,
+    Seeing, Seeking, Settling, Skimming, StandingDown, SteppingDown, SwappingClear, SwappingHeld,
+    SwappingIf, SwappingTake, Tagging, Taking, TakingBeside, TakingHeld, TakingIf, TakingOut,
+    Visiting, Withdrawing,
 };
 use crate::view::{Start, View};
 use atomic_table::{Join, Play, Split, TableRule};
@@ -162,6 +162,11 @@ pub fn resume_keeps_rule()
 /// A pass that stores 0 in the word of the node that it keeps keeps the rule. The node is free.
 pub fn settle_keeps_rule()
     ensures { SettlesKeep ⟦<Settling as Play<Option<OpenFile>, View>>⟧.then }
+{}
+
+/// A pass that removed the file that it held by its hold word, and stores 0 there, keeps the rule.
+pub fn stand_down_keeps_rule()
+    ensures { StandsDownKeep ⟦<StandingDown as Play<Option<OpenFile>, View>>⟧.then }
 {}
 
 /// A pass that removed a hot file and loads a word of the list keeps the rule. It need not visit
@@ -311,15 +316,15 @@ pub fn swap_if_keeps_rule()
     ensures { SwapsIfKeep ⟦<SwappingIf as Play<Option<OpenFile>, View>>⟧.then }
 {}
 
-/// A pass that holds the file of a node by a take, and exchanges the word of a slot that names the
-/// node for that of an empty slot that names a node of its stock, keeps the rule. Its hold ends. It
-/// has the file to retire, with one take less. The node that the slot named goes into its stock.
+/// A pass that holds the file of a node, and exchanges the word of a slot that names the node for
+/// that of an empty slot that names a node of its stock, keeps the rule. Its hold ends. It has the
+/// file to retire, without its own take. The node that the slot named goes into its stock.
 pub fn swap_held_keeps_rule()
     ensures { SwapsHeldKeep ⟦<SwappingHeld as Play<Option<OpenFile>, View>>⟧.then }
 {}
 
 /// A pass that holds no file, looks nothing up and loads a slot's word, to take what a cold slot
-/// names, keeps the rule.
+/// names or to announce the node of a hot one, keeps the rule.
 pub fn aim_keeps_rule()
     ensures { AimsKeep ⟦<Aiming as Play<Option<OpenFile>, View>>⟧.then }
 {}
@@ -330,17 +335,15 @@ pub fn take_beside_keeps_rule()
     ensures { TakesBesideKeep ⟦<TakingBeside as Play<Option<OpenFile>, View>>⟧.then }
 {}
 
-/// A pass that holds the file of a node by a take, has placed another one, and exchanges the word
-/// of a slot that names the node for that of the file that it places, keeps the rule. Its hold
-/// ends. It has the held file to retire, with one take less. The node that the slot named goes into
-/// its stock.
+/// A pass that holds the file of a node, has placed another one, and exchanges the word of a slot
+/// that names the node for that of the file that it places, keeps the rule. Its hold ends. It has
+/// the held file to retire, without its own take. The node that the slot named goes into its stock.
 pub fn replace_held_keeps_rule()
     ensures { ReplacesHeldKeep ⟦<ReplacingHeld as Play<Option<OpenFile>, View>>⟧.then }
 {}
 
-/// A pass that holds the file of a node by a take, and exchanges the word of a slot that names the
-/// node for its name alone, keeps the rule. Its hold ends. It has the file to retire, with one take
-/// less.
+/// A pass that holds the file of a node, and exchanges the word of a slot that names the node for
+/// its name alone, keeps the rule. Its hold ends. It has the file to retire, without its own take.
 pub fn take_held_keeps_rule()
     ensures { TakesHeldKeep ⟦<TakingHeld as Play<Option<OpenFile>, View>>⟧.then }
 {}

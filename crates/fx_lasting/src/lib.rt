@@ -28,10 +28,7 @@ mod view;
 
 pub use answers::{FoundSlot, Miss, PutEmpty, PutIf, TakenIf};
 pub use key::Key;
-pub use key_answers::{
-    KeyFault, KeyLook, KeyPut, KeyRemoval, KeyReplacement, KeyTaken, PutByKey, PutOverKey,
-    TakenByKey,
-};
+pub use key_answers::{KeyFault, KeyLook, KeyPut, KeyTaken, PutOverKey};
 pub use life::layout::{MOST_INSTALLING, MOST_PASSES, MOST_SLOTS};
 pub use life::shown::LastingSeen;
 pub use pass::LastingPass;

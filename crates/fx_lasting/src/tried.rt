@@ -1,4 +1,5 @@
 //! The results of one try to install a file at any slot, and of the steps of a replacement by key.
+use crate::key_answers::PutOverKey;
 use fx_base::OpenFile;
 
 /// The result of one try to install a file at an empty slot of the allocation range. It must be
@@ -12,17 +13,17 @@ pub enum TriedPut {
     Again(OpenFile),
 }
 
-// The state of a slot, for a pass that loaded its word to take what a cold slot names.
+// The state of a slot, for a pass that loaded its word to hold what the slot names.
 pub(crate) enum Aim {
     // The slot is empty.
     Empty,
     // It has a file, and is cold.
     Cold,
-    // It has a file, and is hot.
-    Hot,
+    // It has a file on this node, and is hot.
+    Hot(u32),
 }
 
-// The hold of a pass that took what the slot of a key names.
+// The hold of a pass that took what the slot of a key names, or announced its node.
 pub(crate) enum Taken {
     // The file of the key, on this node.
     Its(u32),
@@ -30,4 +31,15 @@ pub(crate) enum Taken {
     Nothing,
     // The file of this node, which isn't that of the key.
     Other(u32),
+    // Nothing: the slot names this node, which was announced, no more, or isn't hot.
+    Moved(u32),
+}
+
+// The result of a try to replace the file of a key.
+pub(crate) enum Renewal {
+    // What the call returns, and a file that its release was the last to use.
+    Ends(PutOverKey, Option<OpenFile>),
+    // Nothing was changed: the slot has had another file since the pass aimed at it. The new file
+    // comes back, with a removed file that the announcement was the last to use.
+    Moved(OpenFile, Option<OpenFile>),
 }

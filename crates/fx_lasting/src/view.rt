@@ -75,6 +75,8 @@ pub struct Round {
     pub words: u32,
     /// The last of them. It need not visit a pass without its bit there.
     pub last: u64,
+    /// The pass held the file by its own hold word, which names the node still.
+    pub guarded: bool,
 }
 
 /// The words that a pass has stored of the label of the file that it is about to install, as
@@ -122,6 +124,12 @@ pub enum Work {
     /// It holds the file of the first node by a take, and has the place of the second node, whose
     /// file it is about to install in place of the held file, and has come so far.
     Renewing(File, u32, u32, Placement),
+    /// Its hold word names the first node, it holds nothing yet, and it has the place of the second
+    /// node, whose file it is about to install, and has come so far.
+    Nearing(u32, u32, Placement),
+    /// It holds the file of the first node by its hold word, and has the place of the second node,
+    /// whose file it is about to install in place of the held file, and has come so far.
+    Relieving(File, u32, u32, Placement),
     /// It removed the file of the node with this many takes, has come so far on its round through
     /// the other passes, and made this many marks.
     Retiring(File, u32, u32, Round, u32),

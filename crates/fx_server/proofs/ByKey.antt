@@ -10,7 +10,6 @@ use Rattle.fx_lasting.specs.declared.key_answers.KeyFault.{KeyFault}
 use Rattle.fx_lasting.specs.declared.key_answers.KeyFault.TheVariants.{NoSlot, Empty, Other, Again}
 use Rattle.fx_lasting.specs.slots.Alone.{TakesAlone}
 use Rattle.fx_lasting.specs.Tables.{opening_of, view_of}
-use Rattle.fx_lasting.specs.declared.key_answers.TakenByKey.TheVariants.{Hot, Missed as Failed}
 use Rattle.fx_lasting.specs.declared.pass.LastingPass.{LastingPass}
 use Rattle.fx_lasting.specs.declared.view.Start.{Start}
 use Rattle.fx_lasting.proofs.slot_lemmas.ByKey.{idle_after}
@@ -18,10 +17,10 @@ use Rattle.fx_table.specs.Calls.{ReleasesFile}
 use Rattle.fx_table.specs.Opening.{Opening}
 use Rattle.fx_table.specs.Pass.{IsIdle}
 use Rattle.fx_plain.specs.declared.event.File.{File}
-use Rattle.fx_lasting.specs.declared.key_answers.PutByKey.TheVariants.{Missed as Kept, Hot as IsHot}
+use Rattle.fx_lasting.specs.declared.key_answers.PutOverKey.TheVariants.{Missed}
 use Rattle.fx_lasting.specs.slots.PutAlone.{PutsAlone}
 use Rattle.fx_server.specs.Files.{file_with}
-use Rattle.fx_server.specs.ByKey.{KeepsAlone, PutsKeyAlone, ReplacesByTwo, FindsByKey, LeavesAlone, PutsNoKey, RemovesByKey, RemovesByTwo, RemovesNoKey, ReplacesFileOf, ReplacesByKey, TakesKeyAlone, key_refusal}
+use Rattle.fx_server.specs.ByKey.{FindsByKey, KeepsAlone, LeavesAlone, RemovesByKey, ReplacesByKey, key_refusal}
 use Rattle.fx_server.specs.Workers.{Notes, its_pass, its_start, tag_in}
 use Rattle.fx_server.specs.declared.answers.FoundFile.{FoundFile}
 use Rattle.fx_server.specs.declared.answers.Removal.{Removal}
@@ -44,82 +43,21 @@ finds w w' key hold out back result freed released v same notes its_freed its_re
     )
 
 module _ (w w' : TableWorker) (key : Key) (freed released : Option ℕ) where
-  -- a slot that the table left as it was is one that the worker left so
-  pub removes_not : (why : KeyFault) (refusal : ServerRefusal) → refusal ≡ key_refusal why → RemovesNoKey w key why freed released w' → RemovesByTwo w key (Err refusal) freed released w'
-  removes_not NoSlot refusal is takes = rw is takes
-  removes_not Empty refusal is takes = rw is takes
-  removes_not Other refusal is takes = rw is takes
-  removes_not Again refusal is takes = rw is takes
-
   -- a slot that the pass alone left as it was
-  pub leaves_alone : (why : KeyFault) (refusal : ServerRefusal) → refusal ≡ key_refusal why → LeavesAlone w key (Failed why) freed released w'
+  pub leaves_alone : (why : KeyFault) (refusal : ServerRefusal) → refusal ≡ key_refusal why → LeavesAlone w key why freed released w'
       → RemovesByKey w key (Err refusal) freed released w'
-  leaves_alone NoSlot refusal is leaves = rw is (inl leaves)
-  leaves_alone Empty refusal is leaves = rw is (inl leaves)
-  leaves_alone Other refusal is leaves = rw is (inl leaves)
-  leaves_alone Again refusal is leaves = rw is (inl (inl leaves))
-
-  -- a removal by two passes from a slot that was hot
-  pub removes_hot : (hot : LastingPass) (result : Result Removal ServerRefusal) → TakesKeyAlone w key Hot None None hot → (w.holder ≡ None → ⊥)
-      → RemovesByTwo (record w { pass = hot }) key result freed released w' → RemovesByKey w key result freed released w'
-  removes_hot hot (Ok removal) found some both = inr (record { hot = hot; found = found; both = both })
-  removes_hot hot (Err refusal.NoSlot) found some both = inr (record { hot = hot; found = found; both = both })
-  removes_hot hot (Err refusal.Empty) found some both = inr (record { hot = hot; found = found; both = both })
-  removes_hot hot (Err refusal.Stale) found some both = inr (record { hot = hot; found = found; both = both })
-  removes_hot hot (Err refusal.Again) found some both = inl (inr (record { hot = hot; found = found; both = both }))
-  removes_hot hot (Err refusal.Reader) found some both = absurd (some both)
-  removes_hot hot (Err refusal.Busy) found some both = absurd both
-  removes_hot hot (Err refusal.Idle) found some both = absurd both
-  removes_hot hot (Err refusal.Full) found some both = absurd both
-  removes_hot hot (Err refusal.BadArgument) found some both = absurd both
-  removes_hot hot (Err refusal.NoMemory) found some both = absurd both
-
-  pub replaces_not : (tag number : ℕ) (why : KeyFault) (refusal : ServerRefusal) → refusal ≡ key_refusal why → PutsNoKey w key tag number why freed released w'
-      → ReplacesByTwo w key tag number (Err refusal) freed released w'
-  replaces_not tag number NoSlot refusal is puts = rw is puts
-  replaces_not tag number Empty refusal is puts = rw is puts
-  replaces_not tag number Other refusal is puts = rw is puts
-  replaces_not tag number Again refusal is puts = rw is puts
+  leaves_alone NoSlot refusal is leaves = rw is leaves
+  leaves_alone Empty refusal is leaves = rw is leaves
+  leaves_alone Other refusal is leaves = rw is leaves
+  leaves_alone Again refusal is leaves = rw is leaves
 
   -- a slot that the pass alone left as it was
   pub keeps_alone : (tag number : ℕ) (why : KeyFault) (refusal : ServerRefusal) → refusal ≡ key_refusal why → KeepsAlone w key tag number why freed released w'
       → ReplacesByKey w key tag number (Err refusal) freed released w'
-  keeps_alone tag number NoSlot refusal is keeps = rw is (inl keeps)
-  keeps_alone tag number Empty refusal is keeps = rw is (inl keeps)
-  keeps_alone tag number Other refusal is keeps = rw is (inl keeps)
-  keeps_alone tag number Again refusal is keeps = rw is (inl keeps)
-
-  -- a replacement by two passes at a slot that was hot
-  pub replaces_hot : (tag number : ℕ) (hot : LastingPass) (result : Result Removal ServerRefusal)
-      → PutsKeyAlone w key (file_with tag number) (IsHot (file_with tag number)) None None hot → (w.holder ≡ None → ⊥)
-      → ReplacesByTwo (record w { pass = hot }) key tag number result freed released w' → ReplacesByKey w key tag number result freed released w'
-  replaces_hot tag number hot (Ok removal) found some both = inr (record { hot = hot; found = found; both = both })
-  replaces_hot tag number hot (Err refusal.NoSlot) found some both = inr (record { hot = hot; found = found; both = both })
-  replaces_hot tag number hot (Err refusal.Empty) found some both = inr (record { hot = hot; found = found; both = both })
-  replaces_hot tag number hot (Err refusal.Stale) found some both = inr (record { hot = hot; found = found; both = both })
-  replaces_hot tag number hot (Err refusal.Again) found some both = inr (record { hot = hot; found = found; both = both })
-  replaces_hot tag number hot (Err refusal.Reader) found some both = absurd (some both)
-  replaces_hot tag number hot (Err refusal.Busy) found some both = absurd both
-  replaces_hot tag number hot (Err refusal.Idle) found some both = absurd both
-  replaces_hot tag number hot (Err refusal.Full) found some both = absurd both
-  replaces_hot tag number hot (Err refusal.BadArgument) found some both = absurd both
-  replaces_hot tag number hot (Err refusal.NoMemory) found some both = absurd both
-
-  -- a worker that drew a number after a replacement by two passes
-  two_drawn : (tag number : ℕ) (removal : Removal) (numbers : FileNumbers) → ReplacesFileOf w key tag number removal freed released w'
-      → ReplacesFileOf w key tag number removal freed released (record w' { numbers = numbers })
-  two_drawn tag number removal numbers was = record {
-    retired = was.retired;
-    between = was.between;
-    puts = record {
-      holder = record { before = was.puts.holder.before; after = was.puts.holder.after; was = was.puts.holder.was; is = was.puts.holder.is };
-      out = was.puts.out;
-      back = was.puts.back;
-      tags = was.puts.tags;
-      placed = was.puts.placed;
-    };
-    retires = was.retires;
-  }
+  keeps_alone tag number NoSlot refusal is keeps = rw is keeps
+  keeps_alone tag number Empty refusal is keeps = rw is keeps
+  keeps_alone tag number Other refusal is keeps = rw is keeps
+  keeps_alone tag number Again refusal is keeps = rw is keeps
 
 -- a worker that drew a number after its replacement
 pub replaced_drawn : (w w' : TableWorker) (key : Key) (freed released : Option ℕ) (tag number drawn : ℕ) (removal : Removal) (numbers : FileNumbers) → drawn ≡ number
@@ -128,12 +66,7 @@ replaced_drawn w w' key freed released tag number drawn removal numbers is was =
     subst (λ (n : ℕ). ReplacesByKey w key tag n (Ok removal) freed released (record w' { numbers = numbers })) (sym is) (go was)
   where
     go : ReplacesByKey w key tag number (Ok removal) freed released w' → ReplacesByKey w key tag number (Ok removal) freed released (record w' { numbers = numbers })
-    go (inl it) = inl (record { retired = it.retired; between = it.between; puts = it.puts; retires = it.retires; holder = it.holder })
-    go (inr it) = inr (record {
-      hot = it.hot;
-      found = it.found;
-      both = two_drawn (record w { pass = it.hot }) w' key freed released tag number removal numbers it.both;
-    })
+    go it = record { retired = it.retired; between = it.between; puts = it.puts; retires = it.retires; holder = it.holder }
 
 -- a pass that left the slot as it was is idle again
 released_idle : (o : Opening) (v : PassView) (f : File) (out : Option Identity) (w : PassView) → ReleasesFile o v f out w → IsIdle w
@@ -141,16 +74,13 @@ released_idle o v f None w it = it.now
 released_idle o v f (Some file) w it = it.1.now
 
 pub missed_idle : (k : Start) (p : LastingPass) (key : Key) (why : KeyFault) (out back : Option Identity) (p' : LastingPass) → IsIdle (view_of p)
-    → TakesAlone k p key (Failed why) out back p' → IsIdle (view_of p')
+    → TakesAlone k p key (Err why) out back p' → IsIdle (view_of p')
 missed_idle k p key why out back p' idle (inl looked) = idle_after k (view_of p) key why out back (view_of p') idle looked
 missed_idle k p key why out back p' idle (inr left) = released_idle (opening_of k) left.holder.between left.holder.file back (view_of p') left.holder.releases
 
-pub hot_idle : (k : Start) (p : LastingPass) (key : Key) (out back : Option Identity) (p' : LastingPass) → TakesAlone k p key Hot out back p' → IsIdle (view_of p')
-hot_idle k p key out back p' (hold, held) = released_idle (opening_of k) held.between held.file back (view_of p') held.releases
-
-pub kept_idle : (k : Start) (p : LastingPass) (key : Key) (file back : Identity) (why : KeyFault) (out : Option Identity) (p' : LastingPass) → IsIdle (view_of p)
-    → PutsAlone k p key file (Kept why back) out p' → IsIdle (view_of p')
-kept_idle k p key file back why out p' idle it = missed_idle k p key why None out p' idle it.1
+pub kept_idle : (k : Start) (p : LastingPass) (key : Key) (file back : Identity) (why : KeyFault) (freed out : Option Identity) (p' : LastingPass)
+    → IsIdle (view_of p) → PutsAlone k p key file (Missed why back) freed out p' → IsIdle (view_of p')
+kept_idle k p key file back why freed out p' idle it = missed_idle k p key why freed out p' idle it.1
 
 pub none_of : {A : Type 0} (x : Option A) (b : Bool) → is_some x ≡ not b → b ≡ true → x ≡ None
 none_of None b is so = refl

@@ -9,8 +9,6 @@ use Rattle.fx_table.specs.Calls.{LookedUp, ReleasesFile}
 use Rattle.fx_table.specs.Opening.{Opening}
 use Rattle.fx_table.specs.declared.values.Hold.{Hold}
 use Rattle.fx_lasting.specs.Tables.{opening_of, view_of}
-use Rattle.fx_lasting.specs.declared.key_answers.TakenByKey.TheVariants.{Hot}
-use Rattle.fx_lasting.specs.declared.key_answers.PutByKey.TheVariants.{Hot as IsHot}
 use Rattle.fx_server.specs.Files.{file_with}
 use Rattle.fx_lasting.specs.declared.pass.LastingPass.{LastingPass}
 use Rattle.fx_table.proofs.Words.{append_assoc}
@@ -18,7 +16,7 @@ use Rattle.fx_table.specs.Pass.{PassView, event_of}
 use Rattle.fx_table.specs.declared.values.Retired.{Retired}
 use Rattle.fx_lasting.specs.slots.ByKey.{IsKeyOf}
 use Rattle.fx_lasting.specs.declared.key.Key.{Key}
-use Rattle.fx_server.specs.ByKey.{PutsKeyAlone, RemovesByKey, ReplacesByKey, ReplacesByKeyNext, TakesKeyAlone}
+use Rattle.fx_server.specs.ByKey.{RemovesByKey, ReplacesByKey, ReplacesByKeyNext}
 use Rattle.fx_server.specs.EndsOfKeys.{DoneRemovalsEndKeys, DoneReplacementsEndKeys, HasEnded, file_leaving}
 use Rattle.fx_server.specs.Workers.{RetiresAs, its_opening, its_pass, its_start}
 use Rattle.fx_server.specs.declared.answers.Placed.{Placed}
@@ -62,52 +60,20 @@ grown_look : (o : Opening) (v w : PassView) (slot : ℕ) (hold : Hold) (freed : 
 grown_look o v w slot hold None it = record { earlier = map (event_of v) ([] ▷ Look slot (Some it.0)); own = it.2.own; number = it.2.number }
 grown_look o v w slot hold (Some file) it = record { earlier = map (event_of v) ([] ▷ Close it.0 ▷ Look slot (Some it.2.0)); own = it.2.2.own; number = it.2.2.number }
 
-grown_release : (o : Opening) (v : PassView) (f : File) (out : Option Identity) (w : PassView) → ReleasesFile o v f out w → Grown v w
-grown_release o v f None w it = record { earlier = map (event_of v) ([] ▷ Release f); own = it.own; number = it.number }
-grown_release o v f (Some file) w it = record { earlier = map (event_of v) ([] ▷ Release f ▷ Close f); own = it.1.own; number = it.1.number }
-
-grown_then : (u v w : PassView) → Grown u v → Grown v w → Grown u w
-grown_then u v w one two = record {
-  earlier = two.earlier ++ one.earlier;
-  own = two.own ∙ (ap (λ (l : List Event). two.earlier ++ l) one.own ∙ sym (append_assoc two.earlier one.earlier u.own));
-  number = two.number ∙ one.number;
-}
-
--- the pass found the slot hot
-grown_hot : (w : TableWorker) (key : Key) (hot : LastingPass) → TakesKeyAlone w key Hot None None hot → Grown (its_pass w) (view_of hot)
-grown_hot w key hot found =
-    let held = found.takes.1 in
-    grown_then (its_pass w) held.between (view_of hot) (grown_look (opening_of (its_start w)) (its_pass w) held.between key.slot found.takes.0 found.out held.held.looked)
-    (grown_release (opening_of (its_start w)) held.between held.file found.back (view_of hot) held.releases)
-
 removal_ends : (w w' : TableWorker) (key : Key) (removal : Removal) (freed released : Option ℕ) → RemovesByKey w key (Ok removal) freed released w' → HasEnded key w w'
-removal_ends w w' key removal freed released (inl it) =
+removal_ends w w' key removal freed released it =
     let r = it.takes.takes in
     let look = grown_look (opening_of (its_start w)) (its_pass w) r.between key.slot r.hold it.takes.out r.held.looked in
     ended w w' key (event_of r.between (Take key.slot (Some r.file))) (look.earlier ▷ event_of r.between (Release r.file)) r.file (view_of it.between) it.retired removal
     look.number refl r.its_key (r.adds.own ∙ ap (λ (own : List Event). own ▷ event_of r.between (Release r.file) ▷ event_of r.between (Take key.slot (Some r.file))) look.own) it.retires
-removal_ends w w' key removal freed released (inr it) =
-    let taken = it.both.takes.taken in
-    let grown = grown_hot w key it.hot it.found in
-    ended w w' key (event_of (view_of it.hot) (Take key.slot (Some taken.holder.file))) grown.earlier taken.holder.file it.both.between it.both.retired removal
-    grown.number refl taken.holder.its_key (taken.adds.own ∙ ap (λ (own : List Event). own ▷ event_of (view_of it.hot) (Take key.slot (Some taken.holder.file))) grown.own) it.both.retires
-
--- the pass found the slot hot, and left it as it was
-grown_full : (w : TableWorker) (key : Key) (file : Identity) (hot : LastingPass) → PutsKeyAlone w key file (IsHot file) None None hot → Grown (its_pass w) (view_of hot)
-grown_full w key file hot found = let adds = found.puts.1.adds in record { earlier = []; own = adds.own; number = adds.number }
 
 replacement_ends : (w w' : TableWorker) (key : Key) (tag number : ℕ) (removal : Removal) (freed released : Option ℕ)
     → ReplacesByKey w key tag number (Ok removal) freed released w' → HasEnded key w w'
-replacement_ends w w' key tag number removal freed released (inl it) =
+replacement_ends w w' key tag number removal freed released it =
     let r = it.puts.puts in
-    let look = grown_look (opening_of (its_start w)) (its_pass w) r.between key.slot r.hold None r.held.looked in
+    let look = grown_look (opening_of (its_start w)) (its_pass w) r.between key.slot r.hold it.puts.out r.held.looked in
     ended w w' key (event_of r.between (Put key.slot r.new (Some r.old))) (look.earlier ▷ event_of r.between (Release r.old)) r.old (view_of it.between) it.retired removal
     look.number refl r.its_key (r.adds.own ∙ ap (λ (own : List Event). own ▷ event_of r.between (Release r.old) ▷ event_of r.between (Put key.slot r.new (Some r.old))) look.own) it.retires
-replacement_ends w w' key tag number removal freed released (inr it) =
-    let placed = it.both.puts.placed in
-    let grown = grown_full w key (file_with tag number) it.hot it.found in
-    ended w w' key (event_of (view_of it.hot) (Put key.slot placed.new (Some placed.holder.file))) grown.earlier placed.holder.file it.both.between it.both.retired removal
-    grown.number refl placed.holder.its_key (placed.adds.own ∙ ap (λ (own : List Event). own ▷ event_of (view_of it.hot) (Put key.slot placed.new (Some placed.holder.file))) grown.own) it.both.retires
 
 pub done_removals : DoneRemovalsEndKeys
 done_removals w w' key answer out removal done is =

@@ -16,11 +16,9 @@ use Rattle.fx_lasting.specs.declared.key.Key.{Key}
 use Rattle.fx_lasting.specs.declared.key_answers.KeyFault.{KeyFault}
 use Rattle.fx_lasting.specs.declared.key_answers.KeyFault.TheVariants as fault
 use Rattle.fx_lasting.specs.slots.Alone.{TakesAlone}
-use Rattle.fx_lasting.specs.declared.key_answers.TakenByKey.TheVariants.{Hot, Missed as Failed}
-use Rattle.fx_lasting.specs.declared.key_answers.PutByKey.TheVariants.{Hot as IsHot}
 use Rattle.fx_lasting.specs.declared.pass.LastingPass.{LastingPass}
 use Rattle.fx_lasting.specs.declared.view.Start.{Start}
-use Rattle.fx_server.specs.ByKey.{PutsKeyAlone, ReplacesByTwo, ReplacesFileOf, ReplacesNone, FindsByKey, HasHolder, LooksKey, PutsNoKey, RemovesByKey, RemovesByOne, RemovesByTwo, RemovesNoKey, RemovesNone, ReplacesByKey, ReplacesByKeyNext, TakesKeyAlone, key_refusal}
+use Rattle.fx_server.specs.ByKey.{FindsByKey, KeepsAlone, LeavesAlone, LooksKey, RemovesByKey, RemovesByOne, ReplacesByKey, ReplacesByKeyNext, key_refusal}
 use Rattle.fx_server.specs.Files.{file_with}
 use Rattle.fx_server.specs.FilesNumbers.{ExportsKeepNumbers, InstallsNothing, KeepsItsNumbers, number_of_file}
 use Rattle.fx_server.specs.Installing.{FindsNext, PutsAnyNext, PutsEmptyKept, PutsNext, having_spent}
@@ -43,10 +41,6 @@ same w w' is f it = subst (λ (u : TableWorker). IsInstalled (its u) f) is it
 
 holder_same : (w w' : TableWorker) → w'.holder ≡ w.holder → InstallsNothing w.holder → InstallsNothing w'.holder
 holder_same w w' is nothing = subst InstallsNothing (sym is) nothing
-
-holder_more : (w w' : TableWorker) (h : HasHolder w w') → AddsNone (view_of h.before).own (view_of h.after).own → InstallsNothing w.holder → InstallsNothing w'.holder
-holder_more w w' h none nothing = let before : InstallsNothing (Some h.before) = subst InstallsNothing h.was nothing in
-    let after : InstallsNothing (Some h.after) = λ f it. before f (none f it) in subst InstallsNothing (sym h.is) after
 
 finds_none : (w w' : TableWorker) (slot : ℕ) (found : Result FoundFile ServerRefusal) (freed : Option ℕ) → Finds w slot found freed w' → AddsNone (its w) (its w')
 finds_none w w' slot (Ok found) freed it = looked_none (its_opening w) (its_pass w) slot (Ok (hold_in it.0)) it.2.out (its_pass w') it.2.looked
@@ -132,46 +126,11 @@ record Unchanged (w w' : TableWorker) : Type 0 where
 as_it_was : (w w' : TableWorker) → w' ≡ w → Unchanged w w'
 as_it_was w w' is = record { none = same w w' is; holder = holder_same w w' (ap (λ (u : TableWorker). u.holder) is) }
 
-replace_fails : (w w' : TableWorker) (key : Key) (tag number : ℕ) (why : KeyFault) (freed released : Option ℕ) → PutsNoKey w key tag number why freed released w' → Unchanged w w'
-replace_fails w w' key tag number why freed released (puts, tries) =
-    let both = fails_none (its_start w) (view_of puts.holder.before) (its_pass w) key why puts.out puts.back (view_of puts.holder.after) (its_pass w') puts.placed.1 in
-    record { none = both.1; holder = holder_more w w' puts.holder both.0 }
-
-remove_fails : (w w' : TableWorker) (key : Key) (why : KeyFault) (freed released : Option ℕ) → RemovesNoKey w key why freed released w' → Unchanged w w'
-remove_fails w w' key why freed released (takes, tries) =
-    let both = fails_none (its_start w) (view_of takes.holder.before) (its_pass w) key why takes.out takes.back (view_of takes.holder.after) (its_pass w') takes.taken in
-    record { none = both.1; holder = holder_more w w' takes.holder both.0 }
-
--- a removal by two passes
-two_remove : (w w' : TableWorker) (key : Key) (removal : Removal) (freed released : Option ℕ) → RemovesByTwo w key (Ok removal) freed released w' → Unchanged w w'
-two_remove w w' key removal freed released it =
-    let taken = it.takes.taken in let h = it.takes.holder in record {
-      none = both_none (its w) it.between.own (its w') (added_none (opening_of (its_start w)) (its_pass w) _ _ _ it.between taken.adds (refl, tt))
-          (retired_none (its_opening w) it.between it.retired removal (its_pass w') it.retires);
-      holder = holder_more w w' h (held_none (its_start w) (view_of h.before) key taken.hold it.takes.out it.takes.back (view_of h.after) taken.holder);
-    }
-
-two_fail : (w w' : TableWorker) (key : Key) (why : KeyFault) (freed released : Option ℕ) → RemovesByTwo w key (Err (key_refusal why)) freed released w' → Unchanged w w'
-two_fail w w' key fault.NoSlot freed released it = remove_fails w w' key fault.NoSlot freed released it
-two_fail w w' key fault.Empty freed released it = remove_fails w w' key fault.Empty freed released it
-two_fail w w' key fault.Other freed released it = remove_fails w w' key fault.Other freed released it
-two_fail w w' key fault.Again freed released it = remove_fails w w' key fault.Again freed released it
-
 -- a pass alone that left the slot as it was
-alone_none : (k : Start) (p : LastingPass) (key : Key) (why : KeyFault) (out back : Option Identity) (p' : LastingPass) → TakesAlone k p key (Failed why) out back p'
+alone_none : (k : Start) (p : LastingPass) (key : Key) (why : KeyFault) (out back : Option Identity) (p' : LastingPass) → TakesAlone k p key (Err why) out back p'
     → AddsNone (view_of p).own (view_of p').own
 alone_none k p key why out back p' (inl looked) = key_none k (view_of p) key (Err why) out back (view_of p') looked
 alone_none k p key why out back p' (inr left) = held_none k (view_of p) key left.hold out back (view_of p') left.holder
-
-hot_none : (k : Start) (p : LastingPass) (key : Key) (out back : Option Identity) (p' : LastingPass) → TakesAlone k p key Hot out back p' → AddsNone (view_of p).own (view_of p').own
-hot_none k p key out back p' (hold, held) = held_none k (view_of p) key hold out back (view_of p') held
-
--- two passes, after one found the slot hot
-after_hot : (w w' : TableWorker) (key : Key) (hot : LastingPass) → TakesKeyAlone w key Hot None None hot → Unchanged (record w { pass = hot }) w' → Unchanged w w'
-after_hot w w' key hot found un = record {
-  none = both_none (its w) (view_of hot).own (its w') (hot_none (its_start w) w.pass key found.out found.back hot found.takes) un.none;
-  holder = un.holder;
-}
 
 one_removes : (w w' : TableWorker) (key : Key) (removal : Removal) (freed released : Option ℕ) → RemovesByOne w key removal freed released w' → Unchanged w w'
 one_removes w w' key removal freed released it = let r = it.takes.takes in record {
@@ -181,22 +140,16 @@ one_removes w w' key removal freed released it = let r = it.takes.takes in recor
   holder = holder_same w w' it.holder;
 }
 
-none_removed : (w w' : TableWorker) (key : Key) (why : KeyFault) (freed released : Option ℕ) → RemovesNone w key why freed released w' → Unchanged w w'
-none_removed w w' key why freed released (inl it) =
+none_removed : (w w' : TableWorker) (key : Key) (why : KeyFault) (freed released : Option ℕ) → LeavesAlone w key why freed released w' → Unchanged w w'
+none_removed w w' key why freed released it =
     record { none = alone_none (its_start w) w.pass key why it.takes.out it.takes.back w'.pass it.takes.takes; holder = holder_same w w' it.holder }
-none_removed w w' key why freed released (inr it) =
-    after_hot w w' key it.hot it.found (two_fail (record w { pass = it.hot }) w' key why freed released it.both)
 
 remove_unchanged : (w w' : TableWorker) (key : Key) (result : Result Removal ServerRefusal) (freed released : Option ℕ) → RemovesByKey w key result freed released w' → Unchanged w w'
-remove_unchanged w w' key (Ok removal) freed released (inl it) = one_removes w w' key removal freed released it
-remove_unchanged w w' key (Ok removal) freed released (inr it) =
-    after_hot w w' key it.hot it.found (two_remove (record w { pass = it.hot }) w' key removal freed released it.both)
+remove_unchanged w w' key (Ok removal) freed released it = one_removes w w' key removal freed released it
 remove_unchanged w w' key (Err NoSlot) freed released it = none_removed w w' key fault.NoSlot freed released it
 remove_unchanged w w' key (Err Empty) freed released it = none_removed w w' key fault.Empty freed released it
 remove_unchanged w w' key (Err Stale) freed released it = none_removed w w' key fault.Other freed released it
-remove_unchanged w w' key (Err Again) freed released (inl it) = none_removed w w' key fault.Again freed released it
-remove_unchanged w w' key (Err Again) freed released (inr (it, one)) =
-    record { none = hot_none (its_start w) w.pass key it.takes.out it.takes.back w'.pass it.takes.takes; holder = holder_same w w' it.holder }
+remove_unchanged w w' key (Err Again) freed released it = none_removed w w' key fault.Again freed released it
 remove_unchanged w w' key (Err Busy) freed released it = as_it_was w w' it.2.1
 remove_unchanged w w' key (Err Reader) freed released it = as_it_was w w' it.3
 remove_unchanged w w' key (Err Idle) freed released it = absurd it
@@ -204,23 +157,9 @@ remove_unchanged w w' key (Err NoFree) freed released it = absurd it
 remove_unchanged w w' key (Err BadArgument) freed released it = absurd it
 remove_unchanged w w' key (Err NoMemory) freed released it = absurd it
 
-two_keep : (w w' : TableWorker) (key : Key) (tag number : ℕ) (why : KeyFault) (freed released : Option ℕ)
-    → ReplacesByTwo w key tag number (Err (key_refusal why)) freed released w' → Unchanged w w'
-two_keep w w' key tag number fault.NoSlot freed released it = replace_fails w w' key tag number fault.NoSlot freed released it
-two_keep w w' key tag number fault.Empty freed released it = replace_fails w w' key tag number fault.Empty freed released it
-two_keep w w' key tag number fault.Other freed released it = replace_fails w w' key tag number fault.Other freed released it
-two_keep w w' key tag number fault.Again freed released it = replace_fails w w' key tag number fault.Again freed released it
-
--- a pass that found the slot hot
-full_none : (w : TableWorker) (key : Key) (file : Identity) (hot : LastingPass) → PutsKeyAlone w key file (IsHot file) None None hot → AddsNone (its w) (view_of hot).own
-full_none w key file hot found = added_none (opening_of (its_start w)) (its_pass w) _ _ _ (view_of hot) found.puts.1.adds tt
-
-none_replaced : (w w' : TableWorker) (key : Key) (tag number : ℕ) (why : KeyFault) (freed released : Option ℕ) → ReplacesNone w key tag number why freed released w' → Unchanged w w'
-none_replaced w w' key tag number why freed released (inl it) =
-    record { none = alone_none (its_start w) w.pass key why None it.puts.back w'.pass it.puts.puts.1; holder = holder_same w w' it.holder }
-none_replaced w w' key tag number why freed released (inr it) =
-    let un = two_keep (record w { pass = it.hot }) w' key tag number why freed released it.both in
-    record { none = both_none (its w) (view_of it.hot).own (its w') (full_none w key (file_with tag number) it.hot it.found) un.none; holder = un.holder }
+none_replaced : (w w' : TableWorker) (key : Key) (tag number : ℕ) (why : KeyFault) (freed released : Option ℕ) → KeepsAlone w key tag number why freed released w' → Unchanged w w'
+none_replaced w w' key tag number why freed released it =
+    record { none = alone_none (its_start w) w.pass key why it.puts.out it.puts.back w'.pass it.puts.puts.1; holder = holder_same w w' it.holder }
 
 replace_unchanged : (w w' : TableWorker) (key : Key) (tag number : ℕ) (reason : ServerRefusal) (freed released : Option ℕ) → ReplacesByKey w key tag number (Err reason) freed released w'
     → Unchanged w w'
@@ -243,34 +182,17 @@ record Renewed (w w' : TableWorker) (tag number : ℕ) : Type 0 where
   its_number : number_of_file new ≡ number
   holder : InstallsNothing w.holder → InstallsNothing w'.holder
 
-two_replaces : (w w' : TableWorker) (key : Key) (tag number : ℕ) (removal : Removal) (freed released : Option ℕ) → ReplacesFileOf w key tag number removal freed released w'
-    → Renewed w w' tag number
-two_replaces w w' key tag number removal freed released file = let put = file.puts.placed in let h = file.puts.holder in record {
-  new = put.new;
-  one = one_then (its w) file.between.own (its w') put.new (added_one (opening_of (its_start w)) (its_pass w) (Put key.slot put.new (Some put.holder.file)) _ _ file.between put.new put.adds refl)
-      (retired_none (its_opening w) file.between file.retired removal (its_pass w') file.retires);
-  its_number = number_of_new put.new tag number put.is_new;
-  holder = holder_more w w' h (held_none (its_start w) (view_of h.before) key put.hold file.puts.out file.puts.back (view_of h.after) put.holder);
-}
-
 renewed : (w w' : TableWorker) (key : Key) (tag number : ℕ) (removal : Removal) (freed released : Option ℕ) → ReplacesByKey w key tag number (Ok removal) freed released w'
     → Renewed w w' tag number
-renewed w w' key tag number removal freed released (inl it) = let r = it.puts.puts in record {
+renewed w w' key tag number removal freed released it = let r = it.puts.puts in record {
   new = r.new;
-  one = none_then (its w) r.between.own (its w') r.new (looked_none (opening_of (its_start w)) (its_pass w) key.slot (Ok r.hold) None r.between r.held.looked)
+  one = none_then (its w) r.between.own (its w') r.new (looked_none (opening_of (its_start w)) (its_pass w) key.slot (Ok r.hold) it.puts.out r.between r.held.looked)
       (one_then r.between.own (view_of it.between).own (its w') r.new
       (added_after (opening_of (its_start w)) r.between r.old (Put key.slot r.new (Some r.old)) _ _ (view_of it.between) r.new r.adds refl)
       (retired_none (its_opening w) (view_of it.between) it.retired removal (its_pass w') it.retires));
   its_number = number_of_new r.new tag number r.is_new;
   holder = holder_same w w' it.holder;
 }
-renewed w w' key tag number removal freed released (inr it) =
-    let two = two_replaces (record w { pass = it.hot }) w' key tag number removal freed released it.both in record {
-      new = two.new;
-      one = none_then (its w) (view_of it.hot).own (its w') two.new (full_none w key (file_with tag number) it.hot it.found) two.one;
-      its_number = two.its_number;
-      holder = two.holder;
-    }
 
 remove_at_none : (w w' : TableWorker) (slot : ℕ) (result : Result Removal ServerRefusal) → RemovesFrom w slot result w' → AddsNone (its w) (its w')
 remove_at_none w w' slot (Ok removal) it = both_none (its w) it.between.own (its w') (added_none (its_opening w) (its_pass w) _ _ _ it.between it.taken.2 (refl, tt))

@@ -27,8 +27,7 @@ use Rattle.fx_lasting.specs.declared.key_answers.KeyFault.TheVariants.{Other}
 use Rattle.fx_lasting.specs.declared.pass.LastingPass.{LastingPass}
 use Rattle.fx_lasting.specs.declared.view.Start.{Start}
 use Rattle.fx_lasting.specs.slots.Alone.{TakesAlone}
-use Rattle.fx_lasting.specs.declared.key_answers.TakenByKey.TheVariants.{Missed as Failed}
-use Rattle.fx_server.specs.ByKey.{FindsByKey, HasHolder, RemovesByKey, RemovesNone, ReplacesByKeyNext, ReplacesNone}
+use Rattle.fx_server.specs.ByKey.{FindsByKey, RemovesByKey, ReplacesByKeyNext}
 use Rattle.fx_server.specs.StaleKeys.{HadAnother, IsAnother, StaleKeysHadAnother}
 use Rattle.fx_server.specs.Workers.{HolderIsIdle, IsGood, its_pass, its_start, its_table}
 use Rattle.fx_server.specs.declared.answers.FoundFile.{FoundFile}
@@ -133,29 +132,8 @@ module _ (w w' : TableWorker) (key : Key) (good : IsGood w) where
     was = had_other (its_start w) key (its_pass w) (its_pass w') out back good.fits.front looked;
   }
 
-  holder_front : (p : LastingPass) → w.holder ≡ Some p → IsFront (opening_of (its_start w)) (view_of p)
-  holder_front p is = let its : HolderIsIdle (its_table w) (Some p) = subst (HolderIsIdle (its_table w)) is good.holder in its.0.front
-
-  by_holder : (v : PassView) (h : HasHolder w w') (out back : Option Identity)
-      → FailsByKey (its_start w) (view_of h.before) v key Other out back (view_of h.after) (its_pass w') → HadAnother w key w'
-  by_holder v h out back (inl (looked, same)) = record {
-    before = (view_of h.before).front;
-    after = (view_of h.after).front;
-    from = inr (h.before, h.was, refl);
-    until = inr (h.after, h.is, refl);
-    was = had_other (its_start w) key (view_of h.before) (view_of h.after) out back (holder_front h.before h.was) looked;
-  }
-  by_holder v h out back (inr it) = record {
-    before = (view_of h.before).front;
-    after = (its_pass w').front;
-    from = inr (h.before, h.was, refl);
-    until = inl refl;
-    was = had_after (its_start w) key (view_of h.before) (view_of h.after) (its_pass w') it.hold out back it.holder
-        (left_other (its_start w) key v it.holder.between (its_pass w') it.hold.node it.left.miss it.left.same it.left.was);
-  }
-
   -- the pass alone left the slot as it was
-  by_alone : (out back : Option Identity) → TakesAlone (its_start w) w.pass key (Failed Other) out back w'.pass → HadAnother w key w'
+  by_alone : (out back : Option Identity) → TakesAlone (its_start w) w.pass key (Err Other) out back w'.pass → HadAnother w key w'
   by_alone out back (inl looked) = by_pass out back looked
   by_alone out back (inr left) = record {
     before = (its_pass w).front;
@@ -166,20 +144,6 @@ module _ (w w' : TableWorker) (key : Key) (good : IsGood w) where
         (left_other (its_start w) key (its_pass w) left.holder.between (its_pass w') left.hold.node left.miss left.same left.was);
   }
 
-  -- a removal by the pass alone, or by two passes from a hot slot
-  by_removal : (freed released : Option ℕ) → RemovesNone w key Other freed released w' → HadAnother w key w'
-  by_removal freed released (inl leaves) = by_alone leaves.takes.out leaves.takes.back leaves.takes.takes
-  by_removal freed released (inr it) =
-      let takes = it.both.0 in let h = takes.holder in
-      by_holder (view_of it.hot) (record { before = h.before; after = h.after; was = h.was; is = h.is }) takes.out takes.back takes.taken
-
-  -- a replacement, in the same way
-  by_replacement : (tag number : ℕ) (freed released : Option ℕ) → ReplacesNone w key tag number Other freed released w' → HadAnother w key w'
-  by_replacement tag number freed released (inl keeps) = by_alone None keeps.puts.back keeps.puts.puts.1
-  by_replacement tag number freed released (inr it) =
-      let puts = it.both.0 in let h = puts.holder in
-      by_holder (view_of it.hot) (record { before = h.before; after = h.after; was = h.was; is = h.is }) puts.out puts.back puts.placed.1
-
 pub stale_keys : StaleKeysHadAnother
 stale_keys = record {
   gets = λ w w' key answer out done good is.
@@ -187,8 +151,8 @@ stale_keys = record {
       by_pass w w' key good found.1.out found.1.back found.1.looked;
   removes = λ w w' key answer out done good is.
       let removed = subst (λ (r : Result Removal ServerRefusal). RemovesByKey w key r done.call.freed done.call.released w') is done.removed in
-      by_removal w w' key good done.call.freed done.call.released removed;
+      by_alone w w' key good removed.takes.out removed.takes.back removed.takes.takes;
   replaces = λ w w' key tag answer out done good is.
       let placed = subst (λ (r : Result Placed ServerRefusal). ReplacesByKeyNext w key tag r done.call.freed done.call.released w') is done.placed in
-      by_replacement w w' key good tag w.numbers.next done.call.freed done.call.released placed.1;
+      by_alone w w' key good placed.1.puts.out placed.1.puts.back placed.1.puts.puts.1;
 }

@@ -1,16 +1,13 @@
 //! The calls by key: the slot of a file and its number.
 ghost use Rattle.std.specs.Prelude.{◌≡◌, ◌<◌, None, Err};
-ghost use Rattle.fx_server.specs.ByKey.{FindsByKey, RemovesByKey, RemovesByTwo, ReplacesByKey, ReplacesByKeyNext, ReplacesByTwo, key_of};
+ghost use Rattle.fx_server.specs.ByKey.{FindsByKey, RemovesByKey, ReplacesByKey, ReplacesByKeyNext, key_of};
 ghost use Rattle.fx_server.specs.ByKey.{key_refusal};
 ghost use Rattle.fx_server.specs.Workers.{IsGood, its_pass};
 
 use crate::answers::{LookAnswer, PlaceAnswer, Placed, RemoveAnswer, ServerRefusal};
 use crate::shared::file_with;
 use crate::worker::{TableWorker, not_found, not_removed, note_key, retire, tag_of};
-use fx_lasting::{
-    Key, KeyFault, KeyLook, KeyPut, KeyRemoval, KeyReplacement, KeyTaken, PutByKey, PutOverKey,
-    TakenByKey,
-};
+use fx_lasting::{Key, KeyFault, KeyLook, KeyPut, KeyTaken, PutOverKey};
 
 impl TableWorker {
     /// Looks up the file of a key. The worker holds it until `release`.
@@ -47,12 +44,11 @@ impl TableWorker {
     }
 
     /// Removes the file of a key. The worker's pass holds it meanwhile, and its hold ends with the
-    /// removal. At a hot slot its second pass does.
+    /// removal.
     ///
     /// # Errors
     /// `Busy`, `Reader`, `NoSlot`, in this order; `Empty` if the slot has no file, `Stale` if it
-    /// has another one, `Again` if look-ups changed the slot's word before each of four tries, or
-    /// if the call closed a removed file at a hot slot.
+    /// has another one, `Again` if look-ups changed the slot's word before each of four tries.
     #[inline(always)]
     pub fn remove(&mut self, slot: u32, number: u64) -> RemoveAnswer
         requires good { IsGood self.old }
@@ -70,51 +66,11 @@ impl TableWorker {
             return not_removed(ServerRefusal::Reader);
         }
         let table = &self.shared.table;
-        let KeyRemoval {
-            taken,
-            freed,
-            released,
-        } = table.take_key_alone(&mut self.pass, Key { slot, number });
-        let freed = tag_of(freed);
-        let released = tag_of(released);
-        let removal = match taken {
-            TakenByKey::Removed(retired) => Ok(retire(table, &mut self.pass, retired)),
-            TakenByKey::Missed(fault) => Err(key_refusal(fault)),
-            TakenByKey::Hot => {
-                if freed.is_none() && released.is_none() {
-                    return self.remove_hot(slot, number);
-                }
-                Err(ServerRefusal::Again)
-            }
-        };
-        RemoveAnswer {
-            removal,
-            freed,
-            released,
-        }
-    }
-
-    // Removes the file of a key from a hot slot. The second pass holds it meanwhile.
-    #[inline(never)]
-    fn remove_hot(&mut self, slot: u32, number: u64) -> RemoveAnswer
-        requires good { IsGood self.old }
-        requires idle { self.old.held ≡ None }
-        ensures good { IsGood self.new }
-        ensures table { self.new.shared ≡ self.old.shared }
-        ensures held { self.new.held ≡ self.old.held }
-        ensures numbers { self.new.numbers ≡ self.old.numbers }
-        ensures removed { RemovesByTwo self.old (key_of slot number) result.removal result.freed
-            result.released self.new }
-    {
-        let Some(holder) = &mut self.holder else {
-            return not_removed(ServerRefusal::Reader);
-        };
-        let table = &self.shared.table;
         let KeyTaken {
             taken,
             freed,
             released,
-        } = table.take_key(holder, &mut self.pass, Key { slot, number });
+        } = table.take_key_alone(&mut self.pass, Key { slot, number });
         let freed = tag_of(freed);
         let released = tag_of(released);
         let removal = match taken {
@@ -129,11 +85,11 @@ impl TableWorker {
     }
 
     /// Replaces the file of a key by one with this tag and the worker's next number. The worker's
-    /// pass holds the old file meanwhile, and its hold ends with the replacement. At a hot slot its
-    /// second pass does. Returns what became of the old file, and the number.
+    /// pass holds the old file meanwhile, and its hold ends with the replacement. Returns what
+    /// became of the old file, and the number.
     ///
     /// # Errors
-    /// As of `remove`, but `Again` never for a closed file.
+    /// As of `remove`.
     #[inline(always)]
     pub fn replace(&mut self, slot: u32, number: u64, tag: u64) -> PlaceAnswer
         requires good { IsGood self.old }
@@ -184,54 +140,11 @@ impl TableWorker {
             return not_removed(ServerRefusal::Reader);
         }
         let file = file_with(tag, next);
-        let KeyReplacement { put, released } = table.put_key_alone(
-            &mut self.pass,
-            Key { slot, number },
-            file,
-        );
-        let released = tag_of(released);
-        let removal = match put {
-            PutByKey::Replaced(retired) => Ok(retire(table, &mut self.pass, retired)),
-            PutByKey::Missed(fault, file) => {
-                file.discard();
-                Err(key_refusal(fault))
-            }
-            PutByKey::Hot(file) => {
-                file.discard();
-                return self.replace_hot(slot, number, tag, next);
-            }
-        };
-        RemoveAnswer {
-            removal,
-            freed: None,
-            released,
-        }
-    }
-
-    // Replaces the file of a key at a hot slot by one with this tag and this number. The second
-    // pass holds the old file meanwhile.
-    #[inline(never)]
-    fn replace_hot(&mut self, slot: u32, number: u64, tag: u64, next: u64) -> RemoveAnswer
-        requires good { IsGood self.old }
-        requires idle { self.old.held ≡ None }
-        requires installs { 0 < (its_pass self.old).numbers_left }
-        ensures good { IsGood self.new }
-        ensures table { self.new.shared ≡ self.old.shared }
-        ensures held { self.new.held ≡ self.old.held }
-        ensures numbers { self.new.numbers ≡ self.old.numbers }
-        ensures placed { ReplacesByTwo self.old (key_of slot number) tag next result.removal
-            result.freed result.released self.new }
-    {
-        let Some(holder) = &mut self.holder else {
-            return not_removed(ServerRefusal::Reader);
-        };
-        let table = &self.shared.table;
-        let file = file_with(tag, next);
         let KeyPut {
             put,
             freed,
             released,
-        } = table.put_over_key(holder, &mut self.pass, Key { slot, number }, file);
+        } = table.put_key_alone(&mut self.pass, Key { slot, number }, file);
         let freed = tag_of(freed);
         let released = tag_of(released);
         let removal = match put {

@@ -1,16 +1,12 @@
-//! Removals and replacements by a key by one pass. No clause says which of them one pass makes, and
-//! which ones it leaves to two passes: those at a hot slot alone. Nor does a clause say that the
-//! file comes out at its retirement if nobody else uses it.
+//! Removals and replacements by a key by one pass, at a cold slot and at a hot one. No clause says
+//! that the file comes out at its retirement if nobody else uses it.
 ghost use Rattle.std.specs.Prelude.{◌≡◌, All, length};
 ghost use Rattle.fx_table.specs.Pass.{IsIdle};
 ghost use Rattle.fx_lasting.specs.Tables.{IsPassOfTable, opening_of_table, view_of};
 
 use crate::setting::Host;
 use fx_base::{Mark, OpenFile};
-use fx_lasting::{
-    Key, KeyFault, KeyPut, KeyRemoval, KeyReplacement, KeyTaken, LastingPass, LastingTable,
-    PutByKey, PutOverKey, TakenByKey,
-};
+use fx_lasting::{Key, KeyFault, KeyPut, KeyTaken, LastingPass, LastingTable, PutOverKey};
 use fx_table::LookUp;
 
 // The takes after which the slot of a table with two passes is hot, and some more.
@@ -22,7 +18,6 @@ enum Outcome {
     Removed,
     Replaced,
     Missed(KeyFault),
-    Hot,
 }
 
 // Opens an empty table of one slot for two passes, the first of which installs files.
@@ -63,7 +58,7 @@ fn take<H: Host>(rt: &H, table: &LastingTable, pass: &mut LastingPass, key: Key)
     ensures { IsPassOfTable table.now pass.new }
 {
     assert!(rt; table.is_idle(pass));
-    let KeyRemoval {
+    let KeyTaken {
         taken,
         freed,
         released,
@@ -71,39 +66,12 @@ fn take<H: Host>(rt: &H, table: &LastingTable, pass: &mut LastingPass, key: Key)
     discard(freed);
     discard(released);
     match taken {
-        TakenByKey::Removed(retired) => {
+        Ok(retired) => {
             table.retire(pass, retired).expect(rt, "the file").discard();
             Outcome::Removed
         }
-        TakenByKey::Missed(fault) => Outcome::Missed(fault),
-        TakenByKey::Hot => Outcome::Hot,
+        Err(fault) => Outcome::Missed(fault),
     }
-}
-
-// Removes the file of a key by two passes.
-fn take_by_two<H: Host>(
-    rt: &H,
-    table: &LastingTable,
-    holder: &mut LastingPass,
-    pass: &mut LastingPass,
-    key: Key,
-) -> bool
-    requires holder { IsPassOfTable table.now holder.old }
-    requires pass { IsPassOfTable table.now pass.old }
-    ensures holder { IsPassOfTable table.now holder.new }
-    ensures pass { IsPassOfTable table.now pass.new }
-{
-    assert!(rt; table.is_idle(holder) && table.is_idle(pass));
-    let KeyTaken {
-        taken,
-        freed,
-        released,
-    } = table.take_key(holder, pass, key);
-    discard(freed);
-    discard(released);
-    let Ok(retired) = taken else { return false };
-    discard(table.retire(pass, retired));
-    true
 }
 
 // The file that these numbers name.
@@ -123,54 +91,21 @@ fn replace<H: Host>(
     ensures { IsPassOfTable table.now pass.new }
 {
     assert!(rt; table.is_idle(pass) && 0 < table.numbers_left(pass));
-    let KeyReplacement { put, released } = table.put_key_alone(pass, key, file_of(i));
-    discard(released);
-    match put {
-        PutByKey::Replaced(retired) => {
-            table.retire(pass, retired).expect(rt, "the file").discard();
-            Outcome::Replaced
-        }
-        PutByKey::Missed(fault, file) => {
-            file.discard();
-            Outcome::Missed(fault)
-        }
-        PutByKey::Hot(file) => {
-            file.discard();
-            Outcome::Hot
-        }
-    }
-}
-
-// Replaces the file of a key by two passes.
-fn replace_by_two<H: Host>(
-    rt: &H,
-    table: &LastingTable,
-    holder: &mut LastingPass,
-    pass: &mut LastingPass,
-    key: Key,
-    i: u32,
-) -> bool
-    requires holder { IsPassOfTable table.now holder.old }
-    requires pass { IsPassOfTable table.now pass.old }
-    ensures holder { IsPassOfTable table.now holder.new }
-    ensures pass { IsPassOfTable table.now pass.new }
-{
-    assert!(rt; table.is_idle(holder) && table.is_idle(pass) && 0 < table.numbers_left(pass));
     let KeyPut {
         put,
         freed,
         released,
-    } = table.put_over_key(holder, pass, key, file_of(i));
+    } = table.put_key_alone(pass, key, file_of(i));
     discard(freed);
     discard(released);
     match put {
         PutOverKey::Replaced(retired) => {
-            discard(table.retire(pass, retired));
-            true
+            table.retire(pass, retired).expect(rt, "the file").discard();
+            Outcome::Replaced
         }
-        PutOverKey::Missed(_, file) => {
+        PutOverKey::Missed(fault, file) => {
             file.discard();
-            false
+            Outcome::Missed(fault)
         }
     }
 }
@@ -208,14 +143,14 @@ fn remove_some<H: Host>(
     assert!(rt; take(rt, table, pass, first) == Outcome::Missed(KeyFault::Other));
     heat(rt, table, reader);
     assert!(rt; take(rt, table, pass, first) == Outcome::Missed(KeyFault::Other));
-    assert!(rt; take(rt, table, pass, second) == Outcome::Hot);
-    assert!(rt; take_by_two(rt, table, reader, pass, second));
+    assert!(rt; take(rt, table, pass, second) == Outcome::Removed);
+    assert!(rt; take(rt, table, pass, second) == Outcome::Missed(KeyFault::Empty));
     let third = put(rt, table, pass, 3);
     assert!(rt; take(rt, table, pass, third) == Outcome::Removed);
     assert!(rt; table.is_idle(reader) && table.is_idle(pass));
 }
 
-// Replaces files by their keys, one after another, of which two are at a hot slot.
+// Replaces files by their keys, one after another, of which three are at a hot slot.
 fn replace_some<H: Host>(
     rt: &H,
     table: &LastingTable,
@@ -234,8 +169,9 @@ fn replace_some<H: Host>(
     assert!(rt; replace(rt, table, pass, first, 5) == Outcome::Replaced);
     assert!(rt; replace(rt, table, pass, first, 6) == Outcome::Missed(KeyFault::Other));
     heat(rt, table, reader);
-    assert!(rt; replace(rt, table, pass, second, 6) == Outcome::Hot);
-    assert!(rt; replace_by_two(rt, table, reader, pass, second, 6));
+    assert!(rt; replace(rt, table, pass, first, 6) == Outcome::Missed(KeyFault::Other));
+    assert!(rt; replace(rt, table, pass, second, 6) == Outcome::Replaced);
+    heat(rt, table, reader);
     assert!(rt; replace(rt, table, pass, third, 7) == Outcome::Replaced);
     let last = Key::new(0, Mark::Registered { k: 1, i: 7 });
     assert!(rt; take(rt, table, pass, last) == Outcome::Removed);
@@ -258,7 +194,7 @@ fn remove_between<H: Host>(rt: &H, table: &LastingTable, passes: &mut Vec<Lastin
     passes.push_reserved(reader);
 }
 
-// At a cold slot a file is removed and replaced by one pass, and a hot one is left to two.
+// Files are removed and replaced by one pass.
 #[test]
 fn changes_by_one_pass(rt: HostRuntime) {
     let (table, mut passes) = open_empty(&rt);

@@ -1,5 +1,5 @@
 -- A load by which a retirement finds that everybody has let its file go keeps the rule.
-use Rattle.fx_lasting.proofs.Words.{Round, IsPassed, ◌≡◌, ℕ, ◌+◌, ◌≤◌, List, ap, ◌∙◌, sym, arith, Option, Some, none, keeps, takes, Closed, File}
+use Rattle.fx_lasting.proofs.Words.{false, Round, IsPassed, ◌≡◌, ℕ, ◌+◌, ◌≤◌, List, ap, ◌∙◌, sym, arith, Option, Some, none, keeps, takes, Closed, File}
 use Rattle.fx_lasting.proofs.Words.{word_of, taking, owner, removed_in, Retiring, retirement_amount, step, inr, dite, ℕ_discrete, Finishes}
 use Rattle.fx_lasting.proofs.Words.{FinishesKeep}
 use Rattle.fx_lasting.proofs.Calm.{read_after, read_kept}
@@ -8,7 +8,7 @@ use Rattle.fx_lasting.proofs.hold_lemmas.LettingGo.{out_after, IsGone, comes_out
 use Rattle.fx_lasting.proofs.Peeking.{goes_still, still}
 use Rattle.fx_lasting.proofs.hold_lemmas.Retiring.{its, node, lets, retiring_same, nobody}
 
-module _ (turn : Turn) (f : File) (n t : ℕ) (nx : Round) (m : ℕ) (works : turn.v.work ≡ Retiring f n t nx m)
+module _ (turn : Turn) (f : File) (n t : ℕ) (nx : Round) (m : ℕ) (works : turn.v.work ≡ Retiring f n t nx m) (down : nx.guarded ≡ false)
     (done : (p : ℕ) → nx.next ≤ p → p ≤ turn.v.start.passes → IsPassed turn.x.number nx p) where
   open turn use {st, v, r, id, x, here, one}
 
@@ -21,15 +21,15 @@ module _ (turn : Turn) (f : File) (n t : ℕ) (nx : Round) (m : ℕ) (works : tu
 
   pub finishes_either : (slots : ℕ) (carried : List (ℕ × Option Closed))
       → Made turn carried (word_of v.start n) (λ word. word) (Finishes (step slots (word_of v.start n) 0 0 none) (v, carried))
-  finishes_either slots carried = let o = node turn f n t nx m works done in let a = o.counts in let b = o.few_takes in let c = o.few_marks in
-      let e = o.few_visits in let idle = ap (taking n) works in let l = lets turn f n t nx m works done in
-      let at = (its turn f n t nx m works done).1 in
+  finishes_either slots carried = let o = node turn f n t nx m works down done in let a = o.counts in let b = o.few_takes in let c = o.few_marks in
+      let e = o.few_visits in let idle = ap (taking n) works in let l = lets turn f n t nx m works down done in
+      let at = (its turn f n t nx m works down done).1 in
       dite (ℕ_discrete found (retirement_amount t m + 1))
       (λ is. let gone : IsGone l carried found = record {
         gone = λ k. ap (removed_in k) at;
         not_seated = λ s h bad. cc (sym at ∙ bad);
         may = inr (ap owner at);
-        marked = nobody turn f n t nx m works done;
+        marked = nobody turn f n t nx m works down done;
         home = o.file.at_home;
         left = omega arith;
         none_taken = omega arith;
@@ -41,7 +41,7 @@ module _ (turn : Turn) (f : File) (n t : ℕ) (nx : Round) (m : ℕ) (works : tu
         comes_out l carried found gone,
         record {
           waits = λ g i a b c its' not_so. absurd (not_so (is ∙ ap (λ (z : ℕ). z + 1) (amount_same its')));
-          closes = λ g i a b c its' _. let same = retiring_same turn f n t nx m works done its' in rw (← same.0, ← same.1) (takes_out l carried found gone);
+          closes = λ g i a b c its' _. let same = retiring_same turn f n t nx m works down done its' in rw (← same.0, ← same.1) (takes_out l carried found gone);
         },
       ))
       (λ more. (
@@ -56,7 +56,7 @@ module _ (turn : Turn) (f : File) (n t : ℕ) (nx : Round) (m : ℕ) (works : tu
       ))
 
 pub finishes_keep : FinishesKeep Finishes
-finishes_keep k slots id i n t m nx f s x has works done place =
+finishes_keep k slots id i n t m nx f s x has works down done place =
     by_turn slots (λ (k : _). (p : ℕ) → nx.next ≤ p → p ≤ k.passes → IsPassed x.number nx p) (λ k. word_of k n) (λ word. word)
     (λ i. Finishes (step slots i 0 0 none) s) has done place
-    (λ st r here done fits. finishes_either (turn_of s x has.1 id st r here) f n t nx m works done slots s.1)
+    (λ st r here done fits. finishes_either (turn_of s x has.1 id st r here) f n t nx m works down done slots s.1)

@@ -1,5 +1,5 @@
 -- The file at a slot is the one that passes hold on its node.
-use Rattle.fx_lasting.proofs.Words.{Renewing, ◌≡◌, ℕ, ◌<◌, List, [], ◌∷◌, sym, refl, ap, ◌∙◌, subst, Option, Some, None, ⊎_elim, File, Event, Start, Shared}
+use Rattle.fx_lasting.proofs.Words.{Renewing, Relieving, ◌≡◌, ℕ, ◌<◌, List, [], ◌∷◌, sym, refl, ap, ◌∙◌, subst, Option, Some, None, ⊎_elim, File, Event, Start, Shared}
 use Rattle.fx_lasting.proofs.Words.{Work, Agrees, WorkAgrees, HoldsAt, Counted, Guarded, Yielding, held_in, held_by, held_after, part_of_pass}
 use Rattle.fx_lasting.proofs.Words.{state_after_all, slots_of, node_of_number, file_in, once_is, IsSeated, eq-eqb, ne_eqb, dite, ℕ_discrete}
 use Rattle.fx_lasting.proofs.Words.{IsOneOnItsNode}
@@ -22,6 +22,7 @@ module _ (k : Start) (s : Shared) (r : Agrees k s) where
   is_open {f} seat (Counted g n) e w = (n, subst (λ (z : File). HoldsAt k r.phase z n) (cc e) w)
   is_open {f} seat (Guarded g n) e w = (n, subst (λ (z : File). HoldsAt k r.phase z n) (cc e) w)
   is_open {f} seat (Yielding g n) e w = (n, subst (λ (z : File). HoldsAt k r.phase z n) (cc e) w)
+  is_open {f} seat (Relieving g n own l) e w = (n, subst (λ (z : File). HoldsAt k r.phase z n) (cc e) w.0)
   is_open {f} seat (Renewing g n own l) e w = (n, subst (λ (z : File). HoldsAt k r.phase z n) (cc e) w.0)
   is_open seat _ e w = absurd (cc e)
 

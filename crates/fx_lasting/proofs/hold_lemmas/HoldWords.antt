@@ -4,7 +4,8 @@ use Rattle.fx_lasting.proofs.Words.{◌≡◌, ℕ, ◌+◌, ◌<◌, List, [], 
 use Rattle.fx_lasting.proofs.Words.{Release, ◌▷◌, WorkAgrees, HoldAgrees, GuardAgrees, NamesNode, HoldsAt, state_after_all, nodes_of, hold_word_of}
 use Rattle.fx_lasting.proofs.Words.{held_in, held_of, if_file, taking, pass_event, Work, Idle, Announced, Guarded, Owing, Yielding, Hot, Announces}
 use Rattle.fx_lasting.proofs.Words.{Withdraws, StepsDown, AnnouncesKeep, WithdrawsKeep, StepsDownKeep, Goes, announced, step, inl, ⊎_elim, dite}
-use Rattle.fx_lasting.proofs.Words.{ℕ_discrete, one_less_at, bit_here, sum_at, IsInside, IsAllowed, true}
+use Rattle.fx_lasting.proofs.Words.{ℕ_discrete, one_less_at, bit_here, sum_at, IsInside, IsAllowed, true, ◌⊎◌, inr, alone_in, announcing, MayAnnounce}
+use Rattle.fx_lasting.proofs.Words.{Placement, Placing, Nearing, IsIn, placed}
 use Rattle.fx_lasting.proofs.Histories.{grows_none, grows_one, legal_more, part_mine, held_mine}
 use Rattle.fx_lasting.proofs.Frames.{busy}
 use Rattle.fx_lasting.proofs.Keeping.{none_added, Turn, turn_of, word_at, slot_word, Made, by_turn, its_log, its_work, tells, w}
@@ -16,8 +17,12 @@ module _ (turn : Turn) (carried : List (ℕ × Option Closed)) where
   abbrev word : ℕ
   word = word_at st.words (hold_word_of v.start x.number)
 
+  -- a pass that works with no node alone
+  pass_calm : (d : Work) → busy v.work ≡ 0 → (alone_in d ≡ alone_in v.work) ⊎ (busy v.work ≡ 0)
+  pass_calm d none_busy = inr none_busy
+
   -- a step that adds nothing to the history
-  module _ (new : ℕ) (d : Work) (calm : busy v.work ≡ 0) (untaken : (n : ℕ) → taking n d ≡ taking n v.work) (holds : held_in d ≡ held_in v.work) where
+  module _ (new : ℕ) (d : Work) (calm : (alone_in d ≡ alone_in v.work) ⊎ (busy v.work ≡ 0)) (untaken : (n : ℕ) → taking n d ≡ taking n v.work) (holds : held_in d ≡ held_in v.work) where
     quiet : HoldAgrees new (r.debt x.number) d → GuardAgrees (slot_word (own_words turn new d)) r.phase x.number (r.debt x.number) d
         → WorkAgrees v.start r.phase id d → IsAllowed x.stock x.listed d → Own turn new d r.history
     quiet hold guard work allowed = record {
@@ -38,35 +43,56 @@ module _ (turn : Turn) (carried : List (ℕ × Option Closed)) where
       carried = refl;
     }
 
-  announce : (slots s n : ℕ) → x.listed ≡ true → v.work ≡ Idle → v.glance ≡ Hot s n → Made turn carried (hold_word_of v.start x.number) (λ _. announced n)
-      (λ _. Announces (step slots (hold_word_of v.start x.number) (announced n) 0 none) (v, carried) (announced n))
-  announce slots s n has is saw = let o = rw is at (its_log turn).hold in
-      let inside : n < nodes_of v.start = (rw saw at (its_log turn).sees).1 in
-      let calm = ap busy is in let taken = λ (k : ℕ). sym (ap (taking k) is) in let holds = sym (ap held_in is) in (
-        w turn (own_after turn (announced n) (Announced n) r.history),
-        keeps,
-        tt,
-        own_kept turn (announced n) (Announced n) (quiet (announced n) (Announced n) calm taken holds (inl (refl, o.1)) tt inside has),
-        record {
-          goes = λ i k saw'. let at : n ≡ k = cc (sym saw ∙ saw') in
-              let e = goes_quiet (announced n) (Announced n) calm taken holds inside in rw (← at) e;
-        },
-      )
+  -- its hold word names the node of a hot slot
+  module _ (slots s n : ℕ) (has : x.listed ≡ true) (saw : v.glance ≡ Hot s n) where
+    abbrev Announced₁ : Type 0
+    Announced₁ = Made turn carried (hold_word_of v.start x.number) (λ _. announced n)
+        (λ _. Announces (step slots (hold_word_of v.start x.number) (announced n) 0 none) (v, carried) (announced n))
+
+    inside : n < nodes_of v.start
+    inside = (rw saw at (its_log turn).sees).1
+
+    announces_so : (d : Work) → announcing n v.work ≡ d → Own turn (announced n) d r.history → IsInside v.start d → Announced₁
+    announces_so d is own knows = (
+      w turn (own_after turn (announced n) d r.history),
+      keeps,
+      tt,
+      own_kept turn (announced n) d own,
+      record {
+        goes = λ i k saw'. let at : n ≡ k = cc (sym saw ∙ saw') in
+            subst (λ (z : Work). Goes (v, carried) [] z v.glance (w turn (own_after turn (announced n) d r.history), carried))
+            (sym is ∙ ap (λ (j : ℕ). announcing j v.work) at) record {
+              stepped = tells turn (own_after turn (announced n) d r.history) refl carried carried [] (grows_none x.number r.history) r.life.legal refl knows;
+              carried = refl;
+            };
+      },
+    )
+
+    announce : MayAnnounce v.work → Announced₁
+    announce may = ⊎_elim
+        (λ (is : v.work ≡ Idle). let o = rw is at (its_log turn).hold in
+        announces_so (Announced n) (ap (announcing n) is)
+        (quiet (announced n) (Announced n) (inr (ap busy is)) (λ k. sym (ap (taking k) is)) (sym (ap held_in is)) (inl (refl, o.1)) tt inside has) inside)
+        (λ (z : (own : ℕ) × (l : Placement) × (v.work ≡ Placing own l)). let o = rw z.2 at (its_log turn).hold in
+        let its : IsIn v.start r.phase z.0 (placed id z.1) = subst (WorkAgrees v.start r.phase id) z.2 (its_work turn) in
+        announces_so (Nearing n z.0 z.1) (ap (announcing n) z.2)
+        (quiet (announced n) (Nearing n z.0 z.1) (inl (sym (ap alone_in z.2))) (λ k. sym (ap (taking k) z.2)) (sym (ap held_in z.2)) (inl (refl, o.1)) tt
+        (inside, its) (subst (IsAllowed x.stock x.listed) z.2 (its_log turn).allowed, has)) (inside, its.0)) may
 
   withdraw : (slots n : ℕ) → v.work ≡ Announced n → Made turn carried (hold_word_of v.start x.number) (λ _. 0)
       (Withdraws (step slots (hold_word_of v.start x.number) 0 0 none) (v, carried))
   withdraw slots n is = let o : NamesNode word (r.debt x.number) n = rw is at (its_log turn).hold in
       let inside : n < nodes_of v.start = subst (WorkAgrees v.start r.phase id) is (its_work turn) in
-      let calm = ap busy is in let holds = sym (ap held_in is) in dite (ℕ_discrete word (announced n))
+      let calm = λ (d : Work). pass_calm d (ap busy is) in let holds = sym (ap held_in is) in dite (ℕ_discrete word (announced n))
       (λ clean. let none_owed : r.debt x.number ≡ 0 = ⊎_elim (λ (c : (word ≡ n + 1) × (r.debt x.number ≡ 0)). c.1)
       (λ (c : (word ≡ n + 1 + 4294967296) × (r.debt x.number ≡ n + 1)). absurd (let a = c.0 in omega arith)) o in
       let taken = λ (k : ℕ). sym (ap (taking k) is) in (
         w turn (own_after turn 0 Idle r.history),
         keeps,
         tt,
-        own_kept turn 0 Idle (quiet 0 Idle calm taken holds (refl, none_owed) tt tt tt),
+        own_kept turn 0 Idle (quiet 0 Idle (calm Idle) taken holds (refl, none_owed) tt tt tt),
         record {
-          clean = λ k is' _. goes_quiet 0 Idle calm taken holds tt;
+          clean = λ k is' _. goes_quiet 0 Idle (calm Idle) taken holds tt;
           marked = λ k is' not_so. absurd (not_so (clean ∙ (let at : n ≡ k = cc (sym is ∙ is') in ap announced at)));
         },
       ))
@@ -76,10 +102,10 @@ module _ (turn : Turn) (carried : List (ℕ × Option Closed)) where
         w turn (own_after turn 0 (Owing n) r.history),
         keeps,
         tt,
-        own_kept turn 0 (Owing n) (quiet 0 (Owing n) calm taken holds (refl, owes) tt inside tt),
+        own_kept turn 0 (Owing n) (quiet 0 (Owing n) (calm (Owing n)) taken holds (refl, owes) tt inside tt),
         record {
           clean = λ k is' clean. absurd (not_so (clean ∙ sym (let at : n ≡ k = cc (sym is ∙ is') in ap announced at)));
-          marked = λ k is' _. let at : n ≡ k = cc (sym is ∙ is') in rw (← at) (goes_quiet 0 (Owing n) calm taken holds inside);
+          marked = λ k is' _. let at : n ≡ k = cc (sym is ∙ is') in rw (← at) (goes_quiet 0 (Owing n) (calm (Owing n)) taken holds inside);
         },
       ))
 
@@ -96,7 +122,7 @@ module _ (turn : Turn) (carried : List (ℕ × Option Closed)) where
     released none_owed = record {
       files = record { grows = grows_one x.number r.history _ refl; legal = legal_more v.start r.life.legal held_now ((its_log turn).held ∙ ap held_in is); at = refl; fresh = refl; removed = refl };
       taken = λ k. sym (ap (taking k) is);
-      owners = ap busy is;
+      owners = inr (ap busy is);
       held = held_mine (pass_event x (Release f)) r.history refl;
       allowed = tt;
       hold = (refl, none_owed);
@@ -127,22 +153,22 @@ module _ (turn : Turn) (carried : List (ℕ × Option Closed)) where
         ))
         (λ not_so. let owes : r.debt x.number ≡ n + 1 = ⊎_elim (λ (c : (word ≡ n + 1) × (r.debt x.number ≡ 0)). absurd (not_so c.0))
         (λ (c : (word ≡ n + 1 + 4294967296) × (r.debt x.number ≡ n + 1)). c.1) o in
-        let taken = λ (k : ℕ). sym (ap (taking k) is) in let calm = ap busy is in let holds = sym (ap held_in is) in (
+        let taken = λ (k : ℕ). sym (ap (taking k) is) in let calm = λ (d : Work). pass_calm d (ap busy is) in let holds = sym (ap held_in is) in (
           w turn (own_after turn 0 (Yielding f n) r.history),
           keeps,
           tt,
-          own_kept turn 0 (Yielding f n) (quiet 0 (Yielding f n) calm taken holds (refl, owes) tt its tt),
+          own_kept turn 0 (Yielding f n) (quiet 0 (Yielding f n) (calm (Yielding f n)) taken holds (refl, owes) tt its tt),
           record {
             clean = λ h k is' clean. absurd (not_so (clean ∙ sym (let at : n ≡ k = cc (sym is ∙ is') in ap announced at)));
             marked = λ h k is' _. let same : f ≡ h = cc (sym is ∙ is') in let at : n ≡ k = cc (sym is ∙ is') in
-                rw (← same, ← at) (goes_quiet 0 (Yielding f n) calm taken holds its.0);
+                rw (← same, ← at) (goes_quiet 0 (Yielding f n) (calm (Yielding f n)) taken holds its.0);
           },
         ))
 
 pub announces_keep : AnnouncesKeep Announces
-announces_keep k slots id i s n m x has listed is saw place = by_turn slots (λ _. Unit {0}) (λ k. hold_word_of k x.number) (λ _. announced n)
+announces_keep k slots id i s n m x has listed may saw place = by_turn slots (λ _. Unit {0}) (λ k. hold_word_of k x.number) (λ _. announced n)
     (λ i _. Announces (step slots i (announced n) 0 none) m (announced n)) has tt place
-    (λ st r here _ fits. announce (turn_of m x has.1 id st r here) m.1 slots s n listed is saw)
+    (λ st r here _ fits. announce (turn_of m x has.1 id st r here) m.1 slots s n listed saw may)
 
 pub withdraws_keep : WithdrawsKeep Withdraws
 withdraws_keep k slots id i n m x has is place = by_turn slots (λ _. Unit {0}) (λ k. hold_word_of k x.number) (λ _. 0)

@@ -1,5 +1,5 @@
 -- A node is that of one file while the file is held.
-use Rattle.fx_lasting.proofs.Words.{Renewing, ◌≡◌, ◌≢◌, ℕ, ◌+◌, Option, Some, None, ap, sym, ◌∙◌, subst, arith, File, node_of_number, sum_by, get_elem?, Agrees}
+use Rattle.fx_lasting.proofs.Words.{Renewing, Relieving, ◌≡◌, ◌≢◌, ℕ, ◌+◌, Option, Some, None, ap, sym, ◌∙◌, subst, arith, File, node_of_number, sum_by, get_elem?, Agrees}
 use Rattle.fx_lasting.proofs.Words.{Names, IsSeated, NodeAgrees, WorkAgrees, HoldsAt, slots_of, word_of, state_after_all, taken_of, owed, count_in}
 use Rattle.fx_lasting.proofs.Words.{full_name_in, Phase, Shared, Start, Work, Counted, Guarded, Retiring, seated, leaving, retired, file_in, Holding}
 use Rattle.fx_lasting.proofs.Words.{Hold, Retired, slot_word_in, node_word_in, doing_in}
@@ -17,6 +17,8 @@ module _ (k : Start) (s : Shared) (r : Agrees k s) where
       subst (λ (n : ℕ). HoldsAt k r.phase f n) its (subst (λ (g : File). HoldsAt k r.phase g n) same w)
   is_open {f} {hold} seat (Guarded g n) e w = let same : g ≡ f = cc e in let its : n ≡ hold.node = cc e in
       subst (λ (n : ℕ). HoldsAt k r.phase f n) its (subst (λ (g : File). HoldsAt k r.phase g n) same w)
+  is_open {f} {hold} seat (Relieving g n own l) e w = let same : g ≡ f = cc e in let its : n ≡ hold.node = cc e in
+      subst (λ (n : ℕ). HoldsAt k r.phase f n) its (subst (λ (g : File). HoldsAt k r.phase g n) same w.0)
   is_open {f} {hold} seat (Renewing g n own l) e w = let same : g ≡ f = cc e in let its : n ≡ hold.node = cc e in
       subst (λ (n : ℕ). HoldsAt k r.phase f n) its (subst (λ (g : File). HoldsAt k r.phase g n) same w.0)
   is_open seat _ e w = absurd (cc e)

@@ -75,6 +75,7 @@ module _ {turn : Turn} {n : ℕ} {f : File} {h₁ : List Event} {debt' : ℕ →
         few_takes = o.few_takes;
         few_marks = o.few_marks;
         few_visits = o.few_visits;
+        unowed = λ is. let z = o.unowed is in omega arith;
       }
   outcome calm (retired h) is has = let o = in_phase turn g.its.0 is in let a = o.counts in let b = o.somebody in let c = taking_few n v.work in
       let q = sum_at (taken_of n) st.views id v here in

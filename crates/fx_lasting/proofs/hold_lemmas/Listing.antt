@@ -1,7 +1,7 @@
 -- A step that sets a pass's bit in the list keeps the rule.
-use Rattle.fx_lasting.proofs.Words.{Renewing}
-use Rattle.fx_lasting.proofs.Words.{ℕ, ◌≤◌, ◌^◌, List, Option, Closed, refl, inl, inr, arith, none, keeps, Idle, Announced, Counted, Guarded, Owing}
-use Rattle.fx_lasting.proofs.Words.{Yielding, Searching, Placing, Retiring, Emptying, Keeping, true, bit_or, bit_of, list_place, step, length-set}
+use Rattle.fx_lasting.proofs.Words.{Renewing, Nearing, Relieving}
+use Rattle.fx_lasting.proofs.Words.{ℕ, ◌≤◌, ◌^◌, List, Option, Closed, refl, inl, inr, arith, none, keeps, Announced, Guarded}
+use Rattle.fx_lasting.proofs.Words.{Searching, Placing, Retiring, Keeping, true, bit_or, bit_of, list_place, step, length-set}
 use Rattle.fx_lasting.proofs.Words.{dite, ℕ_discrete, Work, IsAllowed, Lists, ListsKeep, [], Bool, ◌≡◌, ◌+◌, ◌%◌, ◌<◌, ◌∙◌, sym, false, Agrees}
 use Rattle.fx_lasting.proofs.Histories.{grows_none}
 use Rattle.fx_lasting.proofs.Frames.{guards_same, covers_same, sees_same}
@@ -19,6 +19,9 @@ allowed_more : (stock : List ℕ) (l : Bool) (d : Work) → IsAllowed stock l d 
 allowed_more stock l (Searching n) ok = ok
 allowed_more stock l (Placing n w) ok = ok
 allowed_more stock l (Renewing f n own w) ok = ok
+allowed_more stock l (Nearing n own w) ok = (ok.0, refl)
+allowed_more stock l (Relieving f n own w) ok = (ok.0, refl)
+allowed_more stock l (Retiring f n t nx m) ok = λ is. refl
 allowed_more stock l (Announced n) ok = refl
 allowed_more stock l (Guarded f n) ok = refl
 allowed_more stock l (Keeping n lost) ok = ok

@@ -1,7 +1,6 @@
 -- A look-up loads the slot's word: at first, and again when it has announced a node.
-use Rattle.fx_lasting.proofs.Words.{Aims, AimsKeep}
+use Rattle.fx_lasting.proofs.Words.{Aims, AimsKeep, HasAnnounced, IsAllowed, IsIn, Nearing, Placement, Relieving, alone_in, guarding, placed}
 use Rattle.fx_lasting.proofs.range_lemmas.GroupSteps.{its_inside}
-use Rattle.fx_lasting.proofs.slot_lemmas.Sights.{sees_after, sees_kept, sees_slot}
 use Rattle.fx_lasting.proofs.Words.{IsOnList, Log, first_log, ◌≡◌, ◌≢◌, ℕ, ◌+◌, ◌-◌, ◌<◌, List, [], ◌∷◌, sym, refl, ap, ◌∙◌, subst, arith, Option}
 use Rattle.fx_lasting.proofs.Words.{Some, None, none, keeps, Closed, File, Event, Look, ◌▷◌, WorkAgrees, GuardAgrees, GlanceAgrees, Heats, NamesNode}
 use Rattle.fx_lasting.proofs.Words.{Names, IsSeated, state_after_all, slots_of, nodes_of, held_in, if_file, taking, pass_event, seated, file_in, Work}
@@ -16,7 +15,7 @@ use Rattle.fx_lasting.proofs.Keeping.{Turn, turn_of, After, word_at, slot_word, 
 use Rattle.fx_lasting.proofs.Calm.{read_after, Reads, read_kept}
 use Rattle.fx_lasting.proofs.node_lemmas.Choosing.{no_file, no_take, not_busy, holds_none}
 use Rattle.fx_lasting.proofs.Places.{slot_back}
-use Rattle.fx_lasting.proofs.Keeping.{none_added}
+use Rattle.fx_lasting.proofs.Keeping.{LeavesFiles, none_added}
 
 module _ (turn : Turn) (s : ℕ) (inside : s < slots_of turn.v.start) where
   open turn use {st, v, r, id, x, here, one}
@@ -98,7 +97,7 @@ module _ (turn : Turn) (s : ℕ) (inside : s < slots_of turn.v.start) where
     quiet = let o = its_log turn in record {
       files = none_added turn;
       taken = λ n. ⊎_elim (λ e. sym (ap (taking n) e)) (λ z. ap (taking n) z.1 ∙ sym (no_take z.0 n)) works;
-      owners = ⊎_elim (λ e. inl (sym e)) (λ z. inr (not_busy z.0)) works;
+      owners = ⊎_elim (λ e. inl (ap alone_in (sym e))) (λ z. inr (not_busy z.0)) works;
       held = o.held ∙ same_held;
       allowed = ⊎_elim (λ (e : v.work ≡ d). rw e at o.allowed) (λ z. rw z.1 tt) works;
       its = record {
@@ -173,7 +172,7 @@ module _ (turn : Turn) (s : ℕ) (inside : s < slots_of turn.v.start) where
             carried = refl;
           };
           cold = λ some _. absurd (some none_named);
-          hot = λ some _. absurd (some none_named);
+          hot = λ n is _. absurd (omega arith);
         },
       ))
       (λ (z : (n : ℕ) × (full_name_in word ≡ n + 1)). ⊎_elim
@@ -185,18 +184,20 @@ module _ (turn : Turn) (s : ℕ) (inside : s < slots_of turn.v.start) where
         record {
           empty = λ is. absurd (let a = z.1 in omega arith);
           cold = λ _ _. rw (slot_back s) (goes_quiet v.work (inl refl) (Cold s) calm sees (its_inside turn) carried);
-          hot = λ _ hot. absurd (cold hot);
+          hot = λ n is hot. absurd (cold hot);
         },
       ))
-      (λ (hot : IsHot word). (
-        w turn (sees_after turn s inside),
+      (λ (hot : IsHot word). let o = named z.1 in
+      let sees : GlanceAgrees v.start (slot_word st.words) (λ i. r.deed i x.number) (Hot s z.0) = (inside, o.3, inl (z.1, hot)) in (
+        w turn (quiet_after v.work (inl refl) (Hot s z.0) calm sees (its_inside turn)),
         keeps,
         tt,
-        sees_kept turn s inside,
+        read_kept turn v.work (Hot s z.0) (slot_place s) (quiet v.work (inl refl) (Hot s z.0) calm sees (its_inside turn)),
         record {
           empty = λ is. absurd (let a = z.1 in omega arith);
           cold = λ _ cold. absurd (cold hot);
-          hot = λ _ _. sees_slot turn s inside carried slots 0 0;
+          hot = λ n is _. let same : z.0 ≡ n = (let a = z.1 in omega arith) in
+              rw (← same, slot_back s) (goes_quiet v.work (inl refl) (Hot s z.0) calm sees (its_inside turn) carried, o.3);
         },
       )) hot_cases)
       name_cases
@@ -261,7 +262,7 @@ module _ (turn : Turn) (s : ℕ) (inside : s < slots_of turn.v.start) where
           (λ hot. ⊎_elim (λ none. inl (λ z. none z.1, not_over_yet none)) (λ has. inr (hot, has)) listed_cases) hot_cases
 
   -- a file that is there still, and hot
-  module _ (n : ℕ) (works : v.work ≡ Announced n) (saw : v.glance ≡ Hot s n) where
+  module _ (n : ℕ) (works : HasAnnounced v.work n) (saw : v.glance ≡ Hot s n) where
     calm_hot : (t : ℕ) → v.glance ≢ Heating t
     calm_hot t e = cc (sym saw ∙ e)
 
@@ -269,24 +270,44 @@ module _ (turn : Turn) (s : ℕ) (inside : s < slots_of turn.v.start) where
       abbrev h₁ : List Event
       h₁ = pass_event x (Look s (Some f)) ∷ r.history
 
-      -- the announcement isn't marked
-      unmarked : NamesNode (word_at st.words (hold_word_of v.start x.number)) (r.debt x.number) n
-      unmarked = rw works at (its_log turn).hold
+      looks : LeavesFiles turn h₁
+      looks = record { grows = grows_one x.number r.history _ refl; legal = legal_more v.start r.life.legal (size_so, sym is) tt; at = refl; fresh = refl; removed = refl }
 
-      its_allowed : x.listed ≡ true
-      its_allowed = rw works at (its_log turn).allowed
+      found_alone : v.work ≡ Announced n → Reads turn (Guarded f n) Nothing h₁
+      found_alone only = let guarded : GuardAgrees (slot_word st.words) r.phase x.number (r.debt x.number) (Guarded f n) = λ _. rw at hot in
+          let unmarked : NamesNode (word_at st.words (hold_word_of v.start x.number)) (r.debt x.number) n = rw only at (its_log turn).hold in record {
+            files = looks;
+            taken = λ k. sym (ap (taking k) only);
+            owners = inr (ap busy only);
+            held = held_mine (pass_event x (Look s (Some f))) r.history refl;
+            allowed = subst (IsAllowed x.stock x.listed) only (its_log turn).allowed;
+            its = record { hold = unmarked; guarded = guarded; sees = tt; heats = heats_all calm_hot Nothing; work = (l, ap file_in at) };
+            holds = λ m. let a = one_more_at (state_after_all v.start r.history).holds f.number m in
+                let b = ap (λ (e : Work). if_file m (held_in e)) only in omega arith;
+          }
 
-      found_file : Reads turn (Guarded f n) Nothing h₁
-      found_file = let guarded : GuardAgrees (slot_word st.words) r.phase x.number (r.debt x.number) (Guarded f n) = λ _. rw at hot in record {
-        files = record { grows = grows_one x.number r.history _ refl; legal = legal_more v.start r.life.legal (size_so, sym is) tt; at = refl; fresh = refl; removed = refl };
-        taken = λ k. sym (ap (taking k) works);
-        owners = inr (ap busy works);
-        held = held_mine (pass_event x (Look s (Some f))) r.history refl;
-        allowed = its_allowed;
-        its = record { hold = unmarked; guarded = guarded; sees = tt; heats = heats_all calm_hot Nothing; work = (l, ap file_in at) };
-        holds = λ m. let a = one_more_at (state_after_all v.start r.history).holds f.number m in
-            let b = ap (λ (e : Work). if_file m (held_in e)) works in omega arith;
-      }
+      found_beside : (own : ℕ) (z : Placement) → v.work ≡ Nearing n own z → Reads turn (Relieving f n own z) Nothing h₁
+      found_beside own z near = let guarded : GuardAgrees (slot_word st.words) r.phase x.number (r.debt x.number) (Relieving f n own z) = λ _. rw at hot in
+          let unmarked : NamesNode (word_at st.words (hold_word_of v.start x.number)) (r.debt x.number) n = rw near at (its_log turn).hold in
+          let its : (n < nodes_of v.start) × IsIn v.start r.phase own (placed id z) = subst (WorkAgrees v.start r.phase id) near (its_work turn) in record {
+            files = looks;
+            taken = λ k. sym (ap (taking k) near);
+            owners = inl (sym (ap alone_in near));
+            held = held_mine (pass_event x (Look s (Some f))) r.history refl;
+            allowed = subst (IsAllowed x.stock x.listed) near (its_log turn).allowed;
+            its = record { hold = unmarked; guarded = guarded; sees = tt; heats = heats_all calm_hot Nothing; work = ((l, ap file_in at), its.1) };
+            holds = λ m. let a = one_more_at (state_after_all v.start r.history).holds f.number m in
+                let b = ap (λ (e : Work). if_file m (held_in e)) near in omega arith;
+          }
+
+      found_file : Reads turn (guarding f v.work) Nothing h₁
+      found_file = ⊎_elim (λ only. subst (λ (e : Work). Reads turn (guarding f e) Nothing h₁) (sym only) (found_alone only))
+          (λ z. subst (λ (e : Work). Reads turn (guarding f e) Nothing h₁) (sym z.2) (found_beside z.0 z.1 z.2)) works
+
+      found_inside : IsInside v.start (guarding f v.work)
+      found_inside = ⊎_elim (λ only. subst (λ (e : Work). IsInside v.start (guarding f e)) (sym only) l)
+          (λ z. let its : (n < nodes_of v.start) × IsIn v.start r.phase z.0 (placed id z.1) = subst (WorkAgrees v.start r.phase id) z.2 (its_work turn) in
+          subst (λ (e : Work). IsInside v.start (guarding f e)) (sym z.2) (l, its.1.0)) works
 
     moved_on : ((full_name_in word ≡ n + 1) × IsHot word → ⊥) → r.deed s x.number ≡ untouched
     moved_on not_so = let o = rw saw at (its_log turn).sees in ⊎_elim (λ z. absurd (not_so z)) (λ out. out) o.2
@@ -295,33 +316,32 @@ module _ (turn : Turn) (s : ℕ) (inside : s < slots_of turn.v.start) where
         → Made turn carried (slot_place s) (λ word. word) (Confirms (step slots (slot_place s) 0 0 none) (v, carried))
     confirm slots carried = ⊎_elim
         (λ (so : (full_name_in word ≡ n + 1) × IsHot word). let o = named so.0 in let e = found_file o.0 o.1 o.3 o.4 so.1 in (
-          w turn (read_after turn (Guarded o.0 n) Nothing (h₁ o.0 o.1 o.3 o.4 so.1)),
+          w turn (read_after turn (guarding o.0 v.work) Nothing (h₁ o.0 o.1 o.3 o.4 so.1)),
           keeps,
           tt,
-          read_kept turn (Guarded o.0 n) Nothing (slot_place s) e,
+          read_kept turn (guarding o.0 v.work) Nothing (slot_place s) e,
           record {
-            holds = λ i k saw' works' names is_hot. let at : s ≡ i = cc (sym saw ∙ saw') in let same : n ≡ k = cc (sym saw ∙ saw') in
-                rw (← at, ← same) (
-                  o.0,
-                  o.2,
-                  record {
-                    stepped = tells turn (read_after turn (Guarded o.0 n) Nothing (h₁ o.0 o.1 o.3 o.4 so.1)) refl carried carried
-                        ([] ▷ Look s (Some o.0)) e.files.grows e.files.legal (part_mine r.history refl) o.3;
-                    carried = refl;
-                  },
-                );
+            holds = λ i k saw' works' names is_hot. let at : s ≡ i = cc (sym saw ∙ saw') in rw (← at) (
+              o.0,
+              o.2,
+              record {
+                stepped = tells turn (read_after turn (guarding o.0 v.work) Nothing (h₁ o.0 o.1 o.3 o.4 so.1)) refl carried carried
+                    ([] ▷ Look s (Some o.0)) e.files.grows e.files.legal (part_mine r.history refl) (found_inside o.0 o.1 o.3 o.4 so.1);
+                carried = refl;
+              },
+            );
             moved = λ i k saw' works' not_so. let same : n ≡ k = cc (sym saw ∙ saw') in absurd (not_so (rw (← same) so));
           },
         ))
-        (λ not_so. let sees : GlanceAgrees v.start (slot_word st.words) (λ i. r.deed i x.number) (Cold s) = (inside, moved_on not_so) in let l = subst (WorkAgrees v.start r.phase id) works (its_work turn) in (
-          w turn (quiet_after (Announced n) (inl works) (Cold s) calm_hot sees l),
+        (λ not_so. let sees : GlanceAgrees v.start (slot_word st.words) (λ i. r.deed i x.number) (Cold s) = (inside, moved_on not_so) in (
+          w turn (quiet_after v.work (inl refl) (Cold s) calm_hot sees (its_inside turn)),
           keeps,
           tt,
-          read_kept turn (Announced n) (Cold s) (slot_place s) (quiet (Announced n) (inl works) (Cold s) calm_hot sees l),
+          read_kept turn v.work (Cold s) (slot_place s) (quiet v.work (inl refl) (Cold s) calm_hot sees (its_inside turn)),
           record {
             holds = λ i k saw' works' names is_hot. let same : n ≡ k = cc (sym saw ∙ saw') in absurd (not_so (rw same (names, is_hot)));
-            moved = λ i k saw' works' _. let at : s ≡ i = cc (sym saw ∙ saw') in let same : n ≡ k = cc (sym saw ∙ saw') in
-                rw (← at, ← same) (goes_quiet (Announced n) (inl works) (Cold s) calm_hot sees l carried);
+            moved = λ i k saw' works' _. let at : s ≡ i = cc (sym saw ∙ saw') in
+                rw (← at) (goes_quiet v.work (inl refl) (Cold s) calm_hot sees (its_inside turn) carried);
           },
         ))
         still_so

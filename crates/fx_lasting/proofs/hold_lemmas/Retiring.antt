@@ -1,5 +1,5 @@
 -- A retirement keeps the rule, when all hold words were visited.
-use Rattle.fx_lasting.proofs.Words.{Round, IsPassed, ⊎_elim, ◌≢◌, ◌≡◌, ℕ, ◌+◌, ◌-◌, ◌%◌, ◌^◌, ◌<◌, ◌≤◌, List, [], sym, refl, ap, ◌∙◌, subst, arith}
+use Rattle.fx_lasting.proofs.Words.{Bool, StillNames, false, hold_word_of, Round, IsPassed, ⊎_elim, ◌≢◌, ◌≡◌, ℕ, ◌+◌, ◌-◌, ◌%◌, ◌^◌, ◌<◌, ◌≤◌, List, [], sym, refl, ap, ◌∙◌, subst, arith}
 use Rattle.fx_lasting.proofs.Words.{Option, Some, none, keeps, takes, Closed, File, WorkAgrees, MayBeUnmarked, state_after_all, nodes_of, word_of}
 use Rattle.fx_lasting.proofs.Words.{held_in, if_file, taken_of, taking, owed, leaving, retired, owner, file_in, removed_in, Work, Retiring, Retires}
 use Rattle.fx_lasting.proofs.Words.{RetiresKeep, retirement_amount, step, inr, dite, ℕ_discrete, eq-eqb, sum_by}
@@ -8,7 +8,7 @@ use Rattle.fx_lasting.proofs.Keeping.{none_added, Turn, turn_of, word_at, slot_w
 use Rattle.fx_lasting.proofs.hold_lemmas.LettingGo.{IsLetGo, open_after, stays_open, goes_open, out_after, IsGone, comes_out, takes_out, sub_wraps, taken_now}
 use Rattle.fx_lasting.proofs.hold_lemmas.Unheld.{NodeNow, in_phase, on_node}
 
-module _ (turn : Turn) (f : File) (n t : ℕ) (nx : Round) (m : ℕ) (works : turn.v.work ≡ Retiring f n t nx m)
+module _ (turn : Turn) (f : File) (n t : ℕ) (nx : Round) (m : ℕ) (works : turn.v.work ≡ Retiring f n t nx m) (down : nx.guarded ≡ false)
     (done : (p : ℕ) → nx.next ≤ p → p ≤ turn.v.start.passes → IsPassed turn.x.number nx p) where
   open turn use {st, v, r, id, x, here, one}
 
@@ -19,19 +19,20 @@ module _ (turn : Turn) (f : File) (n t : ℕ) (nx : Round) (m : ℕ) (works : tu
   node = in_phase turn its.0 its.1
 
   pub lets : IsLetGo turn n f r.history r.debt []
-  lets = let o = rw works at (its_log turn).hold in record {
-    its = (its.0, ap file_in its.1);
-    files = none_added turn;
-    own = refl;
-    holds = λ k. let a = ap (λ (d : Work). if_file k (held_in d)) works in omega arith;
-    held = (its_log turn).held ∙ ap held_in works;
-    owed_else = λ k other. refl;
-    taken_else = λ k other. ap (taking k) works;
-    debts = λ q other. refl;
-    no_debt = o.1;
-    hold = o.0;
-    apart = λ k other bad. let a = ap busy works in other (omega arith);
-  }
+  lets = let h = rw works at (its_log turn).hold in
+      let o = subst (λ (b : Bool). StillNames b (word_at st.words (hold_word_of v.start x.number)) (r.debt x.number) n) down h in record {
+        its = (its.0, ap file_in its.1);
+        files = none_added turn;
+        own = refl;
+        holds = λ k. let a = ap (λ (d : Work). if_file k (held_in d)) works in omega arith;
+        held = (its_log turn).held ∙ ap held_in works;
+        owed_else = λ k other. refl;
+        taken_else = λ k other. ap (taking k) works;
+        debts = λ q other. refl;
+        no_debt = o.1;
+        hold = o.0;
+        apart = λ k other bad. let a = ap busy works in other (omega arith);
+      }
 
   abbrev amount : ℕ
   amount = retirement_amount t m
@@ -99,8 +100,8 @@ module _ (turn : Turn) (f : File) (n t : ℕ) (nx : Round) (m : ℕ) (works : tu
       ))
 
 pub retires_keep : RetiresKeep Retires
-retires_keep k slots id i n t m amount nx f s x has works done place by = rw by
+retires_keep k slots id i n t m amount nx f s x has works down done place by = rw by
     (by_turn slots (λ (k : _). (p : ℕ) → nx.next ≤ p → p ≤ k.passes → IsPassed x.number nx p) (λ k. word_of k n)
     (λ word. (word + (2 ^ 64 - retirement_amount t m)) % 2 ^ 64)
     (λ i. Retires (step slots i (retirement_amount t m) 0 none) s) has done place
-    (λ st r here done fits. retires_either (turn_of s x has.1 id st r here) f n t nx m works done slots s.1 fits))
+    (λ st r here done fits. retires_either (turn_of s x has.1 id st r here) f n t nx m works down done slots s.1 fits))

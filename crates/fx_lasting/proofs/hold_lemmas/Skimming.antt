@@ -1,6 +1,6 @@
 -- A pass that removed a hot file loads a word of the list: the passes without their bits hold
 -- nothing of the node that isn't marked.
-use Rattle.fx_lasting.proofs.Words.{Renewing}
+use Rattle.fx_lasting.proofs.Words.{Renewing, Nearing, Relieving, StillNames, false}
 use Rattle.fx_lasting.proofs.Words.{◌≡◌, ◌≢◌, ℕ, ◌+◌, ◌*◌, ◌<◌, ◌≤◌, List, [], sym, refl, ap, ◌∙◌, subst, arith, Option, none, keeps, Closed, File}
 use Rattle.fx_lasting.proofs.Words.{HoldAgrees, GuardAgrees, MayBeUnmarked, hold_word_of, leaving, Work, Idle, Announced, Counted, Guarded, Owing}
 use Rattle.fx_lasting.proofs.Words.{Yielding, Searching, Placing, Retiring, Emptying, Keeping, step, dite, dec_le, ⊎_elim, set-get_or, Round}
@@ -22,11 +22,18 @@ speaks stock l debt (Yielding f n) some hold allowed = absurd (some hold.0)
 speaks stock l debt (Searching n) some hold allowed = absurd (some hold.0)
 speaks stock l debt (Placing n w) some hold allowed = absurd (some hold.0)
 speaks stock l debt (Renewing h n own w) some hold allowed = absurd (some hold.0)
-speaks stock l debt (Retiring f n t nx m) some hold allowed = absurd (some hold.0)
+speaks stock l debt (Nearing n own w) some hold allowed = allowed.1
+speaks stock l debt (Relieving f n own w) some hold allowed = allowed.1
+speaks stock l {word} debt (Retiring f n t nx m) some hold allowed = go nx.guarded refl hold
+  where
+    go : (b : Bool) → nx.guarded ≡ b → StillNames b word debt n → l ≡ true
+    go true is names = allowed is
+    go false is unnamed = absurd (some unnamed.0)
 speaks stock l debt (Emptying n) some hold allowed = absurd (some hold.0)
 speaks stock l debt (Keeping n lost) some hold allowed = absurd (some hold.0)
 
-module _ (turn : Turn) (f : File) (n t : ℕ) (nx : Round) (m : ℕ) (works : turn.v.work ≡ Retiring f n t nx m) (index : ℕ) (inside : index < 16)
+module _ (turn : Turn) (f : File) (n t : ℕ) (nx : Round) (m : ℕ) (works : turn.v.work ≡ Retiring f n t nx m) (down : nx.guarded ≡ false)
+    (index : ℕ) (inside : index < 16)
     (low : nx.next ≤ 64 * index + 1) (between : (p : ℕ) → nx.next ≤ p → p ≤ 64 * index → IsPassed turn.x.number nx p) where
   open turn use {st, v, r, id, x, here, one}
 
@@ -57,12 +64,18 @@ module _ (turn : Turn) (f : File) (n t : ℕ) (nx : Round) (m : ℕ) (works : tu
       (λ is. still p ne range
       (⊎_elim (λ (c : (word_at st.words (hold_word_of v.start p) ≡ k + 1) × (r.debt p ≡ 0)). λ none. let a = c.0 in omega (arith, none))
       (λ (c : (word_at st.words (hold_word_of v.start p) ≡ k + 1 + 4294967296) × (r.debt p ≡ k + 1)). λ none. let a = c.0 in omega (arith, none)) hold)
-      (subst (MayBeUnmarked (slot_word st.words) p) (ap r.phase is ∙ (its turn f n t nx m works).1) (guard clean)))
+      (subst (MayBeUnmarked (slot_word st.words) p) (ap r.phase is ∙ (its turn f n t nx m works down).1) (guard clean)))
+      (λ _. guard clean)
+  guard_on p (Relieving h k own l) ne range hold guard = λ clean. each_changed (λ i z. MayBeUnmarked (slot_word st.words) p z) r.phase
+      (λ is. still p ne range
+      (⊎_elim (λ (c : (word_at st.words (hold_word_of v.start p) ≡ k + 1) × (r.debt p ≡ 0)). λ none. let a = c.0 in omega (arith, none))
+      (λ (c : (word_at st.words (hold_word_of v.start p) ≡ k + 1 + 4294967296) × (r.debt p ≡ k + 1)). λ none. let a = c.0 in omega (arith, none)) hold)
+      (subst (MayBeUnmarked (slot_word st.words) p) (ap r.phase is ∙ (its turn f n t nx m works down).1) (guard clean)))
       (λ _. guard clean)
   guard_on p _ ne range hold guard = tt
 
-  skimmed : Visited turn f n t nx m works st.words r.debt nx' m
-  skimmed = let a = (node turn f n t nx m works).few_marks in record {
+  skimmed : Visited turn f n t nx m works down st.words r.debt nx' m
+  skimmed = let a = (node turn f n t nx m works down).few_marks in record {
     leaves_else = leaves_all turn n;
     same_word = refl;
     same_label = (refl, refl);
@@ -72,26 +85,27 @@ module _ (turn : Turn) (f : File) (n t : ℕ) (nx : Round) (m : ℕ) (works : tu
     owed_more = refl;
     few_marks = omega arith;
     few_visits = omega arith;
+    still_down = refl;
     guards = λ p e ne range hold guard. (hold, guard_on p e ne range hold guard);
   }
 
   skims : (slots : ℕ) (carried : List (ℕ × Option Closed))
       → Made turn carried (6 + index) (λ word. word) (Skims (step slots (6 + index) 0 0 none) (v, carried))
   skims slots carried = (
-    w turn (seen_after turn f n t nx m works st.words r.debt nx' m),
+    w turn (seen_after turn f n t nx m works down st.words r.debt nx' m),
     keeps,
     tt,
-    rw (set-get_or st.words (6 + index) 0) (visited turn f n t nx m works st.words r.debt nx' m skimmed),
+    rw (set-get_or st.words (6 + index) 0) (visited turn f n t nx m works down st.words r.debt nx' m skimmed),
     record {
-      goes = λ g i a b c its'. let e = retiring_same turn f n t nx m works its' in
+      goes = λ g i a b c its'. let e = retiring_same turn f n t nx m works down its' in
           let same : Retiring f n t nx' m ≡ Retiring g i a nx' c = cc e in
-          subst (λ (d : Work). Goes (v, carried) [] d v.glance (w turn (seen_after turn f n t nx m works st.words r.debt nx' m), carried)) same
-          (goes turn f n t nx m works st.words r.debt nx' m carried);
+          subst (λ (d : Work). Goes (v, carried) [] d v.glance (w turn (seen_after turn f n t nx m works down st.words r.debt nx' m), carried)) same
+          (goes turn f n t nx m works down st.words r.debt nx' m carried);
       inside = λ p low few at is. r.holds.listed p low few (subst (λ (i : ℕ). IsListedIn (word_at st.words i) p) (sym at) is);
     },
   )
 
 pub skims_keep : SkimsKeep Skims
-skims_keep k slots id i n t m index nx f s x has works inside low between place = by_turn slots (λ _. Unit {0}) (λ _. 6 + index) (λ word. word)
+skims_keep k slots id i n t m index nx f s x has works down inside low between place = by_turn slots (λ _. Unit {0}) (λ _. 6 + index) (λ word. word)
     (λ i. Skims (step slots i 0 0 none) s) has tt place
-    (λ st r here _ fits. skims (turn_of s x has.1 id st r here) f n t nx m works index inside low between slots s.1)
+    (λ st r here _ fits. skims (turn_of s x has.1 id st r here) f n t nx m works down index inside low between slots s.1)

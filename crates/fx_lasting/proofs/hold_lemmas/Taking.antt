@@ -2,7 +2,7 @@
 use Rattle.fx_lasting.proofs.Words.{alone_in, HoldAgrees, GuardAgrees, IsAllowed, HoldsAt, TakesAs, TakesBeside, TakesBesideKeep, Placement, Phase, Start, as_written, Unlabelled}
 use Rattle.fx_lasting.proofs.Words.{carried_after, subst}
 use Rattle.fx_lasting.proofs.range_lemmas.GroupSteps.{its_inside}
-use Rattle.fx_lasting.proofs.Words.{alone_in, Renewing}
+use Rattle.fx_lasting.proofs.Words.{alone_in, Renewing, Nearing, Relieving}
 use Rattle.fx_lasting.proofs.Words.{◌⊎◌, ◌≡◌, ◌≢◌, ℕ, ◌+◌, ◌%◌, ◌^◌, ◌<◌, ◌≤◌, List, [], ◌∷◌, sym, refl, ap, ◌∙◌, arith, Option, Some, None, none}
 use Rattle.fx_lasting.proofs.Words.{keeps, Closed, File, Event, Look, ◌▷◌, WorkAgrees, GlanceAgrees, Heats, state_after_all, slots_of, nodes_of}
 use Rattle.fx_lasting.proofs.Words.{held_in, if_file, taken_of, taking, pass_event, seated, file_in, Work, Glance, Idle, Counted, Cold, Heating, Deed}
@@ -10,7 +10,7 @@ use Rattle.fx_lasting.proofs.Words.{untouched, over, heated, has_acted, has_heat
 use Rattle.fx_lasting.proofs.Words.{heat_in, name_in, full_name_in, same_full_name, entry_in, count_in, cold_takes, glance_after, heat_unit}
 use Rattle.fx_lasting.proofs.Words.{slot_place, step, inl, inr, ⊎_elim, dite, ℕ_discrete, dec_le, one_more_at, Bool, true, false, cond, lt-ltb}
 use Rattle.fx_lasting.proofs.Words.{le-ltb, tally, sum_set, changed_at, changed_here, changed_else, one_if, bit_here, bit_else, IsInside, Announced}
-use Rattle.fx_lasting.proofs.Words.{Owing, Guarded, Yielding, Searching, Placing, Retiring, Emptying, Keeping}
+use Rattle.fx_lasting.proofs.Words.{Owing, Placing}
 use Rattle.fx_lasting.proofs.Counts.{tally_few, tally_one, tally_room, bit_few, few_cold}
 use Rattle.fx_lasting.proofs.Histories.{grows_none, grows_one, legal_more, part_mine, held_mine}
 use Rattle.fx_lasting.proofs.Frames.{busy, guards_same}
@@ -398,6 +398,8 @@ module _ (turn : Turn) (s : ℕ) (inside : s < slots_of turn.v.start) where
         go (Announced n) o = o
         go (Owing n) o = o
         go (Renewing f n own w) o = (o.0.0, o.1.0)
+        go (Nearing n own w) o = (o.0, o.1.0)
+        go (Relieving f n own w) o = (o.0.0, o.1.0)
         go _ o = o.0
 
     pub heats_up : (slots : ℕ) (carried : List (ℕ × Option Closed))

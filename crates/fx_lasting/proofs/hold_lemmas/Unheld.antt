@@ -1,5 +1,5 @@
 -- When nothing is counted and nothing is owed to a node any more, nobody holds its file.
-use Rattle.fx_lasting.proofs.Words.{Renewing, Contains, contains_head, ◌≡◌, ◌≢◌, ℕ, ◌+◌, ◌<◌, ◌≤◌, List, [], ◌∷◌, sym, refl, ap, ◌∙◌, subst, arith, Some, File}
+use Rattle.fx_lasting.proofs.Words.{Renewing, Relieving, Contains, contains_head, ◌≡◌, ◌≢◌, ℕ, ◌+◌, ◌<◌, ◌≤◌, List, [], ◌∷◌, sym, refl, ap, ◌∙◌, subst, arith, Some, File}
 use Rattle.fx_lasting.proofs.Words.{some, get_elem?, ⊎_elim, dite, ℕ_discrete, eq-eqb, ne_eqb, sum_by, sum_two, sum_only, NodeAgrees, WorkAgrees}
 use Rattle.fx_lasting.proofs.Words.{HoldAgrees, GuardAgrees, MayBeUnmarked, HoldsAt, slots_of, nodes_of, word_of, hold_word_of, state_after_all}
 use Rattle.fx_lasting.proofs.Words.{held_in, held_of, taken_of, taking, if_file, owed, count_in, Phase, seated, leaving, retired, file_in, Log, View}
@@ -57,6 +57,13 @@ module _ (turn : Turn) where
           (λ ne. rw (ne_eqb g.number f.number ne) refl)
       by_log (Guarded g m) z at is w h gd = dite (ℕ_discrete g.number f.number)
           (λ same. let e = one_node its w same in absurd (⊎_elim
+          (λ (clean : (word_at st.words (hold_word_of v.start z.number) ≡ m + 1) × (r.debt z.number ≡ 0)).
+          marked z.number (not_there r here one other there z at) (its_range r j there at) (rw e at (gd clean.1)))
+          (λ (full : (word_at st.words (hold_word_of v.start z.number) ≡ m + 1 + 4294967296) × (r.debt z.number ≡ m + 1)).
+          owes_not z at (full.1 ∙ ap (λ (i : ℕ). i + 1) e)) h))
+          (λ ne. rw (ne_eqb g.number f.number ne) refl)
+      by_log (Relieving g m own l) z at is w h gd = dite (ℕ_discrete g.number f.number)
+          (λ same. let e = one_node its w.0 same in absurd (⊎_elim
           (λ (clean : (word_at st.words (hold_word_of v.start z.number) ≡ m + 1) × (r.debt z.number ≡ 0)).
           marked z.number (not_there r here one other there z at) (its_range r j there at) (rw e at (gd clean.1)))
           (λ (full : (word_at st.words (hold_word_of v.start z.number) ≡ m + 1 + 4294967296) × (r.debt z.number ≡ m + 1)).

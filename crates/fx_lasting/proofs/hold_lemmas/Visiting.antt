@@ -1,13 +1,13 @@
 -- A pass that removed a hot file visits the hold words of the others: where one names the node, the
 -- pass marks it.
-use Rattle.fx_lasting.proofs.Words.{Renewing}
+use Rattle.fx_lasting.proofs.Words.{Nearing, Relieving, StillNames, Bool, true, false}
 use Rattle.fx_lasting.proofs.Words.{Round, round_at, IsToVisit, IsPassed, ◌≡◌, ◌≢◌, ℕ, ◌+◌, ◌^◌, ◌<◌, ◌≤◌, List, [], set, sym}
 use Rattle.fx_lasting.proofs.Words.{refl, ap, ◌∙◌, subst, arith, Option, none, keeps, Closed, File, WorkAgrees, HoldAgrees, GuardAgrees}
 use Rattle.fx_lasting.proofs.Words.{MayBeUnmarked, slots_of, nodes_of, word_of, hold_word_of, held_in, if_file, taken_of, taking, owed, Phase}
-use Rattle.fx_lasting.proofs.Words.{leaving, owner, file_in, removed_in, changed_at, changed_here, changed_else, Work, Idle, Announced, Counted}
-use Rattle.fx_lasting.proofs.Words.{Guarded, Owing, Yielding, Searching, Placing, Retiring, Emptying, Keeping, Visits, Marks, VisitsKeep, MarksKeep}
+use Rattle.fx_lasting.proofs.Words.{leaving, owner, file_in, removed_in, changed_at, changed_here, changed_else, Work, Announced}
+use Rattle.fx_lasting.proofs.Words.{Guarded, Owing, Yielding, Retiring, Visits, Marks, VisitsKeep, MarksKeep}
 use Rattle.fx_lasting.proofs.Words.{step, inr, ⊎_elim, dite, ℕ_discrete, eqb, one_if, announced, mark, set-get_or, exchanged, bit_here, bit_else}
-use Rattle.fx_lasting.proofs.Words.{Goes, sum_set, Start, dec_le, Agrees, either, Labels, label_of, written_in}
+use Rattle.fx_lasting.proofs.Words.{NamesNode, Goes, sum_set, Start, dec_le, Agrees, either, Labels, label_of, written_in}
 use Rattle.fx_lasting.proofs.Counts.{owed_changed}
 use Rattle.fx_lasting.proofs.Histories.{grows_none, each_changed}
 use Rattle.fx_lasting.proofs.Frames.{busy, does_now, covers_same}
@@ -18,7 +18,7 @@ use Rattle.fx_lasting.proofs.Places.{hold_words, hold_here, hold_node, hold_slot
 use Rattle.fx_lasting.proofs.hold_lemmas.Unheld.{NodeNow, in_phase}
 use Rattle.fx_lasting.proofs.Places.{LeavesElse, leaves_all, hold_leaves}
 
-module _ (turn : Turn) (f : File) (n t : ℕ) (nx : Round) (m : ℕ) (works : turn.v.work ≡ Retiring f n t nx m) where
+module _ (turn : Turn) (f : File) (n t : ℕ) (nx : Round) (m : ℕ) (works : turn.v.work ≡ Retiring f n t nx m) (down : nx.guarded ≡ false) where
   open turn use {st, v, r, id, x, here, one}
 
   pub its : (n < nodes_of v.start) × (r.phase n ≡ leaving id t nx m f)
@@ -29,6 +29,13 @@ module _ (turn : Turn) (f : File) (n t : ℕ) (nx : Round) (m : ℕ) (works : tu
 
   pub retiring_same : {g : File} {i a : ℕ} {b : Round} {c : ℕ} → v.work ≡ Retiring g i a b c → Retiring f n t nx m ≡ Retiring g i a b c
   retiring_same its' = sym works ∙ its'
+
+  abbrev its_word : ℕ
+  its_word = word_at st.words (hold_word_of v.start x.number)
+
+  -- its own hold word names no node
+  pub own_none : (its_word ≡ 0) × (r.debt x.number ≡ 0)
+  own_none = let o = rw works at (its_log turn).hold in subst (λ (b : Bool). StillNames b its_word (r.debt x.number) n) down o
 
   -- the round is at nx' now, with m' marks
   module _ (words' : List ℕ) (debt' : ℕ → ℕ) (nx' : Round) (m' : ℕ) where
@@ -48,12 +55,13 @@ module _ (turn : Turn) (f : File) (n t : ℕ) (nx : Round) (m : ℕ) (works : tu
       pub owed_more : owed debt' v.start.passes n + m ≡ owed r.debt v.start.passes n + m'
       pub few_marks : m' < nx'.next
       pub few_visits : nx'.next ≤ 2 ^ 16
+      pub still_down : nx'.guarded ≡ false
       pub guards : (p : ℕ) (e : Work) → p ≢ x.number → (0 < p) × (p ≤ v.start.passes)
           → HoldAgrees (word_at st.words (hold_word_of v.start p)) (r.debt p) e → GuardAgrees (slot_word st.words) r.phase p (r.debt p) e
           → HoldAgrees (word_at words' (hold_word_of v.start p)) (debt' p) e × GuardAgrees (slot_word words') (changed_at r.phase n ph) p (debt' p) e
 
     pub visited : Visited → Agrees v.start (end turn seen_after)
-    visited s = let o = rw works at (its_log turn).hold in
+    visited s = let o = own_none in let up : nx'.guarded ≡ true → ⊥ = λ bad. let z : false ≡ true = sym s.still_down ∙ bad in cc z in
         node_kept turn n its.0 ph r.history words' st.homes debt' (Retiring f n t nx' m') v.glance record {
           leaves_else = s.leaves_else;
           homes = refl;
@@ -81,12 +89,14 @@ module _ (turn : Turn) (f : File) (n t : ℕ) (nx : Round) (m : ℕ) (works : tu
                 few_takes = node.few_takes;
                 few_marks = s.few_marks;
                 few_visits = s.few_visits;
+                unowed = λ bad. absurd (up bad);
               };
           known = does_now st.views id v (w turn seen_after) (Retiring f n t nx' m') here refl;
           held = (its_log turn).held ∙ ap held_in works;
-          allowed = tt;
+          allowed = λ bad. absurd (up bad);
           its_own = own_keeps turn n its.0 ph r.history words' st.homes debt' (Retiring f n t nx' m') v.glance s.leaves_else.slots refl
-              (s.own ∙ o.0, s.own_debt ∙ o.1) tt (its.0, changed_here r.phase n ph n refl);
+              (subst (λ (b : Bool). StillNames b (word_at words' (hold_word_of v.start x.number)) (debt' x.number) n) (sym s.still_down) (s.own ∙ o.0, s.own_debt ∙ o.1))
+              tt (its.0, changed_here r.phase n ph n refl);
           holds = λ k. let a = ap (λ (d : Work). if_file k (held_in d)) works in omega arith;
         }
 
@@ -116,12 +126,17 @@ module _ (turn : Turn) (f : File) (n t : ℕ) (nx : Round) (m : ℕ) (works : tu
         → p ≢ x.number → p ≢ pass → GuardAgrees (slot_word st.words) r.phase p (r.debt p) e
         → GuardAgrees (slot_word words') (changed_at r.phase n (leaving id t (round_at nx pass) m' f)) p (r.debt p) e
     guard_else words' m' same p (Guarded h k) ne not_pass guard = λ none. cover words' m' same p ne not_pass k (guard none)
+    guard_else words' m' same p (Relieving h k own l) ne not_pass guard = λ none. cover words' m' same p ne not_pass k (guard none)
     guard_else words' m' same p _ ne not_pass guard = tt
 
     -- this pass holds nothing of the node that isn't marked, if its word doesn't name it
     guard_here : word ≢ announced n → (e : Work) → HoldAgrees word (r.debt pass) e → GuardAgrees (slot_word st.words) r.phase pass (r.debt pass) e
         → GuardAgrees (slot_word st.words) (changed_at r.phase n (leaving id t (round_at nx pass) m f)) pass (r.debt pass) e
     guard_here not_so (Guarded h k) hold guard = λ none. each_changed (λ i z. MayBeUnmarked (slot_word st.words) pass z) r.phase
+        (λ is. absurd (⊎_elim (λ (clean : (word ≡ k + 1) × (r.debt pass ≡ 0)). not_so (clean.0 ∙ ap (λ (i : ℕ). i + 1) is))
+        (λ (full : (word ≡ k + 1 + 4294967296) × (r.debt pass ≡ k + 1)). let a = full.1 in omega arith) hold))
+        (λ _. guard none)
+    guard_here not_so (Relieving h k own l) hold guard = λ none. each_changed (λ i z. MayBeUnmarked (slot_word st.words) pass z) r.phase
         (λ is. absurd (⊎_elim (λ (clean : (word ≡ k + 1) × (r.debt pass ≡ 0)). not_so (clean.0 ∙ ap (λ (i : ℕ). i + 1) is))
         (λ (full : (word ≡ k + 1 + 4294967296) × (r.debt pass ≡ k + 1)). let a = full.1 in omega arith) hold))
         (λ _. guard none)
@@ -150,33 +165,50 @@ module _ (turn : Turn) (f : File) (n t : ℕ) (nx : Round) (m : ℕ) (works : tu
           owed_more = refl;
           few_marks = omega arith;
           few_visits = omega arith;
+          still_down = down;
           guards = guards;
         }
 
+    -- of a word that names a node: it isn't marked, and its pass owes nothing
+    named_clean : (k : ℕ) → NamesNode word (r.debt pass) k → word ≡ announced n → (r.debt pass ≡ 0) × (k ≡ n)
+    named_clean k hold is = let small = r.shape.nodes in let l = its.0 in ⊎_elim (λ (c : (word ≡ k + 1) × (r.debt pass ≡ 0)). (c.1, let a = c.0 in omega arith))
+        (λ (c : (word ≡ k + 1 + 4294967296) × (r.debt pass ≡ k + 1)). absurd (let a = c.0 in omega arith)) hold
+
     -- a hold word that names the node isn't marked, and its pass owes nothing
     clean_debt : (e : Work) → HoldAgrees word (r.debt pass) e → word ≡ announced n → r.debt pass ≡ 0
-    clean_debt (Announced k) hold is = let small = r.shape.nodes in let l = its.0 in ⊎_elim (λ (c : (word ≡ k + 1) × (r.debt pass ≡ 0)). c.1)
-        (λ (c : (word ≡ k + 1 + 4294967296) × (r.debt pass ≡ k + 1)). absurd (let a = c.0 in omega arith)) hold
-    clean_debt (Guarded h k) hold is = let small = r.shape.nodes in let l = its.0 in ⊎_elim (λ (c : (word ≡ k + 1) × (r.debt pass ≡ 0)). c.1)
-        (λ (c : (word ≡ k + 1 + 4294967296) × (r.debt pass ≡ k + 1)). absurd (let a = c.0 in omega arith)) hold
+    clean_debt (Announced k) hold is = (named_clean k hold is).0
+    clean_debt (Guarded h k) hold is = (named_clean k hold is).0
+    clean_debt (Nearing k own l) hold is = (named_clean k hold is).0
+    clean_debt (Relieving h k own l) hold is = (named_clean k hold is).0
+    clean_debt (Retiring h k a b c) hold is = still b.guarded hold
+      where
+        still : (z : Bool) → StillNames z word (r.debt pass) k → r.debt pass ≡ 0
+        still true names = (named_clean k names is).0
+        still false unnamed = unnamed.1
     clean_debt (Owing k) hold is = absurd (let a = hold.0 in omega arith)
     clean_debt (Yielding h k) hold is = absurd (let a = hold.0 in omega arith)
     clean_debt _ hold is = hold.1
 
     -- the marked word, and the debt
+    marks_name : (k : ℕ) → NamesNode word (r.debt pass) k → word ≡ announced n → NamesNode (announced n + mark) (n + 1) k
+    marks_name k hold is = let same = (named_clean k hold is).1 in inr (omega arith, omega arith)
+
     now_marked : (e : Work) → HoldAgrees word (r.debt pass) e → word ≡ announced n → HoldAgrees (announced n + mark) (n + 1) e
-    now_marked (Announced k) hold is = let small = r.shape.nodes in let l = its.0 in ⊎_elim
-        (λ (c : (word ≡ k + 1) × (r.debt pass ≡ 0)). inr (let a = c.0 in (omega arith, omega arith)))
-        (λ (c : (word ≡ k + 1 + 4294967296) × (r.debt pass ≡ k + 1)). absurd (let a = c.0 in omega arith)) hold
-    now_marked (Guarded h k) hold is = let small = r.shape.nodes in let l = its.0 in ⊎_elim
-        (λ (c : (word ≡ k + 1) × (r.debt pass ≡ 0)). inr (let a = c.0 in (omega arith, omega arith)))
-        (λ (c : (word ≡ k + 1 + 4294967296) × (r.debt pass ≡ k + 1)). absurd (let a = c.0 in omega arith)) hold
-    now_marked (Retiring h k a b c) hold is = absurd (let a = hold.0 in omega arith)
+    now_marked (Announced k) hold is = marks_name k hold is
+    now_marked (Guarded h k) hold is = marks_name k hold is
+    now_marked (Nearing k own l) hold is = marks_name k hold is
+    now_marked (Relieving h k own l) hold is = marks_name k hold is
+    now_marked (Retiring h k a b c) hold is = still b.guarded hold
+      where
+        still : (z : Bool) → StillNames z word (r.debt pass) k → StillNames z (announced n + mark) (n + 1) k
+        still true names = marks_name k names is
+        still false unnamed = absurd (let a = unnamed.0 in omega arith)
     now_marked _ hold is = absurd (let a = hold.0 in omega arith)
 
     -- a pass that owes is excused
     excused : (slot_word' : ℕ → ℕ) (phase' : ℕ → Phase) (e : Work) → GuardAgrees slot_word' phase' pass (n + 1) e
     excused sw phase' (Guarded h k) = λ none. absurd (omega arith)
+    excused sw phase' (Relieving h k own l) = λ none. absurd (omega arith)
     excused sw phase' _ = tt
 
     abbrev debt₁ : ℕ → ℕ
@@ -219,6 +251,7 @@ module _ (turn : Turn) (f : File) (n t : ℕ) (nx : Round) (m : ℕ) (works : tu
             owed_more = omega arith;
             few_marks = omega arith;
             few_visits = omega arith;
+            still_down = down;
             guards = guards;
           }
 
@@ -274,6 +307,7 @@ module _ (turn : Turn) (f : File) (n t : ℕ) (nx : Round) (m : ℕ) (works : tu
               owed_more = refl;
               few_marks = node.few_marks;
               few_visits = node.few_visits;
+              still_down = down;
               guards = guards;
             }
 
@@ -312,20 +346,21 @@ module _ (turn : Turn) (f : File) (n t : ℕ) (nx : Round) (m : ℕ) (works : tu
     )
 
 -- the number of a pass that is visited isn't 0, since marks were counted before it
-more_than_none : (turn : Turn) (f : File) (n t : ℕ) (nx : Round) (m : ℕ) → turn.v.work ≡ Retiring f n t nx m → {pass : ℕ} → nx.next ≤ pass → 0 < pass
-more_than_none turn f n t nx m works low = let a = (node turn f n t nx m works).few_marks in omega arith
+more_than_none : (turn : Turn) (f : File) (n t : ℕ) (nx : Round) (m : ℕ) → turn.v.work ≡ Retiring f n t nx m → nx.guarded ≡ false → {pass : ℕ} → nx.next ≤ pass
+    → 0 < pass
+more_than_none turn f n t nx m works down low = let a = (node turn f n t nx m works down).few_marks in omega arith
 
 pub visits_keep : VisitsKeep Visits
-visits_keep k slots id i n t m pass nx f s x has works low high other between place = by_turn slots (λ (k : Start). pass ≤ k.passes)
+visits_keep k slots id i n t m pass nx f s x has works down low high other between place = by_turn slots (λ (k : Start). pass ≤ k.passes)
     (λ k. hold_word_of k pass) (λ word. word) (λ i. Visits (step slots i 0 0 none) s) has high place
-    (λ st r here high fits. visits_either (turn_of s x has.1 id st r here) f n t nx m works pass low high other between slots s.1)
+    (λ st r here high fits. visits_either (turn_of s x has.1 id st r here) f n t nx m works down pass low high other between slots s.1)
 
 pub marks_keep : MarksKeep Marks
-marks_keep k slots id i n t m pass nx f s x has works low high other between place = by_turn slots (λ (k : Start). pass ≤ k.passes)
+marks_keep k slots id i n t m pass nx f s x has works down low high other between place = by_turn slots (λ (k : Start). pass ≤ k.passes)
     (λ k. hold_word_of k pass) (λ word. either (eqb word (announced n)) (announced n + mark) word)
     (λ i. Marks (step slots i (announced n) (announced n + mark) none) s) has high place
     (λ st r here high fits. let turn = turn_of s x has.1 id st r here in
     exchanged (word_at st.words (hold_word_of s.0.start pass)) (announced n) (announced n + mark)
-    (λ y. Goal turn f n t nx m works pass low high other between slots y)
-    (λ is. marks_won turn f n t nx m works pass low high other between slots (more_than_none turn f n t nx m works low) is)
-    (λ not_so. marks_lost turn f n t nx m works pass low high other between slots not_so) s.1)
+    (λ y. Goal turn f n t nx m works down pass low high other between slots y)
+    (λ is. marks_won turn f n t nx m works down pass low high other between slots (more_than_none turn f n t nx m works down low) is)
+    (λ not_so. marks_lost turn f n t nx m works down pass low high other between slots not_so) s.1)

@@ -5,11 +5,11 @@ use Rattle.fx_lasting.proofs.Words.{held_in, if_file, taken_of, taking, owed, Ph
 use Rattle.fx_lasting.proofs.Words.{file_in, removed_in, changed_here, Log, Work, Idle, Searching, Placing, Emptying, Seeks, Births, Rests, SeeksKeep}
 use Rattle.fx_lasting.proofs.Words.{BirthsKeep, RestsKeep, birth_word, step, inl, inr, ⊎_elim, dite, ℕ_discrete, sum_by, sum_set, length-set, Start}
 use Rattle.fx_lasting.proofs.Words.{Agrees, first_log, HasNoFile, HoldAgrees, IsAllowed, GuardAgrees, rested, IsInside, changed_at, IsInStock, Bool}
-use Rattle.fx_lasting.proofs.Words.{cond, le-ltb, get_or, HasItsPlace, Placement, as_written, Unlabelled}
+use Rattle.fx_lasting.proofs.Words.{Nearing, Relieving, HoldsBesides, true, cond, le-ltb, get_or, HasItsPlace, Placement, as_written, Unlabelled}
 use Rattle.fx_lasting.proofs.Histories.{grows_none}
-use Rattle.fx_lasting.proofs.Frames.{alone_cases, busy, does_now}
+use Rattle.fx_lasting.proofs.Frames.{HasBesides, alone_cases, busy, covers_same, does_now}
 use Rattle.fx_lasting.proofs.Keeping.{Turn, turn_of, After, Homes, word_at, slot_word, Made, by_turn, its_log, its_work, its_stock, in_its_stock, tells, tells_less, w, end}
-use Rattle.fx_lasting.proofs.Places.{node_words, node_here, node_hold}
+use Rattle.fx_lasting.proofs.Places.{node_words, node_here, node_hold, node_slot}
 use Rattle.fx_lasting.proofs.Calm.{read_before, read_before_kept, Reads}
 use Rattle.fx_lasting.proofs.node_lemmas.Choosing.{no_file, no_take, not_busy, holds_none}
 use Rattle.fx_lasting.proofs.node_lemmas.FreeNodes.{some_free, entry_is, named_by}
@@ -189,12 +189,12 @@ module _ (turn : Turn) where
 
   -- a rest, of a node whose file is closed, or which was placed in vain
   module _ (n : ℕ) (works : HasItsPlace v.work n) where
-    -- what the pass does: it may hold a file besides
-    its_work_is : (v.work ≡ Emptying n) ⊎ (((l : Placement) × (v.work ≡ Placing n l)) ⊎ ((f : File) × (held : ℕ) × (l : Placement) × (v.work ≡ Renewing f held n l)))
+    -- what the pass does: it may have another node besides
+    its_work_is : (v.work ≡ Emptying n) ⊎ (((l : Placement) × (v.work ≡ Placing n l)) ⊎ ((l : Placement) × HasBesides v.work n l))
     its_work_is = ⊎_elim
         (λ e. inl e)
         (λ e. ⊎_elim (λ is. inr (inl (e.0, is)))
-        (λ z. let same : z.2 ≡ n = cc (sym z.5) in inr (inr (z.0, z.1, z.3, z.4 ∙ ap (λ (i : ℕ). Renewing z.0 z.1 i z.3) same))) (alone_cases v.work e.1))
+        (λ z. let same : z.0 ≡ n = cc (sym z.3) in inr (inr (z.1, subst (λ (i : ℕ). HasBesides v.work i z.1) same z.2))) (alone_cases v.work e.1))
         works
 
     its_node : (n < nodes_of v.start) × (owner (r.phase n) ≡ id + 1) × (file_in (r.phase n) ≡ None) × ((m : ℕ) → removed_in m (r.phase n) ≡ None)
@@ -204,9 +204,15 @@ module _ (turn : Turn) where
         (λ e. let o = subst (WorkAgrees v.start r.phase id) e (its_work turn) in let z = in_phase turn o.0 o.1 in
         (o.0, ap owner o.1, ap file_in o.1, λ m. ap (removed_in m) o.1, λ p may. rw o.1 at may, z.untaken, z.unowed, λ bad. cc (sym o.1 ∙ bad)))
         (λ e. ⊎_elim (λ is. placed_node is.0 (subst (WorkAgrees v.start r.phase id) is.1 (its_work turn)))
-        (λ is. let both : HoldsAt v.start r.phase is.0 is.1 × IsIn v.start r.phase n (placed id is.2) = subst (WorkAgrees v.start r.phase id) is.3 (its_work turn) in
-        placed_node is.2 both.1) e) its_work_is
+        (λ is. placed_node is.0 (placed_besides is.0 is.1)) e) its_work_is
       where
+        placed_besides : (l : Placement) → HasBesides v.work n l → IsIn v.start r.phase n (placed id l)
+        placed_besides l has = ⊎_elim
+            (λ (z : (f : File) × (held : ℕ) × HoldsBesides v.work f held n l). ⊎_elim
+            (λ (e : v.work ≡ Renewing z.0 z.1 n l). let both : HoldsAt v.start r.phase z.0 z.1 × IsIn v.start r.phase n (placed id l) = subst (WorkAgrees v.start r.phase id) e (its_work turn) in both.1)
+            (λ (e : v.work ≡ Relieving z.0 z.1 n l). let both : HoldsAt v.start r.phase z.0 z.1 × IsIn v.start r.phase n (placed id l) = subst (WorkAgrees v.start r.phase id) e (its_work turn) in both.1) z.2)
+            (λ (z : (m : ℕ) × (v.work ≡ Nearing m n l)). let both : (z.0 < nodes_of v.start) × IsIn v.start r.phase n (placed id l) = subst (WorkAgrees v.start r.phase id) z.1 (its_work turn) in both.1) has
+
         placed_node : (l : Placement) → IsIn v.start r.phase n (placed id l) → (n < nodes_of v.start) × (owner (r.phase n) ≡ id + 1) × (file_in (r.phase n) ≡ None)
             × ((m : ℕ) → removed_in m (r.phase n) ≡ None) × ((p : ℕ) → MayBeUnmarked (slot_word st.words) p (r.phase n) → ⊥)
             × (sum_by (taken_of n) st.views ≡ 0) × (owed r.debt v.start.passes n ≡ 0) × (r.phase n ≢ free)
@@ -218,16 +224,6 @@ module _ (turn : Turn) where
     abbrev d : Work
     d = rested v.work
 
-    its_calm : (busy v.work ≡ n + 1) × (word_at st.words (hold_word_of v.start x.number) ≡ 0) × (r.debt x.number ≡ 0)
-        × (held_in d ≡ held_in v.work) × ((m : ℕ) → taking m d ≡ taking m v.work) × IsAllowed x.stock x.listed d
-    its_calm = let o = its_log turn in ⊎_elim
-        (λ (e : v.work ≡ Emptying n). let h = rw e at o.hold in rw e (refl, h.0, h.1, refl, λ m. refl, tt))
-        (λ y. ⊎_elim
-        (λ (e : (l : Placement) × (v.work ≡ Placing n l)). let h = rw e.1 at o.hold in let block = rw e.1 at o.allowed in
-        rw e.1 (refl, h.0, h.1, refl, λ m. refl, block))
-        (λ (e : (f : File) × (held : ℕ) × (l : Placement) × (v.work ≡ Renewing f held n l)). let h = rw e.3 at o.hold in
-        rw e.3 (refl, h.0, h.1, refl, λ m. refl, tt)) y) its_work_is
-
     abbrev homes₀ : Homes
     homes₀ = set st.homes n (some None)
 
@@ -237,20 +233,93 @@ module _ (turn : Turn) where
     abbrev rest_after : After turn
     rest_after = own_after turn n its_node.0 free r.history words₀ homes₀ d
 
-    knows : WorkAgrees v.start (changed_at r.phase n free) id d × IsInside v.start d × GuardAgrees (slot_word words₀)
-        (changed_at r.phase n free) x.number (r.debt x.number) d × HoldAgrees 0 0 d
-    knows = ⊎_elim (λ (e : v.work ≡ Emptying n). rw e (tt, tt, tt, (refl, refl)))
+    -- what is known of it then
+    record Rested (e : Work) : Type 0 where
+      busy_so : busy v.work ≡ n + 1
+      holds : held_in e ≡ held_in v.work
+      taken : (m : ℕ) → taking m e ≡ taking m v.work
+      allowed : IsAllowed x.stock x.listed e
+      work : WorkAgrees v.start (changed_at r.phase n free) id e
+      inside : IsInside v.start e
+      guarded : GuardAgrees (slot_word words₀) (changed_at r.phase n free) x.number (r.debt x.number) e
+      hold : HoldAgrees (word_at st.words (hold_word_of v.start x.number)) (r.debt x.number) e
+
+    -- the other node isn't this one, whose file isn't installed
+    apart : (f : File) (held : ℕ) → HoldsAt v.start r.phase f held → held ≢ n
+    apart f held o same = let bad : None ≡ Some f = sym its_node.2 ∙ (ap (λ (i : ℕ). file_in (r.phase i)) (sym same) ∙ o.1) in cc bad
+
+    stays_open : (f : File) (held : ℕ) → HoldsAt v.start r.phase f held → HoldsAt v.start (changed_at r.phase n free) f held
+    stays_open f held o = (o.0, ap file_in (changed_else r.phase n free held (apart f held o)) ∙ o.1)
+
+    rested_so : Rested d
+    rested_so = let o = its_log turn in let agrees = its_work turn in ⊎_elim
+        (λ (e : v.work ≡ Emptying n). let h = rw e at o.hold in subst (λ (z : Work). Rested (rested z)) (sym e) record {
+          busy_so = ap busy e;
+          holds = sym (ap held_in e);
+          taken = λ m. sym (ap (taking m) e);
+          allowed = tt;
+          work = tt;
+          inside = tt;
+          guarded = tt;
+          hold = (h.0, h.1);
+        })
         (λ y. ⊎_elim
-        (λ (e : (l : Placement) × (v.work ≡ Placing n l)).
-        rw e.1 ((its_node.0, changed_here r.phase n free n refl), its_node.0, tt, (refl, refl)))
-        (λ (e : (f : File) × (held : ℕ) × (l : Placement) × (v.work ≡ Renewing f held n l)).
-        let both : HoldsAt v.start r.phase e.0 e.1 × IsIn v.start r.phase n (placed id e.2) = subst (WorkAgrees v.start r.phase id) e.3 (its_work turn) in
-        let o = both.0 in
-        let other : e.1 ≢ n = λ same. let bad : None ≡ Some e.0 = sym its_node.2 ∙ (ap (λ (i : ℕ). file_in (r.phase i)) (sym same) ∙ o.1) in cc bad in
-        rw e.3 ((o.0, ap file_in (changed_else r.phase n free e.1 other) ∙ o.1), o.0, tt, (refl, refl))) y) its_work_is
+        (λ (e : (l : Placement) × (v.work ≡ Placing n l)). let h = rw e.1 at o.hold in subst (λ (z : Work). Rested (rested z)) (sym e.1) record {
+          busy_so = ap busy e.1;
+          holds = sym (ap held_in e.1);
+          taken = λ m. sym (ap (taking m) e.1);
+          allowed = subst (IsAllowed x.stock x.listed) e.1 o.allowed;
+          work = (its_node.0, changed_here r.phase n free n refl);
+          inside = its_node.0;
+          guarded = tt;
+          hold = (h.0, h.1);
+        })
+        (λ (e : (l : Placement) × HasBesides v.work n l). ⊎_elim
+        (λ (z : (f : File) × (held : ℕ) × HoldsBesides v.work f held n e.0). ⊎_elim
+        (λ (is : v.work ≡ Renewing z.0 z.1 n e.0). let h = rw is at o.hold in
+        let both : HoldsAt v.start r.phase z.0 z.1 × IsIn v.start r.phase n (placed id e.0) = subst (WorkAgrees v.start r.phase id) is agrees in
+        subst (λ (z : Work). Rested (rested z)) (sym is) record {
+          busy_so = ap busy is;
+          holds = sym (ap held_in is);
+          taken = λ m. sym (ap (taking m) is);
+          allowed = tt;
+          work = stays_open z.0 z.1 both.0;
+          inside = both.0.0;
+          guarded = tt;
+          hold = (h.0, h.1);
+        })
+        (λ (is : v.work ≡ Relieving z.0 z.1 n e.0).
+        let both : HoldsAt v.start r.phase z.0 z.1 × IsIn v.start r.phase n (placed id e.0) = subst (WorkAgrees v.start r.phase id) is agrees in
+        let guards : r.debt x.number ≡ 0 → MayBeUnmarked (slot_word st.words) x.number (r.phase z.1) =
+        subst (GuardAgrees (slot_word st.words) r.phase x.number (r.debt x.number)) is o.guarded in
+        let can : IsInStock x.stock n × (x.listed ≡ true) = subst (IsAllowed x.stock x.listed) is o.allowed in
+        subst (λ (z : Work). Rested (rested z)) (sym is) record {
+          busy_so = ap busy is;
+          holds = sym (ap held_in is);
+          taken = λ m. sym (ap (taking m) is);
+          allowed = can.1;
+          work = stays_open z.0 z.1 both.0;
+          inside = both.0.0;
+          guarded = λ none. subst (MayBeUnmarked (slot_word words₀) x.number) (sym (changed_else r.phase n free z.1 (apart z.0 z.1 both.0)))
+              (covers_same turn words₀ (node_slot turn n its_node.0 0) x.number z.1 (guards none));
+          hold = subst (HoldAgrees (word_at st.words (hold_word_of v.start x.number)) (r.debt x.number)) is o.hold;
+        }) z.2)
+        (λ (z : (m : ℕ) × (v.work ≡ Nearing m n e.0)).
+        let both : (z.0 < nodes_of v.start) × IsIn v.start r.phase n (placed id e.0) = subst (WorkAgrees v.start r.phase id) z.1 agrees in
+        let can : IsInStock x.stock n × (x.listed ≡ true) = subst (IsAllowed x.stock x.listed) z.1 o.allowed in
+        subst (λ (z : Work). Rested (rested z)) (sym z.1) record {
+          busy_so = ap busy z.1;
+          holds = sym (ap held_in z.1);
+          taken = λ m. sym (ap (taking m) z.1);
+          allowed = can.1;
+          work = both.0;
+          inside = both.0;
+          guarded = tt;
+          hold = subst (HoldAgrees (word_at st.words (hold_word_of v.start x.number)) (r.debt x.number)) z.1 o.hold;
+        }) e.1) y) its_work_is
 
     resting : Agrees v.start (end turn rest_after)
-    resting = let o = its_log turn in let q = its_node in let c = its_calm in
+    resting = let q = its_node in let c = rested_so in
         own_node_kept turn n q.0 free r.history words₀ homes₀ d record {
           leaves_else = node_leaves turn n q.0 0;
           hold_words = node_hold turn n q.0 0;
@@ -260,7 +329,7 @@ module _ (turn : Turn) where
           empty = q.2;
           still_empty = refl;
           node = let t = sum_set (taken_of n) st.views id v (w turn rest_after) here in let b = q.5 in
-              let e = c.4 n in rw (node_here turn n q.0 0) record {
+              let e = c.taken n in rw (node_here turn n q.0 0) record {
                 counts = refl;
                 at_home = set_here st.homes n (some None) (let a = r.shape.homes in let b = q.0 in omega arith);
                 untaken = omega arith;
@@ -268,13 +337,13 @@ module _ (turn : Turn) where
               };
           known = tt;
           label = tt;
-          holds = c.3;
-          taken = λ m. c.4 m;
-          free_else = λ m other bad. let a = c.0 in other (omega arith);
-          allowed = c.5;
-          hold = rw (c.1, c.2) knows.3;
-          guarded = knows.2;
-          work = knows.0;
+          holds = c.holds;
+          taken = c.taken;
+          free_else = λ m other bad. let a = c.busy_so in other (omega arith);
+          allowed = c.allowed;
+          hold = c.hold;
+          guarded = c.guarded;
+          work = c.work;
         } ([], refl) refl
 
     pub rests : (slots : ℕ) (carried : List (ℕ × Option Closed)) → carried ≡ (n, None) ∷ []
@@ -285,7 +354,7 @@ module _ (turn : Turn) where
       tt,
       rw has resting,
       record {
-        stepped = tells turn rest_after refl carried (rest carried) [] (grows_none x.number r.history) r.life.legal refl knows.1;
+        stepped = tells turn rest_after refl carried (rest carried) [] (grows_none x.number r.history) r.life.legal refl rested_so.inside;
         carried = refl;
       },
     )

@@ -1,16 +1,16 @@
 -- A stock has more nodes than the other passes can use, so one of them is free whenever its pass
 -- does nothing: no slot names a node of a stock.
-use Rattle.fx_lasting.proofs.Words.{Renewing, Placement, File, some-injective}
+use Rattle.fx_lasting.proofs.Words.{Renewing, Nearing, Relieving, Placement, File, some-injective, HoldsBesides, IsAllowed, IsInStock, StillNames, Bool, true, false}
 use Rattle.fx_lasting.proofs.Words.{◌≡◌, ℕ, zero, suc, ◌+◌, ◌<◌, ◌≤◌, List, [], ◌∷◌, length, sym, refl, ap, ◌∙◌, subst, arith, some, get_elem?}
 use Rattle.fx_lasting.proofs.Words.{⊎_elim, ◌⊎◌, inl, inr, dite, ℕ_discrete, eqb, one_if, sum_by, sum_by-cons, sum_at, sum_le_at, bit_here, bit_else}
 use Rattle.fx_lasting.proofs.Words.{NodeAgrees, OwnerAgrees, HoldAgrees, Names, slots_of, nodes_of, word_of, hold_word_of, state_after_all, taken_of}
 use Rattle.fx_lasting.proofs.Words.{taking, owed, count_in, lengths, Phase, free, placed, seated, leaving, retired, emptied, kept, Log, View, Work}
-use Rattle.fx_lasting.proofs.Words.{Idle, Announced, Counted, Guarded, Owing, Yielding, Searching, Placing, Retiring, Emptying, Keeping, Does, Agrees}
+use Rattle.fx_lasting.proofs.Words.{Announced, Counted, Guarded, Owing, Yielding, Placing, Retiring, Emptying, Keeping, Does, Agrees}
 use Rattle.fx_lasting.proofs.Words.{Shared, Start, ◌≢◌, get_or, set, at_set, sum_set, Contains, contains_head, at_slot, in_stock, StockAgrees}
 use Rattle.fx_lasting.proofs.Words.{name_of_file}
 use Rattle.fx_lasting.proofs.Counts.{owed_found}
 use Rattle.fx_lasting.proofs.Keeping.{word_at, slot_word, find_pass, not_there}
-use Rattle.fx_lasting.proofs.Frames.{alone_cases}
+use Rattle.fx_lasting.proofs.Frames.{HasBesides, alone_cases}
 
 -- a sum over the numbers below n
 abbrev pub below : (ℕ → ℕ) → ℕ → ℕ
@@ -70,10 +70,28 @@ named_by (Owing n) = n + 1
 named_by (Yielding f n) = n + 1
 named_by (Placing n w) = n + 1
 named_by (Renewing f n own w) = n + 1
+named_by (Nearing n own w) = n + 1
+named_by (Relieving f n own w) = n + 1
 named_by (Retiring f n t nx m) = n + 1
 named_by (Emptying n) = n + 1
 named_by (Keeping n lost) = n + 1
 named_by _ = 0
+
+-- a pass that has placed a file beside another node did so on a node of its stock
+own_stocked : (d : Work) {n : ℕ} {l : Placement} (stock : List ℕ) (listed : Bool) → HasBesides d n l → IsAllowed stock listed d → IsInStock stock n
+own_stocked d {n} {l} stock listed has allowed = ⊎_elim
+    (λ (z : (f : File) × (held : ℕ) × HoldsBesides d f held n l). ⊎_elim
+    (λ (is : d ≡ Renewing z.0 z.1 n l). subst (IsAllowed stock listed) is allowed)
+    (λ (is : d ≡ Relieving z.0 z.1 n l). let both : IsInStock stock n × (listed ≡ true) = subst (IsAllowed stock listed) is allowed in both.0) z.2)
+    (λ (z : (i : ℕ) × (d ≡ Nearing i n l)). let both : IsInStock stock n × (listed ≡ true) = subst (IsAllowed stock listed) z.1 allowed in both.0) has
+
+-- and works with that other node
+names_other : (d : Work) {n : ℕ} {l : Placement} → HasBesides d n l → named_by d ≢ 0
+names_other d {n} {l} has none = ⊎_elim
+    (λ (z : (f : File) × (held : ℕ) × HoldsBesides d f held n l). ⊎_elim
+    (λ (is : d ≡ Renewing z.0 z.1 n l). let a = ap named_by is in omega arith)
+    (λ (is : d ≡ Relieving z.0 z.1 n l). let a = ap named_by is in omega arith) z.2)
+    (λ (z : (i : ℕ) × (d ≡ Nearing i n l)). let a = ap named_by z.1 in omega arith) has
 
 abbrev uses : ℕ → View → ℕ
 uses n v = one_if (eqb (named_by v.work) (n + 1))
@@ -102,7 +120,7 @@ module _ {k : Start} {st : Shared} (r : Agrees k st) where
   used_by n j u there is = let a = sum_at (uses n) st.views j u there in let b = bit_here (n + 1) (named_by u.work) is in omega arith
 
   does_use : (n j : ℕ) {d : Work} → Does st.views j d → ((m : ℕ) (l : Placement) → d ≢ Placing m l) → named_by d ≡ n + 1 → 1 ≤ view_use n
-  does_use n j o other is = used_by n j o.0 o.1 (⊎_elim (λ its. ap named_by its) (λ z. absurd (other z.2 z.3 z.5)) (alone_cases o.0.work o.2) ∙ is)
+  does_use n j o other is = used_by n j o.0 o.1 (⊎_elim (λ its. ap named_by its) (λ z. absurd (other z.0 z.1 z.3)) (alone_cases o.0.work o.2) ∙ is)
 
   takes_use : (n : ℕ) (d : Work) → taking n d ≤ one_if (eqb (named_by d) (n + 1))
   takes_use n (Counted f m) = dite (ℕ_discrete m n) (λ same. let a = bit_here n m same in let b = bit_here (n + 1) (m + 1) (ap (λ (i : ℕ). i + 1) same) in omega arith)
@@ -114,6 +132,13 @@ module _ {k : Start} {st : Shared} (r : Agrees k st) where
   owes_use : (n : ℕ) (word : ℕ) (d : Work) → HoldAgrees word (n + 1) d → named_by d ≡ n + 1
   owes_use n word (Announced m) o = ⊎_elim (λ (c : (word ≡ m + 1) × (n + 1 ≡ 0)). absurd (let a = c.1 in omega arith)) (λ c. sym c.1) o
   owes_use n word (Guarded f m) o = ⊎_elim (λ (c : (word ≡ m + 1) × (n + 1 ≡ 0)). absurd (let a = c.1 in omega arith)) (λ c. sym c.1) o
+  owes_use n word (Nearing m own l) o = ⊎_elim (λ (c : (word ≡ m + 1) × (n + 1 ≡ 0)). absurd (let a = c.1 in omega arith)) (λ c. sym c.1) o
+  owes_use n word (Relieving f m own l) o = ⊎_elim (λ (c : (word ≡ m + 1) × (n + 1 ≡ 0)). absurd (let a = c.1 in omega arith)) (λ c. sym c.1) o
+  owes_use n word (Retiring f m t nx k) o = still nx.guarded o
+    where
+      still : (b : Bool) → StillNames b word (n + 1) m → m + 1 ≡ n + 1
+      still true h = ⊎_elim (λ (c : (word ≡ m + 1) × (n + 1 ≡ 0)). absurd (let a = c.1 in omega arith)) (λ c. sym c.1) h
+      still false h = absurd (let a = h.1 in omega arith)
   owes_use n word (Owing m) o = sym o.1
   owes_use n word (Yielding f m) o = sym o.1
   owes_use n word _ o = absurd (let a = o.1 in omega arith)
@@ -185,29 +210,28 @@ module _ {k : Start} {st : Shared} (r : Agrees k st) where
         let d = sum_set lengths st.views id v left here in let e = ap (length {A = Log}) one in let f = sum_le_at own_use lengths (set st.views id left) one_else in
         let g = r.life.whole in omega arith
 
-    -- a pass that holds a file besides places another stock's nodes: it isn't this one
-    module _ (m : ℕ) (low : m < length x.stock) (j : ℕ) (u : View) (there : get_elem? st.views j ≡ some u) (f : File) (held n : ℕ) (l : Placement)
-        (works : u.work ≡ Renewing f held n l) (same : n ≡ own m) where
+    -- a pass that has another node besides places another stock's nodes: it isn't this one
+    module _ (m : ℕ) (low : m < length x.stock) (j : ℕ) (u : View) (there : get_elem? st.views j ≡ some u) (n : ℕ) (l : Placement)
+        (works : HasBesides u.work n l) (same : n ≡ own m) where
       by_log : (y : Log) → Contains u.logs y → ⊥
-      by_log y has = let its = rw works at ((r.holds.views j u there).logs y has).allowed in
+      by_log y has = let its = own_stocked u.work y.stock y.listed works ((r.holds.views j u there).logs y has).allowed in
           let named = (r.nodes.stocks j u y there has).here its.0 n its.1 in
           let both : in_stock y.number its.0 ≡ in_stock x.number m = sym named ∙ (ap r.nodes.where_is same ∙ (own_here m low).1) in
           let number : y.number ≡ x.number = cc both in dite (ℕ_discrete j id)
-          (λ (is : j ≡ id). let e : named_by v.work ≡ held + 1 = ap (λ (w : View). named_by w.work) (some-injective v u (sym here ∙ (ap (get_elem? st.views) (sym is) ∙ there)))
-          ∙ ap named_by works in omega (arith, e, still))
+          (λ (is : j ≡ id). names_other u.work works (sym (ap (λ (w : View). named_by w.work) (some-injective v u (sym here ∙ (ap (get_elem? st.views) (sym is) ∙ there)))) ∙ still))
           (λ (ne : j ≢ id). not_there r here one ne there y has number)
 
       stray : ⊥
       stray = go u.logs refl
         where
           go : (l : List Log) → u.logs ≡ l → ⊥
-          go [] none = let idle : u.work ≡ Idle = ((r.holds.views j u there).empty none).0 in cc (sym idle ∙ works)
+          go [] none = names_other u.work works (ap named_by ((r.holds.views j u there).empty none).0)
           go (y ∷ ys) is = by_log y (subst (λ (l : List Log). Contains l y) (sym is) (contains_head y ys))
 
     -- so who places a node of this stock uses it alone
     placed_use : (m : ℕ) → m < length x.stock → (j : ℕ) (l : Placement) → Does st.views j (Placing (own m) l) → 1 ≤ view_use (own m)
     placed_use m low j l o = ⊎_elim (λ its. used_by (own m) j o.0 o.1 (ap named_by its))
-        (λ z. let same : z.2 ≡ own m = cc (sym z.5) in absurd (stray m low j o.0 o.1 z.0 z.1 z.2 z.3 z.4 same)) (alone_cases o.0.work o.2)
+        (λ z. let same : z.0 ≡ own m = cc (sym z.3) in absurd (stray m low j o.0 o.1 z.0 z.1 z.2 same)) (alone_cases o.0.work o.2)
 
     -- of as many nodes as there are passes one is free
     pub some_free : k.passes ≤ length x.stock → (entry : ℕ) × (entry < length x.stock) × (r.phase (own entry) ≡ free)

@@ -2,7 +2,7 @@
 use Rattle.fx_lasting.proofs.Words.{IsIn, ◌≡◌, ◌≢◌, ℕ, ◌+◌, ◌<◌, ◌≤◌, List, [], set, sym, refl, ap, ◌∙◌, subst, arith, Option, Some, ⊎_elim}
 use Rattle.fx_lasting.proofs.Words.{none, keeps, step, length-set, get_or-set_other, get_or-set_same, Closed, File, Agrees, WorkAgrees, HoldsAt}
 use Rattle.fx_lasting.proofs.Words.{Labels, slots_of, nodes_of, slot_place, group_place, list_place, question_place, word_of, hold_word_of}
-use Rattle.fx_lasting.proofs.Words.{tag_word_of, number_word_of, held_in, taken_of, taking, HoldsOn, Phase, placed, owner, file_in}
+use Rattle.fx_lasting.proofs.Words.{HoldsBesides, Renewing, Relieving, tag_word_of, number_word_of, held_in, taken_of, taking, HoldsOn, Phase, placed, owner, file_in}
 use Rattle.fx_lasting.proofs.Words.{written_in, changed_here, sum_set, Work, Placing, Placement, Written, as_written, Unlabelled, Tag}
 use Rattle.fx_lasting.proofs.Words.{Label, label_of, number_of_mark, Goes, Log, first_log, Tags, Numbers, ReadsTag, ReadsNumber, TagsKeep, RecallsTag, RecallsTagKeep}
 use Rattle.fx_lasting.proofs.Words.{NumbersKeep, ReadsTagKeep, ReadsNumberKeep}
@@ -17,9 +17,13 @@ use Rattle.fx_lasting.proofs.hold_lemmas.Unheld.{in_phase}
 use Rattle.fx_lasting.proofs.Words.{inl}
 use Rattle.fx_lasting.proofs.node_lemmas.NodeSteps.{own_after, own_node_kept}
 
+-- the file that a pass holds beside the one that it places
+held_besides : {d : Work} {f : File} {n own : ℕ} {l : Placement} → HoldsBesides d f n own l → held_in d ≡ Some f
+held_besides is = ⊎_elim (λ e. ap held_in e) (λ e. ap held_in e) is
+
 -- the file that a pass holds
 held_file : {d : Work} {f : File} {n : ℕ} → HoldsOn d f n → held_in d ≡ Some f
-held_file holds = ⊎_elim (λ is. ap held_in is) (λ z. ⊎_elim (λ is. ap held_in is) (λ is. ap held_in is.2) z) holds
+held_file holds = ⊎_elim (λ is. ap held_in is) (λ z. ⊎_elim (λ is. ap held_in is) (λ is. held_besides is.2) z) holds
 
 -- the file that a pass is about to install, and the tag that is written
 abbrev placement_in : Work → Placement
@@ -168,7 +172,12 @@ module _ (turn : Turn) where
   module _ (f : File) (n : ℕ) (holds : HoldsOn v.work f n) where
     held_at : (g : File) (m : ℕ) → HoldsOn v.work g m → HoldsAt v.start r.phase g m
     held_at g m its = ⊎_elim (λ is. subst (WorkAgrees v.start r.phase id) is (its_work turn))
-        (λ z. ⊎_elim (λ is. subst (WorkAgrees v.start r.phase id) is (its_work turn)) (λ is. let both : HoldsAt v.start r.phase g m × IsIn v.start r.phase is.0 (placed id is.1) = subst (WorkAgrees v.start r.phase id) is.2 (its_work turn) in both.0) z) its
+        (λ z. ⊎_elim (λ is. subst (WorkAgrees v.start r.phase id) is (its_work turn)) (λ is. held_beside g m is.0 is.1 is.2) z) its
+      where
+        held_beside : (g : File) (m own : ℕ) (l : Placement) → HoldsBesides v.work g m own l → HoldsAt v.start r.phase g m
+        held_beside g m own l is = ⊎_elim
+            (λ (e : v.work ≡ Renewing g m own l). let both : HoldsAt v.start r.phase g m × IsIn v.start r.phase own (placed id l) = subst (WorkAgrees v.start r.phase id) e (its_work turn) in both.0)
+            (λ (e : v.work ≡ Relieving g m own l). let both : HoldsAt v.start r.phase g m × IsIn v.start r.phase own (placed id l) = subst (WorkAgrees v.start r.phase id) e (its_work turn) in both.0) is
 
     its_file : HoldsAt v.start r.phase f n
     its_file = held_at f n holds

@@ -1,5 +1,5 @@
 -- Steps on the words that count full slots keep the rule.
-use Rattle.fx_lasting.proofs.Words.{Renewing}
+use Rattle.fx_lasting.proofs.Words.{Renewing, Nearing, Relieving}
 use Rattle.fx_lasting.proofs.Words.{◌≡◌, ◌≢◌, ℕ, ◌+◌, ◌-◌, ◌%◌, ◌^◌, ◌<◌, ◌≤◌, List, [], ◌∷◌, set, length, sym, refl, ap, ◌∙◌, subst, arith}
 use Rattle.fx_lasting.proofs.Words.{get_or-set_other, get_or-set_same, Option, IsSome, dite, some, none, one_if, eqb, eq-eqb, ne_eqb, ℕ_discrete}
 use Rattle.fx_lasting.proofs.Words.{get_elem?, keeps, step, sum_by, sum_at, Closed, File, Full, Event, pass_event, sum_set, bit_here, sum_le_at}
@@ -7,8 +7,8 @@ use Rattle.fx_lasting.proofs.Words.{range_at_start, Agrees, RangeCounts, GroupCo
 use Rattle.fx_lasting.proofs.Words.{owing, owing_of, full_in, question_place, group_place, group_len, group_start, group_of, groups_in, slot_place}
 use Rattle.fx_lasting.proofs.Words.{word_of, hold_word_of, slots_of, list_place, state_after_all, IsHistory, Change, Outside, Lowered, Inside, Log}
 use Rattle.fx_lasting.proofs.Words.{Start, View, Work, Shared, IsInside, Goes, Stepped, Lowers, Raises, Counts, as_asked, LowersKeep, RaisesKeep}
-use Rattle.fx_lasting.proofs.Words.{CountsKeep, IsGroup, length-set, inl, held_by, Idle, Announced, Counted, Guarded, Owing, Yielding, Survey}
-use Rattle.fx_lasting.proofs.Words.{Covered, Contains, Searching, Placing, Retiring, Emptying, Keeping, State, Phase, contains_only, part_of_pass}
+use Rattle.fx_lasting.proofs.Words.{CountsKeep, IsGroup, length-set, inl, held_by, Idle, Announced, Owing, Survey}
+use Rattle.fx_lasting.proofs.Words.{Covered, Contains, State, Phase, contains_only, part_of_pass}
 use Rattle.fx_lasting.proofs.Words.{full_few, full_all, Watch, WatchAgrees, HasGap, spent, at_set, ⊎_elim, inr, ◌⊎◌, true, Bool, first_log}
 use Rattle.fx_lasting.proofs.Histories.{Grows, grows_none, grows_one, legal_more, held_mine, same_shape}
 use Rattle.fx_lasting.proofs.Counts.{bit_few}
@@ -31,6 +31,8 @@ is_inside k phase seat Idle o = tt
 is_inside k phase seat (Announced n) o = o
 is_inside k phase seat (Owing n) o = o
 is_inside k phase seat (Renewing f n own w) o = (o.0.0, o.1.0)
+is_inside k phase seat (Nearing n own w) o = (o.0, o.1.0)
+is_inside k phase seat (Relieving f n own w) o = (o.0.0, o.1.0)
 is_inside k phase seat _ o = o.0
 
 module _ (k : Start) (s : Shared) (r : Agrees k s) where

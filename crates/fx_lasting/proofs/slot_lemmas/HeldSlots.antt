@@ -1,19 +1,21 @@
--- The slot of a file that a pass holds by a take: the slot has a take, and the hold may end with
--- the step that removes the file. The removal counts the takes without the pass's own.
-use Rattle.fx_lasting.proofs.Words.{◌≡◌, ℕ, ◌+◌, ◌-◌, ◌<◌, List, ◌∷◌, sym, refl, ap, ◌∙◌, arith, Option, Some, None}
+-- The slot of a file that a pass holds: the hold may end with the step that removes the file. If
+-- the pass holds it by a take, the removal counts the takes without it; else the slot is hot, and
+-- the pass's hold word names the node still.
+use Rattle.fx_lasting.proofs.Words.{◌≡◌, ◌≢◌, ℕ, ◌+◌, ◌-◌, ◌<◌, List, ◌∷◌, sym, refl, ap, ◌∙◌, arith, subst, Option, Some, None, Bool, true, false}
 use Rattle.fx_lasting.proofs.Words.{File, Event, Release, State, pass_event}
-use Rattle.fx_lasting.proofs.Words.{HoldsAt, IsHistory, node_of_number, state_after_all, slots_of, count_in, heat_in}
+use Rattle.fx_lasting.proofs.Words.{HoldsAt, IsHistory, node_of_number, state_after_all, slots_of, count_in, heat_in, hold_word_of}
 use Rattle.fx_lasting.proofs.Words.{full_name_in, entry_in, Names, seated, file_in, taken_of, taking, held_of, if_file, held_in, sum_at, bit_here}
-use Rattle.fx_lasting.proofs.Words.{one_less_at, IsInside}
-use Rattle.fx_lasting.proofs.Words.{retiring_work}
+use Rattle.fx_lasting.proofs.Words.{one_less_at, IsInside, Round, StillNames, NamesNode, MayBeUnmarked, HasItsHold, ⊎_elim}
+use Rattle.fx_lasting.proofs.Words.{guarded_round, first_visit, new_round, removal_work, leaving_work, is_guarding}
 use Rattle.fx_lasting.proofs.Words.{one_less}
+use Rattle.fx_lasting.proofs.Counts.{owed_at}
 use Rattle.fx_lasting.proofs.Histories.{legal_more}
-use Rattle.fx_lasting.proofs.Keeping.{Turn, its_log}
-use Rattle.fx_lasting.proofs.slot_lemmas.Swaps.{found, old_at, old_named, names_old}
+use Rattle.fx_lasting.proofs.Keeping.{Turn, its_log, in_range, word_at, slot_word}
+use Rattle.fx_lasting.proofs.slot_lemmas.Swaps.{found, old_at, old_named, names_old, IsAlike, Begins, begins_first}
 use Rattle.fx_lasting.proofs.hold_lemmas.Unheld.{in_phase, on_node}
 
 module _ (turn : Turn) (s : ℕ) (inside : s < slots_of turn.v.start) (f : File) (n : ℕ) (its : HoldsAt turn.v.start turn.r.phase f n)
-    (takes_it : taking n turn.v.work ≡ 1) (holds_it : held_in turn.v.work ≡ Some f) (names_it : full_name_in (found turn s inside) ≡ n + 1) where
+    (holds_it : held_in turn.v.work ≡ Some f) (names_it : full_name_in (found turn s inside) ≡ n + 1) where
   open turn use {st, v, r, id, x, here, one}
 
   abbrev before : State
@@ -37,14 +39,6 @@ module _ (turn : Turn) (s : ℕ) (inside : s < slots_of turn.v.start) (f : File)
   pub sits : r.phase n ≡ seated s f
   sits = ap r.phase (sym on_n) ∙ (old_at turn s inside (Some f) there refl).1
 
-  pub some_takes : 0 < count_in word
-  some_takes = let o = in_phase turn its.0 sits in let a = o.counts in let b = o.few in let c = sum_at (taken_of n) st.views id v here in
-      let e = takes_it in omega arith
-
-  pub less : (full_name_in (word - 1) ≡ full_name_in word) × (heat_in (word - 1) ≡ heat_in word) × (count_in (word - 1) + 1 ≡ count_in word)
-      × (entry_in (word - 1) ≡ entry_in word)
-  less = one_less word some_takes
-
   -- the pass releases the file
   abbrev pub h₀ : List Event
   h₀ = pass_event x (Release f) ∷ r.history
@@ -60,11 +54,71 @@ module _ (turn : Turn) (s : ℕ) (inside : s < slots_of turn.v.start) (f : File)
   pub let_go : (m : ℕ) → (state_after_all v.start h₀).holds m + held_of m v ≡ before.holds m
   let_go m = let a = one_less_at before.holds f.number m held_now in let b = ap (if_file m) holds_it in omega arith
 
-  pub knows : IsInside v.start (retiring_work v.start (word - 1) (Some f))
-  knows = let a = less.0 in let b = its.0 in omega arith
-
-  pub named_there : Names r.node_of word (Some f)
+  named_there : Names r.node_of word (Some f)
   named_there = names_old turn s inside (Some f) there
 
   pub by_number : Names (node_of_number v.start) word (Some f)
   by_number = (named_there.0 ∙ ap (λ (i : ℕ). i + 1) (r.numbering f.number), named_there.1)
+
+  -- the pass may remove the file so: the removal has this word from the slot, and is to make this
+  -- round
+  pub record IsHeld (guards : Bool) (counted : ℕ) (round : Round) : Type 0 where
+    pub alike : IsAlike turn s inside counted
+    pub taken : count_in counted + taking n v.work ≡ count_in word
+    pub untaken : (m : ℕ) → m ≢ n → taking m v.work ≡ 0
+    pub begins : Begins turn s inside round
+    pub hold : StillNames round.guarded (word_at st.words (hold_word_of v.start x.number)) (r.debt x.number) n
+    pub guarding : is_guarding v.work ≡ guards
+    pub own : HasItsHold guards word
+    pub leaves : leaving_work v.start guards word f ≡ removal_work round counted (Some f)
+
+  -- by a take
+  module _ (takes_it : taking n v.work ≡ 1) where
+    some_takes : 0 < count_in word
+    some_takes = let o = in_phase turn its.0 sits in let a = o.counts in let b = o.few in let c = sum_at (taken_of n) st.views id v here in
+        let e = takes_it in omega arith
+
+    less : (full_name_in (word - 1) ≡ full_name_in word) × (heat_in (word - 1) ≡ heat_in word) × (count_in (word - 1) + 1 ≡ count_in word)
+        × (entry_in (word - 1) ≡ entry_in word)
+    less = one_less word some_takes
+
+    pub by_take : is_guarding v.work ≡ false → ((m : ℕ) → m ≢ n → taking m v.work ≡ 0)
+        → (word_at st.words (hold_word_of v.start x.number) ≡ 0) × (r.debt x.number ≡ 0)
+        → IsHeld false (word - 1) (new_round (first_visit v.start.passes (word - 1)))
+    by_take guarding untaken unnamed = record {
+      alike = (less.0, less.1);
+      taken = let a = less.2 in omega arith;
+      untaken = untaken;
+      begins = begins_first turn s inside (word - 1) (less.0, less.1);
+      hold = unnamed;
+      guarding = guarding;
+      own = some_takes;
+      leaves = refl;
+    }
+
+  -- by its hold word, which nobody has marked
+  pub by_guard : is_guarding v.work ≡ true → ((m : ℕ) → taking m v.work ≡ 0) → NamesNode (word_at st.words (hold_word_of v.start x.number)) (r.debt x.number) n
+      → (r.debt x.number ≡ 0 → MayBeUnmarked (slot_word st.words) x.number (r.phase n)) → x.listed ≡ true → IsHeld true word guarded_round
+  by_guard guarding untaken names guards listed = record {
+    alike = (refl, refl);
+    taken = let a = untaken n in omega arith;
+    untaken = λ m other. untaken m;
+    begins = record {
+      some_next = omega arith;
+      few_next = omega arith;
+      visits = λ q low hot. (low, λ idle. let a = idle.0 in omega arith);
+      listed = λ up. listed;
+    };
+    hold = names;
+    guarding = guarding;
+    own = subst (MayBeUnmarked (slot_word st.words) x.number) sits (guards unmarked);
+    leaves = refl;
+  }
+    where
+      unmarked : r.debt x.number ≡ 0
+      unmarked = let o = in_phase turn its.0 sits in let a = o.unowed in let range = in_range turn in ⊎_elim (λ clean. clean.1)
+          (λ full. absurd (let b = owed_at r.debt v.start.passes x.number n range.0 range.1 full.1 in omega arith)) names
+
+  -- the node that the removal names is the table's
+  pub knows : {guards : Bool} {counted : ℕ} {round : Round} → IsHeld guards counted round → IsInside v.start (removal_work round counted (Some f))
+  knows held = let a = held.alike.0 in let b = its.0 in omega arith

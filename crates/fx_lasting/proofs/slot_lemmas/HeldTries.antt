@@ -1,8 +1,8 @@
--- A removal by a pass that holds the file by a take: what its steps leave.
+-- A removal by a pass that holds the file: what its steps leave.
 use Rattle.fx_lasting.proofs.Words.{◌≡◌, ℕ, ◌+◌, ◌-◌, ◌<◌, ◌≤◌, List, [], sym, ap, ◌∙◌, subst, arith, Option, Some, None, set, get_elem?, some, inr}
 use Rattle.fx_lasting.proofs.Words.{false, File, Release, Take, Close, ◌▷◌, Start, Sat, Work, Glance, Outside, Counted, Runs, Stepped}
-use Rattle.fx_lasting.proofs.Words.{Names, NamesANode, IsInStock, IsStockOf, as_stocked, as_swapped, full_name_in, count_in, name_in, nodes_of, pass_in}
-use Rattle.fx_lasting.proofs.Words.{node_of_number, retiring_work, account, range_at_start, IsAtWork, Ok, Closed, one_less, Adds, adds_then, no_use, DoesNothing}
+use Rattle.fx_lasting.proofs.Words.{Names, NamesANode, IsInStock, IsStockOf, as_stocked, as_swapped, full_name_in, name_in, nodes_of, pass_in}
+use Rattle.fx_lasting.proofs.Words.{node_of_number, account, range_at_start, IsAtWork, Ok, Closed, Adds, adds_then, no_use, DoesNothing}
 use Rattle.fx_lasting.proofs.Words.{ReleasesFile, Released, LookedUp, Opening, PassView, Holding, Hold, TableId, LastingPass, IsPassOf, IsBetweenCalls, opening_of, view_of, pass_of}
 use Rattle.fx_lasting.proofs.Words.{Change, Doing, HasActed, HasTriedIf, Miss, KeyFault, TriesKey, fault_for, meetings, LookedByKey, HeldByKey, WasSo, FitsMiss, IsSeenBy, ⊎_elim, inl}
 use Rattle.fx_lasting.proofs.slot_lemmas.ByNode.{acts_then, at_once, its_own, was_further}
@@ -11,47 +11,51 @@ use Rattle.fx_lasting.proofs.Running.{runs_within, swapped_then, at_swapped, num
 use Rattle.fx_lasting.proofs.slot_lemmas.Watching.{acted_further}
 use Rattle.fx_lasting.specs.slots.Alone.{TriedTakeHeld, TriedSwapHeld, TriedOutHeld, LeftAlone}
 use Rattle.fx_lasting.specs.Ends.{Does}
+use Rattle.fx_lasting.proofs.Words.{Bool, Guarded, HasItsHold, HoldsAlone, is_guarding, leaving_work}
 use Rattle.fx_lasting.specs.declared.answers.Miss.TheVariants as reason
 use Rattle.fx_lasting.specs.declared.key.Key.{Key}
 
 -- The last of some tries
-module _ {k : Start} {slot at : ℕ} (node found : ℕ) {m m₁ : Sat} (m₂ : Sat) {n : ℕ} (f : File) (works : m.0.work ≡ Counted f node) (start : m₁.0.start ≡ k)
-    (here : at ≡ slot) (still : Does m [] m.0.work n m₁) (few : n + 1 ≤ 4) (is : full_name_in found ≡ node + 1) (takes : 0 < count_in found)
-    (names : Names (node_of_number m₁.0.start) found (Some f)) where
-  its_name : full_name_in (found - 1) ≡ node + 1
-  its_name = (one_less found takes).0 ∙ is
+module _ {k : Start} {slot at : ℕ} (node found : ℕ) {m m₁ : Sat} (m₂ : Sat) {n : ℕ} (f : File) (works : HoldsAlone m.0.work f node) (start : m₁.0.start ≡ k)
+    (here : at ≡ slot) (still : Does m [] m.0.work n m₁) (few : n + 1 ≤ 4) (is : full_name_in found ≡ node + 1)
+    (own_hold : HasItsHold (is_guarding m₁.0.work) found) (names : Names (node_of_number m₁.0.start) found (Some f)) where
+  names_so : Names (node_of_number k) found (Some f)
+  names_so = subst (λ (z : Start). Names (node_of_number z) found (Some f)) start names
 
-  names_less : Names (node_of_number k) (found - 1) (Some f)
-  names_less = let z = subst (λ (z : Start). Names (node_of_number z) found (Some f)) start names in let l = one_less found takes in (l.0 ∙ z.0, l.3 ∙ z.1)
+  its_hold : HasItsHold (is_guarding m.0.work) found
+  its_hold = subst (λ (w : Work). HasItsHold (is_guarding w) found) still.work own_hold
 
-  abbrev Acts : Sat → ℕ → Start → ℕ → Glance → Type 0
-  Acts m s z i g = Runs m ([] ▷ Release f ▷ Take i (Some f)) (retiring_work z (found - 1) (Some f)) g Outside s m₂
+  abbrev Acts : Sat → ℕ → Start → ℕ → Glance → Bool → Type 0
+  Acts m s z i g b = Runs m ([] ▷ Release f ▷ Take i (Some f)) (leaving_work z b found f) g Outside s m₂
 
-  pub won_take_held : Stepped m₁ ([] ▷ Release f ▷ Take at (Some f)) (retiring_work m₁.0.start (found - 1) (Some f)) m₁.0.glance
-      (account (range_at_start m₁.0.start) at (Some f)) m₂ → TriedTakeHeld k slot node m (Ok (found - 1)) m₂
+  pub won_take_held : Stepped m₁ ([] ▷ Release f ▷ Take at (Some f)) (leaving_work m₁.0.start (is_guarding m₁.0.work) found f) m₁.0.glance
+      (account (range_at_start m₁.0.start) at (Some f)) m₂ → TriedTakeHeld k slot node m (Ok found) m₂
   won_take_held s = (
     f,
     works,
-    its_name,
-    names_less,
-    runs_within few (acts_then still (subst (λ (z : Start × ℕ). Acts m₁ 1 z.0 z.1 m₁.0.glance) (λ i. (start i, here i)) (at_once (range_at_start m₁.0.start) at f s))),
+    is,
+    names_so,
+    its_hold,
+    runs_within few (acts_then still (subst (λ (z : Start × ℕ × Bool). Acts m₁ 1 z.0 z.1 m₁.0.glance z.2) (λ i. (start i, here i, is_guarding (still.work i)))
+        (at_once (range_at_start m₁.0.start) at f s))),
   )
 
   abbrev Moved : ℕ → Type 0
   Moved e = NamesANode m₁.0.start found
-      × Stepped (as_swapped e (name_in found - 1) m₁) ([] ▷ Release f ▷ Take at (Some f)) (retiring_work m₁.0.start (found - 1) (Some f)) m₁.0.glance
+      × Stepped (as_swapped e (name_in found - 1) m₁) ([] ▷ Release f ▷ Take at (Some f)) (leaving_work m₁.0.start (is_guarding m₁.0.work) found f) m₁.0.glance
       (account (range_at_start m₁.0.start) at (Some f)) m₂
 
   pub won_swap_held : (own : ℕ) → IsInStock (pass_in m).stock own → ((e : ℕ) → get_elem? (pass_in m₁).stock e ≡ some own → Moved e)
-      → TriedSwapHeld k slot node own m (Ok (found - 1)) m₂
+      → TriedSwapHeld k slot node own m (Ok found) m₂
   won_swap_held own stocked wins = let z = wins stocked.0 (there stocked.0 stocked.1) in (
     f,
     works,
-    its_name,
-    names_less,
+    is,
+    names_so,
+    its_hold,
     subst (λ (y : ℕ). y < nodes_of k) (its_own found node is) (subst (λ (y : Start). name_in found - 1 < nodes_of y) start z.0.1),
-    λ e its. runs_within few (swapped_then e node still (subst (λ (z : Start × ℕ × Glance × ℕ). Acts (as_swapped e z.3 m₁) 1 z.0 z.1 z.2)
-        (λ i. (start i, here i, still.glance i, its_own found node is i)) (at_once (range_at_start m₁.0.start) at f (wins e (there e its)).1))),
+    λ e its. runs_within few (swapped_then e node still (subst (λ (z : Start × ℕ × Glance × ℕ × Bool). Acts (as_swapped e z.3 m₁) 1 z.0 z.1 z.2 z.4)
+        (λ i. (start i, here i, still.glance i, its_own found node is i, is_guarding (still.work i))) (at_once (range_at_start m₁.0.start) at f (wins e (there e its)).1))),
   )
     where
       there : (e : ℕ) → get_elem? (pass_in m).stock e ≡ some own → get_elem? (pass_in m₁).stock e ≡ some own
@@ -61,7 +65,7 @@ module _ {k : Start} {slot at : ℕ} (node found : ℕ) {m m₁ : Sat} (m₂ : S
 pub moved_held : {k : Start} {p : ℕ} {m : Sat} (m' : Sat) (at : IsAtWork k p m) (stock : List ℕ) → stock ≡ (pass_in m).stock
     → (slot node word own entry : ℕ) → get_elem? stock entry ≡ some own → TriedSwapHeld k slot node own m (Ok word) m'
     → TriedOutHeld k slot node (set stock entry node) m (Ok word) m'
-moved_held {k} {p} {m} m' at stock its slot node word own entry there (f, works, is, names, inside, did) =
+moved_held {k} {p} {m} m' at stock its slot node word own entry there (f, works, is, names, hold, inside, did) =
     let z = did entry (ap (λ (l : List ℕ). get_elem? l entry) (sym its) ∙ there) in
     let after = at_swapped at entry node inside in
     let same : set (pass_in m).stock entry node ≡ set stock entry node = λ i. set (sym its i) entry node in (
@@ -69,8 +73,9 @@ moved_held {k} {p} {m} m' at stock its slot node word own entry there (f, works,
       works,
       is,
       names,
+      hold,
       subst (λ (n : ℕ). IsStockOf k n (set stock entry node)) (sym (number_is at)) (subst (IsStockOf k p) (sym (stock_is after) ∙ same) after.stock),
-      subst (λ (l : List ℕ). Runs (as_stocked l m) ([] ▷ Release f ▷ Take slot (Some f)) (retiring_work k word (Some f)) m.0.glance Outside 4 m') same z,
+      subst (λ (l : List ℕ). Runs (as_stocked l m) ([] ▷ Release f ▷ Take slot (Some f)) (leaving_work k (is_guarding m.0.work) word f) m.0.glance Outside 4 m') same z,
     )
 
 -- a pass that holds a file, and has done nothing more
@@ -79,11 +84,15 @@ pub adds_held : {id : TableId} {k : Start} {p : LastingPass} {f : File} {hold : 
 adds_held {k = k} {p = p} fits holds {m'} r =
     subst (λ (d : Doing). Adds (opening_of k) (view_of p) [] d no_use (pass_of m'.0)) holds (adds_so fits.seated r no_use)
 
--- its fields say that it isn't idle, and keeps no node
-pub held_flags : (passes : ℕ) (p : LastingPass) {f : File} {n : ℕ} {w : Work} → w ≡ Counted f n
-    → IsBetweenCalls passes p.idle p.guarded p.keeps p.next_visit p.stock.items p.next_entry w → (p.idle ≡ false) × (p.keeps ≡ false)
-held_flags passes p works knows =
-    let z = subst (IsBetweenCalls passes p.idle p.guarded p.keeps p.next_visit p.stock.items p.next_entry) works knows in (z.0, z.1)
+-- its fields say that it isn't idle and keeps no node, and how it holds the file
+pub held_flags : (passes : ℕ) (p : LastingPass) {f : File} {n : ℕ} {w : Work} → HoldsAlone w f n
+    → IsBetweenCalls passes p.idle p.guarded p.keeps p.next_visit p.stock.items p.next_entry w
+    → (p.idle ≡ false) × (p.keeps ≡ false) × (is_guarding w ≡ p.guarded)
+held_flags passes p {f} {n} {w} works knows = ⊎_elim
+    (λ (is : w ≡ Counted f n). let z = subst (IsBetweenCalls passes p.idle p.guarded p.keeps p.next_visit p.stock.items p.next_entry) is knows in
+    (z.0, z.1, ap is_guarding is ∙ sym z.2))
+    (λ (is : w ≡ Guarded f n). let z = subst (IsBetweenCalls passes p.idle p.guarded p.keeps p.next_visit p.stock.items p.next_entry) is knows in
+    (z.0, z.1, ap is_guarding is ∙ sym z.2)) works
 
 -- a pass that released the file that it held after some steps
 pub released_then : (o : Opening) (v b w : PassView) (f g : File) (hold : Hold) (file : Option Closed) → g ≡ f → Adds o v [] (Holding g hold) no_use b

@@ -1,6 +1,6 @@
 -- A slot gets the file that a pass places, whether the pass holds the slot's file or nothing.
-use Rattle.fx_lasting.proofs.Words.{IsIn, held_of, hold_word_of, part_of_pass, map, ◌++◌}
-use Rattle.fx_lasting.proofs.slot_lemmas.Swaps.{IsAlike}
+use Rattle.fx_lasting.proofs.Words.{Round, StillNames, IsIn, held_of, hold_word_of, part_of_pass, map, ◌++◌}
+use Rattle.fx_lasting.proofs.slot_lemmas.Swaps.{Begins, IsAlike}
 use Rattle.fx_lasting.proofs.slot_lemmas.Watching.{ActsThere}
 use Rattle.fx_lasting.proofs.Histories.{Grows}
 use Rattle.fx_lasting.proofs.Words.{◌≡◌, ◌≢◌, ℕ, ◌+◌, ◌^◌, ◌<◌, List, set, sym, refl, ap, ◌∙◌, subst, arith, Option, Some, None, some}
@@ -10,7 +10,7 @@ use Rattle.fx_lasting.proofs.Words.{NodeAgrees, OwnerAgrees, IsHistory, state_af
 use Rattle.fx_lasting.proofs.Words.{count_in, file_word_of, taken_of, taking, owed, sum_by, sum_set, Phase, placed, seated}
 use Rattle.fx_lasting.proofs.Words.{removed_in, Change, Stepped}
 use Rattle.fx_lasting.proofs.Words.{account, range_at_start, Outside}
-use Rattle.fx_lasting.proofs.Words.{set_here, set_else, length-set, IsInside, retiring_work, ◌-◌, ◌≤◌, Whereabouts}
+use Rattle.fx_lasting.proofs.Words.{set_here, set_else, length-set, IsInside, removal_work, ◌-◌, ◌≤◌, Whereabouts}
 use Rattle.fx_lasting.proofs.Words.{IsInStock, as_stocked, as_swapped, first_log, Log, name_in}
 use Rattle.fx_lasting.proofs.Words.{Labels, Placement, written_in}
 use Rattle.fx_lasting.proofs.Words.{label_of, as_written, most_carried, takes_are_few, name_carried, full_name_carried, entry_carried, takes_carried}
@@ -26,9 +26,9 @@ use Rattle.fx_lasting.proofs.hold_lemmas.Unheld.{in_phase}
 
 -- The slot gets the file that a pass places, under a number that none had before. What was there is
 -- removed, with the takes of the word `counted`: the one that was there, or that one without the
--- take of the pass itself.
+-- take of the pass itself. The pass is to make the round.
 module _ (turn : Turn) (s : ℕ) (inside : s < slots_of turn.v.start) (old : Option File) (was : (state_after_all turn.v.start turn.r.history).at s ≡ old)
-    (counted : ℕ) (alike : IsAlike turn s inside counted) (n lost : ℕ) (file : Closed)
+    (counted : ℕ) (alike : IsAlike turn s inside counted) (round : Round) (n lost : ℕ) (file : Closed)
     (its : IsIn turn.v.start turn.r.phase n (placed turn.id (as_written lost (label_of file)))) (its_entry : IsInStock turn.x.stock n)
     (small : file.entry < 2 ^ 8) (out : turn.v.change ≡ Outside) (number : ℕ) (late : turn.r.nodes.next_number ≤ number) (on_n : turn.r.node_of number ≡ n)
     (h₂ : List Event) where
@@ -60,7 +60,7 @@ module _ (turn : Turn) (s : ℕ) (inside : s < slots_of turn.v.start) (old : Opt
   c₂ = account (range_at_start v.start) s old
 
   abbrev pub put_after : After turn
-  put_after = swap_after turn s inside old was counted alike h₂ new_word (Some new_file) homes₁ phase₁ (number + 1) c₂ where₁ stock₁
+  put_after = swap_after turn s inside old was counted alike round h₂ new_word (Some new_file) homes₁ phase₁ (number + 1) c₂ where₁ stock₁
 
   -- what the events of the step do, and what the pass did before
   pub record Puts : Type 0 where
@@ -79,16 +79,19 @@ module _ (turn : Turn) (s : ℕ) (inside : s < slots_of turn.v.start) (old : Opt
     pub taken : (f : File) → old ≡ Some f → count_in counted + taking (r.node_of f.number) v.work ≡ count_in (found turn s inside)
     pub untaken : (m : ℕ) → NotOf r.node_of m old → taking m v.work ≡ 0
     pub works : busy v.work ≡ n + 1
-    pub no_hold : (word_at st.words (hold_word_of v.start x.number) ≡ 0) × (r.debt x.number ≡ 0)
+    pub begins : Begins turn s inside round
+    pub hold_none : old ≡ None → (word_at st.words (hold_word_of v.start x.number) ≡ 0) × (r.debt x.number ≡ 0)
+    pub hold : (f : File) → old ≡ Some f
+        → StillNames round.guarded (word_at st.words (hold_word_of v.start x.number)) (r.debt x.number) (r.node_of f.number)
 
   removed_same : (m : ℕ) → removed_in m (phase₁ (r.node_of m)) ≡ removed_in m (r.phase (r.node_of m))
   removed_same m = each_changed (λ q z. removed_in m z ≡ removed_in m (r.phase q)) r.phase
       (λ at. sym (ap (λ (q : ℕ). removed_in m (r.phase q)) at ∙ ap (removed_in m) its.1)) (λ _. refl)
 
-  untaken : (m : ℕ) → taking m (d turn s inside old was counted alike) ≡ 0
+  untaken : (m : ℕ) → taking m (d turn s inside old was counted alike round) ≡ 0
   untaken m = go old
     where
-      go : (o : Option File) → taking m (retiring_work v.start counted o) ≡ 0
+      go : (o : Option File) → taking m (removal_work round counted o) ≡ 0
       go None = refl
       go (Some f) = refl
 
@@ -135,7 +138,7 @@ module _ (turn : Turn) (s : ℕ) (inside : s < slots_of turn.v.start) (old : Opt
         (ap (λ (z : State). z.at i) does.state ∙ changed_else before.at s (Some new_file) i away, ap count_in (slot_else turn s inside new_word i away)))
         (r.nodes.each m l)
 
-    installs : Swap turn s inside old was counted alike h₂ new_word (Some new_file) homes₁ phase₁ (number + 1) c₂ where₁ stock₁
+    installs : Swap turn s inside old was counted alike round h₂ new_word (Some new_file) homes₁ phase₁ (number + 1) c₂ where₁ stock₁
     installs = record {
       grows = does.grows;
       legal = does.legal;
@@ -170,26 +173,28 @@ module _ (turn : Turn) (s : ℕ) (inside : s < slots_of turn.v.start) (old : Opt
       old_home = λ f is. set_else st.homes n (r.node_of f.number) (some (Some file)) (λ same. its_apart f is (sym same));
       owners = λ m l apart. each_changed (OwnerAgrees (set st.views id (w turn put_after))) r.phase (λ same. tt)
           (λ other. owner_stays st.views id v (w turn put_after) here m (λ bad. let b = does.works in other (omega arith)) (r.phase m) (r.nodes.owners m l));
-      no_hold = does.no_hold;
+      begins = does.begins;
+      hold_none = does.hold_none;
+      hold = does.hold;
       counts = counts_filled id (w turn put_after) here r.range s old new_file (few_slots turn) was (slot_alike turn s inside new_word)
           (asks_alike turn put_after refl) out refl;
     }
 
     pub put_agrees : Agrees v.start (end turn put_after)
-    put_agrees = swap_kept turn s inside old was counted alike h₂ new_word (Some new_file) homes₁ phase₁ (number + 1) c₂ where₁ stock₁ installs
+    put_agrees = swap_kept turn s inside old was counted alike round h₂ new_word (Some new_file) homes₁ phase₁ (number + 1) c₂ where₁ stock₁ installs
 
     pub put_tells : (xs : List Action) → part_of_pass x.number h₂ ≡ map (pass_event x) xs ++ part_of_pass x.number r.history → (carried homes : List (ℕ × Option Closed)) (e : ℕ) → get_elem? (first_log v.logs).stock e ≡ some n
-        → Stepped (as_swapped e (name_in (found turn s inside) - 1) (v, carried)) xs (retiring_work v.start counted old) v.glance c₂
+        → Stepped (as_swapped e (name_in (found turn s inside) - 1) (v, carried)) xs (removal_work round counted old) v.glance c₂
         (w turn put_after, homes)
     put_tells xs own carried homes e is = subst (λ (z : List ℕ × ℕ). Stepped (as_stocked (set z.0 z.1 (name_in (found turn s inside) - 1)) (v, carried)) xs
-        (retiring_work v.start counted old) v.glance c₂ (w turn put_after, homes))
+        (removal_work round counted old) v.glance c₂ (w turn put_after, homes))
         (λ i. (sym same_stock i, one_entry turn s inside n its_entry e (ap (λ (l : List ℕ). get_elem? l e) (sym same_stock) ∙ is) i))
         (tells_stocked turn put_after refl carried homes xs does.grows does.legal own (knows old refl))
       where
         same_stock : (first_log v.logs).stock ≡ x.stock
         same_stock = ap (λ (l : List Log). (first_log l).stock) one
 
-        knows : (o : Option File) → old ≡ o → IsInside v.start (retiring_work v.start counted old)
-        knows None is = subst (λ (o : Option File). IsInside v.start (retiring_work v.start counted o)) (sym is) tt
-        knows (Some f) is = subst (λ (o : Option File). IsInside v.start (retiring_work v.start counted o)) (sym is)
+        knows : (o : Option File) → old ≡ o → IsInside v.start (removal_work round counted old)
+        knows None is = subst (λ (o : Option File). IsInside v.start (removal_work round counted o)) (sym is) tt
+        knows (Some f) is = subst (λ (o : Option File). IsInside v.start (removal_work round counted o)) (sym is)
             (let n = (old_at turn s inside old was is).0 in let e = old_named turn s inside old was is in let same = alike.0 in omega arith)

@@ -5,7 +5,7 @@ use Rattle.std.proofs.lemmas.Bool.{eq-eqb, ne_eqb, lt-ltb}
 use Rattle.std.proofs.lemmas.List.Sums.{sum_by-append, sum_by-cons}
 use Rattle.fx_plain.specs.History.{IsSeenBy, ◌▷◌}
 use Rattle.fx_plain.specs.declared.event.Action.{Action}
-use Rattle.fx_plain.specs.declared.event.Action.TheVariants.{Look, Release, Put, Clear, Take, Allocate, Full, Close}
+use Rattle.fx_plain.specs.declared.event.Action.TheVariants.{Look, Put, Clear, Take, Allocate}
 use Rattle.fx_plain.specs.declared.event.Event.{Event}
 use Rattle.fx_lasting.specs.slots.ByNode.{HasMet}
 use Rattle.fx_lasting.specs.Tables.{view_of, meetings}

@@ -1,23 +1,25 @@
 -- The ends of a replacement by key by one pass: what the pass adds to its view.
 use Rattle.fx_lasting.proofs.Words.{◌≡◌, ◌≢◌, ℕ, ◌+◌, ◌<◌, ◌≤◌, List, [], sym, refl, ap, ◌∙◌, subst, arith, Option, Some, None, Ok, Err, get_elem?, some, inl, inr, ⊎_elim}
-use Rattle.fx_lasting.proofs.Words.{Idle, HasActed, File, Look, Release, Put, Action, numbered, ◌▷◌, Start, Sat, Glance, Nothing, Outside, Runs, Renewing, Placing, Placement, Closed}
+use Rattle.fx_lasting.proofs.Words.{Idle, HasActed, File, Look, Release, Put, Action, numbered, ◌▷◌, Start, Sat, Glance, Nothing, Outside, Runs, Placing, Placement, Closed}
 use Rattle.fx_lasting.proofs.Words.{Names, as_swapped, entry_in, count_in, pass_in, node_of_number, retiring_work, held_in, doing_in, hold_at, slots_of}
 use Rattle.fx_lasting.proofs.Words.{TableId, LastingPass, IsSeatOf, opening_of, view_of, pass_of, PassView, Hold, Adds, no_use, one_look, one_number, ReleasesFile, LetsFileGo}
 use Rattle.fx_lasting.proofs.Words.{Retired, LookedByKey, HeldByKey, TriesKey, fault_for, KeyFault, Miss, meetings, adds_then, DoesNothing}
 use Rattle.fx_table.specs.declared.values.Doing.TheVariants.{Retiring as Retires}
-use Rattle.fx_lasting.proofs.slot_lemmas.ByNode.{was_further, was_before, removal_so, value_so}
+use Rattle.fx_lasting.proofs.slot_lemmas.ByNode.{was_further, removal_so, value_so}
 use Rattle.fx_lasting.proofs.slot_lemmas.Watching.{acted_further}
-use Rattle.fx_lasting.proofs.Running.{looks_then, file_then, swapped_then}
-use Rattle.fx_lasting.proofs.Passing.{adds_so, adds_run, lets_run, up_then}
+use Rattle.fx_lasting.proofs.Running.{does_then, looks_then, file_then, swapped_then}
+use Rattle.fx_lasting.proofs.Passing.{adds_so, adds_run, frees_number, frees_then, lets_run}
+use Rattle.fx_lasting.proofs.slot_lemmas.Renewals.{held_besides}
 use Rattle.fx_lasting.specs.slots.Alone.{LeftAlone}
 use Rattle.fx_lasting.specs.slots.ByKey.{HoldsAtKey, IsKeyOf}
-use Rattle.fx_lasting.specs.slots.PutAlone.{TakesOn, WonRenewal, TriedRenewal, RenewsAlone, PutsAlone}
+use Rattle.fx_lasting.specs.slots.PutAlone.{FreesFirst, TakesOn, TriedRenewal, RenewsAlone, PutsAlone}
+use Rattle.fx_lasting.proofs.Words.{Change, Close, Doing, Holding, LetsMarkGo, Work}
 use Rattle.fx_lasting.specs.declared.answers.Miss.TheVariants as reason
 use Rattle.fx_table.specs.declared.values.LookFault.TheVariants.{Empty as EmptySlot}
 use Rattle.fx_lasting.specs.declared.key.Key.{Key}
 use Rattle.fx_lasting.specs.declared.key_answers.KeyFault.TheVariants as fault
-use Rattle.fx_lasting.specs.declared.key_answers.PutByKey.{PutByKey}
-use Rattle.fx_lasting.specs.declared.key_answers.PutByKey.TheVariants.{Replaced, Missed, Hot}
+use Rattle.fx_lasting.specs.declared.key_answers.PutOverKey.{PutOverKey}
+use Rattle.fx_lasting.specs.declared.key_answers.PutOverKey.TheVariants.{Replaced, Missed}
 
 -- a release after some steps, by the seat alone
 releases_so : {k : Start} (m : Sat) → m.0.start ≡ k → (m' : Sat) (f : File) (n : ℕ) (r : Option Closed) → LetsFileGo m f n r m'
@@ -26,24 +28,31 @@ releases_so m start m' f n None goes = adds_run m start goes no_use
 releases_so m start m' f n (Some file) goes = (goes.0, adds_run m start goes.1 no_use)
 
 module _ {id : TableId} {k : Start} {p : LastingPass} (seated : IsSeatOf id k p) (key : Key) (inside : key.slot < slots_of k) {own n : ℕ} {l : Placement} {m₁ : Sat}
-    (placed : Runs p.seat.me [] (Placing own l) p.seat.me.0.glance p.seat.me.0.change n m₁) {node : ℕ} {m₂ : Sat} (f : File)
-    (took : TakesOn k key.slot own l f node m₁ m₂) where
-  pub holds_run : Runs p.seat.me ([] ▷ Look key.slot (Some f)) (Renewing f node own l) Nothing p.seat.me.0.change (n + 3) m₂
-  holds_run = looks_then placed took.1
+    (placed : Runs p.seat.me [] (Placing own l) p.seat.me.0.glance p.seat.me.0.change n m₁) {node : ℕ} (hot : Option ℕ) {m₂ : Sat} (f : File)
+    (took : TakesOn k key.slot own l hot f node m₁ m₂) where
+  pub holds_run : Runs p.seat.me ([] ▷ Look key.slot (Some f)) took.1 Nothing p.seat.me.0.change (n + 3) m₂
+  holds_run = looks_then placed took.4
+
+  doing : doing_in took.1 ≡ Holding f (hold_at f node)
+  doing = ⊎_elim (λ is. ap doing_in is) (λ is. ap doing_in is) took.2
 
   start : m₂.0.start ≡ k
   start = holds_run.start ∙ seated.at.pass.0
 
   pub at_key : HoldsAtKey k (view_of p) key f (hold_at f node) None (pass_of m₂.0)
   at_key = record {
-    looked = (f, record { entry = refl; same = λ e. absurd (cc e) }, adds_so seated holds_run one_look);
-    holds = ap doing_in holds_run.work;
+    looked = (
+      f,
+      record { entry = refl; same = λ e. absurd (cc e) },
+      subst (λ (d : Doing). Adds (opening_of k) (view_of p) ([] ▷ Look key.slot (Some f)) d one_look (pass_of m₂.0)) doing (adds_so seated holds_run one_look),
+    );
+    holds = ap doing_in holds_run.work ∙ doing;
     node = took.0;
     inside = inside;
   }
 
   -- it released the file at once, which isn't that of the key
-  pub was_other : (IsKeyOf key f → ⊥) → (m₃ : Sat) (r : Option Closed) → LetsFileGo m₂ f 3 r m₃
+  pub was_other : (IsKeyOf key f → ⊥) → (m₃ : Sat) (r : Option Closed) → LetsFileGo m₂ f 4 r m₃
       → LookedByKey k (view_of p) key (Err fault.Other) None r (pass_of m₃.0)
   was_other other m₃ r lets = record {
     file = f;
@@ -51,15 +60,15 @@ module _ {id : TableId} {k : Start} {p : LastingPass} (seated : IsSeatOf id k p)
     between = pass_of m₂.0;
     other = other;
     held = at_key;
-    releases = releases_so m₂ start m₃ f 3 r lets;
+    releases = releases_so m₂ start m₃ f 4 r lets;
   }
 
   module _ (its_key : IsKeyOf key f) where
     -- the tries failed, and it released the file
     module _ (p' : LastingPass) (m₃ : Sat) (file : Closed) (miss : Miss) (failed : TriedRenewal k key.slot node own file m₂ (Err miss) m₃) (r : Option Closed)
-        (lets : LetsFileGo m₃ f 3 r p'.seat.me) where
-      ends : (xs : List Action) × Runs m₃ xs Idle m₃.0.glance m₃.0.change 3 p'.seat.me
-      ends = lets_run m₃ p'.seat.me f 3 r lets
+        (lets : LetsFileGo m₃ f 4 r p'.seat.me) where
+      ends : (xs : List Action) × Runs m₃ xs Idle m₃.0.glance m₃.0.change 4 p'.seat.me
+      ends = lets_run m₃ p'.seat.me f 4 r lets
 
       abbrev holder : HeldByKey k (view_of p) key (hold_at f node) None r (view_of p')
       holder = record {
@@ -67,7 +76,7 @@ module _ {id : TableId} {k : Start} {p : LastingPass} (seated : IsSeatOf id k p)
         between = pass_of m₂.0;
         its_key = its_key;
         held = at_key;
-        releases = releases_so m₂ start p'.seat.me f 8 r (file_then p'.seat.me f 3 r failed.2 lets);
+        releases = releases_so m₂ start p'.seat.me f 9 r (file_then p'.seat.me f 4 r failed.2 lets);
       }
 
       tries : (z : Miss) → miss ≡ z → TriesKey k (view_of p) key (fault_for z) None p p'
@@ -95,27 +104,27 @@ module _ {id : TableId} {k : Start} {p : LastingPass} (seated : IsSeatOf id k p)
       }
 
     -- the file was replaced
-    module _ (p' : LastingPass) (file : Closed) (word : ℕ) (won : WonRenewal k key.slot node own file 5 m₂ word p'.seat.me) (e : ℕ)
+    module _ (p' : LastingPass) (file : Closed) (word : ℕ) (won : TriedRenewal k key.slot node own file m₂ (Ok word) p'.seat.me) (e : ℕ)
         (stocked : get_elem? (pass_in m₂).stock e ≡ some own) (x : Retired) (on : x.node ≡ node) (entry : x.entry ≡ entry_in word)
         (takes : x.takes ≡ count_in word) where
       same : won.0 ≡ f
-      same = cc (sym won.1 ∙ ap held_in holds_run.work)
+      same = cc (sym won.1 ∙ (ap held_in holds_run.work ∙ held_besides took.2))
 
       pub did : (number : ℕ) × (node_of_number k number ≡ own)
-          × Runs (as_swapped e node m₂) ([] ▷ Release f ▷ Put key.slot (numbered number file) (Some f)) (retiring_work k word (Some f)) m₂.0.glance Outside 5 p'.seat.me
+          × Runs (as_swapped e node m₂) ([] ▷ Release f ▷ Put key.slot (numbered number file) (Some f)) (retiring_work k word (Some f)) m₂.0.glance Outside 6 p'.seat.me
       did = subst (λ (z : File). (number : ℕ) × (node_of_number k number ≡ own)
-          × Runs (as_swapped e node m₂) ([] ▷ Release z ▷ Put key.slot (numbered number file) (Some z)) (retiring_work k word (Some z)) m₂.0.glance Outside 5 p'.seat.me)
+          × Runs (as_swapped e node m₂) ([] ▷ Release z ▷ Put key.slot (numbered number file) (Some z)) (retiring_work k word (Some z)) m₂.0.glance Outside 6 p'.seat.me)
           same (won.6 e stocked)
 
       pub names : Names (node_of_number k) word (Some f)
       names = subst (λ (z : File). Names (node_of_number k) word (Some z)) same won.5
 
       pub swaps : Runs (as_swapped e node p.seat.me) ([] ▷ Look key.slot (Some f) ▷ Release f ▷ Put key.slot (numbered did.0 file) (Some f)) (retiring_work k word (Some f))
-          Nothing Outside (n + 3 + 5) p'.seat.me
+          Nothing Outside (n + 3 + 6) p'.seat.me
       swaps = subst (λ (g : Glance). Runs (as_swapped e node p.seat.me) ([] ▷ Look key.slot (Some f) ▷ Release f ▷ Put key.slot (numbered did.0 file) (Some f))
-          (retiring_work k word (Some f)) g Outside (n + 3 + 5) p'.seat.me) holds_run.glance (swapped_then e node holds_run did.2)
+          (retiring_work k word (Some f)) g Outside (n + 3 + 6) p'.seat.me) holds_run.glance (swapped_then e node holds_run did.2)
 
-      pub renews : (r : Option Closed) → r ≡ None → RenewsAlone k p key file x r p'
+      pub renews : (r : Option Closed) → r ≡ None → RenewsAlone k p key file x None r p'
       renews r none = record {
         old = f;
         hold = hold_at f node;
@@ -130,20 +139,21 @@ module _ {id : TableId} {k : Start} {p : LastingPass} (seated : IsSeatOf id k p)
         released_none = none;
       }
 
--- A pass that did nothing but see more before
-module _ (k : Start) (u p p' : LastingPass) (key : Key) (before : Adds (opening_of k) (view_of u) [] DoesNothing no_use (view_of p)) (few : meetings u ≤ meetings p) where
-  held_before : (f : File) (hold : Hold) (b : PassView) → HoldsAtKey k (view_of p) key f hold None b → HoldsAtKey k (view_of u) key f hold None b
+-- A pass that saw more before, and perhaps freed a file
+module _ (k : Start) (u p p' : LastingPass) (key : Key) (freed : Option Closed) (before : FreesFirst (opening_of k) (view_of u) freed (view_of p))
+    (few : meetings u ≤ meetings p) where
+  held_before : (f : File) (hold : Hold) (b : PassView) → HoldsAtKey k (view_of p) key f hold None b → HoldsAtKey k (view_of u) key f hold freed b
   held_before f hold b o = record {
-    looked = up_then k (view_of u) (view_of p) b key.slot (Ok hold) None (λ bad. cc bad) before o.looked;
+    looked = frees_then k (view_of u) (view_of p) b key.slot (Ok hold) freed (λ bad. cc bad) before o.looked;
     holds = o.holds;
     node = o.node;
     inside = o.inside;
   }
 
   looked_before : (why : KeyFault) (r : Option Closed) → why ≢ fault.NoSlot → LookedByKey k (view_of p) key (Err why) None r (view_of p')
-      → LookedByKey k (view_of u) key (Err why) None r (view_of p')
+      → LookedByKey k (view_of u) key (Err why) freed r (view_of p')
   looked_before fault.NoSlot r other o = absurd (other refl)
-  looked_before fault.Empty r other o = (up_then k (view_of u) (view_of p) (view_of p') key.slot (Err EmptySlot) None (λ bad. cc bad) before o.0, o.1)
+  looked_before fault.Empty r other o = (frees_then k (view_of u) (view_of p) (view_of p') key.slot (Err EmptySlot) freed (λ bad. cc bad) before o.0, o.1)
   looked_before fault.Other r other o = record {
     file = o.file;
     hold = o.hold;
@@ -154,7 +164,7 @@ module _ (k : Start) (u p p' : LastingPass) (key : Key) (before : Adds (opening_
   }
   looked_before fault.Again r other o = absurd o
 
-  tries_before : (why : KeyFault) → TriesKey k (view_of p) key why None p p' → TriesKey k (view_of u) key why None u p'
+  tries_before : (why : KeyFault) → TriesKey k (view_of p) key why None p p' → TriesKey k (view_of u) key why freed u p'
   tries_before fault.NoSlot o = tt
   tries_before fault.Empty o = tt
   tries_before fault.Other o = tt
@@ -164,10 +174,11 @@ module _ (k : Start) (u p p' : LastingPass) (key : Key) (before : Adds (opening_
     between = o.between;
     its_key = o.its_key;
     held = held_before o.file o.hold o.between o.held;
-    overtaken = ⊎_elim (λ did. inl (subst (λ (q : ℕ). HasActed key.slot q o.between.front (view_of p').front) before.number did)) (λ met. inr (omega (arith, met.0, few), met.1)) o.overtaken;
+    overtaken = ⊎_elim (λ did. inl (subst (λ (q : ℕ). HasActed key.slot q o.between.front (view_of p').front)
+        (frees_number (opening_of k) (view_of u) (view_of p) freed before) did)) (λ met. inr (omega (arith, met.0, few), met.1)) o.overtaken;
   }
 
-  left_before : (why : KeyFault) (r : Option Closed) → LeftAlone k p key why None r p' → LeftAlone k u key why None r p'
+  left_before : (why : KeyFault) (r : Option Closed) → LeftAlone k p key why None r p' → LeftAlone k u key why freed r p'
   left_before why r o = let h = o.holder in record {
     hold = o.hold;
     holder = record { file = h.file; between = h.between; its_key = h.its_key; held = held_before h.file o.hold h.between h.held; releases = h.releases };
@@ -177,7 +188,8 @@ module _ (k : Start) (u p p' : LastingPass) (key : Key) (before : Adds (opening_
     tries = tries_before why o.tries;
   }
 
-  pub puts_before : (inside : key.slot < slots_of k) (file : Closed) (put : PutByKey) (r : Option Closed) → PutsAlone k p key file put r p' → PutsAlone k u key file put r p'
+  pub puts_before : (inside : key.slot < slots_of k) (file : Closed) (put : PutOverKey) (r : Option Closed) → PutsAlone k p key file put None r p'
+      → PutsAlone k u key file put freed r p'
   puts_before inside file (Replaced x) r o = record {
     old = o.old;
     hold = o.hold;
@@ -192,17 +204,21 @@ module _ (k : Start) (u p p' : LastingPass) (key : Key) (before : Adds (opening_
   }
   puts_before inside file (Missed why back) r o = (o.0, ⊎_elim (λ looked. inl (slot_there why looked)) (λ left. inr (left_before why r left)) o.1)
     where
-      slot_there : (why : KeyFault) → LookedByKey k (view_of p) key (Err why) None r (view_of p') → LookedByKey k (view_of u) key (Err why) None r (view_of p')
+      slot_there : (why : KeyFault) → LookedByKey k (view_of p) key (Err why) None r (view_of p') → LookedByKey k (view_of u) key (Err why) freed r (view_of p')
       slot_there fault.NoSlot looked = absurd (let a = looked.0 in omega arith)
       slot_there fault.Empty looked = looked_before fault.Empty r (λ bad. cc bad) looked
       slot_there fault.Other looked = looked_before fault.Other r (λ bad. cc bad) looked
       slot_there fault.Again looked = absurd looked
-  puts_before inside file (Hot back) r o = let h = o.1 in (
-    o.0,
-    record {
-      file = h.file;
-      was = was_before (view_of u).front before.seen h.was;
-      adds = adds_then (opening_of k) (view_of u) (view_of p) (view_of p') [] [] DoesNothing DoesNothing no_use no_use before h.adds;
-      released_none = h.released_none;
-    },
-  )
+
+-- a pass that did nothing but see more, and then perhaps freed a file
+pub frees_later : (k : Start) (u v w : PassView) (freed : Option Closed) → Adds (opening_of k) u [] DoesNothing no_use v → FreesFirst (opening_of k) v freed w
+    → FreesFirst (opening_of k) u freed w
+frees_later k u v w None first frees = adds_then (opening_of k) u v w [] [] DoesNothing DoesNothing no_use no_use first frees
+frees_later k u v w (Some file) first frees =
+    (frees.0, frees.1, adds_then (opening_of k) u v w [] ([] ▷ Close frees.0) DoesNothing DoesNothing no_use no_use first frees.2)
+
+-- an announcement in vain
+pub frees_so : {id : TableId} {k : Start} {p : LastingPass} → IsSeatOf id k p → {m : Sat} {w : Work} {g : Glance} {c : Change} {n : ℕ}
+    → Runs p.seat.me [] w g c n m → (m' : Sat) (freed : Option Closed) → LetsMarkGo m 3 freed m' → FreesFirst (opening_of k) (view_of p) freed (pass_of m'.0)
+frees_so seated before m' None lets = adds_so seated (does_then before lets) no_use
+frees_so seated before m' (Some file) lets = (lets.0, lets.1, adds_so seated (does_then before lets.2) no_use)

@@ -1,7 +1,7 @@
--- A replacement by a pass that holds the slot's file by a take keeps the rule: the hold ends with
--- the step, and the removal counts the takes without the pass's own.
+-- A replacement by a pass that holds the slot's file keeps the rule: the hold ends with the step,
+-- and the removal counts the takes without the pass's own.
 use Rattle.fx_lasting.proofs.Words.{◌≡◌, ◌≢◌, ℕ, ◌+◌, ◌-◌, ◌^◌, ◌<◌, List, [], ◌∷◌, sym, refl, ap, ◌∙◌, subst, arith, Option, Some, none, some}
-use Rattle.fx_lasting.proofs.Words.{◌≤◌, heat_in, entry_in, keeps, gives, rest, eqb, either, Closed, File, numbered, Event, Release, Put, ◌▷◌, State}
+use Rattle.fx_lasting.proofs.Words.{◌≤◌, keeps, gives, rest, eqb, either, Closed, File, numbered, Event, Release, Put, ◌▷◌, State}
 use Rattle.fx_lasting.proofs.Words.{pass_event, WorkAgrees, HoldsAt, IsIn, part_of_pass, map, ◌++◌, state_after_all}
 use Rattle.fx_lasting.proofs.Words.{slots_of, slot_place, count_in, full_name_in, file_word_of, label_of, as_written, placed, taking, held_in}
 use Rattle.fx_lasting.proofs.Words.{bit_here, bit_else, Outside, Renewing, ReplacesHeld, ReplacesHeldKeep, step, exchanged, IsInStock}
@@ -14,12 +14,58 @@ use Rattle.fx_lasting.proofs.slot_lemmas.Sights.{sees_after, sees_kept, sees_slo
 use Rattle.fx_lasting.proofs.slot_lemmas.Swaps.{found}
 use Rattle.fx_lasting.proofs.slot_lemmas.Installing.{Puts, put_after, put_agrees, put_tells}
 use Rattle.fx_lasting.proofs.slot_lemmas.SlotLaws.{file_carried, fresh_number}
-use Rattle.fx_lasting.proofs.slot_lemmas.HeldSlots.{there, on_n, some_takes, less, h₀, legal₀, let_go, by_number}
+use Rattle.fx_lasting.proofs.slot_lemmas.HeldSlots.{there, on_n, h₀, legal₀, let_go, by_number, IsHeld, by_take, by_guard}
+use Rattle.fx_lasting.proofs.Words.{Bool, true, false, Round, StillNames, HoldsBesides, HasItsHold, HoldAgrees, GuardAgrees, IsAllowed, Work, Placement, Relieving}
+use Rattle.fx_lasting.proofs.Words.{⊎_elim, hold_word_of, guarded_round, first_visit, new_round, removal_work, leaving_work, is_guarding, Stepped, as_swapped}
+use Rattle.fx_lasting.proofs.Words.{account, range_at_start, name_in}
+
+-- the file that a pass holds beside the one that it places
+pub held_besides : {d : Work} {f : File} {n own : ℕ} {l : Placement} → HoldsBesides d f n own l → held_in d ≡ Some f
+held_besides holds = ⊎_elim (λ is. ap held_in is) (λ is. ap held_in is) holds
+
+-- what a pass works with that holds a file and has placed another one
+module _ (turn : Turn) (f : File) (n own : ℕ) (l : Placement) (holds : HoldsBesides turn.v.work f n own l) where
+  open turn use {st, v, r, id, x, here, one}
+
+  pub both : HoldsAt v.start r.phase f n × IsIn v.start r.phase own (placed id l)
+  both = ⊎_elim (λ is. subst (WorkAgrees v.start r.phase id) is (its_work turn)) (λ is. subst (WorkAgrees v.start r.phase id) is (its_work turn)) holds
+
+  its_busy : busy v.work ≡ own + 1
+  its_busy = ⊎_elim (λ is. ap busy is) (λ is. ap busy is) holds
+
+  its_entry : IsInStock x.stock own
+  its_entry = let o = its_log turn in ⊎_elim (λ (is : v.work ≡ Renewing f n own l). subst (IsAllowed x.stock x.listed) is o.allowed)
+      (λ (is : v.work ≡ Relieving f n own l). let can : IsInStock x.stock own × (x.listed ≡ true) = subst (IsAllowed x.stock x.listed) is o.allowed in can.0) holds
+
+  -- it may remove the held file
+  module _ (s : ℕ) (inside : s < slots_of v.start) (names_it : full_name_in (found turn s inside) ≡ n + 1) where
+    abbrev Held : Type 0
+    Held = (guards : Bool) × (counted : ℕ) × (round : Round) × IsHeld turn s inside f n both.0 (held_besides holds) names_it guards counted round
+
+    held_so : Held
+    held_so = let o = its_log turn in ⊎_elim
+        (λ (is : v.work ≡ Renewing f n own l). (
+          false,
+          found turn s inside - 1,
+          new_round (first_visit v.start.passes (found turn s inside - 1)),
+          by_take turn s inside f n both.0 (held_besides holds) names_it (ap (taking n) is ∙ bit_here n n refl) (ap is_guarding is)
+              (λ m other. ap (taking m) is ∙ bit_else m n (λ e. other (sym e))) (let h = rw is at o.hold in (h.0, h.1)),
+        ))
+        (λ (is : v.work ≡ Relieving f n own l).
+        let can : IsInStock x.stock own × (x.listed ≡ true) = subst (IsAllowed x.stock x.listed) is o.allowed in (
+          true,
+          found turn s inside,
+          guarded_round,
+          by_guard turn s inside f n both.0 (held_besides holds) names_it (ap is_guarding is) (λ m. ap (taking m) is)
+              (subst (HoldAgrees (word_at st.words (hold_word_of v.start x.number)) (r.debt x.number)) is o.hold)
+              (subst (GuardAgrees (slot_word st.words) r.phase x.number (r.debt x.number)) is o.guarded) can.1,
+        )) holds
 
 module _ (turn : Turn) (s : ℕ) (inside : s < slots_of turn.v.start) (f : File) (n own lost : ℕ) (file : Closed)
-    (works : turn.v.work ≡ Renewing f n own (as_written lost (label_of file))) (small : file.entry < 2 ^ 8) (out : turn.v.change ≡ Outside)
+    (works : HoldsBesides turn.v.work f n own (as_written lost (label_of file))) (small : file.entry < 2 ^ 8) (out : turn.v.change ≡ Outside)
     (number : ℕ) (late : turn.r.nodes.next_number ≤ number) (on_own : turn.r.node_of number ≡ own)
-    (names_it : full_name_in (found turn s inside) ≡ n + 1) where
+    (names_it : full_name_in (found turn s inside) ≡ n + 1) (guards : Bool) (counted : ℕ) (round : Round)
+    (so : IsHeld turn s inside f n (both turn f n own (as_written lost (label_of file)) works).0 (held_besides works) names_it guards counted round) where
   open turn use {st, v, r, id, x, here, one}
 
   abbrev before : State
@@ -28,17 +74,14 @@ module _ (turn : Turn) (s : ℕ) (inside : s < slots_of turn.v.start) (f : File)
   abbrev word : ℕ
   word = found turn s inside
 
-  both : HoldsAt v.start r.phase f n × IsIn v.start r.phase own (placed id (as_written lost (label_of file)))
-  both = subst (WorkAgrees v.start r.phase id) works (its_work turn)
+  abbrev its : HoldsAt v.start r.phase f n × IsIn v.start r.phase own (placed id (as_written lost (label_of file)))
+  its = both turn f n own (as_written lost (label_of file)) works
 
-  takes_it : taking n v.work ≡ 1
-  takes_it = ap (taking n) works ∙ bit_here n n refl
+  abbrev holds_it : held_in v.work ≡ Some f
+  holds_it = held_besides works
 
-  holds_it : held_in v.work ≡ Some f
-  holds_it = ap held_in works
-
-  its_entry : IsInStock x.stock own
-  its_entry = rw works at (its_log turn).allowed
+  abbrev stocked : IsInStock x.stock own
+  stocked = its_entry turn f n own (as_written lost (label_of file)) works
 
   abbrev new_file : File
   new_file = numbered number file
@@ -47,40 +90,49 @@ module _ (turn : Turn) (s : ℕ) (inside : s < slots_of turn.v.start) (f : File)
   event = pass_event x (Put s new_file (Some f))
 
   abbrev h₂ : List Event
-  h₂ = event ∷ h₀ turn s inside f n both.0 takes_it holds_it names_it
+  h₂ = event ∷ h₀ turn s inside f n its.0 holds_it names_it
 
   is_there : before.at s ≡ Some f
-  is_there = there turn s inside f n both.0 takes_it holds_it names_it
-
-  one_less : (full_name_in (word - 1) ≡ full_name_in word) × (heat_in (word - 1) ≡ heat_in word) × (count_in (word - 1) + 1 ≡ count_in word)
-      × (entry_in (word - 1) ≡ entry_in word)
-  one_less = less turn s inside f n both.0 takes_it holds_it names_it
+  is_there = there turn s inside f n its.0 holds_it names_it
 
   abbrev renewed : After turn
-  renewed = put_after turn s inside (Some f) is_there (word - 1) (one_less.0, one_less.1) own lost file both.1 its_entry small out number late on_own h₂
+  renewed = put_after turn s inside (Some f) is_there counted so.alike round own lost file its.1 stocked small out number late on_own h₂
 
-  puts : Puts turn s inside (Some f) is_there (word - 1) (one_less.0, one_less.1) own lost file both.1 its_entry small out number late on_own h₂
-  puts = let o = its_log turn in let h = rw works at o.hold in record {
+  puts : Puts turn s inside (Some f) is_there counted so.alike round own lost file its.1 stocked small out number late on_own h₂
+  puts = record {
     grows = grows_more refl (grows_one x.number r.history (pass_event x (Release f)) refl);
-    legal = legal_more v.start (legal₀ turn s inside f n both.0 takes_it holds_it names_it)
+    legal = legal_more v.start (legal₀ turn s inside f n its.0 holds_it names_it)
         (let z = (same_shape v.start r.history).0 in (omega arith, r.nodes.fresh number late, sym is_there)) tt;
-    acted = (h₀ turn s inside f n both.0 takes_it holds_it names_it, event, (pass_event x (Release f) ∷ [], refl), ([], refl), refl, refl);
-    holds = (state_after_all v.start (h₀ turn s inside f n both.0 takes_it holds_it names_it)).holds;
+    acted = (h₀ turn s inside f n its.0 holds_it names_it, event, (pass_event x (Release f) ∷ [], refl), ([], refl), refl, refl);
+    holds = (state_after_all v.start (h₀ turn s inside f n its.0 holds_it names_it)).holds;
     state = refl;
-    held = held_mine event (h₀ turn s inside f n both.0 takes_it holds_it names_it) refl ∙ held_mine (pass_event x (Release f)) r.history refl;
-    let_go = let_go turn s inside f n both.0 takes_it holds_it names_it;
-    taken = λ g is. let e : f ≡ g = cc is in subst (λ (z : File). count_in (word - 1) + taking (r.node_of z.number) v.work ≡ count_in word) e
-        (let a = ap (taking (r.node_of f.number)) works in let b = bit_here (r.node_of f.number) n (sym on) in let c = one_less.2 in omega arith);
-    untaken = λ m apart. ap (taking m) works ∙ bit_else m n (λ same. apart f refl (sym same ∙ sym on));
-    works = ap busy works;
-    no_hold = (h.0, h.1);
+    held = held_mine event (h₀ turn s inside f n its.0 holds_it names_it) refl ∙ held_mine (pass_event x (Release f)) r.history refl;
+    let_go = let_go turn s inside f n its.0 holds_it names_it;
+    taken = λ g is. let e : f ≡ g = cc is in subst (λ (z : File). count_in counted + taking (r.node_of z.number) v.work ≡ count_in word) e
+        (subst (λ (i : ℕ). count_in counted + taking i v.work ≡ count_in word) (sym on) so.taken);
+    untaken = λ m apart. so.untaken m (λ same. apart f refl (same ∙ sym on));
+    works = its_busy turn f n own (as_written lost (label_of file)) works;
+    begins = so.begins;
+    hold_none = λ is. absurd (cc is);
+    hold = λ g is. let e : f ≡ g = cc is in subst (λ (z : File). StillNames round.guarded (word_at st.words (hold_word_of v.start x.number)) (r.debt x.number) (r.node_of z.number)) e
+        (subst (StillNames round.guarded (word_at st.words (hold_word_of v.start x.number)) (r.debt x.number)) (sym on) so.hold);
   }
     where
       on : r.node_of f.number ≡ n
-      on = on_n turn s inside f n both.0 takes_it holds_it names_it
+      on = on_n turn s inside f n its.0 holds_it names_it
 
   own_part : part_of_pass x.number h₂ ≡ map (pass_event x) ([] ▷ Release f ▷ Put s new_file (Some f)) ++ part_of_pass x.number r.history
-  own_part = part_mine (h₀ turn s inside f n both.0 takes_it holds_it names_it) refl ∙ ap (λ (l : List Event). event ∷ l) (part_mine r.history refl)
+  own_part = part_mine (h₀ turn s inside f n its.0 holds_it names_it) refl ∙ ap (λ (l : List Event). event ∷ l) (part_mine r.history refl)
+
+  -- the work of the pass, by how it held the file
+  abbrev leaves : Work
+  leaves = leaving_work v.start (is_guarding v.work) word f
+
+  leaves_so : leaves ≡ removal_work round counted (Some f)
+  leaves_so = ap (λ (b : Bool). leaving_work v.start b word f) so.guarding ∙ so.leaves
+
+  own_hold : HasItsHold (is_guarding v.work) word
+  own_hold = subst (λ (b : Bool). HasItsHold b word) (sym so.guarding) so.own
 
   module _ (slots old_word : ℕ) (carried : List (ℕ × Option Closed)) (carries : carried ≡ (own, Some file) ∷ []) where
     abbrev new_word : ℕ
@@ -91,17 +143,21 @@ module _ (turn : Turn) (s : ℕ) (inside : s < slots_of turn.v.start) (f : File)
       w turn renewed,
       gives,
       tt,
-      rw carries (put_agrees turn s inside (Some f) is_there (word - 1) (one_less.0, one_less.1) own lost file both.1 its_entry small out number late on_own h₂ puts),
+      rw carries (put_agrees turn s inside (Some f) is_there counted so.alike round own lost file its.1 stocked small out number late on_own h₂ puts),
       record {
         wins = λ g k m more e other works' carries' at _. let same_f : file ≡ other = cc (ap file_carried (sym carries ∙ carries')) in
-            let same_g : f ≡ g = cc (sym works ∙ works') in let same : own ≡ m = cc (sym works ∙ works') in rw (← same_f, ← same_g, slot_back s) (
+            let same_g : f ≡ g = cc (sym holds_it ∙ held_besides works') in
+            let same : own ≡ m = (let a = its_busy turn f n own (as_written lost (label_of file)) works in
+            let b = its_busy turn g k m (as_written more (label_of other)) works' in omega arith) in rw (← same_f, ← same_g, slot_back s) (
               number,
-              some_takes turn s inside f n both.0 takes_it holds_it names_it,
-              by_number turn s inside f n both.0 takes_it holds_it names_it,
+              own_hold,
+              by_number turn s inside f n its.0 holds_it names_it,
               sym (r.numbering number) ∙ (on_own ∙ same),
               names_a_node turn inside,
-              put_tells turn s inside (Some f) is_there (word - 1) (one_less.0, one_less.1) own lost file both.1 its_entry small out number late on_own h₂ puts
-                  ([] ▷ Release f ▷ Put s new_file (Some f)) own_part carried (rest carried) e (at ∙ ap some (sym same)),
+              subst (λ (z : Work). Stepped (as_swapped e (name_in word - 1) (v, carried)) ([] ▷ Release f ▷ Put s new_file (Some f)) z v.glance
+                  (account (range_at_start v.start) s (Some f)) (w turn renewed, rest carried)) (sym leaves_so)
+                  (put_tells turn s inside (Some f) is_there counted so.alike round own lost file its.1 stocked small out number late on_own h₂ puts
+                  ([] ▷ Release f ▷ Put s new_file (Some f)) own_part carried (rest carried) e (at ∙ ap some (sym same))),
               refl,
             );
         loses = λ other. absurd (other is);
@@ -125,9 +181,10 @@ replaces_held_keep k slots id i s own lost old new n file f m x has works carrie
     (λ k. s < slots_of k) (λ _. slot_place s) (λ word. either (eqb word old) (file_word_of own file.entry + lost) word)
     (λ i. ReplacesHeld (step slots i old (file_word_of own file.entry + lost) none) m) has inside place
     (λ st r here is fits. let turn = turn_of m x has.1 id st r here in
-    let its : HoldsAt m.0.start r.phase f n × IsIn m.0.start r.phase own (placed id (as_written lost (label_of file))) = subst (WorkAgrees m.0.start r.phase id) works (its_work turn) in
+    let its = both turn f n own (as_written lost (label_of file)) works in
     let new_number = fresh_number turn its.1.0 in
     exchanged (word_at st.words (slot_place s)) old (file_word_of own file.entry + lost)
     (λ y. Made turn m.1 (slot_place s) (λ _. y) (ReplacesHeld (step slots (slot_place s) old (file_word_of own file.entry + lost) none) m))
-    (λ same. renews turn s is f n own lost file works small out new_number.0 new_number.1 new_number.2 (ap full_name_in same ∙ named) slots old m.1 carries same)
+    (λ same. let name = ap full_name_in same ∙ named in let h = held_so turn f n own (as_written lost (label_of file)) works s is name in
+    renews turn s is f n own lost file works small out new_number.0 new_number.1 new_number.2 name h.0 h.1 h.2 h.3 slots old m.1 carries same)
     (renews_not turn s is m.1 slots old (file_word_of own file.entry + lost))))

@@ -1,5 +1,5 @@
 -- An installation, a clear, a take and an exchange keep the rule.
-use Rattle.fx_lasting.proofs.Words.{IsIn}
+use Rattle.fx_lasting.proofs.Words.{IsIn, Round, first_visit, new_round}
 use Rattle.fx_lasting.proofs.slot_lemmas.Installing.{Puts, put_after, put_agrees, put_tells}
 use Rattle.fx_lasting.proofs.Words.{◌≡◌, ◌≢◌, ℕ, ◌+◌, ◌^◌, ◌<◌, List, [], ◌∷◌, set, sym, refl, ap, ◌∙◌, subst, arith, Option, Some, None, none, some}
 use Rattle.fx_lasting.proofs.Words.{keeps, gives, rest, get_elem?, false, inl, eqb, Closed, File, numbered, Event, Action, Put, Clear, Take}
@@ -22,7 +22,7 @@ use Rattle.fx_lasting.proofs.range_lemmas.Groups.{counts_emptied}
 use Rattle.fx_lasting.proofs.slot_lemmas.Sights.{sees_after, sees_kept, sees_slot}
 use Rattle.fx_lasting.proofs.Places.{slot_else, slot_back, slot_alike}
 use Rattle.fx_lasting.proofs.hold_lemmas.Looking.{unnamed}
-use Rattle.fx_lasting.proofs.slot_lemmas.Swaps.{found, old_at, found_so, old_named, d, swap_after, Swap, swap_kept}
+use Rattle.fx_lasting.proofs.slot_lemmas.Swaps.{begins_first, found, old_at, found_so, old_named, d, swap_after, Swap, swap_kept}
 use Rattle.fx_lasting.proofs.hold_lemmas.Unheld.{in_phase}
 use Rattle.fx_lasting.proofs.node_lemmas.Choosing.{no_file, no_take, not_busy, holds_none}
 use Rattle.fx_lasting.proofs.Words.{ActsAt}
@@ -71,10 +71,13 @@ module _ (act : ℕ → Option File → Action) (does : IsRemoval act) (turn : T
   abbrev c₁ : Change
   c₁ = account (range_at_start v.start) s old
 
-  abbrev pub removal : After turn
-  removal = swap_after turn s inside old refl (found turn s inside) (refl, refl) h₁ left None st.homes r.phase r.nodes.next_number c₁ r.nodes.where_is x.stock
+  abbrev its_round : Round
+  its_round = new_round (first_visit v.start.passes (found turn s inside))
 
-  removes : Swap turn s inside old refl (found turn s inside) (refl, refl) h₁ left None st.homes r.phase r.nodes.next_number c₁ r.nodes.where_is x.stock
+  abbrev pub removal : After turn
+  removal = swap_after turn s inside old refl (found turn s inside) (refl, refl) its_round h₁ left None st.homes r.phase r.nodes.next_number c₁ r.nodes.where_is x.stock
+
+  removes : Swap turn s inside old refl (found turn s inside) (refl, refl) its_round h₁ left None st.homes r.phase r.nodes.next_number c₁ r.nodes.where_is x.stock
   removes = let o = its_log turn in let h = holds_none free_of o.hold in let e = does turn s inside in record {
     grows = grows_one x.number r.history _ refl;
     legal = e.0;
@@ -108,12 +111,14 @@ module _ (act : ℕ → Option File → Action) (does : IsRemoval act) (turn : T
     old_home = λ f is. refl;
     owners = λ n l apart. owner_stays st.views id v (w turn removal) here n (λ bad. let a = not_busy free_of in omega arith) (r.phase n) (r.nodes.owners n l);
     labels = λ n l apart. r.nodes.labels n l;
-    no_hold = (h.0, h.1);
+    begins = begins_first turn s inside (found turn s inside) (refl, refl);
+    hold_none = λ is. (h.0, h.1);
+    hold = λ f is. (h.0, h.1);
     counts = counts_emptied id (w turn removal) here r.range s old (few_slots turn) refl (slot_alike turn s inside left)
         (asks_alike turn removal refl) off refl;
   }
     where
-      untaken : (n : ℕ) → taking n (d turn s inside old refl (found turn s inside) (refl, refl)) ≡ 0
+      untaken : (n : ℕ) → taking n (d turn s inside old refl (found turn s inside) (refl, refl) its_round) ≡ 0
       untaken n = go old
         where
           go : (o : Option File) → taking n (retiring_work v.start (found turn s inside) o) ≡ 0
@@ -121,7 +126,7 @@ module _ (act : ℕ → Option File → Action) (does : IsRemoval act) (turn : T
           go (Some f) = refl
 
   pub removal_agrees : Agrees v.start (end turn removal)
-  removal_agrees = swap_kept turn s inside old refl (found turn s inside) (refl, refl) h₁ left None st.homes r.phase r.nodes.next_number c₁ r.nodes.where_is x.stock removes
+  removal_agrees = swap_kept turn s inside old refl (found turn s inside) (refl, refl) its_round h₁ left None st.homes r.phase r.nodes.next_number c₁ r.nodes.where_is x.stock removes
 
   pub removal_tells : (carried : List (ℕ × Option Closed))
       → Stepped (v, carried) ([] ▷ act s old) (retiring_work v.start (found turn s inside) old) v.glance c₁ (w turn removal, carried)
@@ -192,8 +197,11 @@ module _ (turn : Turn) (s : ℕ) (inside : s < slots_of turn.v.start) (old : Opt
   pub its_entry : IsInStock x.stock n
   its_entry = rw works at (its_log turn).allowed
 
+  abbrev put_round : Round
+  put_round = new_round (first_visit v.start.passes (found turn s inside))
+
   abbrev pub installed : After turn
-  installed = put_after turn s inside old was (found turn s inside) (refl, refl) n lost file its its_entry small out number late on_n h₂
+  installed = put_after turn s inside old was (found turn s inside) (refl, refl) put_round n lost file its its_entry small out number late on_n h₂
 
   -- what the action does
   pub record Effect : Type 0 where
@@ -207,7 +215,7 @@ module _ (turn : Turn) (s : ℕ) (inside : s < slots_of turn.v.start) (old : Opt
     pub acts : ActsAt s a
 
   module _ (does : Effect) where
-    puts : Puts turn s inside old was (found turn s inside) (refl, refl) n lost file its its_entry small out number late on_n h₂
+    puts : Puts turn s inside old was (found turn s inside) (refl, refl) put_round n lost file its its_entry small out number late on_n h₂
     puts = let o = its_log turn in let h = rw works at o.hold in record {
       grows = grows_one x.number r.history _ refl;
       legal = does.legal;
@@ -219,16 +227,18 @@ module _ (turn : Turn) (s : ℕ) (inside : s < slots_of turn.v.start) (old : Opt
       taken = λ f is. let a = ap (taking (r.node_of f.number)) works in omega arith;
       untaken = λ m apart. ap (taking m) works;
       works = ap busy works;
-      no_hold = (h.0, h.1);
+      begins = begins_first turn s inside (found turn s inside) (refl, refl);
+      hold_none = λ is. (h.0, h.1);
+      hold = λ f is. (h.0, h.1);
     }
 
     pub installation_agrees : Agrees v.start (end turn installed)
-    installation_agrees = put_agrees turn s inside old was (found turn s inside) (refl, refl) n lost file its its_entry small out number late on_n h₂ puts
+    installation_agrees = put_agrees turn s inside old was (found turn s inside) (refl, refl) put_round n lost file its its_entry small out number late on_n h₂ puts
 
     pub installation_tells : (carried homes : List (ℕ × Option Closed)) (e : ℕ) → get_elem? (first_log v.logs).stock e ≡ some n
         → Stepped (as_swapped e (name_in (found turn s inside) - 1) (v, carried)) ([] ▷ a) (retiring_work v.start (found turn s inside) old) v.glance
         (account (range_at_start v.start) s old) (w turn installed, homes)
-    installation_tells = put_tells turn s inside old was (found turn s inside) (refl, refl) n lost file its its_entry small out number late on_n h₂ puts
+    installation_tells = put_tells turn s inside old was (found turn s inside) (refl, refl) put_round n lost file its its_entry small out number late on_n h₂ puts
         ([] ▷ a) (part_mine r.history refl)
 
 abbrev pub file_carried : List (ℕ × Option Closed) → Option Closed

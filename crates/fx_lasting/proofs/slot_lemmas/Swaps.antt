@@ -1,14 +1,14 @@
 -- A swap of a slot's word: a file leaves the slot, if there was one, and the slot gets another or
 -- none.
-use Rattle.fx_lasting.proofs.Words.{alone_in, IsToVisit, new_round, inl, true, Whereabouts, at_slot, in_stock, NamesItsNode, StockAgrees, name_in, ◌≡◌, ◌≢◌, ℕ}
+use Rattle.fx_lasting.proofs.Words.{Round, StillNames, removal_work, alone_in, IsToVisit, new_round, inl, true, Whereabouts, at_slot, in_stock, NamesItsNode, StockAgrees, name_in, ◌≡◌, ◌≢◌, ℕ}
 use Rattle.fx_lasting.proofs.Words.{suc, ◌+◌, ◌-◌, ◌^◌, ◌<◌, ◌≤◌, List, [], set, length, sym, refl, ap, ◌∙◌, subst, arith, Option, Some, None, get_elem?}
 use Rattle.fx_lasting.proofs.Words.{Bool, false, inr, ⊎_elim, ◌⊎◌, dite, ℕ_discrete, dec_le, eq-eqb, ne_eqb, File, Event, State, held_by}
 use Rattle.fx_lasting.proofs.Words.{with_removed, changed_at, changed_here, changed_else, Agrees, NodeAgrees, OwnerAgrees, WorkAgrees, SlotAgrees}
 use Rattle.fx_lasting.proofs.Words.{Names, IsSeated, HoldAgrees, GuardAgrees, MayBeUnmarked, IsAllowed, RangeCounts, Nodes, IsHistory}
 use Rattle.fx_lasting.proofs.Words.{state_after_all, slots_of, nodes_of, range_at_start, slot_place, word_of, hold_word_of, count_in, full_name_in}
 use Rattle.fx_lasting.proofs.Words.{heat_in, IsHot, cold_takes, Deed, untouched, has_heated, owed, taken_of, taking, held_in, held_of, if_file, sum_by}
-use Rattle.fx_lasting.proofs.Words.{sum_set, Phase, free, placed, seated, leaving, retired, emptied, kept, owner, file_in, removed_in, first_visit}
-use Rattle.fx_lasting.proofs.Words.{retiring_work, Found, Work, Change, Idle, Retiring, length-set, Labels, Placement, written_in, label_of}
+use Rattle.fx_lasting.proofs.Words.{sum_set, Phase, free, placed, seated, leaving, owner, file_in, removed_in, first_visit}
+use Rattle.fx_lasting.proofs.Words.{Found, Work, Change, Idle, Retiring, length-set, Labels, Placement, written_in, label_of}
 use Rattle.fx_lasting.proofs.Counts.{tally_same, tally_none}
 use Rattle.fx_lasting.proofs.Histories.{Grows, each_changed}
 use Rattle.fx_lasting.proofs.Frames.{does_now, slot_same, file_same, Leaves, keeps_other, guards_same, SlotGoesOn, sees_on, heats_on}
@@ -41,6 +41,24 @@ module _ (turn : Turn) (s : ℕ) (inside : s < slots_of turn.v.start) where
   abbrev pub IsAlike : ℕ → Type 0
   IsAlike word = (full_name_in word ≡ full_name_in found) × (heat_in word ≡ heat_in found)
 
+  -- a round that a removal may begin: it visits each pass that may guard the file
+  pub record Begins (round : Round) : Type 0 where
+    pub some_next : 0 < round.next
+    pub few_next : round.next ≤ 2 ^ 16
+    pub visits : (q : ℕ) → 0 < q → IsHot found → IsToVisit round q
+    pub listed : round.guarded ≡ true → x.listed ≡ true
+
+  -- a removal by a pass that doesn't guard the file
+  pub begins_first : (counted : ℕ) → IsAlike counted → Begins (new_round (first_visit v.start.passes counted))
+  begins_first counted alike = let many = r.shape.passes in record {
+    some_next = dite (ℕ_discrete (heat_in counted) 0) (λ c. rw (eq-eqb (heat_in counted) 0 c) (omega arith))
+        (λ h. rw (ne_eqb (heat_in counted) 0 h) (omega arith));
+    few_next = dite (ℕ_discrete (heat_in counted) 0) (λ c. rw (eq-eqb (heat_in counted) 0 c) (omega arith))
+        (λ h. rw (ne_eqb (heat_in counted) 0 h) (omega arith));
+    visits = λ q low hot. (rw (ne_eqb (heat_in counted) 0 (λ none. omega (arith, hot, none, alike.1))) (omega arith), λ idle. let a = idle.0 in omega arith);
+    listed = λ bad. cc bad;
+  }
+
   module _ (old : Option File) (was : state.at s ≡ old) where
     pub names_old : Names r.node_of found old
     names_old = subst (Names r.node_of found) was (r.slots s inside).names
@@ -67,27 +85,27 @@ module _ (turn : Turn) (s : ℕ) (inside : s < slots_of turn.v.start) where
     not_old is else f o same = else f (sym is ∙ (ap r.phase same ∙ (old_at o).1))
 
   -- The removal has this word from the slot: the one that was there, or that one without the take
-  -- of the pass itself
-  module _ (old : Option File) (was : state.at s ≡ old) (counted : ℕ) (alike : IsAlike counted) where
+  -- of the pass itself; and it is to make this round
+  module _ (old : Option File) (was : state.at s ≡ old) (counted : ℕ) (alike : IsAlike counted) (round : Round) where
     abbrev pub d : Work
-    d = retiring_work v.start counted old
+    d = removal_work round counted old
 
-    d_is : (f : File) → old ≡ Some f → d ≡ Retiring f (r.node_of f.number) (count_in counted) (new_round (first_visit v.start.passes counted)) 0
-    d_is f is = let e : full_name_in counted - 1 ≡ r.node_of f.number = ap (λ (n : ℕ). n - 1) alike.0 ∙ old_named old was is in ap (retiring_work v.start counted) is
-        ∙ ap (λ (n : ℕ). Retiring f n (count_in counted) (new_round (first_visit v.start.passes counted)) 0) e
+    d_is : (f : File) → old ≡ Some f → d ≡ Retiring f (r.node_of f.number) (count_in counted) round 0
+    d_is f is = let e : full_name_in counted - 1 ≡ r.node_of f.number = ap (λ (n : ℕ). n - 1) alike.0 ∙ old_named old was is in ap (removal_work round counted) is
+        ∙ ap (λ (n : ℕ). Retiring f n (count_in counted) round 0) e
 
     -- what a pass does that has a file to retire, or none
-    by_retiring : (P : Work → Type 0) → P Idle
-        → ((f : File) → old ≡ Some f → P (Retiring f (r.node_of f.number) (count_in counted) (new_round (first_visit v.start.passes counted)) 0)) → P d
+    by_retiring : (P : Work → Type 0) → (old ≡ None → P Idle)
+        → ((f : File) → old ≡ Some f → P (Retiring f (r.node_of f.number) (count_in counted) round 0)) → P d
     by_retiring P idle retires = go old refl
       where
         go : (o : Option File) → old ≡ o → P d
-        go None is = subst P (sym (ap (retiring_work v.start counted) is)) idle
+        go None is = subst P (sym (ap (removal_work round counted) is)) (idle is)
         go (Some f) is = subst P (sym (d_is f is)) (retires f is)
 
     -- the old file's node, after the swap
     abbrev gone_as : File → Phase
-    gone_as f = leaving id (count_in counted) (new_round (first_visit v.start.passes counted)) 0 f
+    gone_as f = leaving id (count_in counted) round 0 f
 
     module _ (h' : List Event) (new_word : ℕ) (new : Option File) (homes' : Homes) (phase₁ : ℕ → Phase) (next' : ℕ) (c : Change)
         (where_is' : ℕ → Whereabouts) (stock' : List ℕ) where
@@ -167,7 +185,10 @@ module _ (turn : Turn) (s : ℕ) (inside : s < slots_of turn.v.start) where
         pub owners : (n : ℕ) → n < nodes_of v.start → NotOf r.node_of n old → OwnerAgrees (set st.views id (w turn swap_after)) n (phase₁ n)
         pub labels : (n : ℕ) → n < nodes_of v.start → NotOf r.node_of n old → Labels v.start st.words n (written_in (phase₁ n))
         -- the pass
-        pub no_hold : (word_at st.words (hold_word_of v.start x.number) ≡ 0) × (r.debt x.number ≡ 0)
+        pub begins : Begins round
+        pub hold_none : old ≡ None → (word_at st.words (hold_word_of v.start x.number) ≡ 0) × (r.debt x.number ≡ 0)
+        pub hold : (f : File) → old ≡ Some f
+            → StillNames round.guarded (word_at st.words (hold_word_of v.start x.number)) (r.debt x.number) (r.node_of f.number)
         pub counts : RangeCounts (changed_at state.at s new) (range_at_start v.start) (set st.views id (w turn swap_after)) (slot_words turn s inside new_word)
 
       module _ (p : Swap) where
@@ -197,38 +218,27 @@ module _ (turn : Turn) (s : ℕ) (inside : s < slots_of turn.v.start) where
         old_node {f} is = let its = old_at old was is in let o = in_phase turn its.0 its.1 in let a = o.counts in let b = o.unowed in
             let t = sum_set (taken_of (r.node_of f.number)) st.views id v (w turn swap_after) here in
             let e = p.taken f is in
-            let z = by_retiring (λ q. taking (r.node_of f.number) q ≡ 0) refl (λ g at. refl) in
-            let many = r.shape.passes in record {
+            let z = by_retiring (λ q. taking (r.node_of f.number) q ≡ 0) (λ none. refl) (λ g at. refl) in
+            record {
               file = file_same p.later (p.old_home f is) o.file;
               counts = omega arith;
               few_takes = omega arith;
-              few_marks = first_some;
-              few_visits = first_few;
+              few_marks = p.begins.some_next;
+              few_visits = p.begins.few_next;
+              unowed = λ up. b;
             }
-          where
-            first_some : 0 < first_visit v.start.passes counted
-            first_some = dite (ℕ_discrete (heat_in counted) 0) (λ c. rw (eq-eqb (heat_in counted) 0 c) (omega arith))
-                (λ h. rw (ne_eqb (heat_in counted) 0 h) (omega arith))
-
-            first_few : first_visit v.start.passes counted ≤ 2 ^ 16
-            first_few = let a = r.shape.passes in dite (ℕ_discrete (heat_in counted) 0) (λ c. rw (eq-eqb (heat_in counted) 0 c) (omega arith))
-                (λ h. rw (ne_eqb (heat_in counted) 0 h) (omega arith))
 
         -- its label is still that of the file
         old_label : {f : File} → old ≡ Some f → Labels v.start (slot_words turn s inside new_word) (r.node_of f.number) (label_of f.identity)
         old_label {f} is = let its = old_at old was is in labels_same v.start _ _ _ (label_of f.identity) (slot_label turn s inside new_word (r.node_of f.number))
             (subst (λ (ph : Phase). Labels v.start st.words (r.node_of f.number) (written_in ph)) its.1 (r.nodes.labels (r.node_of f.number) its.0))
 
-        -- who guards the old file is still to be visited
-        guard_old : {f : File} (q : ℕ) → 0 < q → q ≤ v.start.passes → old ≡ Some f → IsHot found → IsToVisit (new_round (first_visit v.start.passes counted)) q
-        guard_old q low high is hot = (rw (ne_eqb (heat_in counted) 0 (λ none. omega (arith, hot, none, alike.1))) (omega arith), λ idle. let a = idle.0 in omega arith)
-
         covers : (q : ℕ) → (0 < q) × (q ≤ v.start.passes) → (n : ℕ) → MayBeUnmarked (slot_word st.words) q (r.phase n)
             → MayBeUnmarked (slot_word (slot_words turn s inside new_word)) q (phase' n)
         covers q range n may = by_old r.node_of old {n = n} (MayBeUnmarked (slot_word (slot_words turn s inside new_word)) q (phase' n))
             (λ f is same. let hot = subst (MayBeUnmarked (slot_word st.words) q) (ap r.phase same ∙ (old_at old was is).1) may in
             subst (MayBeUnmarked (slot_word (slot_words turn s inside new_word)) q) (sym (ap phase' same ∙ out_here is))
-            (guard_old {f = f} q range.0 range.1 is hot))
+            (p.begins.visits q range.0 hot))
             (λ apart. go apart (r.phase n) refl may)
           where
             -- a seated file is elsewhere, if it isn't the old one
@@ -297,7 +307,7 @@ module _ (turn : Turn) (s : ℕ) (inside : s < slots_of turn.v.start) where
             (r.slots i l)
 
         pub swap_kept : Agrees v.start (end turn swap_after)
-        swap_kept = let o = its_log turn in let hands = p.no_hold in step_kept turn swap_after record {
+        swap_kept = let o = its_log turn in step_kept turn swap_after record {
           words = length-set st.words (slot_place s) new_word;
           homes = p.homes;
           grows = p.grows;
@@ -315,7 +325,7 @@ module _ (turn : Turn) (s : ℕ) (inside : s < slots_of turn.v.start) where
               (λ f is same. rw (same, out_here is) (old_node is)) (λ apart. rw (else_phase apart) (p.nodes n l apart)));
           owners = λ n l. by_old r.node_of old {n = n} (OwnerAgrees (set st.views id (w turn swap_after)) n (phase' n))
               (λ f is same. rw (same, out_here is) (does_now st.views id v (w turn swap_after)
-              (Retiring f (r.node_of f.number) (count_in counted) (new_round (first_visit v.start.passes counted)) 0) here (ap alone_in (d_is f is))))
+              (Retiring f (r.node_of f.number) (count_in counted) round 0) here (ap alone_in (d_is f is))))
               (λ apart. rw (else_phase apart) (p.owners n l apart));
           labels = λ n l. by_old r.node_of old {n = n} (Labels v.start (slot_words turn s inside new_word) n (written_in (phase' n)))
               (λ f is same. rw (same, out_here is) (old_label is))
@@ -333,22 +343,22 @@ module _ (turn : Turn) (s : ℕ) (inside : s < slots_of turn.v.start) where
           stock = p.stock;
           stocks = p.stocks;
           others = λ j u z other there at n range o work. keeps_other turn swap_after leaves j u z other there at n range o work;
-          held = p.held ∙ by_retiring (λ q. None ≡ held_in q) refl (λ f is. refl);
-          allowed = by_retiring (IsAllowed stock' x.listed) tt (λ f is. tt);
+          held = p.held ∙ by_retiring (λ q. None ≡ held_in q) (λ none. refl) (λ f is. refl);
+          allowed = by_retiring (IsAllowed stock' x.listed) (λ none. tt) (λ f is. p.begins.listed);
           lists = λ i few. inl (slot_list turn s inside new_word i few);
           deed_on = λ i q l is. ⊎_elim (λ new. absurd (is new)) (λ same. inl (λ e. is (same.0 ∙ e))) (slots_on q i);
           its_bit = λ l. inl l;
           its = record {
             hold = rw (slot_hold turn s inside new_word x.number (in_range turn).0)
-                (by_retiring (HoldAgrees (word_at st.words (hold_word_of v.start x.number)) (r.debt x.number)) hands (λ f is. hands));
-            guarded = by_retiring (GuardAgrees (slot_word (slot_words turn s inside new_word)) phase' x.number (r.debt x.number)) tt (λ f is. tt);
+                (by_retiring (HoldAgrees (word_at st.words (hold_word_of v.start x.number)) (r.debt x.number)) p.hold_none p.hold);
+            guarded = by_retiring (GuardAgrees (slot_word (slot_words turn s inside new_word)) phase' x.number (r.debt x.number)) (λ none. tt) (λ f is. tt);
             sees = sees_on v.start (slot_word st.words) (slot_word (slot_words turn s inside new_word)) (λ i. r.deed i x.number) (λ i. deed' i x.number)
                 (λ i l. slots_on x.number i) v.glance o.sees;
             heats = heats_on v.start (slot_word st.words) (slot_word (slot_words turn s inside new_word)) (λ i. r.deed i x.number) (λ i. deed' i x.number)
                 (λ i l. slots_on x.number i) v.glance o.heats;
-            work = by_retiring (WorkAgrees v.start phase' id) tt (λ f is. ((old_at old was is).0, out_here is));
+            work = by_retiring (WorkAgrees v.start phase' id) (λ none. tt) (λ f is. ((old_at old was is).0, out_here is));
           };
-          holds = λ n. let a = p.let_go n in let b = by_retiring (λ q. if_file n (held_in q) ≡ 0) refl (λ f is. refl) in
+          holds = λ n. let a = p.let_go n in let b = by_retiring (λ q. if_file n (held_in q) ≡ 0) (λ none. refl) (λ f is. refl) in
               let g = ap (λ (z : State). z.holds n) p.leads in omega arith;
           counts = rw p.leads p.counts;
           moves = λ i l. dite (ℕ_discrete i s) (λ same. inr (inl (subst (λ (j : ℕ). ActsThere x.number j r.history h') (sym same) p.acted))) (λ other. inl (slot_else turn s inside new_word i other));

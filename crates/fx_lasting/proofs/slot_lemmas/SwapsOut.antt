@@ -1,6 +1,6 @@
 -- A removal by an exchange of names keeps the rule: the slot's word names a node of the pass's
 -- stock, and the node that it named takes that node's place.
-use Rattle.fx_lasting.proofs.Words.{◌≡◌, ◌≢◌, ℕ, ◌-◌, ◌<◌, List, [], ◌∷◌, set, sym, refl, ap, ◌∙◌, subst, arith, Option, Some, None, none, some}
+use Rattle.fx_lasting.proofs.Words.{Round, first_visit, new_round, ◌≡◌, ◌≢◌, ℕ, ◌-◌, ◌<◌, List, [], ◌∷◌, set, sym, refl, ap, ◌∙◌, subst, arith, Option, Some, None, none, some}
 use Rattle.fx_lasting.proofs.Words.{keeps, get_elem?, inl, Closed, File, Event, Action, Clear, Take, ◌▷◌, State, changed_else, pass_event, Log}
 use Rattle.fx_lasting.proofs.Words.{Agrees, slots_of, slot_place, state_after_all, count_in, taken_of, taking, if_file, sum_set, Change, Stepped, IsOffCount}
 use Rattle.fx_lasting.proofs.Words.{account, range_at_start, step, IsInside, retiring_work, HasNoFile, Whereabouts, IsInStock, as_stocked, as_swapped}
@@ -11,7 +11,7 @@ use Rattle.fx_lasting.proofs.Frames.{owner_stays, node_same}
 use Rattle.fx_lasting.proofs.Keeping.{Turn, turn_of, After, Made, by_turn, its_log, tells_stocked, w, end, asks_alike, few_slots}
 use Rattle.fx_lasting.proofs.range_lemmas.Groups.{counts_emptied}
 use Rattle.fx_lasting.proofs.Places.{slot_else, slot_back, slot_alike}
-use Rattle.fx_lasting.proofs.slot_lemmas.Swaps.{found, old_at, found_so, old_named, d, swap_after, Swap, swap_kept}
+use Rattle.fx_lasting.proofs.slot_lemmas.Swaps.{begins_first, found, old_at, found_so, old_named, d, swap_after, Swap, swap_kept}
 use Rattle.fx_lasting.proofs.slot_lemmas.SlotLaws.{IsRemoval, cleared, taken}
 use Rattle.fx_lasting.proofs.hold_lemmas.Unheld.{in_phase}
 use Rattle.fx_lasting.proofs.node_lemmas.Choosing.{no_file, no_take, not_busy, holds_none}
@@ -39,10 +39,13 @@ module _ (act : ℕ → Option File → Action) (does : IsRemoval act) (turn : T
   abbrev stock₁ : List ℕ
   stock₁ = stock_moved turn s inside n stocked
 
-  abbrev pub removal : After turn
-  removal = swap_after turn s inside old refl (found turn s inside) (refl, refl) h₁ left None st.homes r.phase r.nodes.next_number c₁ where₁ stock₁
+  abbrev its_round : Round
+  its_round = new_round (first_visit v.start.passes (found turn s inside))
 
-  removes : Swap turn s inside old refl (found turn s inside) (refl, refl) h₁ left None st.homes r.phase r.nodes.next_number c₁ where₁ stock₁
+  abbrev pub removal : After turn
+  removal = swap_after turn s inside old refl (found turn s inside) (refl, refl) its_round h₁ left None st.homes r.phase r.nodes.next_number c₁ where₁ stock₁
+
+  removes : Swap turn s inside old refl (found turn s inside) (refl, refl) its_round h₁ left None st.homes r.phase r.nodes.next_number c₁ where₁ stock₁
   removes = let o = its_log turn in let h = holds_none free_of o.hold in let e = does turn s inside in record {
     grows = grows_one x.number r.history _ refl;
     legal = e.0;
@@ -76,12 +79,14 @@ module _ (act : ℕ → Option File → Action) (does : IsRemoval act) (turn : T
     old_home = λ f is. refl;
     owners = λ m l apart. owner_stays st.views id v (w turn removal) here m (λ bad. let a = not_busy free_of in omega arith) (r.phase m) (r.nodes.owners m l);
     labels = λ m l apart. r.nodes.labels m l;
-    no_hold = (h.0, h.1);
+    begins = begins_first turn s inside (found turn s inside) (refl, refl);
+    hold_none = λ is. (h.0, h.1);
+    hold = λ f is. (h.0, h.1);
     counts = counts_emptied id (w turn removal) here r.range s old (few_slots turn) refl (slot_alike turn s inside left)
         (asks_alike turn removal refl) off refl;
   }
     where
-      untaken : (m : ℕ) → taking m (d turn s inside old refl (found turn s inside) (refl, refl)) ≡ 0
+      untaken : (m : ℕ) → taking m (d turn s inside old refl (found turn s inside) (refl, refl) its_round) ≡ 0
       untaken m = go old
         where
           go : (o : Option File) → taking m (retiring_work v.start (found turn s inside) o) ≡ 0
@@ -89,7 +94,7 @@ module _ (act : ℕ → Option File → Action) (does : IsRemoval act) (turn : T
           go (Some f) = refl
 
   pub removal_agrees : Agrees v.start (end turn removal)
-  removal_agrees = swap_kept turn s inside old refl (found turn s inside) (refl, refl) h₁ left None st.homes r.phase r.nodes.next_number c₁ where₁ stock₁ removes
+  removal_agrees = swap_kept turn s inside old refl (found turn s inside) (refl, refl) its_round h₁ left None st.homes r.phase r.nodes.next_number c₁ where₁ stock₁ removes
 
   pub removal_tells : (carried : List (ℕ × Option Closed)) (e : ℕ) → get_elem? (first_log v.logs).stock e ≡ some n
       → Stepped (as_swapped e (name_in (found turn s inside) - 1) (v, carried)) ([] ▷ act s old) (retiring_work v.start (found turn s inside) old) v.glance c₁

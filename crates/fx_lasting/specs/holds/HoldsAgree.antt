@@ -1,5 +1,6 @@
 -- The rule of passes: what each works with, which files it holds, and how.
-use Rattle.std.specs.Prelude.{◌≡◌, ◌≢◌, ℕ, ◌+◌, ◌-◌, ◌/◌, ◌<◌, ◌≤◌, ◌⊎◌, Bool, true, List, [], Some}
+use Rattle.std.specs.Prelude.{◌≡◌, ◌≢◌, ℕ, ◌+◌, ◌-◌, ◌/◌, ◌<◌, ◌≤◌, ◌⊎◌, Bool, true, false, List}
+use Rattle.std.specs.Prelude.{[], Some}
 use Rattle.std.specs.Prelude.{Contains, sum_by, slice_index}
 use Rattle.std.specs.Int.{bit_at}
 use mathlib.Core.Option.{some}
@@ -26,7 +27,8 @@ use Rattle.fx_lasting.specs.declared.view.View.{View}
 use Rattle.fx_lasting.specs.declared.view.Work.{Work}
 use Rattle.fx_lasting.specs.declared.view.Work.TheVariants.{Idle, Announced, Counted, Guarded}
 use Rattle.fx_lasting.specs.declared.view.Work.TheVariants.{Owing, Yielding, Searching, Placing}
-use Rattle.fx_lasting.specs.declared.view.Work.TheVariants.{Retiring, Renewing, Emptying, Keeping}
+use Rattle.fx_lasting.specs.declared.view.Work.TheVariants.{Retiring, Renewing, Nearing, Relieving}
+use Rattle.fx_lasting.specs.declared.view.Work.TheVariants.{Emptying, Keeping}
 
 -- the file of the node is open
 abbrev pub HoldsAt : Start → (ℕ → Phase) → File → ℕ → Type 0
@@ -48,6 +50,10 @@ WorkAgrees k phase seat (Searching node) = IsIn k phase node free
 WorkAgrees k phase seat (Placing node placement) = IsIn k phase node (placed seat placement)
 WorkAgrees k phase seat (Renewing f node own placement) =
     HoldsAt k phase f node × IsIn k phase own (placed seat placement)
+WorkAgrees k phase seat (Nearing node own placement) =
+    (node < nodes_of k) × IsIn k phase own (placed seat placement)
+WorkAgrees k phase seat (Relieving f node own placement) =
+    HoldsAt k phase f node × IsIn k phase own (placed seat placement)
 WorkAgrees k phase seat (Retiring f node takes round marks) =
     IsIn k phase node (leaving seat takes round marks f)
 WorkAgrees k phase seat (Emptying node) = IsIn k phase node (emptied seat)
@@ -62,6 +68,9 @@ IsAllowed stock listed (Renewing f node own placement) = IsInStock stock own
 IsAllowed stock listed (Keeping node lost) = IsInStock stock node
 IsAllowed stock listed (Announced node) = listed ≡ true
 IsAllowed stock listed (Guarded f node) = listed ≡ true
+IsAllowed stock listed (Nearing node own placement) = IsInStock stock own × (listed ≡ true)
+IsAllowed stock listed (Relieving f node own placement) = IsInStock stock own × (listed ≡ true)
+IsAllowed stock listed (Retiring f node takes round marks) = round.guarded ≡ true → listed ≡ true
 IsAllowed stock listed _ = Unit {0}
 
 -- a hold word names the node, and nothing is owed; or it is marked, and so much is owed
@@ -69,10 +78,18 @@ abbrev pub NamesNode : ℕ → ℕ → ℕ → Type 0
 NamesNode word debt node = ((word ≡ announced node) × (debt ≡ 0))
     ⊎ ((word ≡ announced node + mark) × (debt ≡ node + 1))
 
+-- the hold word of a pass that removed the node's file: it names the node still, or none
+abbrev pub StillNames : Bool → ℕ → ℕ → ℕ → Type 0
+StillNames true word debt node = NamesNode word debt node
+StillNames false word debt node = (word ≡ 0) × (debt ≡ 0)
+
 -- the hold word of a pass, and the debt of the pass: a node plus 1, or 0
 abbrev pub HoldAgrees : ℕ → ℕ → Work → Type 0
 HoldAgrees word debt (Announced node) = NamesNode word debt node
 HoldAgrees word debt (Guarded f node) = NamesNode word debt node
+HoldAgrees word debt (Nearing node own placement) = NamesNode word debt node
+HoldAgrees word debt (Relieving f node own placement) = NamesNode word debt node
+HoldAgrees word debt (Retiring f node takes round marks) = StillNames round.guarded word debt node
 HoldAgrees word debt (Owing node) = (word ≡ 0) × (debt ≡ node + 1)
 HoldAgrees word debt (Yielding f node) = (word ≡ 0) × (debt ≡ node + 1)
 HoldAgrees word debt _ = (word ≡ 0) × (debt ≡ 0)
@@ -94,6 +111,8 @@ MayBeUnmarked slot_word pass _ = ⊥
 
 abbrev pub GuardAgrees : (ℕ → ℕ) → (ℕ → Phase) → ℕ → ℕ → Work → Type 0
 GuardAgrees slot_word phase pass debt (Guarded f node) =
+    debt ≡ 0 → MayBeUnmarked slot_word pass (phase node)
+GuardAgrees slot_word phase pass debt (Relieving f node own placement) =
     debt ≡ 0 → MayBeUnmarked slot_word pass (phase node)
 GuardAgrees slot_word phase pass debt _ = Unit {0}
 

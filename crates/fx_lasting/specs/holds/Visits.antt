@@ -1,5 +1,6 @@
 -- The round of a retirement through the hold words of the other passes.
-use Rattle.std.specs.Prelude.{◌≡◌, ℕ, ◌+◌, ◌-◌, ◌*◌, ◌/◌, ◌<◌, ◌≤◌, Bool, [], if◌then◌else◌}
+use Rattle.std.specs.Prelude.{◌≡◌, ℕ, ◌+◌, ◌-◌, ◌*◌, ◌/◌, ◌<◌, ◌≤◌, Bool, false, []}
+use Rattle.std.specs.Prelude.{if◌then◌else◌}
 use Rattle.fx_plain.specs.declared.event.File.{File}
 use Rattle.fx_lasting.specs.Ends.{Does}
 use Rattle.fx_lasting.specs.Laws.{IsPassed}
@@ -10,7 +11,7 @@ use Rattle.fx_lasting.specs.declared.view.Work.TheVariants.{Retiring}
 
 -- a round that has visited the passes before `next`, and loaded these words of the list
 abbrev pub round_to : ℕ → ℕ → ℕ → Round
-round_to next words last = record { next = next; words = words; last = last }
+round_to next words last = record { next = next; words = words; last = last; guarded = false }
 
 -- The pass retires the file of the node, which had these takes. From `first` on it has visited each
 -- pass before `pass` that it has to, and made this many marks
@@ -35,6 +36,6 @@ Visited node pass m is_marked m' = (f : File) (takes : ℕ) (round : Round) (mar
 
 -- all passes that it has to visit were visited, with this many marks
 abbrev pub HasMarked : ℕ → ℕ → File → ℕ → ℕ → Sat → ℕ → Sat → Type 0
-HasMarked passes number f node takes m marks m' = (round : Round)
+HasMarked passes number f node takes m marks m' = (round : Round) × (round.guarded ≡ false)
     × ((p : ℕ) → round.next ≤ p → p ≤ passes → IsPassed number round p)
     × Does m [] (Retiring f node takes round marks) (2 * (passes - 1) + (passes + 63) / 64) m'

@@ -1,5 +1,5 @@
--- The removal by a key that one pass makes: the pass holds the file of the key by a take, and its
--- hold ends with the step that empties the slot.
+-- The removal by a key that one pass makes: the pass holds the file of the key, and its hold ends
+-- with the step that empties the slot.
 use Rattle.std.specs.Prelude.{◌≡◌, ℕ, ◌+◌, ◌<◌, ◌⊎◌, List, [], Option, Some, None, Result, Ok, Err}
 use mathlib.Core.Option.{some}
 use lib.ListN.{get_elem?}
@@ -19,50 +19,48 @@ use Rattle.fx_lasting.specs.slots.ByNode.{FailedIf, FitsMiss, WasSo}
 use Rattle.fx_lasting.specs.slots.ByKey.{HeldByKey, HoldsAtKey, IsKeyOf, LookedByKey, TriesKey}
 use Rattle.fx_lasting.specs.slots.ByKey.{fault_for}
 use Rattle.fx_lasting.specs.Fields.{full_name_in}
-use Rattle.fx_lasting.specs.Passes.{Sat, nodes_of, node_of_number}
+use Rattle.fx_lasting.specs.Passes.{Sat, HoldsAlone, is_guarding, nodes_of, node_of_number}
 use Rattle.fx_lasting.specs.Runs.{Runs}
 use Rattle.fx_lasting.specs.nodes.Stocks.{IsStockOf}
 use Rattle.fx_lasting.specs.Tables.{opening_of, view_of}
-use Rattle.fx_lasting.specs.Effects.{as_stocked, as_swapped, pass_in, retiring_work}
+use Rattle.fx_lasting.specs.Effects.{HasItsHold, as_stocked, as_swapped, leaving_work, pass_in}
 use Rattle.fx_lasting.specs.declared.answers.Miss.{Miss}
 use Rattle.fx_lasting.specs.declared.answers.TakenIf.{TakenIf}
 use Rattle.fx_lasting.specs.declared.answers.TakenIf.TheVariants as taken
 use Rattle.fx_lasting.specs.declared.key.Key.{Key}
 use Rattle.fx_lasting.specs.declared.key_answers.KeyFault.{KeyFault}
-use Rattle.fx_lasting.specs.declared.key_answers.TakenByKey.{TakenByKey}
-use Rattle.fx_lasting.specs.declared.key_answers.TakenByKey.TheVariants.{Removed, Missed, Hot}
 use Rattle.fx_lasting.specs.declared.pass.LastingPass.{LastingPass}
 use Rattle.fx_lasting.specs.declared.view.Change.TheVariants.{Outside}
 use Rattle.fx_lasting.specs.declared.view.Start.{Start}
-use Rattle.fx_lasting.specs.declared.view.Work.TheVariants.{Counted}
 
--- a pass that holds a file by a take and tried to empty the slot, whose word named the file's node.
--- The word is returned without the pass's own take
+-- a pass that holds a file and tried to empty the slot, whose word named the file's node
 abbrev pub TriedTakeHeld : Start → (slot node : ℕ) → Sat → Result ℕ Miss → Sat → Type 0
-TriedTakeHeld k slot node m (Ok word) m' = (f : File) × (m.0.work ≡ Counted f node)
+TriedTakeHeld k slot node m (Ok word) m' = (f : File) × HoldsAlone m.0.work f node
     × (full_name_in word ≡ node + 1) × Names (node_of_number k) word (Some f)
-    × Runs m ([] ▷ Release f ▷ Take slot (Some f)) (retiring_work k word (Some f)) m.0.glance
-    Outside 4 m'
+    × HasItsHold (is_guarding m.0.work) word
+    × Runs m ([] ▷ Release f ▷ Take slot (Some f)) (leaving_work k (is_guarding m.0.work) word f)
+    m.0.glance Outside 4 m'
 TriedTakeHeld k slot node m (Err miss) m' =
     FailedIf k slot node miss m m' × Does m [] m.0.work 4 m'
 
 -- one that tried it by an exchange of names, with a node of its stock
 abbrev pub TriedSwapHeld : Start → (slot node own : ℕ) → Sat → Result ℕ Miss → Sat → Type 0
-TriedSwapHeld k slot node own m (Ok word) m' = (f : File) × (m.0.work ≡ Counted f node)
-    × (full_name_in word ≡ node + 1) × Names (node_of_number k) word (Some f) × (node < nodes_of k)
+TriedSwapHeld k slot node own m (Ok word) m' = (f : File) × HoldsAlone m.0.work f node
+    × (full_name_in word ≡ node + 1) × Names (node_of_number k) word (Some f)
+    × HasItsHold (is_guarding m.0.work) word × (node < nodes_of k)
     × ((entry : ℕ) → get_elem? (pass_in m).stock entry ≡ some own
     → Runs (as_swapped entry node m) ([] ▷ Release f ▷ Take slot (Some f))
-    (retiring_work k word (Some f)) m.0.glance Outside 4 m')
+    (leaving_work k (is_guarding m.0.work) word f) m.0.glance Outside 4 m')
 TriedSwapHeld k slot node own m (Err miss) m' =
     FailedIf k slot node miss m m' × Does m [] m.0.work 4 m'
 
 -- one that tried it, and has this stock now
 abbrev pub TriedOutHeld : Start → (slot node : ℕ) → List ℕ → Sat → Result ℕ Miss → Sat → Type 0
-TriedOutHeld k slot node stock m (Ok word) m' = (f : File) × (m.0.work ≡ Counted f node)
+TriedOutHeld k slot node stock m (Ok word) m' = (f : File) × HoldsAlone m.0.work f node
     × (full_name_in word ≡ node + 1) × Names (node_of_number k) word (Some f)
-    × IsStockOf k (pass_in m).number stock
+    × HasItsHold (is_guarding m.0.work) word × IsStockOf k (pass_in m).number stock
     × Runs (as_stocked stock m) ([] ▷ Release f ▷ Take slot (Some f))
-    (retiring_work k word (Some f)) m.0.glance Outside 4 m'
+    (leaving_work k (is_guarding m.0.work) word f) m.0.glance Outside 4 m'
 TriedOutHeld k slot node stock m (Err miss) m' = FailedIf k slot node miss m m'
     × Does m [] m.0.work 4 m' × (stock ≡ (pass_in m).stock)
 
@@ -100,17 +98,10 @@ pub record LeftAlone (k : Start) (p : LastingPass) (key : Key) (fault : KeyFault
   pub was : WasSo k key.slot (FitsMiss k hold.node miss) holder.between.front (view_of p').front
   pub tries : TriesKey k (view_of p) key fault freed p p'
 
--- the pass held the file of the key, and released it
-abbrev pub LeavesKey : Start → LastingPass → Key → (freed released : Option Identity) → LastingPass
-    → Type 0
-LeavesKey k p key freed released p' =
-    (hold : Hold) × HeldByKey k (view_of p) key hold freed released (view_of p')
-
 -- a removal by a key by one pass
-abbrev pub TakesAlone : Start → LastingPass → Key → TakenByKey
+abbrev pub TakesAlone : Start → LastingPass → Key → Result Retired KeyFault
     → (freed released : Option Identity) → LastingPass → Type 0
-TakesAlone k p key (Removed x) freed released p' = RemovesAlone k p key x freed released p'
-TakesAlone k p key (Missed fault) freed released p' =
+TakesAlone k p key (Ok x) freed released p' = RemovesAlone k p key x freed released p'
+TakesAlone k p key (Err fault) freed released p' =
     LookedByKey k (view_of p) key (Err fault) freed released (view_of p')
     ⊎ LeftAlone k p key fault freed released p'
-TakesAlone k p key Hot freed released p' = LeavesKey k p key freed released p'

@@ -1,6 +1,6 @@
 -- The kinds of step that empty a slot by an exchange of names: the slot's word names a node of the
 -- pass's stock then, and the node that it named takes that node's place in the stock.
-use Rattle.std.specs.Prelude.{◌≡◌, ◌≢◌, ℕ, ◌-◌, ◌<◌, List, [], Option, Some}
+use Rattle.std.specs.Prelude.{◌≡◌, ◌≢◌, ℕ, ◌-◌, List, [], Option, Some}
 use mathlib.Core.Option.{some}
 use lib.ListN.{get_elem?}
 use Rattle.fx_plain.specs.History.{◌▷◌}
@@ -11,15 +11,14 @@ use Rattle.fx_words.specs.Words.{name_in}
 use Rattle.fx_lasting.specs.slots.SlotAgrees.{Names}
 use Rattle.fx_lasting.specs.range.Groups.{account}
 use Rattle.fx_lasting.specs.holds.HeldFiles.{IsOneOnItsNode}
-use Rattle.fx_lasting.specs.Fields.{count_in, empty_word_of}
-use Rattle.fx_lasting.specs.Passes.{Sat, range_at_start, node_of_number}
+use Rattle.fx_lasting.specs.Fields.{empty_word_of}
+use Rattle.fx_lasting.specs.Passes.{Sat, HoldsAlone, is_guarding, node_of_number, range_at_start}
 use Rattle.fx_lasting.specs.Runs.{Runs}
 use Rattle.fx_lasting.specs.nodes.Stocks.{IsStockOf}
-use Rattle.fx_lasting.specs.Effects.{At, Found, NamesANode, Sees, Stepped, as_stocked, as_swapped}
-use Rattle.fx_lasting.specs.Effects.{pass_in}
+use Rattle.fx_lasting.specs.Effects.{At, Found, HasItsHold, NamesANode, Sees, Stepped, as_stocked}
+use Rattle.fx_lasting.specs.Effects.{as_swapped, leaving_work, pass_in}
 use Rattle.fx_lasting.specs.Effects.{retiring_work, slot_of}
 use Rattle.fx_lasting.specs.declared.view.Start.{Start}
-use Rattle.fx_lasting.specs.declared.view.Work.TheVariants.{Counted}
 
 -- Swap, to the word of an empty slot that names a node of the stock, by a clear or by a take
 pub record SwapsOut (action : ℕ → Option File → Action)
@@ -47,26 +46,26 @@ pub record SwapsIf (st : At) (m : Sat) (found : ℕ) (m' : Sat) : Type 0 where
       × IsOneOnItsNode m.0.start file (pass_in m').front
   pub loses : found ≢ st.first → Sees st m found m'
 
--- Swap, as by `SwapsIf`, by a pass that holds the slot's file by a take: the hold ends with the
--- step, and the removal doesn't count the pass's own take; or nothing changed
+-- Swap, as by `SwapsIf`, by a pass that holds the slot's file: the hold ends with the step, and the
+-- removal doesn't count the pass's own take; or nothing changed
 pub record SwapsHeld (st : At) (m : Sat) (found : ℕ) (m' : Sat) : Type 0 where
-  pub wins : (f : File) (node n entry : ℕ) → m.0.work ≡ Counted f node
+  pub wins : (f : File) (node n entry : ℕ) → HoldsAlone m.0.work f node
       → get_elem? (pass_in m).stock entry ≡ some n → st.second ≡ empty_word_of n → found ≡ st.first
-      → (0 < count_in found) × Names (node_of_number m.0.start) found (Some f)
+      → HasItsHold (is_guarding m.0.work) found × Names (node_of_number m.0.start) found (Some f)
       × NamesANode m.0.start found
       × Stepped (as_swapped entry (name_in found - 1) m)
       ([] ▷ Release f ▷ Take (slot_of st.word) (Some f))
-      (retiring_work m.0.start (found - 1) (Some f)) m.0.glance
+      (leaving_work m.0.start (is_guarding m.0.work) found f) m.0.glance
       (account (range_at_start m.0.start) (slot_of st.word) (Some f)) m' × (m'.1 ≡ m.1)
   pub loses : found ≢ st.first → Sees st m found m'
 
--- Take, as by `TakesIf`, by a pass that holds the slot's file by a take: the hold ends with the
--- step, and the removal doesn't count the pass's own take; or nothing changed
+-- Take, as by `TakesIf`, by a pass that holds the slot's file: the hold ends with the step, and the
+-- removal doesn't count the pass's own take; or nothing changed
 pub record TakesHeld (st : At) (m : Sat) (found : ℕ) (m' : Sat) : Type 0 where
-  pub wins : (f : File) (node : ℕ) → m.0.work ≡ Counted f node → found ≡ st.first
-      → (0 < count_in found) × Names (node_of_number m.0.start) found (Some f)
+  pub wins : (f : File) (node : ℕ) → HoldsAlone m.0.work f node → found ≡ st.first
+      → HasItsHold (is_guarding m.0.work) found × Names (node_of_number m.0.start) found (Some f)
       × Stepped m ([] ▷ Release f ▷ Take (slot_of st.word) (Some f))
-      (retiring_work m.0.start (found - 1) (Some f)) m.0.glance
+      (leaving_work m.0.start (is_guarding m.0.work) found f) m.0.glance
       (account (range_at_start m.0.start) (slot_of st.word) (Some f)) m' × (m'.1 ≡ m.1)
   pub loses : found ≢ st.first → Sees st m found m'
 

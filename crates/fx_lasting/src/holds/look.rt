@@ -3,6 +3,7 @@
 ghost use Rattle.std.specs.Prelude.{◌≡◌, ℕ, ◌<◌, []};
 ghost use Rattle.fx_lasting.specs.AtWork.{IsAtWork};
 ghost use Rattle.fx_lasting.specs.Ends.{Guards, LooksByTake};
+ghost use Rattle.fx_lasting.specs.Laws.{MayAnnounce};
 ghost use Rattle.fx_lasting.specs.Runs.{Runs};
 ghost use Rattle.fx_lasting.specs.Effects.{glance_after, IsOnList};
 ghost use Rattle.fx_lasting.specs.declared.view.Glance.TheVariants.{None as Nothing, Hot, Cold};
@@ -19,9 +20,9 @@ use fx_table::{Hold, LookFault};
 use fx_words::entry_of;
 
 impl LastingTable {
-    // Announces the node of a hot slot and looks at the slot again, in two steps. Returns the
-    // file's entry if the slot still has the file; the pass holds it then. Otherwise the
-    // announcement is to be withdrawn.
+    // Announces the node of a hot slot and looks at the slot again, in two steps, for a pass that
+    // does nothing or has placed a file. Returns the file's entry if the slot still has the file;
+    // the pass holds it then. Otherwise the announcement is to be withdrawn.
     #[inline(always)]
     pub(crate) fn guard(
         &self,
@@ -33,7 +34,7 @@ impl LastingTable {
         requires table { seat.old.table_id ≡ self.now.table.shared.table_id }
         requires at { IsAtWork self.now.table.shared.key number seat.old.me }
         requires listed { IsOnList seat.old.me }
-        requires idle { seat.old.me.0.work ≡ Idle }
+        requires may { MayAnnounce seat.old.me.0.work }
         requires saw { seat.old.me.0.glance ≡ Hot slot node }
         requires slot { slot < self.now.size }
         ensures table { seat.new.table_id ≡ seat.old.table_id }

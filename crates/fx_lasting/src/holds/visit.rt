@@ -1,7 +1,7 @@
 //! The round of a retirement through the other passes: each announcement of the removed file is
 //! marked. A pass that isn't listed announces nothing, and isn't visited.
 ghost use Rattle.std.specs.Prelude.{◌≡◌, ◌≢◌, ◌+◌, ◌*◌, ◌-◌, ◌<◌, ◌≤◌, [], ℕ};
-ghost use Rattle.std.specs.Prelude.{◌⊎◌};
+ghost use Rattle.std.specs.Prelude.{◌⊎◌, false};
 ghost use Rattle.fx_plain.specs.declared.event.File.{File};
 ghost use Rattle.fx_lasting.specs.AtWork.{IsAtWork};
 ghost use Rattle.fx_lasting.specs.Ends.{Does};
@@ -140,7 +140,8 @@ impl LastingTable {
         requires at { IsAtWork self.now.table.shared.key number seat.old.me }
         requires visiting { (f : File) × (takes : ℕ) × (round : Round) × (marks : ℕ)
             × (seat.old.me.0.work ≡ Retiring f node takes round marks) × (round.next ≤ pass)
-            × ((p : ℕ) → round.next ≤ p → p < pass → IsPassed number round p) }
+            × ((p : ℕ) → round.next ≤ p → p < pass → IsPassed number round p)
+            × (round.guarded ≡ false) }
         requires other { pass ≢ number }
         requires pass { pass ≤ self.now.passes }
         ensures table { seat.new.table_id ≡ seat.old.table_id }

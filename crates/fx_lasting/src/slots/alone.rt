@@ -1,29 +1,30 @@
-//! The removal by key that one pass makes. The pass takes the file of the key, so no other file is
-//! on its node. Its own take ends with the step that empties the slot: the retirement counts one
-//! take less, and nothing is dropped. So the pass keeps the node, as after a removal by slot.
-//!
-//! The file of a hot slot is held by the pass's hold word. The call leaves it, and a second pass
-//! has to hold it during the removal (`slots/by_key.rt`).
-ghost use Rattle.std.specs.Prelude.{◌≡◌, ℕ, ◌+◌, ◌<◌, ◌≤◌, false};
+//! The removal by key that one pass makes. The pass holds the file of the key, so no other file is
+//! on its node. Its hold ends with the step that empties the slot. If it held the file by a take,
+//! the retirement counts one take less, and nothing is dropped. If it held it by its hold word, the
+//! next step stores 0 there: a retirement visits the other passes only, so nobody has marked it. So
+//! the pass keeps the node, as after a removal by slot.
+ghost use Rattle.std.specs.Prelude.{◌≡◌, ℕ, ◌+◌, ◌<◌, ◌≤◌, [], Some};
 ghost use Rattle.fx_plain.specs.declared.event.File.{File};
 ghost use Rattle.fx_table.specs.Opening.{size_of};
 ghost use Rattle.fx_table.specs.Pass.{IsHoldOf, IsIdle};
 ghost use Rattle.fx_lasting.specs.slots.Alone.{HasTakenHeld, TakesAlone, TriedOutHeld, TriedSwapHeld, TriedTakeHeld};
+ghost use Rattle.fx_words.specs.Words.{entry_in};
 ghost use Rattle.fx_lasting.specs.AtWork.{IsAtWork};
+ghost use Rattle.fx_lasting.specs.Ends.{Does};
 ghost use Rattle.fx_lasting.specs.slots.ByNode.{TriesTake};
 ghost use Rattle.fx_lasting.specs.Laws.{IsOffCount};
 ghost use Rattle.fx_lasting.specs.Fields.{full_name_in};
 ghost use Rattle.fx_lasting.specs.nodes.Stocks.{IsInStock};
-ghost use Rattle.fx_lasting.specs.Effects.{pass_in};
+ghost use Rattle.fx_lasting.specs.Effects.{HasItsHold, leaving_work, pass_in, retiring_work};
+ghost use Rattle.fx_lasting.specs.Passes.{HoldsAlone};
 ghost use Rattle.fx_lasting.specs.Tables.{view_of, steps_taken, opening_of_table, IsPassOfTable};
-ghost use Rattle.fx_lasting.specs.declared.view.Work.TheVariants.{Counted};
 
 use crate::answers::{Miss, TakenIf};
 use crate::fields::{empty_word, without_file};
 use crate::key::Key;
-use crate::key_answers::{KeyLook, KeyRemoval, TakenByKey};
-use crate::kinds::{SwappingHeld, TakingHeld};
-use crate::life::layout::slot_place;
+use crate::key_answers::{KeyLook, KeyTaken};
+use crate::kinds::{StandingDown, SwappingHeld, TakingHeld};
+use crate::life::layout::{hold_place, slot_place};
 use crate::pass::LastingPass;
 use crate::slots::by_key::fault_of;
 use crate::slots::by_node::{named_by, removed_by};
@@ -38,11 +39,9 @@ impl LastingTable {
     /// `io_uring_prep_close_direct`), for an idle pass (`is_idle`), in at most 25 atomic steps. The
     /// removed file is the one that the pass found by the key, and is to be retired. Otherwise the
     /// slot is left as it is, and the pass is idle again. The answer is `Again` only if another
-    /// pass was at the slot after the look-up. It is `Hot` only if the pass held the key's file and
-    /// has released it (that the slot is hot then is tested): a removal by two passes
-    /// ([`LastingTable::take_key`]) is to be made.
+    /// pass was at the slot after the look-up.
     #[inline(always)]
-    pub fn take_key_alone(&self, pass: &mut LastingPass, key: Key) -> KeyRemoval
+    pub fn take_key_alone(&self, pass: &mut LastingPass, key: Key) -> KeyTaken
         requires fits { IsPassOfTable self.now pass.old }
         requires idle { IsIdle (view_of pass.old) }
         ensures fits { IsPassOfTable self.now pass.new }
@@ -58,49 +57,39 @@ impl LastingTable {
         let hold = match found {
             Ok(hold) => hold,
             Err(fault) => {
-                return KeyRemoval {
-                    taken: TakenByKey::Missed(fault),
+                return KeyTaken {
+                    taken: Err(fault),
                     freed,
                     released,
                 };
             }
         };
         let None = released else { unreachable!() };
-        if pass.guarded {
-            let released = self.release(pass, hold);
-            return KeyRemoval {
-                taken: TakenByKey::Hot,
-                freed,
-                released,
-            };
-        }
         let miss = match self.take_held(pass, key.slot, &hold) {
             TakenIf::Missed(miss) => miss,
             TakenIf::Removed(retired) => {
                 let Hold { node: _, entry: _ } = hold;
-                return KeyRemoval {
-                    taken: TakenByKey::Removed(retired),
+                return KeyTaken {
+                    taken: Ok(retired),
                     freed,
                     released: None,
                 };
             }
         };
         let released = self.release(pass, hold);
-        KeyRemoval {
-            taken: TakenByKey::Missed(fault_of(miss)),
+        KeyTaken {
+            taken: Err(fault_of(miss)),
             freed,
             released,
         }
     }
 
     // Empties the slot for a close, if its file is on the node of the hold, for a pass that holds
-    // the file by a take, in at most nine steps. The hold ends then. Otherwise the pass holds the
-    // file still.
+    // the file, in at most nine steps. The hold ends then. Otherwise the pass holds the file still.
     #[inline(always)]
     fn take_held(&self, pass: &mut LastingPass, slot: u32, hold: &Hold) -> TakenIf
         requires fits { IsPassOfTable self.now pass.old }
         requires held { IsHoldOf (view_of pass.old) hold.now }
-        requires counted { pass.old.guarded ≡ false }
         requires slot { slot < size_of (opening_of_table self.now) }
         ensures fits { IsPassOfTable self.now pass.new }
         ensures taken { HasTakenHeld self.now.table.shared.key (view_of pass.old) slot hold.now
@@ -118,6 +107,7 @@ impl LastingTable {
         let entry = pass.next_entry;
         match self.try_out_held(&mut pass.seat, &mut pass.stock, entry, slot, node, word) {
             Ok(found) => {
+                let found = self.end_hold(&mut pass.seat, pass.number, pass.guarded, found);
                 pass.next_visit = self.first_visit(found);
                 pass.emptied.keep(slot, inside, false);
                 TakenIf::Removed(removed_by(found, node))
@@ -129,10 +119,43 @@ impl LastingTable {
         }
     }
 
-    // Empties the slot while its word names the node, whose file the pass holds by a take, in at
-    // most four steps. The hold ends then. Returns the word that it found, without the pass's own
-    // take. The slot names the node at the entry of the stock then, and the stock has the node that
-    // the slot named. A pass without a stock leaves the name at the slot.
+    // Ends the hold of the file that the pass has just removed, and whose slot had this word, in at
+    // most one step: its hold word names no node, or its take is left out of the word. Returns the
+    // word without it.
+    #[inline(always)]
+    pub(crate) fn end_hold(
+        &self,
+        seat: &mut Seat<Option<OpenFile>, View>,
+        number: u32,
+        guarded: bool,
+        word: u64,
+    ) -> u64
+        requires table { seat.old.table_id ≡ self.now.table.shared.table_id }
+        requires at { IsAtWork self.now.table.shared.key number seat.old.me }
+        requires left { (f : File)
+            × (seat.old.me.0.work ≡ leaving_work self.now.table.shared.key guarded word f) }
+        requires hold { HasItsHold guarded word }
+        ensures table { seat.new.table_id ≡ seat.old.table_id }
+        ensures places { seat.new.me.1 ≡ seat.old.me.1 }
+        ensures named { full_name_in result ≡ full_name_in word }
+        ensures entry { entry_in result ≡ entry_in word }
+        ensures ended { (f : File)
+            → seat.old.me.0.work ≡ leaving_work self.now.table.shared.key guarded word f
+            → Does seat.old.me [] (retiring_work self.now.table.shared.key result (Some f)) 1
+            seat.new.me }
+    {
+        if guarded {
+            let place = hold_place(self.size, number);
+            self.table.shared.store::<StandingDown>(seat, place, 0);
+            return word;
+        }
+        word - 1
+    }
+
+    // Empties the slot while its word names the node, whose file the pass holds, in at most four
+    // steps. The hold ends then. Returns the word that it found. The slot names the node at the
+    // entry of the stock then, and the stock has the node that the slot named. A pass without a
+    // stock leaves the name at the slot.
     #[inline(always)]
     fn try_out_held(
         &self,
@@ -145,7 +168,7 @@ impl LastingTable {
     ) -> Result<u64, Miss>
         requires table { seat.old.table_id ≡ self.now.table.shared.table_id }
         requires at { (number : ℕ) × IsAtWork self.now.table.shared.key number seat.old.me }
-        requires held { (f : File) × (seat.old.me.0.work ≡ Counted f node) }
+        requires held { (f : File) × HoldsAlone seat.old.me.0.work f node }
         requires stock { stock.old.items ≡ (pass_in seat.old.me).stock }
         requires slot { slot < self.now.size }
         requires off { IsOffCount self.now.table.shared.key slot seat.old.me.0.change }
@@ -176,7 +199,7 @@ impl LastingTable {
     ) -> Result<u64, Miss>
         requires table { seat.old.table_id ≡ self.now.table.shared.table_id }
         requires at { (number : ℕ) × IsAtWork self.now.table.shared.key number seat.old.me }
-        requires held { (f : File) × (seat.old.me.0.work ≡ Counted f node) }
+        requires held { (f : File) × HoldsAlone seat.old.me.0.work f node }
         requires stocked { IsInStock (pass_in seat.old.me).stock own }
         requires slot { slot < self.now.size }
         requires off { IsOffCount self.now.table.shared.key slot seat.old.me.0.change }
@@ -193,7 +216,7 @@ impl LastingTable {
         for _ in 0..4u32 {
             let was = shared.compare_exchange::<SwappingHeld>(seat, place, expected, new);
             if was == expected {
-                return Ok(was - 1);
+                return Ok(was);
             }
             match named_by(was, node) {
                 Ok(again) => expected = again,
@@ -214,7 +237,7 @@ impl LastingTable {
     ) -> Result<u64, Miss>
         requires table { seat.old.table_id ≡ self.now.table.shared.table_id }
         requires at { (number : ℕ) × IsAtWork self.now.table.shared.key number seat.old.me }
-        requires held { (f : File) × (seat.old.me.0.work ≡ Counted f node) }
+        requires held { (f : File) × HoldsAlone seat.old.me.0.work f node }
         requires slot { slot < self.now.size }
         requires off { IsOffCount self.now.table.shared.key slot seat.old.me.0.change }
         requires named { full_name_in word ≡ node + 1 }
@@ -230,7 +253,7 @@ impl LastingTable {
             let left = without_file(expected);
             let found = shared.compare_exchange::<TakingHeld>(seat, place, expected, left);
             if found == expected {
-                return Ok(found - 1);
+                return Ok(found);
             }
             match named_by(found, node) {
                 Ok(again) => expected = again,

@@ -1,11 +1,9 @@
-//! The replacement by key that one pass makes. The pass places the new file, then takes the file at
-//! the slot and compares its number, so no other file is on that node. Its own take ends with the
-//! step that puts the new file there: the retirement counts one take less, and nothing is dropped.
-//! So the pass keeps the old file's node, as after a replacement by slot.
-//!
-//! The file of a hot slot isn't taken. The call leaves it, and a second pass has to hold it during
-//! the replacement (`slots/by_key.rt`).
-ghost use Rattle.std.specs.Prelude.{◌≡◌, ◌≢◌, ℕ, ◌+◌, ◌<◌, ◌≤◌, [], true, false, Some};
+//! The replacement by key that one pass makes. The pass places the new file, then holds the file at
+//! the slot and compares its number, so no other file is on that node. It holds it by a take, or at
+//! a hot slot by its hold word. Its hold ends with the step that puts the new file there, as that of
+//! a removal does (`slots/alone.rt`). So the pass keeps the old file's node, as after a replacement
+//! by slot.
+ghost use Rattle.std.specs.Prelude.{◌≡◌, ◌≢◌, ℕ, ◌+◌, ◌*◌, ◌<◌, ◌≤◌, [], true, false, Some, is_some};
 ghost use Rattle.fx_base.specs.declared.open_file.Closed.{Closed};
 ghost use Rattle.fx_plain.specs.declared.event.File.{File};
 ghost use Rattle.fx_table.specs.Calls.{Adds, no_use};
@@ -15,25 +13,26 @@ ghost use Rattle.fx_lasting.specs.AtWork.{IsAtWork, MayPlace};
 ghost use Rattle.fx_lasting.specs.Effects.{IsOnList};
 ghost use Rattle.fx_lasting.specs.Ends.{LetsFileGo};
 ghost use Rattle.fx_lasting.specs.Fields.{full_name_in};
-ghost use Rattle.fx_lasting.specs.Passes.{held_in};
-ghost use Rattle.fx_lasting.specs.slots.PutAlone.{AimedAt, HoldsBeside, IsBeside, PutsAlone, TriedRenewal, TriedReplaceHeld};
+ghost use Rattle.fx_lasting.specs.Passes.{held_in, HoldsOn, is_guarding};
+ghost use Rattle.fx_lasting.specs.slots.PutAlone.{AimedAt, AimsAt, Compared, HoldsBeside, IsBeside, PutsAlone};
+ghost use Rattle.fx_lasting.specs.slots.PutAlone.{Renews, TookBeside, TriedRenewal, TriedReplaceHeld};
 ghost use Rattle.fx_lasting.specs.Tables.{view_of, meetings, steps_taken, opening_of_table, IsPassOfTable, IsSeatOfTable};
 ghost use Rattle.fx_lasting.specs.declared.view.Change.TheVariants.{Outside};
 ghost use Rattle.fx_lasting.specs.declared.view.Glance.TheVariants.{None as Nothing, Cold};
 ghost use Rattle.fx_lasting.specs.declared.view.Placement.{Placement};
-ghost use Rattle.fx_lasting.specs.declared.view.Work.TheVariants.{Placing, Renewing};
+ghost use Rattle.fx_lasting.specs.declared.view.Work.TheVariants.{Placing};
 
 use crate::answers::Miss;
 use crate::fields::{file_node_of, file_word, is_hot_at, list_bit};
 use crate::key::Key;
-use crate::key_answers::{KeyFault, KeyReplacement, PutByKey};
+use crate::key_answers::{KeyFault, KeyPut, PutOverKey};
 use crate::kinds::{Aiming, Listing, ReadingNumber, ReplacingHeld, TakingBeside};
 use crate::life::layout::{list_place, slot_place};
 use crate::pass::LastingPass;
 use crate::slots::by_key::fault_of;
 use crate::slots::by_node::{named_by, removed_by};
 use crate::table::LastingTable;
-use crate::tried::{Aim, Taken};
+use crate::tried::{Aim, Renewal, Taken};
 use crate::view::View;
 use atomic_table::Seat;
 use fx_base::{Closed, OpenFile};
@@ -41,40 +40,47 @@ use fx_base::{Closed, OpenFile};
 impl LastingTable {
     /// Installs a file in place of the file of a key, under a number that no file has had
     /// (io_uring_prep_openat(3), `io_uring_prep_openat_direct`), for an idle pass (`is_idle`) that
-    /// installs files (`numbers_left`). It makes at most 16 atomic steps more than the table has
-    /// passes. The replaced file is the one that the pass found by the key, and is to be retired.
-    /// Otherwise the slot is left as it is, the new file comes back, and the pass is idle again.
-    /// The answer is `Again` only if another pass was at the slot after the look-up. It is `Hot`
-    /// only if the slot had a file at a moment of the call (that the slot is hot then is tested): a
-    /// replacement by two passes ([`LastingTable::put_over_key`]) is to be made.
+    /// installs files (`numbers_left`). It makes at most 26 atomic steps more than twice as many as
+    /// the table has passes. The replaced file is the one that the pass found by the key, and is to
+    /// be retired. Otherwise the slot is left as it is, the new file comes back, and the pass is
+    /// idle again. The answer is `Again` only if another pass was at the slot after the look-up.
     #[inline(always)]
-    pub fn put_key_alone(&self, pass: &mut LastingPass, key: Key, file: OpenFile) -> KeyReplacement
+    pub fn put_key_alone(&self, pass: &mut LastingPass, key: Key, file: OpenFile) -> KeyPut
         requires fits { IsPassOfTable self.now pass.old }
         requires idle { IsIdle (view_of pass.old) }
         requires numbers { 0 < (view_of pass.old).numbers_left }
         ensures fits { IsPassOfTable self.now pass.new }
         ensures placed { PutsAlone self.now.table.shared.key pass.old key file result.put
-            result.released pass.new }
+            result.freed result.released pass.new }
         ensures steps { let passes = self.now.passes in
-            steps_taken pass.new ≤ steps_taken pass.old + (passes + 16) }
+            steps_taken pass.new ≤ steps_taken pass.old + (2 * passes + 26) }
     {
         if self.size <= key.slot {
-            return KeyReplacement {
-                put: PutByKey::Missed(KeyFault::NoSlot, file),
+            return KeyPut {
+                put: PutOverKey::Missed(KeyFault::NoSlot, file),
+                freed: None,
                 released: None,
             };
         }
         self.enlist(pass);
-        match self.aim(&mut pass.seat, key.slot) {
-            Aim::Cold => self.renew(pass, key, file),
-            Aim::Empty => KeyReplacement {
-                put: PutByKey::Missed(KeyFault::Empty, file),
-                released: None,
+        let hot = match self.aim(&mut pass.seat, key.slot) {
+            Aim::Cold => None,
+            Aim::Hot(node) => Some(node),
+            Aim::Empty => {
+                return KeyPut {
+                    put: PutOverKey::Missed(KeyFault::Empty, file),
+                    freed: None,
+                    released: None,
+                };
+            }
+        };
+        match self.renew(pass, key, hot, file) {
+            Renewal::Ends(put, released) => KeyPut {
+                put,
+                freed: None,
+                released,
             },
-            Aim::Hot => KeyReplacement {
-                put: PutByKey::Hot(file),
-                released: None,
-            },
+            Renewal::Moved(file, freed) => self.renew_cold(pass, key, file, freed),
         }
     }
 
@@ -100,7 +106,8 @@ impl LastingTable {
         pass.listed = true;
     }
 
-    // Loads the slot's word, in one step. What a cold slot names is to be taken.
+    // Loads the slot's word, in one step. What a cold slot names is to be taken, and the node of a
+    // hot one is to be announced.
     #[inline(always)]
     fn aim(&self, seat: &mut Seat<Option<OpenFile>, View>, slot: u32) -> Aim
         requires table { seat.old.table_id ≡ self.now.table.shared.table_id }
@@ -117,29 +124,29 @@ impl LastingTable {
             return Aim::Empty;
         };
         if is_hot_at(word, node) {
-            Aim::Hot
+            Aim::Hot(node)
         } else {
             Aim::Cold
         }
     }
 
-    // Replaces the file of the key, for an idle listed pass that has aimed at its cold slot, in at
-    // most 14 steps more than the table has passes.
+    // Replaces the file of the key, for an idle listed pass that has aimed at its slot: at a cold
+    // one, or at a hot one that named the node `hot`. Makes at most 15 steps more than the table
+    // has passes.
     #[inline(always)]
-    fn renew(&self, pass: &mut LastingPass, key: Key, file: OpenFile) -> KeyReplacement
+    fn renew(&self, pass: &mut LastingPass, key: Key, hot: Option<u32>, file: OpenFile) -> Renewal
         requires seated { IsSeatOfTable self.now pass.old }
         requires idle { pass.old.idle ≡ true }
         requires may { MayPlace pass.old.keeps pass.old.stock.items pass.old.next_entry
             pass.old.seat.me.0.work }
         requires listed { IsOnList pass.old.seat.me }
-        requires cold { pass.old.seat.me.0.glance ≡ Cold key.slot }
+        requires aimed { AimsAt key.slot hot pass.old.seat.me.0.glance }
         requires slot { key.slot < self.now.size }
         requires installs { pass.old.number ≤ self.now.installing }
-        ensures fits { IsPassOfTable self.now pass.new }
-        ensures placed { PutsAlone self.now.table.shared.key pass.old key file result.put
-            result.released pass.new }
+        ensures renews { Renews self.now.table.shared.table_id self.now.table.shared.key pass.old
+            key hot file result pass.new }
         ensures steps { let passes = self.now.passes in
-            steps_taken pass.new ≤ steps_taken pass.old + (passes + 14) }
+            steps_taken pass.new ≤ steps_taken pass.old + (passes + 15) }
         ensures met { meetings pass.old ≤ meetings pass.new }
     {
         let stock = pass.stock.as_slice();
@@ -149,63 +156,151 @@ impl LastingTable {
         let (entry, own, lost) = self.place(seat, pass.number, stock, start, pass.keeps, file);
         pass.next_entry = entry;
         pass.keeps = false;
-        let node = match self.hold_beside(&mut pass.seat, key, own) {
+        let guarded = hot.is_some();
+        let number = pass.number;
+        let node = match self.hold_beside(&mut pass.seat, number, key, hot, own) {
             Taken::Its(node) => node,
             Taken::Nothing => {
                 let file = self.take_out(&mut pass.seat, own);
-                return KeyReplacement {
-                    put: PutByKey::Missed(KeyFault::Empty, file),
-                    released: None,
-                };
+                return Renewal::Ends(PutOverKey::Missed(KeyFault::Empty, file), None);
             }
             Taken::Other(node) => {
-                let (file, released) = self.unplace(&mut pass.seat, own, node);
-                let put = PutByKey::Missed(KeyFault::Other, file);
-                return KeyReplacement { put, released };
+                let (file, released) = self.unplace(&mut pass.seat, number, guarded, own, node);
+                return Renewal::Ends(PutOverKey::Missed(KeyFault::Other, file), released);
+            }
+            Taken::Moved(node) => {
+                let file = self.take_out(&mut pass.seat, own);
+                return Renewal::Moved(file, self.withdraw(&mut pass.seat, number, node));
             }
         };
-        match self.try_renewal(&mut pass.seat, key.slot, node, own, lost, identity) {
+        let seat = &mut pass.seat;
+        match self.try_renewal(seat, number, guarded, key.slot, node, own, lost, identity) {
             Ok(found) => {
                 pass.stock[entry as usize] = node;
                 pass.next_visit = self.first_visit(found);
                 pass.idle = false;
-                KeyReplacement {
-                    put: PutByKey::Replaced(removed_by(found, node)),
-                    released: None,
-                }
+                Renewal::Ends(PutOverKey::Replaced(removed_by(found, node)), None)
             }
             Err(miss) => {
-                let (file, released) = self.unplace(&mut pass.seat, own, node);
-                let put = PutByKey::Missed(fault_of(miss), file);
-                KeyReplacement { put, released }
+                let (file, released) = self.unplace(&mut pass.seat, number, guarded, own, node);
+                Renewal::Ends(PutOverKey::Missed(fault_of(miss), file), released)
             }
         }
     }
 
-    // Takes what the slot of the key names, beside the file that the pass has placed on its own
-    // node, and compares its number, in at most three steps. Returns what it holds.
+    // Replaces the file of the key as `renew` does at a cold slot, after an announcement that may
+    // have freed a file.
+    #[inline(never)]
+    fn renew_cold(
+        &self,
+        pass: &mut LastingPass,
+        key: Key,
+        file: OpenFile,
+        freed: Option<OpenFile>,
+    ) -> KeyPut
+        requires seated { IsSeatOfTable self.now pass.old }
+        requires idle { pass.old.idle ≡ true }
+        requires may { MayPlace pass.old.keeps pass.old.stock.items pass.old.next_entry
+            pass.old.seat.me.0.work }
+        requires listed { IsOnList pass.old.seat.me }
+        requires cold { pass.old.seat.me.0.glance ≡ Cold key.slot }
+        requires slot { key.slot < self.now.size }
+        requires installs { pass.old.number ≤ self.now.installing }
+        ensures fits { IsPassOfTable self.now pass.new }
+        ensures freed { result.freed ≡ freed }
+        ensures placed { PutsAlone self.now.table.shared.key pass.old key file result.put None
+            result.released pass.new }
+        ensures steps { let passes = self.now.passes in
+            steps_taken pass.new ≤ steps_taken pass.old + (passes + 15) }
+        ensures met { meetings pass.old ≤ meetings pass.new }
+    {
+        let renewed = self.renew(pass, key, None, file);
+        let Renewal::Ends(put, released) = renewed else {
+            unreachable!()
+        };
+        KeyPut {
+            put,
+            freed,
+            released,
+        }
+    }
+
+    // Holds what the slot of the key names, beside the file that the pass has placed on its own
+    // node, and compares its number, in at most three steps. Takes what a cold slot names, or
+    // announces the node `hot`. Returns what it holds.
     #[inline(always)]
-    fn hold_beside(&self, seat: &mut Seat<Option<OpenFile>, View>, key: Key, own: u32) -> Taken
+    fn hold_beside(
+        &self,
+        seat: &mut Seat<Option<OpenFile>, View>,
+        number: u32,
+        key: Key,
+        hot: Option<u32>,
+        own: u32,
+    ) -> Taken
         requires table { seat.old.table_id ≡ self.now.table.shared.table_id }
-        requires at { (number : ℕ) × IsAtWork self.now.table.shared.key number seat.old.me }
+        requires at { IsAtWork self.now.table.shared.key number seat.old.me }
         requires listed { IsOnList seat.old.me }
         requires placing { (placement : Placement) × (seat.old.me.0.work ≡ Placing own placement) }
-        requires cold { seat.old.me.0.glance ≡ Cold key.slot }
+        requires aimed { AimsAt key.slot hot seat.old.me.0.glance }
         requires slot { key.slot < self.now.size }
         ensures table { seat.new.table_id ≡ seat.old.table_id }
         ensures places { seat.new.me.1 ≡ seat.old.me.1 }
         ensures holds { (placement : Placement) → seat.old.me.0.work ≡ Placing own placement
-            → HoldsBeside self.now.table.shared.key key own placement seat.old.me result
+            → HoldsBeside self.now.table.shared.key key own placement hot seat.old.me result
             seat.new.me }
     {
-        let shared = &self.table.shared;
-        let word = shared.fetch_add::<TakingBeside>(seat, slot_place(key.slot), 1);
-        self.heat(seat, key.slot, word);
-        let Some(node) = file_node_of(word) else {
-            return Taken::Nothing;
+        let Some(node) = hot else {
+            let Some(node) = self.take_beside(seat, key.slot, own) else {
+                return Taken::Nothing;
+            };
+            return self.compare(seat, key, node);
         };
+        if self.guard(seat, number, key.slot, node).is_none() {
+            return Taken::Moved(node);
+        }
+        self.compare(seat, key, node)
+    }
+
+    // Takes what the cold slot names, beside the file that the pass has placed on its own node, in
+    // at most two steps. Returns the node of the file that it holds, if there is one.
+    #[inline(always)]
+    fn take_beside(
+        &self,
+        seat: &mut Seat<Option<OpenFile>, View>,
+        slot: u32,
+        own: u32,
+    ) -> Option<u32>
+        requires table { seat.old.table_id ≡ self.now.table.shared.table_id }
+        requires at { (number : ℕ) × IsAtWork self.now.table.shared.key number seat.old.me }
+        requires listed { IsOnList seat.old.me }
+        requires placing { (placement : Placement) × (seat.old.me.0.work ≡ Placing own placement) }
+        requires cold { seat.old.me.0.glance ≡ Cold slot }
+        requires slot { slot < self.now.size }
+        ensures table { seat.new.table_id ≡ seat.old.table_id }
+        ensures places { seat.new.me.1 ≡ seat.old.me.1 }
+        ensures took { (placement : Placement) → seat.old.me.0.work ≡ Placing own placement
+            → TookBeside slot own placement seat.old.me result seat.new.me }
+    {
+        let shared = &self.table.shared;
+        let word = shared.fetch_add::<TakingBeside>(seat, slot_place(slot), 1);
+        self.heat(seat, slot, word);
+        file_node_of(word)
+    }
+
+    // Compares the number of the file that the pass holds on the node with that of the key, in one
+    // step. Returns whether it is the key's file.
+    #[inline(always)]
+    fn compare(&self, seat: &mut Seat<Option<OpenFile>, View>, key: Key, node: u32) -> Taken
+        requires table { seat.old.table_id ≡ self.now.table.shared.table_id }
+        requires at { (number : ℕ) × IsAtWork self.now.table.shared.key number seat.old.me }
+        requires holds { (f : File) × HoldsOn seat.old.me.0.work f node }
+        ensures table { seat.new.table_id ≡ seat.old.table_id }
+        ensures places { seat.new.me.1 ≡ seat.old.me.1 }
+        ensures compared { (f : File) → HoldsOn seat.old.me.0.work f node
+            → Compared self.now.table.shared.key key node f seat.old.me result seat.new.me }
+    {
         let place = self.number_place(node);
-        let number = shared.load::<ReadingNumber>(seat, place);
+        let number = self.table.shared.load::<ReadingNumber>(seat, place);
         if names(key, number) {
             Taken::Its(node)
         } else {
@@ -214,12 +309,14 @@ impl LastingTable {
     }
 
     // Puts the file that the pass places on its own node at the slot while the slot's word names
-    // the other node, whose file the pass holds by a take, in at most five steps. The hold ends
-    // then. Returns the word that it found, without the pass's own take.
+    // the other node, whose file the pass holds, in at most six steps. The hold ends then. Returns
+    // the word that it found, without the pass's own take.
     #[inline(always)]
     fn try_renewal(
         &self,
         seat: &mut Seat<Option<OpenFile>, View>,
+        number: u32,
+        guarded: bool,
         slot: u32,
         node: u32,
         own: u32,
@@ -227,8 +324,9 @@ impl LastingTable {
         file: Closed,
     ) -> Result<u64, Miss>
         requires table { seat.old.table_id ≡ self.now.table.shared.table_id }
-        requires at { (number : ℕ) × IsAtWork self.now.table.shared.key number seat.old.me }
+        requires at { IsAtWork self.now.table.shared.key number seat.old.me }
         requires beside { IsBeside node own lost file seat.old.me }
+        requires guarded { guarded ≡ is_guarding seat.old.me.0.work }
         requires slot { slot < self.now.size }
         requires change { seat.old.me.0.change ≡ Outside }
         ensures table { seat.new.table_id ≡ seat.old.table_id }
@@ -239,7 +337,10 @@ impl LastingTable {
             Ok(word) => word,
             Err(miss) => return Err(miss),
         };
-        self.try_replace_held(seat, slot, node, word, own, lost, file)
+        match self.try_replace_held(seat, slot, node, word, own, lost, file) {
+            Ok(found) => Ok(self.end_hold(seat, number, guarded, found)),
+            Err(miss) => Err(miss),
+        }
     }
 
     // Puts the file there as `try_renewal` does, from a word that it saw, in at most four steps.
@@ -271,7 +372,7 @@ impl LastingTable {
         for _ in 0..4u32 {
             let seen = shared.compare_exchange::<ReplacingHeld>(seat, place, expected, new);
             if seen == expected {
-                return Ok(seen - 1);
+                return Ok(seen);
             }
             match named_by(seen, node) {
                 Ok(again) => expected = again,
@@ -282,28 +383,33 @@ impl LastingTable {
     }
 
     // Takes the file that the pass places out of its own node's place, and releases the file of the
-    // other node, which the pass holds by a take, in at most three steps. Returns both files; the
-    // released one if it was retired and no other pass uses it.
+    // other node, in at most four steps. Returns both files; the released one if it was retired and
+    // no other pass uses it.
     #[inline(never)]
     fn unplace(
         &self,
         seat: &mut Seat<Option<OpenFile>, View>,
+        number: u32,
+        guarded: bool,
         own: u32,
         node: u32,
     ) -> (OpenFile, Option<OpenFile>)
         requires table { seat.old.table_id ≡ self.now.table.shared.table_id }
-        requires at { (number : ℕ) × IsAtWork self.now.table.shared.key number seat.old.me }
+        requires at { IsAtWork self.now.table.shared.key number seat.old.me }
         requires beside { (lost : ℕ) × (file : Closed) × IsBeside node own lost file seat.old.me }
+        requires guarded { guarded ≡ is_guarding seat.old.me.0.work }
         ensures table { seat.new.table_id ≡ seat.old.table_id }
         ensures file { (lost : ℕ) → (file : Closed) → IsBeside node own lost file seat.old.me
             → result.0 ≡ file }
         ensures released { (f : File) → held_in seat.old.me.0.work ≡ Some f
-            → LetsFileGo seat.old.me f 3 result.1 seat.new.me }
+            → LetsFileGo seat.old.me f 4 result.1 seat.new.me }
         ensures places { seat.new.me.1 ≡ [] }
     {
         let file = self.take_out(seat, own);
-        let released = self.let_go(seat, node);
-        (file, released)
+        if guarded {
+            return (file, self.step_down(seat, number, node));
+        }
+        (file, self.let_go(seat, node))
     }
 }
 

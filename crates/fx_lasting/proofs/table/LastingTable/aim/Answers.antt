@@ -1,10 +1,9 @@
-use Rattle.fx_lasting.proofs.Words.{◌≡◌, ◌+◌, ℕ, ap, ◌∙◌, subst, sym, arith, [], ◌▷◌, Look, None, Nothing, Cold, Runs, slot_of, full_name_in}
+use Rattle.fx_lasting.proofs.Words.{◌≡◌, ◌+◌, ℕ, ap, ◌∙◌, subst, sym, arith, [], ◌▷◌, Look, None, Nothing, Cold, Hot, Runs, slot_of, full_name_in}
 use Rattle.fx_lasting.proofs.Words.{IsHot}
 use Rattle.fx_lasting.proofs.Calling.{slot_inside, slot_low}
 use Rattle.fx_lasting.proofs.Places.{slot_back}
 use Rattle.fx_lasting.proofs.Running.{runs_goes, no_name, its_name}
 use Rattle.fx_lasting.proofs.hold_lemmas.Looking.{aims_keep}
-use Rattle.fx_lasting.proofs.slot_lemmas.RenewalTries.{had_file}
 use Rattle.fx_lasting.proofs.table.LastingTable.aim.Goals as goal
 
 pub load-word-requires : goal.load-word-requires
@@ -30,14 +29,13 @@ pub returns-then-is_hot_at : goal.returns-then-is_hot_at
 returns-then-is_hot_at c =
     let named = its_name c.load-word.result c.in-Some.node c.in-Some.ensures in
     let still : (full_name_in c.load-word.result ≡ c.in-Some.node + 1) × IsHot c.load-word.result = c.is_hot_at.ensures.0 c.if-is_hot_at.true in
-    let saw = c.load-word.ensures.2.hot (λ zero. omega (arith, named, zero)) still.1 in
+    let here : slot_of c.slot_place.result ≡ c.args.slot = ap slot_of c.slot_place.ensures ∙ slot_back c.args.slot in
+    let goes = (c.load-word.ensures.2.hot c.in-Some.node named still.1).0 in
+    let m = c.args.seat.now.me in
     record {
       table = c.load-word.ensures.0;
-      places = saw.goes.carried;
-      aimed = (
-        runs_goes saw.goes,
-        had_file c.requires.at.1.pass.0 (ap slot_of c.slot_place.ensures ∙ slot_back c.args.slot) c.in-Some.node saw named,
-      );
+      places = goes.carried;
+      aimed = subst (λ (z : ℕ). Runs m [] m.0.work (Hot z c.in-Some.node) m.0.change 1 c.load-word.new.seat.me) here (runs_goes goes);
     }
 
 pub returns-else-is_hot_at : goal.returns-else-is_hot_at

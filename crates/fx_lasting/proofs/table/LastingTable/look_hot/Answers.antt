@@ -1,13 +1,25 @@
+use Rattle.fx_lasting.proofs.Words.{◌≡◌, Sat, Work, Idle, Announced, Runs, Cold, Nothing, announcing, guarding, inl}
 use Rattle.fx_lasting.proofs.Words.{refl, ◌∙◌, arith, sym, Some, ℕ, subst, opening_of, view_of, pass_of, Look, ◌▷◌, [], Adds, one_look, Holding}
 use Rattle.fx_lasting.proofs.Running.{still_at_work, does_then}
 use Rattle.fx_lasting.proofs.Passing.{adds_so, at_ease, still_pass, still_seat, marks_then, marks_run}
 use Rattle.fx_lasting.proofs.table.LastingTable.look_hot.Goals as goal
 
+-- an idle pass may announce a node
+pub guard-requires-clause-may : goal.guard-requires-clause-may
+guard-requires-clause-may c = inl c.requires.idle
+
+-- what it did in vain
+vain : {m m' : Sat} {slot node : ℕ} → m.0.work ≡ Idle → Runs m [] (announcing node m.0.work) (Cold slot) m.0.change 2 m'
+    → Runs m [] (Announced node) (Cold slot) m.0.change 2 m'
+vain {m} {m'} {slot} {node} idle r = subst (λ (w : Work). Runs m [] (announcing node w) (Cold slot) m.0.change 2 m') idle r
+
 pub returns-in-Some : goal.returns-in-Some
 returns-in-Some c =
     let s = c.requires.seated in
     let g = c.in-Some.ensures.guards in
-    let run = at_ease s g.2 in
+    let m = c.args.pass.now.seat.me in
+    let run = at_ease s (subst (λ (w : Work). Runs m ([] ▷ Look c.args.slot (Some g.0)) (guarding g.0 (announcing c.args.node w)) Nothing m.0.change 2 c.guard.new.seat.me)
+    c.requires.idle g.2) in
     record {
       fits = still_pass s _ run (refl, refl) c.guard.ensures.table (c.guard.ensures.places ∙ s.places) (refl, s.next) (refl, c.requires.unkept, refl);
       looked = (
@@ -23,10 +35,10 @@ returns-in-Some c =
     }
 
 pub withdraw-freed-requires-clause-at : goal.withdraw-freed-requires-clause-at
-withdraw-freed-requires-clause-at c = still_at_work c.requires.seated.at c.in-None.ensures.guards
+withdraw-freed-requires-clause-at c = still_at_work c.requires.seated.at (vain c.requires.idle c.in-None.ensures.guards)
 
 pub withdraw-freed-requires-clause-announced : goal.withdraw-freed-requires-clause-announced
-withdraw-freed-requires-clause-announced c = c.in-None.ensures.guards.work
+withdraw-freed-requires-clause-announced c = (vain c.requires.idle c.in-None.ensures.guards).work
 
 pub withdraw-freed-requires-clause-places : goal.withdraw-freed-requires-clause-places
 withdraw-freed-requires-clause-places c = c.guard.ensures.places ∙ c.requires.seated.places
@@ -35,19 +47,19 @@ pub look_cold-found-requires-clause-seated : goal.look_cold-found-requires-claus
 look_cold-found-requires-clause-seated c =
     let s = c.requires.seated in
     let lets = marks_run c.guard.new.seat.me c.withdraw-freed.new.seat.me 3 c.withdraw-freed.result c.withdraw-freed.ensures.withdraws in
-    still_seat s _ (at_ease s (does_then c.in-None.ensures.guards lets.1)) (refl, refl) (c.withdraw-freed.ensures.table ∙ c.guard.ensures.table)
+    still_seat s _ (at_ease s (does_then (vain c.requires.idle c.in-None.ensures.guards) lets.1)) (refl, refl) (c.withdraw-freed.ensures.table ∙ c.guard.ensures.table)
     c.withdraw-freed.ensures.places (refl, s.next)
 
 pub look_cold-found-requires-clause-listed : goal.look_cold-found-requires-clause-listed
 look_cold-found-requires-clause-listed c = (marks_run c.guard.new.seat.me c.withdraw-freed.new.seat.me 3 c.withdraw-freed.result c.withdraw-freed.ensures.withdraws).1.listed
-    ∙ (c.in-None.ensures.guards.listed ∙ c.requires.listed)
+    ∙ ((vain c.requires.idle c.in-None.ensures.guards).listed ∙ c.requires.listed)
 
 pub look_cold-found-requires-clause-idle : goal.look_cold-found-requires-clause-idle
 look_cold-found-requires-clause-idle c = (marks_run c.guard.new.seat.me c.withdraw-freed.new.seat.me 3 c.withdraw-freed.result c.withdraw-freed.ensures.withdraws).1.work
 
 pub look_cold-found-requires-clause-cold : goal.look_cold-found-requires-clause-cold
 look_cold-found-requires-clause-cold c = (marks_run c.guard.new.seat.me c.withdraw-freed.new.seat.me 3 c.withdraw-freed.result c.withdraw-freed.ensures.withdraws).1.glance
-    ∙ c.in-None.ensures.guards.glance
+    ∙ (vain c.requires.idle c.in-None.ensures.guards).glance
 
 pub returns-in-None : goal.returns-in-None
 returns-in-None c =
@@ -57,8 +69,8 @@ returns-in-None c =
     record {
       fits = cold.fits;
       looked = marks_then s (view_of c.look_cold-found.new.pass) c.args.slot c.withdraw-freed.result c.look_cold-found.result cold.never_spent
-          c.in-None.ensures.guards c.withdraw-freed.new.seat.me c.withdraw-freed.ensures.withdraws cold.looked;
+          (vain c.requires.idle c.in-None.ensures.guards) c.withdraw-freed.new.seat.me c.withdraw-freed.ensures.withdraws cold.looked;
       never_spent = cold.never_spent;
-      steps = let a = cold.steps in let b = lets.1.steps in let d = c.in-None.ensures.guards.steps in omega arith;
-      met = let a = cold.met in let b = lets.1.met in let d = c.in-None.ensures.guards.met in omega arith;
+      steps = let a = cold.steps in let b = lets.1.steps in let d = (vain c.requires.idle c.in-None.ensures.guards).steps in omega arith;
+      met = let a = cold.met in let b = lets.1.met in let d = (vain c.requires.idle c.in-None.ensures.guards).met in omega arith;
     }

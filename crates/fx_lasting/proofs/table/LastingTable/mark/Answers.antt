@@ -16,7 +16,7 @@ load-word-requires c =
     let inside : c.args.pass ≤ t.table.shared.key.passes = omega (arith, c.requires.pass, t.key.0) in (
       c.requires.table,
       hold_inside t inside c.hold_place-place.ensures,
-      visits_keep _ _ _ _ c.args.node v.1 v.3 c.args.pass v.2 v.0 c.args.seat.now.me _ at.pass v.4 v.5 inside
+      visits_keep _ _ _ _ c.args.node v.1 v.3 c.args.pass v.2 v.0 c.args.seat.now.me _ at.pass v.4 v.7 v.5 inside
           (λ same. c.requires.other (same ∙ at.its_number)) (λ p low high. passed_by v.2 (sym at.its_number) (v.6 p low high))
           (hold_word t refl c.hold_place-place.ensures),
     )
@@ -32,7 +32,7 @@ compare_exchange-requires c =
       c.load-word.ensures.0 ∙ c.requires.table,
       hold_inside t inside c.hold_place-place.ensures,
       rw (c.announced-named.ensures, c.marked.ensures) (marks_keep _ _ _ _ c.args.node v.1 v.3 c.args.pass v.2 v.0 c.load-word.new.seat.me _ at.pass
-          goes.stepped.work v.5 inside (λ same. c.requires.other (same ∙ at.its_number)) (λ p low high. passed_by v.2 (sym at.its_number) (v.6 p low high))
+          goes.stepped.work v.7 v.5 inside (λ same. c.requires.other (same ∙ at.its_number)) (λ p low high. passed_by v.2 (sym at.its_number) (v.6 p low high))
           (hold_word t refl c.hold_place-place.ensures)),
     )
 

@@ -77,6 +77,7 @@ returns-clause-marked c f takes works =
     let few = h.few in
     let inside = h.inside in (
       round_to h.next v.0 v.1,
+      refl,
       λ p l u. h.passed p l (omega (arith, u, done)),
       runs_within
           (⊎_elim

@@ -1,4 +1,4 @@
-use Rattle.fx_lasting.proofs.Words.{bit_at, bit_of, list_place, IsIdleIn, ◌≡◌, ℕ, ◌+◌, ◌-◌, ◌*◌, ◌/◌, ◌^◌, ◌≤◌, ◌<◌, ◌∙◌, sym, ap, subst, arith, Sat}
+use Rattle.fx_lasting.proofs.Words.{bit_at, bit_of, list_place, IsIdleIn, ◌≡◌, ℕ, ◌+◌, ◌-◌, ◌*◌, ◌/◌, ◌^◌, ◌≤◌, ◌<◌, ◌∙◌, refl, sym, ap, subst, arith, Sat}
 use Rattle.fx_lasting.proofs.Words.{File, HasVisited, IsAtWork, Start, round_to, w64, trailing_zeros}
 use Rattle.fx_lasting.proofs.Calling.{list_inside}
 use Rattle.fx_lasting.proofs.hold_lemmas.Rounds.{words_at, loads_more, from_here, goes_past, idle_at, lowest, none_left, shifted, passed_by}
@@ -19,7 +19,7 @@ load-rest-requires c =
     let h = v.8 in (
       c.requires.table,
       list_inside t (omega (arith, c.requires.low, t.bounds.1)) c.list_place.ensures,
-      skims_keep _ _ _ _ c.args.node v.2 v.6 v.4 (round_to h.next v.4 v.5) v.1 c.args.seat.now.me _ at.pass h.does.work
+      skims_keep _ _ _ _ c.args.node v.2 v.6 v.4 (round_to h.next v.4 v.5) v.1 c.args.seat.now.me _ at.pass h.does.work refl
           (omega (arith, v.7, c.requires.low, t.bounds.1)) (let near = h.near in omega (arith, v.7))
           (λ p low high. passed_by (round_to h.next v.4 v.5) (sym at.its_number) (h.passed p low (omega (arith, high, v.7))))
           (omega (arith, c.list_place.ensures, v.7)),

@@ -1,24 +1,12 @@
-use Rattle.fx_lasting.proofs.Words.{[], ◌▷◌, refl, ◌∙◌, subst, arith, inl, Start, Doing, DoesNothing, Adds, no_use, one_look, opening_of, view_of, pass_of, Look, None, adds_then, Glance, Runs}
+use Rattle.fx_lasting.proofs.Words.{◌≤◌, [], ◌▷◌, refl, ◌∙◌, subst, arith, inl, Start, Doing, DoesNothing, Adds, no_use, one_look, opening_of, view_of, pass_of, Look, None, adds_then}
+use Rattle.fx_lasting.proofs.Words.{◌<◌, Closed, Glance, LastingPass, Option, Runs, Sat, TableId, meetings, sym}
 use Rattle.fx_lasting.proofs.Calling.{slot_low}
 use Rattle.fx_lasting.proofs.Passing.{adds_so, at_ease, still_pass}
-use Rattle.fx_lasting.proofs.slot_lemmas.ByNode.{was_before}
-use Rattle.fx_lasting.proofs.slot_lemmas.RenewalEnds.{puts_before}
+use Rattle.fx_lasting.proofs.slot_lemmas.RenewalEnds.{frees_later, puts_before}
+use Rattle.fx_lasting.proofs.Words.{IsSeatOf}
+use Rattle.fx_lasting.specs.slots.PutAlone.{FreesFirst, PutsAlone}
+use Rattle.fx_lasting.proofs.table.LastingTable.put_key_alone.Goals.{in-Cold, in-Hot}
 use Rattle.fx_lasting.proofs.table.LastingTable.put_key_alone.Goals as goal
-
-pub returns-in-Cold-clause-placed : goal.returns-in-Cold-clause-placed
-returns-in-Cold-clause-placed c =
-    let t = c.args.self.now in
-    let k : Start = t.table.shared.key in
-    let u = c.args.pass.now in
-    let p₁ = c.enlist.new.pass in
-    let p₂ = record p₁ { seat = c.aim.new.seat } in
-    let s = c.enlist.ensures.fits.seated in
-    let first = c.enlist.ensures.adds in
-    let run = c.in-Cold.ensures.aimed in
-    let aimed = subst (λ (d : Doing). Adds (opening_of k) (view_of p₁) [] d no_use (view_of p₂)) first.now (adds_so s run no_use) in
-    let before = adds_then (opening_of k) (view_of u) (view_of p₁) (view_of p₂) [] [] DoesNothing DoesNothing no_use no_use first aimed in
-    puts_before k u p₂ c.renew.new.pass c.args.key before (let a = c.enlist.ensures.met in let b = run.met in omega arith)
-    (slot_low t (omega arith)) c.args.file c.renew.result.put c.renew.result.released c.renew.ensures.placed
 
 pub returns-in-Empty-clause-fits : goal.returns-in-Empty-clause-fits
 returns-in-Empty-clause-fits c =
@@ -37,29 +25,57 @@ returns-in-Empty-clause-placed c =
     let looked = subst (λ (d : Doing). Adds (opening_of k) v₁ ([] ▷ Look c.args.key.slot None) d one_look w) first.now (adds_so s c.in-Empty.ensures.aimed one_look) in
     (refl, inl (adds_then (opening_of k) v v₁ w [] ([] ▷ Look c.args.key.slot None) DoesNothing DoesNothing no_use one_look first looked, refl))
 
-pub returns-in-Hot-clause-fits : goal.returns-in-Hot-clause-fits
-returns-in-Hot-clause-fits c =
-    let fits = c.enlist.ensures.fits in
-    let s = fits.seated in
-    let run = c.in-Hot.ensures.aimed.0 in
-    still_pass s _ (at_ease s (subst (λ (g : Glance). Runs c.enlist.new.pass.seat.me [] c.enlist.new.pass.seat.me.0.work g c.enlist.new.pass.seat.me.0.change 1 c.aim.new.seat.me) fits.calm run))
-    (refl, refl) c.aim.ensures.table (c.aim.ensures.places ∙ s.places) (refl, s.next) fits.knows
+-- the pass listed itself, if need be, and aimed at its slot
+aims : (u : LastingPass) {id : TableId} {k : Start} {p : LastingPass} → IsSeatOf id k p → Adds (opening_of k) (view_of u) [] DoesNothing no_use (view_of p)
+    → (g : Glance) (m : Sat) → Runs p.seat.me [] p.seat.me.0.work g p.seat.me.0.change 1 m → Adds (opening_of k) (view_of u) [] DoesNothing no_use (pass_of m.0)
+aims u {k = k} {p = p} s first g m run = adds_then (opening_of k) (view_of u) (view_of p) (pass_of m.0) [] [] DoesNothing DoesNothing no_use no_use first
+    (subst (λ (d : Doing). Adds (opening_of k) (view_of p) [] d no_use (pass_of m.0)) first.now (adds_so s run no_use))
 
-pub returns-in-Hot-clause-placed : goal.returns-in-Hot-clause-placed
-returns-in-Hot-clause-placed c =
-    let k : Start = c.args.self.now.table.shared.key in
+pub returns-in-Ends-clause-placed : goal.returns-in-Ends-clause-placed
+returns-in-Ends-clause-placed c =
+    let t = c.args.self.now in
+    let k : Start = t.table.shared.key in
+    let low : c.args.key.slot < t.size = omega (arith, c.if-self-key.false) in
+    let m = c.aim.new.seat.me in
     let s = c.enlist.ensures.fits.seated in
-    let first = c.enlist.ensures.adds in
-    let v = view_of c.args.pass.now in
-    let v₁ = view_of c.enlist.new.pass in
-    let w = pass_of c.aim.new.seat.me.0 in
-    let saw = c.in-Hot.ensures.aimed in
-    let same = subst (λ (d : Doing). Adds (opening_of k) v₁ [] d no_use w) first.now (adds_so s saw.0 no_use) in (
-      refl,
-      record {
-        file = saw.1.0;
-        was = was_before v.front first.seen saw.1.1;
-        adds = adds_then (opening_of k) v v₁ w [] [] DoesNothing DoesNothing no_use no_use first same;
-        released_none = refl;
-      },
-    )
+    let p : LastingPass = record c.enlist.new.pass { seat = c.aim.new.seat } in
+    let p' = c.renew.new.pass in
+    let done = c.in-Ends.ensures.renews.1 in
+    elim c.match-aim.branch [
+      | in-Cold w ↦ puts_before k c.args.pass.now p p' c.args.key None (aims c.args.pass.now s c.enlist.ensures.adds _ m w.in-Cold.ensures.aimed)
+          (let few = w.in-Cold.ensures.aimed.met in omega (arith, c.enlist.ensures.met)) (slot_low t low) c.args.file c.in-Ends.put c.in-Ends.released done
+      | in-Hot w ↦ puts_before k c.args.pass.now p p' c.args.key None (aims c.args.pass.now s c.enlist.ensures.adds _ m w.in-Hot.ensures.aimed)
+          (let few = w.in-Hot.ensures.aimed.met in omega (arith, c.enlist.ensures.met)) (slot_low t low) c.args.file c.in-Ends.put c.in-Ends.released done
+    ]
+
+pub returns-in-Moved-clause-placed : goal.returns-in-Moved-clause-placed
+returns-in-Moved-clause-placed c =
+    let t = c.args.self.now in
+    let k : Start = t.table.shared.key in
+    let low : c.args.key.slot < t.size = omega (arith, c.if-self-key.false) in
+    let m = c.aim.new.seat.me in
+    let s = c.enlist.ensures.fits.seated in
+    let p₁ = c.renew.new.pass in
+    let p' = c.renew_cold.new.pass in
+    let moved = c.in-Moved.ensures.renews in
+    let before : FreesFirst (opening_of k) (view_of c.args.pass.now) c.in-Moved.freed (view_of p₁) = elim c.match-aim.branch [
+      | in-Cold w ↦ frees_later k (view_of c.args.pass.now) (pass_of m.0) (view_of p₁) c.in-Moved.freed (aims c.args.pass.now s c.enlist.ensures.adds _ m w.in-Cold.ensures.aimed) moved.2.frees
+      | in-Hot w ↦ frees_later k (view_of c.args.pass.now) (pass_of m.0) (view_of p₁) c.in-Moved.freed (aims c.args.pass.now s c.enlist.ensures.adds _ m w.in-Hot.ensures.aimed) moved.2.frees
+    ] in
+    let few : meetings c.args.pass.now ≤ meetings p₁ = elim c.match-aim.branch [
+      | in-Cold w ↦ let seen = w.in-Cold.ensures.aimed.met in omega (arith, c.enlist.ensures.met, c.renew.ensures.met, seen)
+      | in-Hot w ↦ let seen = w.in-Hot.ensures.aimed.met in omega (arith, c.enlist.ensures.met, c.renew.ensures.met, seen)
+    ] in
+    let done : PutsAlone k p₁ c.args.key c.args.file c.renew_cold.result.put None c.renew_cold.result.released p' =
+    subst (λ (z : Closed). PutsAlone k p₁ c.args.key z c.renew_cold.result.put None c.renew_cold.result.released p') moved.0 c.renew_cold.ensures.placed in
+    subst (λ (z : Option Closed). PutsAlone k c.args.pass.now c.args.key c.args.file c.renew_cold.result.put z c.renew_cold.result.released p') (sym c.renew_cold.ensures.freed)
+    (puts_before k c.args.pass.now p₁ p' c.args.key c.in-Moved.freed before few (slot_low t low) c.args.file c.renew_cold.result.put
+    c.renew_cold.result.released done)
+
+pub returns-in-Moved-clause-steps : goal.returns-in-Moved-clause-steps
+returns-in-Moved-clause-steps c =
+    let moved = c.in-Moved.ensures.renews in
+    elim c.match-aim.branch [
+      | in-Cold w ↦ let few = w.in-Cold.ensures.aimed.steps in omega (arith, c.enlist.ensures.steps, c.renew_cold.ensures.steps, moved.2.steps, c.args.self.now.key.0)
+      | in-Hot w ↦ let few = w.in-Hot.ensures.aimed.steps in omega (arith, c.enlist.ensures.steps, c.renew_cold.ensures.steps, moved.2.steps, c.args.self.now.key.0)
+    ]

@@ -1,13 +1,19 @@
-use Rattle.fx_lasting.proofs.Words.{◌-◌, [], refl, ap, ◌∙◌, subst, arith, inl, inr, alone_in, held_in, rested, label_of, as_written, Some, None}
+use Rattle.fx_lasting.proofs.Words.{◌-◌, [], refl, ap, ◌∙◌, subst, arith, inl, inr, alone_in, rested, label_of, as_written, Some, None}
 use Rattle.fx_lasting.proofs.Words.{Work, Runs, Closed, HasPlace, Start, full_name_in, count_in, retired_at, set, one_look, false}
 use Rattle.std.specs.Vec.{with_item}
 use Rattle.fx_lasting.proofs.Calling.{slot_low}
-use Rattle.fx_lasting.proofs.Passing.{adds_so, at_ease, still_pass, swapped_pass, knows_removed, first_by, lets_run}
+use Rattle.fx_lasting.proofs.Words.{◌≡◌, ℕ, sym, File, HoldsBesides, Placement, is_some}
+use Rattle.fx_lasting.proofs.slot_lemmas.Renewals.{held_besides}
+use Rattle.fx_lasting.proofs.Passing.{adds_so, at_ease, marks_run, still_seat, still_pass, swapped_pass, knows_removed, first_by, lets_run}
 use Rattle.fx_lasting.proofs.Running.{looks_then, does_then, file_then, still_at_work}
 use Rattle.fx_lasting.proofs.range_lemmas.Trying.{stocked_at}
-use Rattle.fx_lasting.proofs.slot_lemmas.RenewalEnds.{was_other, left, renews, swaps}
+use Rattle.fx_lasting.proofs.slot_lemmas.RenewalEnds.{frees_so, was_other, left, renews, swaps}
 use Rattle.fx_lasting.specs.slots.PutAlone.{IsBeside, RenewsAlone}
 use Rattle.fx_lasting.proofs.table.LastingTable.renew.Goals as goal
+
+-- the pass works with the node that it holds and with its own
+besides_so : {d e : Work} {f : File} {n own : ℕ} {l : Placement} → e ≡ d → HoldsBesides d f n own l → HoldsBesides e f n own l
+besides_so {f = f} {n = n} {own = own} {l = l} is holds = subst (λ (w : Work). HoldsBesides w f n own l) (sym is) holds
 
 pub take_out-file-requires-clause-at : goal.take_out-file-requires-clause-at
 take_out-file-requires-clause-at c = let placed = c.place-entry.ensures.placed in
@@ -36,9 +42,11 @@ returns-in-Nothing c =
       work = inr (as_written c.place-entry.result.2 (label_of c.args.file), ap alone_in h.work);
       place = c.hold_beside.ensures.places ∙ c.place-entry.ensures.place;
     } in record {
-      fits = still_pass s _ run (refl, refl) (end.table ∙ (c.hold_beside.ensures.table ∙ c.place-entry.ensures.table)) end.empty
-          (refl, λ _. omega (arith, c.place-entry.ensures.entry, t.key.0)) (c.requires.idle, refl);
-      placed = (end.file c.args.file place, inl (adds_so s run one_look, refl));
+      renews = (
+        still_pass s _ run (refl, refl) (end.table ∙ (c.hold_beside.ensures.table ∙ c.place-entry.ensures.table)) end.empty
+            (refl, λ _. omega (arith, c.place-entry.ensures.entry, t.key.0)) (c.requires.idle, refl),
+        (end.file c.args.file place, inl (adds_so s run one_look, refl)),
+      );
       steps = let few = run.steps in omega arith;
       met = run.met;
     }
@@ -47,19 +55,19 @@ pub unplace-file-requires-clause-at : goal.unplace-file-requires-clause-at
 unplace-file-requires-clause-at c =
     let placed = c.place-entry.ensures.placed in
     let h = c.in-Other.ensures.holds _ placed.work in
-    (c.args.pass.now.number, still_at_work c.requires.seated.at (looks_then placed h.2.1))
+    still_at_work c.requires.seated.at (looks_then placed h.2.4)
 
 pub unplace-file-requires-clause-beside : goal.unplace-file-requires-clause-beside
 unplace-file-requires-clause-beside c =
     let s = c.requires.seated in
     let placed = c.place-entry.ensures.placed in
     let h = c.in-Other.ensures.holds _ placed.work in
-    let run = looks_then placed h.2.1 in (
+    let run = looks_then placed h.2.4 in (
       c.place-entry.result.2,
       c.args.file,
       record {
         held = h.0;
-        work = h.2.1.work;
+        work = besides_so run.work h.2.2;
         few_lost = c.place-entry.ensures.few_lost;
         place = c.hold_beside.ensures.places ∙ c.place-entry.ensures.place;
         stocked = (
@@ -79,12 +87,12 @@ returns-in-Other c =
     let m₂ = c.hold_beside.new.seat.me in
     let m₃ = c.unplace-file.new.seat.me in
     let end = c.unplace-file.ensures in
-    let held = looks_then placed h.2.1 in
-    let lets = end.released h.0 (ap held_in h.2.1.work) in
-    let run = at_ease s (does_then held (lets_run m₂ m₃ h.0 3 c.unplace-file.result.1 lets).1) in
+    let held = looks_then placed h.2.4 in
+    let lets = end.released h.0 (held_besides (besides_so held.work h.2.2)) in
+    let run = at_ease s (does_then held (lets_run m₂ m₃ h.0 4 c.unplace-file.result.1 lets).1) in
     let b : IsBeside c.in-Other.node c.place-entry.result.1 c.place-entry.result.2 c.args.file m₂ = record {
       held = h.0;
-      work = h.2.1.work;
+      work = besides_so held.work h.2.2;
       few_lost = c.place-entry.ensures.few_lost;
       place = c.hold_beside.ensures.places ∙ c.place-entry.ensures.place;
       stocked = (
@@ -93,11 +101,13 @@ returns-in-Other c =
             (c.as_slice-stock.ensures.value ∙ s.stock) held.stock c.place-entry.ensures.stocked,
       );
     } in record {
-      fits = still_pass s _ run (refl, refl) (end.table ∙ (c.hold_beside.ensures.table ∙ c.place-entry.ensures.table)) end.places
-          (refl, λ _. omega (arith, c.place-entry.ensures.entry, t.key.0)) (c.requires.idle, refl);
-      placed = (
-        end.file c.place-entry.result.2 c.args.file b,
-        inl (was_other s c.args.key (slot_low t c.requires.slot) placed h.0 h.2 h.1 m₃ c.unplace-file.result.1 lets),
+      renews = (
+        still_pass s _ run (refl, refl) (end.table ∙ (c.hold_beside.ensures.table ∙ c.place-entry.ensures.table)) end.places
+            (refl, λ _. omega (arith, c.place-entry.ensures.entry, t.key.0)) (c.requires.idle, refl),
+        (
+          end.file c.place-entry.result.2 c.args.file b,
+          inl (was_other s c.args.key (slot_low t c.requires.slot) placed c.args.hot h.0 h.2 h.1 m₃ c.unplace-file.result.1 lets),
+        ),
       );
       steps = let few = run.steps in omega arith;
       met = run.met;
@@ -113,7 +123,7 @@ returns-in-Ok c =
     let placed = c.place-entry.ensures.placed in
     let h = c.in-Its.ensures.holds _ placed.work in
     let f = h.0 in
-    let held = looks_then placed h.2.1 in
+    let held = looks_then placed h.2.4 in
     let won = c.in-Ok.ensures.tried in
     let found = c.in-Ok.found in
     let its = c.removed_by.ensures in
@@ -128,14 +138,16 @@ returns-in-Ok c =
     } in
     let stocked = stocked_at c.as_slice-stock.result.now c.args.pass.now.seat.me c.hold_beside.new.seat.me e c.place-entry.result.1
     (c.as_slice-stock.ensures.value ∙ s.stock) held.stock c.place-entry.ensures.stocked in
-    let run = swaps s c.args.key inside placed f h.2 h.1 p' c.identity-identity.result found won e stocked c.removed_by.result its.node its.entry its.takes in
+    let run = swaps s c.args.key inside placed c.args.hot f h.2 h.1 p' c.identity-identity.result found won e stocked c.removed_by.result its.node its.entry its.takes in
     record {
-      fits = swapped_pass s e node won.4 _ run (refl, refl) (c.try_renewal.ensures.table ∙ (c.hold_beside.ensures.table ∙ c.place-entry.ensures.table)) won.3
-          (refl, λ _. omega (arith, c.place-entry.ensures.entry, t.key.0))
-          (knows_removed k found (Some f) (Some (retired_at f (full_name_in found - 1) (count_in found))) _ false _ _ e (set c.args.pass.now.stock.items e node) refl refl refl
-          (c.first_visit-pass.ensures ∙ first_by t found));
-      placed = subst (λ (z : Closed). RenewsAlone k c.args.pass.now c.args.key z c.removed_by.result None p') c.identity-identity.ensures
-          (renews s c.args.key inside placed f h.2 h.1 p' c.identity-identity.result found won e stocked c.removed_by.result its.node its.entry its.takes None refl);
+      renews = (
+        swapped_pass s e node won.4 _ run (refl, refl) (c.try_renewal.ensures.table ∙ (c.hold_beside.ensures.table ∙ c.place-entry.ensures.table)) won.3
+            (refl, λ _. omega (arith, c.place-entry.ensures.entry, t.key.0))
+            (knows_removed k found (Some f) (Some (retired_at f (full_name_in found - 1) (count_in found))) _ false _ _ e (set c.args.pass.now.stock.items e node) refl refl refl
+            (c.first_visit-pass.ensures ∙ first_by t found)),
+        subst (λ (z : Closed). RenewsAlone k c.args.pass.now c.args.key z c.removed_by.result None None p') c.identity-identity.ensures
+            (renews s c.args.key inside placed c.args.hot f h.2 h.1 p' c.identity-identity.result found won e stocked c.removed_by.result its.node its.entry its.takes None refl),
+      );
       steps = let few = run.steps in omega arith;
       met = run.met;
     }
@@ -153,11 +165,11 @@ returns-in-Err c =
     let tried = c.in-Err.ensures.tried in
     let end = c.unplace-file-in-Err.ensures in
     let r = c.unplace-file-in-Err.result.1 in
-    let held = looks_then placed h.2.1 in
+    let held = looks_then placed h.2.4 in
     let still = does_then held tried.2 in
     let b : IsBeside c.in-Its.node c.place-entry.result.1 c.place-entry.result.2 c.args.file m₃ = record {
       held = f;
-      work = tried.2.work ∙ h.2.1.work;
+      work = besides_so (tried.2.work ∙ held.work) h.2.2;
       few_lost = c.place-entry.ensures.few_lost;
       place = tried.3 ∙ (c.hold_beside.ensures.places ∙ c.place-entry.ensures.place);
       stocked = (
@@ -166,15 +178,65 @@ returns-in-Err c =
             (c.as_slice-stock.ensures.value ∙ s.stock) still.stock c.place-entry.ensures.stocked,
       );
     } in
-    let lets = end.released f (ap held_in b.work) in
-    let run = at_ease s (does_then held (lets_run m₂ m₄ f 8 r (file_then m₄ f 3 r tried.2 lets)).1) in
+    let lets = end.released f (held_besides b.work) in
+    let run = at_ease s (does_then held (lets_run m₂ m₄ f 9 r (file_then m₄ f 4 r tried.2 lets)).1) in
     let p' = record c.args.pass.now { seat = c.unplace-file-in-Err.new.seat; next_entry = c.place-entry.result.0; keeps = false } in
     record {
-      fits = still_pass s _ run (refl, refl) (end.table ∙ (c.try_renewal.ensures.table ∙ (c.hold_beside.ensures.table ∙ c.place-entry.ensures.table))) end.places
-          (refl, λ _. omega (arith, c.place-entry.ensures.entry, t.key.0)) (c.requires.idle, refl);
-      placed = (
-        end.file c.place-entry.result.2 c.args.file b,
-        inr (left s c.args.key (slot_low t c.requires.slot) placed f h.2 h.1 p' m₃ c.identity-identity.result c.in-Err.miss tried r lets c.fault_of.result c.fault_of.ensures),
+      renews = (
+        still_pass s _ run (refl, refl) (end.table ∙ (c.try_renewal.ensures.table ∙ (c.hold_beside.ensures.table ∙ c.place-entry.ensures.table))) end.places
+            (refl, λ _. omega (arith, c.place-entry.ensures.entry, t.key.0)) (c.requires.idle, refl),
+        (
+          end.file c.place-entry.result.2 c.args.file b,
+          inr (left s c.args.key (slot_low t c.requires.slot) placed c.args.hot f h.2 h.1 p' m₃ c.identity-identity.result c.in-Err.miss tried r lets c.fault_of.result c.fault_of.ensures),
+        ),
+      );
+      steps = let few = run.steps in omega arith;
+      met = run.met;
+    }
+
+pub take_out-file-requires-in-Moved-clause-place : goal.take_out-file-requires-in-Moved-clause-place
+take_out-file-requires-in-Moved-clause-place c = let placed = c.place-entry.ensures.placed in (
+  c.args.file,
+  record {
+    work = inr (as_written c.place-entry.result.2 (label_of c.args.file), ap alone_in (c.in-Moved.ensures.holds _ placed.work).1.work);
+    place = c.hold_beside.ensures.places ∙ c.place-entry.ensures.place;
+  },
+)
+
+-- the announcement was in vain
+pub returns-in-Moved : goal.returns-in-Moved
+returns-in-Moved c =
+    let t = c.args.self.now in
+    let s = c.requires.seated in
+    let placed = c.place-entry.ensures.placed in
+    let h = c.in-Moved.ensures.holds _ placed.work in
+    let m₂ = c.hold_beside.new.seat.me in
+    let m₃ = c.take_out-file-in-Moved.new.seat.me in
+    let m₄ = c.withdraw.new.seat.me in
+    let end = c.take_out-file-in-Moved.ensures in
+    let rests = subst (λ (z : Work). Runs m₂ [] (rested z) m₂.0.glance m₂.0.change 1 m₃) h.1.work end.rests in
+    let vain = does_then (looks_then placed h.1) rests in
+    let lets = marks_run m₃ m₄ 3 c.withdraw.result c.withdraw.ensures.withdraws in
+    let run = does_then vain lets.1 in
+    let place : HasPlace c.place-entry.result.1 (Some c.args.file) m₂ = record {
+      work = inr (as_written c.place-entry.result.2 (label_of c.args.file), ap alone_in h.1.work);
+      place = c.hold_beside.ensures.places ∙ c.place-entry.ensures.place;
+    } in record {
+      renews = (
+        end.file c.args.file place,
+        ap is_some h.0,
+        record {
+          seated = still_seat s _ (at_ease s run) (refl, refl) (c.withdraw.ensures.table ∙ (end.table ∙ (c.hold_beside.ensures.table ∙ c.place-entry.ensures.table)))
+              c.withdraw.ensures.places (refl, λ _. omega (arith, c.place-entry.ensures.entry, t.key.0));
+          idle = c.requires.idle;
+          unkept = refl;
+          works = run.work;
+          listed = run.listed ∙ c.requires.listed;
+          cold = run.glance;
+          number = refl;
+          frees = frees_so s vain m₄ c.withdraw.result c.withdraw.ensures.withdraws;
+          steps = let few = run.steps in omega arith;
+        },
       );
       steps = let few = run.steps in omega arith;
       met = run.met;

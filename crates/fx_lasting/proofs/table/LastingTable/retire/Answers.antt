@@ -1,4 +1,4 @@
-use Rattle.fx_lasting.proofs.Words.{Round, new_round, IsPassed, ◌/◌, ◌≡◌, ◌≢◌, ℕ, ◌+◌, ◌-◌, ◌*◌, ◌≤◌, refl, ◌∙◌, subst, arith, sym, inl, inr, ⊎_elim}
+use Rattle.fx_lasting.proofs.Words.{false, Round, new_round, IsPassed, ◌/◌, ◌≡◌, ◌≢◌, ℕ, ◌+◌, ◌-◌, ◌*◌, ◌≤◌, refl, ◌∙◌, subst, arith, sym, inl, inr, ⊎_elim}
 use Rattle.fx_lasting.proofs.Words.{[], Some, File, Start, IsAtWork, Runs, Retiring, Sat, state_after_all, pass_in, TakesOut, HasPlace, At, Retires}
 use Rattle.fx_lasting.proofs.Words.{retirement_amount, Work, Goes, ap, Finishes, List, ◌▷◌, Close, TakenOut, opening_of, view_of, pass_of, Adds}
 use Rattle.fx_lasting.proofs.Words.{no_use, Doing}
@@ -38,12 +38,15 @@ module _ (c : After-mark_all-marks) where
   abbrev round : Round
   round = (c.mark_all-marks.ensures.marked file c.args.retired.takes works).0
 
+  down : round.guarded ≡ false
+  down = (c.mark_all-marks.ensures.marked file c.args.retired.takes works).1
+
   all : (p : ℕ) → round.next ≤ p → p ≤ c.args.self.now.passes → IsPassed c.args.pass.now.number round p
-  all = (c.mark_all-marks.ensures.marked file c.args.retired.takes works).1
+  all = (c.mark_all-marks.ensures.marked file c.args.retired.takes works).2
 
   visited : Runs c.args.pass.now.seat.me [] (Retiring file c.args.retired.node c.args.retired.takes round c.mark_all-marks.result)
       c.args.pass.now.seat.me.0.glance c.args.pass.now.seat.me.0.change (2 * (c.args.self.now.passes - 1) + (c.args.self.now.passes + 63) / 64) c.mark_all-marks.new.seat.me
-  visited = (c.mark_all-marks.ensures.marked file c.args.retired.takes works).2
+  visited = (c.mark_all-marks.ensures.marked file c.args.retired.takes works).3
 
   at : IsAtWork k c.args.pass.now.number c.mark_all-marks.new.seat.me
   at = still_at_work c.requires.fits.seated.at visited
@@ -55,7 +58,7 @@ load-left-requires c =
       c.mark_all-marks.ensures.table ∙ c.requires.fits.seated.table,
       node_inside t (its_inside (at a) (visited a).work) c.node_place-place.ensures,
       finishes_keep _ _ _ _ c.args.retired.node c.args.retired.takes c.mark_all-marks.result (round a) (file a) c.mark_all-marks.new.seat.me _
-          (at a).pass (visited a).work (λ p low high. passed_by (round a) (sym (at a).its_number) (all a p low (omega (arith, high, t.key.0))))
+          (at a).pass (visited a).work (down a) (λ p low high. passed_by (round a) (sym (at a).its_number) (all a p low (omega (arith, high, t.key.0))))
           (node_word t c.args.retired.node c.node_place-place.ensures),
     )
 
@@ -138,7 +141,7 @@ fetch_sub-found-requires c =
       c.load-left.ensures.0 ∙ (c.mark_all-marks.ensures.table ∙ c.requires.fits.seated.table),
       node_inside t (its_inside there (looked a goes).work) c.node_place-place.ensures,
       retires_keep _ _ _ _ c.args.retired.node c.args.retired.takes c.mark_all-marks.result _ (round a) (file a) c.load-left.new.seat.me _
-          there.pass (looked a goes).work (λ p low high. passed_by (round a) (sym there.its_number) (all a p low (omega (arith, high, t.key.0))))
+          there.pass (looked a goes).work (down a) (λ p low high. passed_by (round a) (sym there.its_number) (all a p low (omega (arith, high, t.key.0))))
           (node_word t c.args.retired.node c.node_place-place.ensures) c.retire_amount-amount.ensures,
     )
 

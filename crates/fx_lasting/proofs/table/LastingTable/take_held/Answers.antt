@@ -4,9 +4,12 @@ use Rattle.fx_lasting.proofs.Words.{count_in, retired_at, opening_of, view_of, p
 use Rattle.fx_table.specs.declared.values.Doing.TheVariants.{Retiring as Retires}
 use Rattle.fx_lasting.proofs.slot_lemmas.ByNode.{stands_then, missed_so, tried_none, tried_so, value_so, removal_so}
 use Rattle.fx_lasting.proofs.slot_lemmas.HeldTries.{adds_held, held_flags}
-use Rattle.fx_lasting.proofs.Passing.{at_rest, still_pass, its_counted, knows_removed, first_by}
-use Rattle.fx_lasting.proofs.slot_lemmas.Removals.{adds_stocked, stocked_pass, stocked_then}
-use Rattle.fx_lasting.proofs.Running.{still_at_work, turns_then, number_is}
+use Rattle.fx_lasting.proofs.slot_lemmas.SwapsHeld.{held_alone}
+use Rattle.fx_lasting.proofs.Passing.{at_rest, still_pass, holds_alone, knows_removed, first_by}
+use Rattle.fx_lasting.proofs.slot_lemmas.Removals.{at_stocked, adds_stocked, stocked_pass, stocked_then}
+use Rattle.fx_lasting.proofs.Running.{still_at_work, does_then, turns_then, number_is}
+use Rattle.fx_lasting.specs.slots.Alone.{TriedOutHeld}
+use Rattle.fx_lasting.proofs.Words.{HasItsHold, HoldsAlone, IsAtWork, Ok, Sat, Work, held_in, is_guarding, leaving_work}
 use Rattle.fx_lasting.proofs.table.LastingTable.take_held.Goals as goal
 
 pub see-requires-clause-slot : goal.see-requires-clause-slot
@@ -42,11 +45,36 @@ try_out_held-requires c =
     record {
       table = began.table ∙ (c.see.ensures.table ∙ f.seated.table);
       at = (c.args.pass.now.number, still_at_work (still_at_work f.seated.at saw.2) began.runs);
-      held = (h.0, began.runs.work ∙ (saw.2.work ∙ its_counted f h.1 c.requires.counted));
+      held = (h.0, subst (λ (w : Work). HoldsAlone w h.0 c.args.hold.now.node) (sym (began.runs.work ∙ saw.2.work)) (holds_alone f h.1));
       slot = omega (arith, c.requires.slot, t.same_size);
       stock = f.seated.stock ∙ sym (turns_then saw.2 began.runs).stock;
       off = began.runs.change ∙ ap (λ (b : Bool). uncounted b true (group_of (range_at_start t.table.shared.key) c.args.slot)) c.is_in_range-inside.ensures;
       named = saw.0;
+    }
+
+-- the seat after the exchange
+at_removed : (k : Start) (p slot node word : ℕ) (m₂ m₃ : Sat) (stock : List ℕ) (at : IsAtWork k p m₂) → TriedOutHeld k slot node stock m₂ (Ok word) m₃ → IsAtWork k p m₃
+at_removed k p slot node word m₂ m₃ stock at took =
+    still_at_work (at_stocked at stock (subst (λ (n : ℕ). IsStockOf k n stock) (number_is at) took.5)) took.6
+
+pub end_hold-found-requires : goal.end_hold-found-requires
+end_hold-found-requires c =
+    let k : Start = c.args.self.now.table.shared.key in
+    let fits = c.requires.fits in
+    let h = c.requires.held in
+    let saw = c.in-Ok.ensures.saw in
+    let began = c.lower.ensures in
+    let took = c.in-Ok-try_out_held.ensures.tried in
+    let word = c.in-Ok-try_out_held.found in
+    let first = turns_then saw.2 began.runs in
+    let flags = held_flags k.passes c.args.pass.now (holds_alone fits h.1) fits.knows in
+    let guards = ap is_guarding first.work ∙ flags.2 in
+    record {
+      table = c.try_out_held.ensures.table ∙ (began.table ∙ (c.see.ensures.table ∙ fits.seated.table));
+      at = at_removed k c.args.pass.now.number c.args.slot c.args.hold.now.node word c.lower.new.seat.me c.try_out_held.new.seat.me c.try_out_held.new.stock.items
+          (still_at_work fits.seated.at first) took;
+      left = (took.0, took.6.work ∙ ap (λ (b : Bool). leaving_work k b word took.0) guards);
+      hold = subst (λ (b : Bool). HasItsHold b word) guards took.4;
     }
 
 pub returns-in-Ok-try_out_held : goal.returns-in-Ok-try_out_held
@@ -59,37 +87,42 @@ returns-in-Ok-try_out_held c =
     let saw = c.in-Ok.ensures.saw in
     let began = c.lower.ensures in
     let took = c.in-Ok-try_out_held.ensures.tried in
-    let found = c.in-Ok-try_out_held.found in
+    let word = c.in-Ok-try_out_held.found in
+    let ends = c.end_hold-found.ensures in
+    let found = c.end_hold-found.result in
     let f = h.0 in
     let x = c.removed_by.result in
     let its = c.removed_by.ensures in
     let stock = c.try_out_held.new.stock.items in
     let m = c.args.pass.now.seat.me in
     let m₂ = c.lower.new.seat.me in
-    let m₃ = c.try_out_held.new.seat.me in
+    let m₄ = c.end_hold-found.new.seat.me in
     let first = turns_then saw.2 began.runs in
-    let works = its_counted fits h.1 c.requires.counted in
-    let flags = held_flags k.passes c.args.pass.now works fits.knows in
-    let same : took.0 ≡ f = cc (sym took.1 ∙ (first.work ∙ works)) in
-    let names = subst (λ (z : File). Names (node_of_number k) found (Some z)) same took.3 in
-    let its_stock = subst (λ (n : ℕ). IsStockOf k n stock) (number_is (still_at_work s.at first)) took.4 in
-    let did = subst (λ (z : File × Glance). Runs (as_stocked stock m₂) ([] ▷ Release z.0 ▷ Take c.args.slot (Some z.0)) (retiring_work k found (Some z.0)) z.1 Outside 4 m₃)
-    (λ i. (same i, first.glance i)) took.5 in
-    let run = subst (λ (g : Glance). Runs (as_stocked stock m) ([] ▷ Release f ▷ Take c.args.slot (Some f)) (retiring_work k found (Some f)) g Outside 8 m₃) fits.calm
+    let alone = holds_alone fits h.1 in
+    let flags = held_flags k.passes c.args.pass.now alone fits.knows in
+    let guards = ap is_guarding first.work ∙ flags.2 in
+    let same : took.0 ≡ f = cc (sym (held_alone took.1) ∙ (ap held_in first.work ∙ held_alone alone)) in
+    let name = ends.named ∙ took.2 in
+    let names : Names (node_of_number k) found (Some f) = subst (λ (z : File). Names (node_of_number k) found (Some z)) same (ends.named ∙ took.3.0, ends.entry ∙ took.3.1) in
+    let its_stock = subst (λ (n : ℕ). IsStockOf k n stock) (number_is (still_at_work s.at first)) took.5 in
+    let done = does_then took.6 (ends.ended took.0 (took.6.work ∙ ap (λ (b : Bool). leaving_work k b word took.0) guards)) in
+    let did = subst (λ (z : File × Glance). Runs (as_stocked stock m₂) ([] ▷ Release z.0 ▷ Take c.args.slot (Some z.0)) (retiring_work k found (Some z.0)) z.1 Outside 5 m₄)
+    (λ i. (same i, first.glance i)) done in
+    let run = subst (λ (g : Glance). Runs (as_stocked stock m) ([] ▷ Release f ▷ Take c.args.slot (Some f)) (retiring_work k found (Some f)) g Outside 9 m₄) fits.calm
     (stocked_then stock first did) in
     let v = view_of c.args.pass.now in
-    let w = pass_of c.try_out_held.new.seat.me.0 in
+    let w = pass_of m₄.0 in
     record {
-      fits = stocked_pass s stock its_stock _ run (refl, refl) (c.try_out_held.ensures.table ∙ (began.table ∙ c.see.ensures.table))
-          (c.try_out_held.ensures.places ∙ (began.places ∙ (c.see.ensures.places ∙ s.places))) (refl, s.next)
+      fits = stocked_pass s stock its_stock _ run (refl, refl) (ends.table ∙ (c.try_out_held.ensures.table ∙ (began.table ∙ c.see.ensures.table)))
+          (ends.places ∙ (c.try_out_held.ensures.places ∙ (began.places ∙ (c.see.ensures.places ∙ s.places)))) (refl, s.next)
           (knows_removed k found (Some f) (Some (retired_at f (full_name_in found - 1) (count_in found))) _ c.args.pass.now.guarded _ _ c.args.pass.now.next_entry stock flags.1 refl
           (ap not (sym flags.0)) (c.first_visit-pass.ensures ∙ first_by t found));
       taken = (
         f,
         h.1,
-        removal_so found x its.node its.entry its.takes took.2 f k names.1,
+        removal_so found x its.node its.entry its.takes name f k names.1,
         subst (λ (z : Retired). Adds (opening_of k) v ([] ▷ Release f ▷ Take c.args.slot (Some f)) (Retires f z) no_use w)
-            (value_so found x its.node its.entry its.takes took.2 f names.1) (adds_stocked s stock run no_use),
+            (value_so found x its.node its.entry its.takes name f names.1) (adds_stocked s stock run no_use),
       );
       tries = tt;
       steps = let few = run.steps in omega arith;

@@ -1,9 +1,9 @@
-use Rattle.fx_lasting.proofs.Words.{◌≤◌, ◌<◌, ◌^◌, ◌+◌, ℕ, refl, ap, ◌∙◌, arith, slot_of, full_name_in, rest, subst, sym, held_in}
+use Rattle.fx_lasting.proofs.Words.{◌≤◌, ◌<◌, ◌^◌, ◌+◌, ℕ, refl, ap, ◌∙◌, arith, slot_of, full_name_in, rest, subst, sym, HoldsBesides, Work, as_written, label_of}
 use Rattle.fx_lasting.proofs.Calling.{slot_inside, slot_low}
 use Rattle.fx_lasting.proofs.slot_lemmas.ByNode.{lost_run, lost_so, stands_then}
 use Rattle.fx_lasting.proofs.slot_lemmas.Overtaking.{Tried, tried_nothing, tried_more}
 use Rattle.fx_lasting.proofs.slot_lemmas.RenewalTries.{won_renewal}
-use Rattle.fx_lasting.proofs.slot_lemmas.Renewals.{replaces_held_keep}
+use Rattle.fx_lasting.proofs.slot_lemmas.Renewals.{held_besides, replaces_held_keep}
 use Rattle.fx_lasting.proofs.Places.{slot_back}
 use Rattle.fx_lasting.proofs.Running.{placed_none, still_at_work, runs_goes, runs_within}
 use Rattle.fx_lasting.proofs.table.LastingTable.try_replace_held.Goals as goal
@@ -23,7 +23,7 @@ compare_exchange-seen-requires c =
     let small : c.args.file.entry < 2 ^ 8 = omega arith in (
       i.table ∙ c.requires.table,
       slot_inside t c.requires.slot c.slot_place-place.ensures,
-      replaces_held_keep _ _ _ _ c.args.slot c.args.own c.args.lost c.loop.expected _ c.args.node c.args.file b.held c.loop.seat.me _ at.pass (i.still.work ∙ b.work)
+      replaces_held_keep _ _ _ _ c.args.slot c.args.own c.args.lost c.loop.expected _ c.args.node c.args.file b.held c.loop.seat.me _ at.pass (subst (λ (w : Work). HoldsBesides w b.held c.args.node c.args.own (as_written c.args.lost (label_of c.args.file))) (sym i.still.work) b.work)
           (i.places ∙ b.place) small i.named (slot_low t c.requires.slot) (i.still.change ∙ c.requires.change) c.slot_place-place.ensures
           (ap (λ (z : ℕ). z + c.args.lost) c.file_word.ensures),
     )
@@ -35,10 +35,11 @@ returns-then-seen-expected c =
     let start = (still_at_work c.requires.at.1 i.still).pass.0 in
     record {
       table = c.compare_exchange-seen.ensures.0 ∙ i.table;
-      tried = won_renewal c.args.node c.compare_exchange-seen.result c.compare_exchange-seen.new.seat.me b.held (ap held_in b.work) start
+      tried = won_renewal c.args.node c.compare_exchange-seen.result c.compare_exchange-seen.new.seat.me b.held (held_besides b.work) start
           (ap slot_of c.slot_place-place.ensures ∙ slot_back c.args.slot) i.still
           (omega (arith, c.loop-test.true)) (ap (λ (z : ℕ). full_name_in z) c.if-seen-expected.true ∙ i.named) c.args.own c.args.file b.stocked
-          (λ e at. c.compare_exchange-seen.ensures.2.wins b.held c.args.node c.args.own c.args.lost e c.args.file (i.still.work ∙ b.work)
+          (λ e at. c.compare_exchange-seen.ensures.2.wins b.held c.args.node c.args.own c.args.lost e c.args.file
+          (subst (λ (w : Work). HoldsBesides w b.held c.args.node c.args.own (as_written c.args.lost (label_of c.args.file))) (sym i.still.work) b.work)
           (i.places ∙ b.place) at c.if-seen-expected.true) (ap rest (i.places ∙ b.place));
     }
 

@@ -1,4 +1,4 @@
-use Rattle.fx_lasting.proofs.Words.{◌≡◌, ◌≤◌, ◌+◌, ℕ, List, get_elem?, some, pass_in, refl, ap, ◌∙◌, sym, arith, slot_of, full_name_in, subst}
+use Rattle.fx_lasting.proofs.Words.{◌≡◌, ◌≤◌, ◌+◌, ℕ, List, get_elem?, some, pass_in, refl, ap, ◌∙◌, sym, arith, slot_of, full_name_in, subst, HoldsAlone, Work}
 use Rattle.fx_lasting.proofs.Calling.{slot_inside, slot_low, few_nodes, stock_inside}
 use Rattle.fx_lasting.proofs.slot_lemmas.HeldTries.{won_swap_held}
 use Rattle.fx_lasting.proofs.slot_lemmas.ByNode.{lost_run, lost_so, stands_then}
@@ -26,7 +26,7 @@ compare_exchange-was-requires c =
       i.table ∙ c.requires.table,
       slot_inside t c.requires.slot c.slot_place-place.ensures,
       swaps_held_keep _ _ _ _ c.args.slot c.args.own c.loop.expected _ c.args.node c.requires.held.0 c.loop.seat.me _ at.pass
-          (i.still.work ∙ c.requires.held.1) i.named (slot_low t c.requires.slot)
+          (subst (λ (w : Work). HoldsAlone w c.requires.held.0 c.args.node) (sym i.still.work) c.requires.held.1) i.named (slot_low t c.requires.slot)
           (i.still.change ∙ c.requires.off) (s.0, ap (λ (l : List ℕ). get_elem? l s.0) (sym (stock_is at)) ∙ (ap (λ (l : List ℕ). get_elem? l s.0) i.still.stock ∙ s.1)) c.slot_place-place.ensures c.empty_word-new.ensures,
     )
 
@@ -37,7 +37,7 @@ returns-then-was-expected c =
     let s = c.requires.stocked in
     let h = c.requires.held in
     let won = λ (e : ℕ) (at : get_elem? (pass_in c.loop.seat.me).stock e ≡ some c.args.own). c.compare_exchange-was.ensures.2.wins h.0 c.args.node c.args.own e
-    (i.still.work ∙ h.1) at c.empty_word-new.ensures c.if-was-expected.true in
+    (subst (λ (w : Work). HoldsAlone w h.0 c.args.node) (sym i.still.work) h.1) at c.empty_word-new.ensures c.if-was-expected.true in
     let first = won s.0 (ap (λ (l : List ℕ). get_elem? l s.0) i.still.stock ∙ s.1) in
     record {
       table = c.compare_exchange-was.ensures.0 ∙ i.table;

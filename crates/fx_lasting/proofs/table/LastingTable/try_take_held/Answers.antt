@@ -1,4 +1,4 @@
-use Rattle.fx_lasting.proofs.Words.{◌≤◌, ◌+◌, ℕ, refl, ap, ◌∙◌, arith, slot_of, full_name_in, subst, sym}
+use Rattle.fx_lasting.proofs.Words.{◌≤◌, ◌+◌, ℕ, refl, ap, ◌∙◌, arith, slot_of, full_name_in, subst, sym, HoldsAlone, Work}
 use Rattle.fx_lasting.proofs.Calling.{slot_inside, slot_low}
 use Rattle.fx_lasting.proofs.slot_lemmas.HeldTries.{won_take_held}
 use Rattle.fx_lasting.proofs.slot_lemmas.ByNode.{lost_run, lost_so, stands_then}
@@ -19,7 +19,7 @@ compare_exchange-found-requires c =
       i.table ∙ c.requires.table,
       slot_inside t c.requires.slot c.slot_place-place.ensures,
       takes_held_keep _ _ _ _ c.args.slot c.loop.expected _ c.args.node c.requires.held.0 c.loop.seat.me _ at.pass
-          (i.still.work ∙ c.requires.held.1) i.named (slot_low t c.requires.slot)
+          (subst (λ (w : Work). HoldsAlone w c.requires.held.0 c.args.node) (sym i.still.work) c.requires.held.1) i.named (slot_low t c.requires.slot)
           (i.still.change ∙ c.requires.off) c.slot_place-place.ensures
           c.without_file-left.ensures,
     )
@@ -29,7 +29,7 @@ returns-then-found-expected c =
     let i = c.loop.invariant in
     let start = (still_at_work c.requires.at.1 i.still).pass.0 in
     let h = c.requires.held in
-    let won = c.compare_exchange-found.ensures.2.wins h.0 c.args.node (i.still.work ∙ h.1) c.if-found-expected.true in
+    let won = c.compare_exchange-found.ensures.2.wins h.0 c.args.node (subst (λ (w : Work). HoldsAlone w h.0 c.args.node) (sym i.still.work) h.1) c.if-found-expected.true in
     record {
       table = c.compare_exchange-found.ensures.0 ∙ i.table;
       places = won.3 ∙ i.places;

@@ -1,4 +1,4 @@
-use Rattle.fx_lasting.proofs.Words.{◌≡◌, ℕ, ◌+◌, ◌∙◌, subst, arith, inl, dite, ℕ_discrete, Retiring, Runs, [], round_to}
+use Rattle.fx_lasting.proofs.Words.{◌≡◌, ℕ, ◌+◌, ◌∙◌, subst, arith, refl, inl, dite, ℕ_discrete, Retiring, Runs, [], round_to}
 use Rattle.fx_lasting.proofs.hold_lemmas.Rounds.{visited_more}
 use Rattle.fx_lasting.proofs.table.LastingTable.visit.Goals as goal
 
@@ -19,7 +19,7 @@ returns-then-pass-number-clause-visited c m f takes first words last marks h =
 
 pub mark-requires-clause-visiting : goal.mark-requires-clause-visiting
 mark-requires-clause-visiting c = let v = c.requires.visited in let h = v.7 in
-    (v.1, v.2, round_to h.next v.4 v.5, v.6, h.does.work, h.near, h.passed)
+    (v.1, v.2, round_to h.next v.4 v.5, v.6, h.does.work, h.near, h.passed, refl)
 
 pub returns-then-mark-clause-visited : goal.returns-then-mark-clause-visited
 returns-then-mark-clause-visited c m f takes first words last marks h = visited_more marks 1 c.requires.pass c.if-pass-number.false h
