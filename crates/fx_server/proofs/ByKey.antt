@@ -12,7 +12,6 @@ use Rattle.fx_lasting.specs.slots.Alone.{TakesAlone}
 use Rattle.fx_lasting.specs.Tables.{opening_of, view_of}
 use Rattle.fx_lasting.specs.declared.pass.LastingPass.{LastingPass}
 use Rattle.fx_lasting.specs.declared.view.Start.{Start}
-use Rattle.fx_lasting.proofs.slot_lemmas.ByKey.{idle_after}
 use Rattle.fx_table.specs.Calls.{ReleasesFile}
 use Rattle.fx_table.specs.Opening.{Opening}
 use Rattle.fx_table.specs.Pass.{IsIdle}
@@ -66,12 +65,21 @@ replaced_drawn w w' key freed released tag number drawn removal numbers is was =
     subst (λ (n : ℕ). ReplacesByKey w key tag n (Ok removal) freed released (record w' { numbers = numbers })) (sym is) (go was)
   where
     go : ReplacesByKey w key tag number (Ok removal) freed released w' → ReplacesByKey w key tag number (Ok removal) freed released (record w' { numbers = numbers })
-    go it = record { retired = it.retired; between = it.between; puts = it.puts; retires = it.retires; holder = it.holder }
+    go it = record { retired = it.retired; between = it.between; puts = it.puts; retires = it.retires }
 
 -- a pass that left the slot as it was is idle again
 released_idle : (o : Opening) (v : PassView) (f : File) (out : Option Identity) (w : PassView) → ReleasesFile o v f out w → IsIdle w
 released_idle o v f None w it = it.now
 released_idle o v f (Some file) w it = it.1.now
+
+idle_after : (k : Start) (v : PassView) (key : Key) (fault : KeyFault) (freed released : Option Identity) (w : PassView) → IsIdle v
+    → LookedByKey k v key (Err fault) freed released w → IsIdle w
+idle_after k v key NoSlot freed released w idle looked = ap (λ (z : PassView). z.doing) looked.1 ∙ idle
+idle_after k v key Empty None released w idle looked = looked.0.now
+idle_after k v key Empty (Some file) released w idle ((c, out, adds), other) = adds.now
+idle_after k v key Other freed None w idle was = was.releases.now
+idle_after k v key Other freed (Some file) w idle was = was.releases.1.now
+idle_after k v key Again freed released w idle bad = absurd bad
 
 pub missed_idle : (k : Start) (p : LastingPass) (key : Key) (why : KeyFault) (out back : Option Identity) (p' : LastingPass) → IsIdle (view_of p)
     → TakesAlone k p key (Err why) out back p' → IsIdle (view_of p')

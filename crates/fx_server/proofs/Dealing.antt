@@ -1,9 +1,7 @@
--- The workers of a new table: a pass of the table for each, in their order, and a second pass for
--- each of the first ones.
-use Rattle.std.proofs.Common.{◌≡◌, ℕ, zero, suc, ◌+◌, arith, length-append, List, [], ◌∷◌, ◌++◌, All, MatchOption, Option, Some, None, ap, subst, slice_index_or, refl, sym, ◌∙◌, length, map, reverse, take, drop}
-use Rattle.std.proofs.lemmas.List.{map-append, append_assoc, reverse-append, length-map, length-drop, length-take, take-append-drop}
-use Rattle.std.proofs.lemmas.List.Elements.{All-cons, All-drop, All-head, All-map, All-nil, All-push, All-same, All-tail, All-take, All-weaker}
-use Rattle.std.specs.Option.{option_to_list}
+-- The workers of a new table: a pass of the table for each, in their order.
+use Rattle.std.proofs.Common.{◌≡◌, ℕ, zero, suc, ◌+◌, arith, length-append, List, [], ◌∷◌, ◌++◌, All, Option, ap, subst, slice_index_or, refl, sym, ◌∙◌, length, map, reverse}
+use Rattle.std.proofs.lemmas.List.{map-append, append_assoc, reverse-append, length-map}
+use Rattle.std.proofs.lemmas.List.Elements.{All-cons, All-head, All-nil, All-push, All-same, All-tail, All-weaker}
 use Rattle.std.specs.Arc.{arc_value}
 use Rattle.std.specs.Global.{Box}
 use Rattle.fx_plain.specs.Contents.{Contents, state_of}
@@ -15,8 +13,8 @@ use Rattle.fx_lasting.specs.declared.pass.LastingPass.{LastingPass}
 use Rattle.fx_lasting.specs.declared.table.LastingTable.{LastingTable}
 use Rattle.std.specs.List.{range_with_len}
 use Rattle.fx_server.specs.FileNumbers.{numbers_of_all}
-use Rattle.fx_server.specs.Opened.{AreDealt, AreOpened, holder_at, holders_of_all, workers_in}
-use Rattle.fx_server.specs.Workers.{DoesAsHeld, HolderIsIdle, IsGood, its_pass, its_table}
+use Rattle.fx_server.specs.Opened.{AreDealt, AreOpened, workers_in}
+use Rattle.fx_server.specs.Workers.{DoesAsHeld, IsGood, its_pass, its_table}
 use Rattle.fx_server.specs.declared.shared.Shared.{Shared}
 use Rattle.fx_server.specs.declared.worker.Held.{Held}
 use Rattle.fx_server.specs.declared.worker.TableWorker.{TableWorker}
@@ -63,91 +61,43 @@ dealt_one xs ys b left less p all pushed popped same was =
     ∙ ap (λ (it : List LastingPass). passes_of (workers_in xs) ++ it) (sym (ap reverse popped ∙ reverse-append less (p ∷ [])))
     ∙ was
 
--- the second passes from a place on: nothing, or one and those after it
-none_at : (all : List LastingPass) (place : ℕ) → drop place all ≡ [] → (None ≡ holder_at all place) × (drop (suc place) all ≡ [])
-none_at [] place e = (refl, refl)
-none_at (p ∷ ps) zero e = let bad : ⊥ = omega (arith, ap length e) in absurd bad
-none_at (p ∷ ps) (suc place) e = none_at ps place e
-
-one_at : (all : List LastingPass) (place : ℕ) (p : LastingPass) (others : List LastingPass) → drop place all ≡ p ∷ others → (Some p ≡ holder_at all place) × (drop (suc place) all ≡ others)
-one_at [] zero p others e = let bad : ⊥ = omega (arith, ap length e) in absurd bad
-one_at [] (suc place) p others e = let bad : ⊥ = omega (arith, ap length e) in absurd bad
-one_at (q ∷ qs) zero p others e = (sym (ap (λ (l : List LastingPass). first l q) e), ap (drop 1) e)
-  where
-    first : List LastingPass → LastingPass → Option LastingPass
-    first [] q = None
-    first (r ∷ rs) q = Some r
-one_at (q ∷ qs) (suc place) p others e = one_at qs place p others e
-
--- the second pass that is popped is that of the next place
-pub second_popped : (all left less : List LastingPass) (place n m : ℕ) (popped : Option LastingPass) → left ≡ less ++ option_to_list popped
-    → n ≡ length left → MatchOption popped ((n ≡ 0) × (m ≡ 0)) (λ _. m + 1 ≡ n)
-    → reverse left ≡ drop place all → (popped ≡ holder_at all place) × (reverse less ≡ drop (suc place) all)
-second_popped all left less place n m (Some p) items len cases was =
-    let next : drop place all ≡ p ∷ reverse less = sym was ∙ ap reverse items ∙ reverse-append less (p ∷ []) in
-    ((one_at all place p (reverse less) next).0, sym (one_at all place p (reverse less) next).1)
-second_popped all [] [] place n m None items len cases was = ((none_at all place (sym was)).0, sym (none_at all place (sym was)).1)
-second_popped all [] (q ∷ qs) place n m None items len cases was = let bad : ⊥ = omega (arith, ap length items) in absurd bad
-second_popped all (q ∷ qs) less place n m None items len cases was = let bad : ⊥ = omega (arith, len, cases.0) in absurd bad
-
-pub left_over : (all left : List LastingPass) (xs ys : List (Box TableWorker)) (b : Box TableWorker) → ys ≡ xs ++ b ∷ [] → left ≡ drop (suc (length xs)) all → left ≡ drop (length ys) all
-left_over all left xs ys b pushed is =
-    let more : suc (length xs) ≡ length ys = omega (arith, ap length pushed, length-append xs (b ∷ [])) in
-    is ∙ ap (λ (n : ℕ). drop n all) more
-
 views : (list : List TableWorker) → map its_pass list ≡ map view_of (passes_of list)
 views [] = refl
 views (w ∷ ws) = ap (λ it. its_pass w ∷ it) (views ws)
 
-pub opened_of : (shared : Shared) (contents : Contents) (all : List LastingPass) (list : List TableWorker) (slots workers installing : ℕ)
-    → AreDealt shared (take workers all) (drop workers all) installing list → opening_of_table shared.table ≡ lasting_opening contents (workers + installing)
-    → state_of contents ≡ vacant slots → length all ≡ workers + installing → map view_of all ≡ first_passes installing (workers + installing)
+pub opened_of : (shared : Shared) (contents : Contents) (passes : List LastingPass) (list : List TableWorker) (slots workers installing : ℕ)
+    → AreDealt shared passes installing list → opening_of_table shared.table ≡ lasting_opening contents workers
+    → state_of contents ≡ vacant slots → length passes ≡ workers → map view_of passes ≡ first_passes installing workers
     → AreOpened slots workers installing list × (length list ≡ workers)
-opened_of shared contents all list slots workers installing d opening empty count new =
-    let of_list : length list ≡ workers = omega (arith, length-map list (λ (w : TableWorker). w.pass), ap length d.order, length-take workers all, count) in (
+opened_of shared contents passes list slots workers installing d opening empty count new =
+    let of_list : length list ≡ workers = sym (length-map list (λ (w : TableWorker). w.pass)) ∙ (ap length d.order ∙ count) in (
       record {
         table = shared.table;
         contents = contents;
-        holders = drop workers all;
         opening = opening;
         empty = empty;
         shares = All-weaker (λ (w : TableWorker). arc_value w.shared ≡ shared) (λ (w : TableWorker). its_table w ≡ shared.table) (λ w same. ap (λ (it : Shared). it.table) same) list d.shares;
         idle = d.idle;
-        passes = ap (λ it. it ++ map view_of (drop workers all)) (views list ∙ ap (map view_of) d.order)
-            ∙ (sym (map-append view_of (take workers all) (drop workers all)) ∙ (ap (map view_of) (take-append-drop workers all) ∙ new));
-        count = omega (arith, length-drop workers all, count);
-        seconds = d.seconds ∙ ap (holders_of_all (drop workers all)) of_list;
+        passes = views list ∙ ap (map view_of) d.order ∙ new;
         numbers = d.numbers ∙ ap (numbers_of_all installing) of_list;
       },
       of_list,
     )
 
--- what is true of a part of each worker
-of_map : {A : Type 0} (its : TableWorker → A) (P : A → Type 0) (list : List TableWorker) → All P (map its list) → All (λ (w : TableWorker). P (its w)) list
-of_map its P [] all = All-nil (λ (w : TableWorker). P (its w))
-of_map its P (w ∷ ws) all = All-cons (λ (it : TableWorker). P (its it)) w ws (All-head P (its w) (map its ws) all) (of_map its P ws (All-tail P (its w) (map its ws) all))
+of_passes : (P : LastingPass → Type 0) (list : List TableWorker) → All P (passes_of list) → All (λ (w : TableWorker). P w.pass) list
+of_passes P [] all = All-nil (λ (w : TableWorker). P w.pass)
+of_passes P (w ∷ ws) all = All-cons (λ (it : TableWorker). P it.pass) w ws (All-head P w.pass (passes_of ws) all) (of_passes P ws (All-tail P w.pass (passes_of ws) all))
 
 abbrev IsReady : LastingTable → LastingPass → Type 0
 IsReady t p = IsPassOfTable t p × IsIdle (view_of p)
 
-idle_at : (t : LastingTable) (holders : List LastingPass) → All (IsReady t) holders → (place : ℕ) → HolderIsIdle t (holder_at holders place)
-idle_at t [] ready place = tt
-idle_at t (p ∷ ps) ready zero = All-head (IsReady t) p ps ready
-idle_at t (p ∷ ps) ready (suc place) = idle_at t ps (All-tail (IsReady t) p ps ready) place
-
-pub good_of : (shared : Shared) (all : List LastingPass) (workers installing : ℕ) (list : List TableWorker) → AreDealt shared (take workers all) (drop workers all) installing list
-    → All (λ p. IsPassOfTable shared.table p × IsIdle (view_of p)) all → All IsGood list
-good_of shared all workers installing list d ready k other low =
+pub good_of : (shared : Shared) (passes : List LastingPass) (installing : ℕ) (list : List TableWorker) → AreDealt shared passes installing list
+    → All (λ p. IsPassOfTable shared.table p × IsIdle (view_of p)) passes → All IsGood list
+good_of shared passes installing list d ready k other low =
     let t = shared.table in
-    let of : All (λ (w : TableWorker). IsReady t w.pass) list =
-    of_map (λ (w : TableWorker). w.pass) (IsReady t) list (All-same (IsReady t) (passes_of list) (take workers all) d.order (All-take (IsReady t) workers all ready)) in
-    let holders : List LastingPass = drop workers all in
-    let seconds : All (λ (w : TableWorker). HolderIsIdle t w.holder) list =
-    of_map (λ (w : TableWorker). w.holder) (HolderIsIdle t) list (All-same (HolderIsIdle t) (map (λ (w : TableWorker). w.holder) list) (holders_of_all holders (length list)) d.seconds
-    (All-map (HolderIsIdle t) (holder_at holders) (range_with_len 0 (length list)) (λ j d' low'. idle_at t holders (All-drop (IsReady t) workers all ready) (slice_index_or (range_with_len 0 (length list)) j d')))) in
+    let of : All (λ (w : TableWorker). IsReady t w.pass) list = of_passes (IsReady t) list (All-same (IsReady t) (passes_of list) passes d.order ready) in
     let w : TableWorker = slice_index_or list k other in
     record {
       fits = subst (λ (it : Shared). IsPassOfTable it.table w.pass) (sym (d.shares k other low)) (of k other low).0;
       does = subst (λ (it : Option Held). DoesAsHeld (view_of w.pass) it) (sym (d.idle k other low)) (of k other low).1;
-      holder = subst (λ (it : Shared). HolderIsIdle it.table w.holder) (sym (d.shares k other low)) (seconds k other low);
     }

@@ -10,7 +10,7 @@ abbrev pub drawn : TableWorker → TableWorker
 drawn w = record w { numbers = after_draw w.numbers }
 
 pub good_drawn : {w : TableWorker} → IsGood w → IsGood (drawn w)
-good_drawn good = record { fits = good.fits; does = good.does; holder = good.holder }
+good_drawn good = record { fits = good.fits; does = good.does }
 
 module _ (w m : TableWorker) (slot : ℕ) where
   pub puts_drawn : (tag number : ℕ) (removal : Removal) → Puts w slot tag number (Ok removal) m → Puts w slot tag number (Ok removal) (drawn m)

@@ -15,7 +15,7 @@ use Rattle.fx_table.specs.declared.values.Hold.{Hold}
 use Rattle.fx_table.specs.declared.values.LookFault.{LookFault}
 use Rattle.fx_table.specs.declared.values.LookFault.TheVariants.{Empty as EmptySlot, Spent}
 use Rattle.fx_table.specs.declared.values.Retired.{Retired}
-use Rattle.fx_lasting.specs.slots.ByKey.{FailsByKey, HeldByKey, LookedByKey}
+use Rattle.fx_lasting.specs.slots.ByKey.{HeldByKey, LookedByKey}
 use Rattle.fx_lasting.specs.nodes.Labels.{number_of_mark}
 use Rattle.fx_lasting.specs.Tables.{opening_of}
 use Rattle.fx_lasting.specs.declared.key.Key.{Key}
@@ -25,7 +25,7 @@ use Rattle.fx_lasting.specs.declared.life.layout.TheConstants.{MOST_INSTALLING}
 use Rattle.fx_lasting.specs.declared.view.Start.{Start}
 use Rattle.fx_server.specs.FileNumbers.{after_draw, after_keep, number_drawn, without_kept}
 use Rattle.fx_server.specs.Files.{file_with}
-use Rattle.fx_server.specs.FilesNumbers.{DrawsItsNumbers, InstallsNothing, WasDrawn, number_of_file}
+use Rattle.fx_server.specs.FilesNumbers.{DrawsItsNumbers, WasDrawn, number_of_file}
 use Rattle.fx_server.specs.Workers.{RetiresAs, its_pass}
 use Rattle.fx_server.specs.declared.answers.Removal.{Removal}
 use Rattle.fx_server.specs.declared.answers.Removal.TheVariants.{Closed, InUse, Nothing}
@@ -115,12 +115,6 @@ key_none k v key (Err fault.Other) freed released w it = both_none v.own it.betw
     (looked_none (opening_of k) v key.slot (Ok it.hold) freed it.between it.held.looked) (released_none (opening_of k) it.between it.file released w it.releases)
 key_none k v key (Err fault.Again) freed released w it = absurd it
 
-pub fails_none : (k : Start) (vh v : PassView) (key : Key) (why : KeyFault) (freed released : Option Identity) (wh w : PassView) → FailsByKey k vh v key why freed released wh w
-    → AddsNone vh.own wh.own × AddsNone v.own w.own
-fails_none k vh v key why freed released wh w (inl (looked, same)) = (key_none k vh key (Err why) freed released wh looked, same_none v w same)
-fails_none k vh v key why freed released wh w (inr was) =
-    (held_none k vh key was.hold freed released wh was.holder, added_none (opening_of k) v _ _ _ w was.left.adds tt)
-
 -- the number of a file that a worker made
 pub number_of_new : (new : File) (tag number : ℕ) → new.identity ≡ file_with tag number → number_of_file new ≡ number
 number_of_new new tag number is =
@@ -130,7 +124,7 @@ later : (installing place draws number : ℕ) → WasDrawn installing place draw
 later installing place draws number (inl none) = inl none
 later installing place draws number (inr (low, (draw, earlier, is))) = inr (low, (draw, omega (arith, earlier), is))
 
-module _ (installing place : ℕ) (some : installing ≤ MOST_INSTALLING) (low : 1 ≤ place) (w w' : TableWorker) (d : DrawsItsNumbers installing place w) (holder : InstallsNothing w'.holder) where
+module _ (installing place : ℕ) (some : installing ≤ MOST_INSTALLING) (low : 1 ≤ place) (w w' : TableWorker) (d : DrawsItsNumbers installing place w) where
   next_is : w.numbers.next ≡ number_drawn installing place d.draws
   next_is = ap (λ (n : FileNumbers). n.next) d.numbers
 
@@ -146,7 +140,6 @@ module _ (installing place : ℕ) (some : installing ≤ MOST_INSTALLING) (low :
     files = record { drawn = λ f it. d.files.drawn f (none f it); apart = λ f g f_in g_in. d.files.apart f g (none f f_in) (none g g_in) };
     kept = subst (λ (n : ℕ). WasDrawn installing place d.draws n) (sym kept) d.kept;
     unused = λ f it is its. d.unused f (none f it) (λ zero'. is (kept ∙ zero')) (its ∙ kept);
-    holder = holder;
   }
 
   pub spends : AddsNone (its_pass w).own (its_pass w').own → w'.numbers ≡ without_kept w.numbers → DrawsItsNumbers installing place w'
@@ -156,7 +149,6 @@ module _ (installing place : ℕ) (some : installing ≤ MOST_INSTALLING) (low :
     files = record { drawn = λ f it. d.files.drawn f (none f it); apart = λ f g f_in g_in. d.files.apart f g (none f f_in) (none g g_in) };
     kept = inl kept;
     unused = λ f it is its. is kept;
-    holder = holder;
   }
 
   pub keeps : AddsNone (its_pass w).own (its_pass w').own → w'.numbers ≡ after_keep w.numbers → DrawsItsNumbers installing place w'
@@ -169,7 +161,6 @@ module _ (installing place : ℕ) (some : installing ≤ MOST_INSTALLING) (low :
     };
     kept = inr (low, (d.draws, omega arith, kept ∙ next_is));
     unused = λ f it is its. not_next (number_of_file f) (d.files.drawn f (none f it)) (λ zero'. is (sym its ∙ zero')) (its ∙ kept);
-    holder = holder;
   }
 
   -- a new file with a number that no earlier one has
@@ -199,7 +190,6 @@ module _ (installing place : ℕ) (some : installing ≤ MOST_INSTALLING) (low :
       | inl was ↦ d.unused f was (λ zero'. is (kept ∙ zero')) (number ∙ kept)
       | inr new' ↦ not_next w.numbers.kept d.kept (λ zero'. is (kept ∙ zero')) (sym (number ∙ kept) ∙ (ap number_of_file new' ∙ its))
     ];
-    holder = holder;
   }
 
   pub installs_kept : (new : File) → AddsOne (its_pass w).own (its_pass w').own new → number_of_file new ≡ w.numbers.kept → w'.numbers ≡ without_kept w.numbers
@@ -216,5 +206,4 @@ module _ (installing place : ℕ) (some : installing ≤ MOST_INSTALLING) (low :
     };
     kept = inl kept;
     unused = λ f it is number. is kept;
-    holder = holder;
   }

@@ -20,7 +20,7 @@ use Rattle.fx_lasting.specs.declared.pass.LastingPass.{LastingPass}
 use Rattle.fx_lasting.specs.declared.view.Start.{Start}
 use Rattle.fx_server.specs.ByKey.{FindsByKey, KeepsAlone, LeavesAlone, LooksKey, RemovesByKey, RemovesByOne, ReplacesByKey, ReplacesByKeyNext, key_refusal}
 use Rattle.fx_server.specs.Files.{file_with}
-use Rattle.fx_server.specs.FilesNumbers.{ExportsKeepNumbers, InstallsNothing, KeepsItsNumbers, number_of_file}
+use Rattle.fx_server.specs.FilesNumbers.{ExportsKeepNumbers, KeepsItsNumbers, number_of_file}
 use Rattle.fx_server.specs.Installing.{FindsNext, PutsAnyNext, PutsEmptyKept, PutsNext, having_spent}
 use Rattle.fx_server.specs.Workers.{Finds, FindsSlot, PutsAny, PutsEmpty, Puts, ReleasesHeld, RemovesFrom, RetiresAny, hold_in, its_opening, its_pass, its_start}
 use Rattle.fx_server.specs.declared.answers.FoundFile.{FoundFile}
@@ -38,9 +38,6 @@ its w = (its_pass w).own
 
 same : (w w' : TableWorker) → w' ≡ w → AddsNone (its w) (its w')
 same w w' is f it = subst (λ (u : TableWorker). IsInstalled (its u) f) is it
-
-holder_same : (w w' : TableWorker) → w'.holder ≡ w.holder → InstallsNothing w.holder → InstallsNothing w'.holder
-holder_same w w' is nothing = subst InstallsNothing (sym is) nothing
 
 finds_none : (w w' : TableWorker) (slot : ℕ) (found : Result FoundFile ServerRefusal) (freed : Option ℕ) → Finds w slot found freed w' → AddsNone (its w) (its w')
 finds_none w w' slot (Ok found) freed it = looked_none (its_opening w) (its_pass w) slot (Ok (hold_in it.0)) it.2.out (its_pass w') it.2.looked
@@ -118,69 +115,58 @@ replace_at_none w w' slot tag number BadArgument it = absurd it
 replace_at_none w w' slot tag number NoMemory it = absurd it
 replace_at_none w w' slot tag number Stale it = absurd it
 
--- a call that made no event of the worker's pass, and left its second pass as it was or moved it on
-record Unchanged (w w' : TableWorker) : Type 0 where
-  none : AddsNone (its w) (its w')
-  holder : InstallsNothing w.holder → InstallsNothing w'.holder
-
-as_it_was : (w w' : TableWorker) → w' ≡ w → Unchanged w w'
-as_it_was w w' is = record { none = same w w' is; holder = holder_same w w' (ap (λ (u : TableWorker). u.holder) is) }
-
 -- a pass alone that left the slot as it was
 alone_none : (k : Start) (p : LastingPass) (key : Key) (why : KeyFault) (out back : Option Identity) (p' : LastingPass) → TakesAlone k p key (Err why) out back p'
     → AddsNone (view_of p).own (view_of p').own
 alone_none k p key why out back p' (inl looked) = key_none k (view_of p) key (Err why) out back (view_of p') looked
 alone_none k p key why out back p' (inr left) = held_none k (view_of p) key left.hold out back (view_of p') left.holder
 
-one_removes : (w w' : TableWorker) (key : Key) (removal : Removal) (freed released : Option ℕ) → RemovesByOne w key removal freed released w' → Unchanged w w'
-one_removes w w' key removal freed released it = let r = it.takes.takes in record {
-  none = both_none (its w) r.between.own (its w') (looked_none (opening_of (its_start w)) (its_pass w) key.slot (Ok r.hold) it.takes.out r.between r.held.looked)
-      (both_none r.between.own (view_of it.between).own (its w') (added_none (opening_of (its_start w)) r.between _ _ _ (view_of it.between) r.adds (refl, (refl, tt)))
-      (retired_none (its_opening w) (view_of it.between) it.retired removal (its_pass w') it.retires));
-  holder = holder_same w w' it.holder;
-}
+one_removes : (w w' : TableWorker) (key : Key) (removal : Removal) (freed released : Option ℕ) → RemovesByOne w key removal freed released w' → AddsNone (its w) (its w')
+one_removes w w' key removal freed released it =
+    let r = it.takes.takes in
+    both_none (its w) r.between.own (its w') (looked_none (opening_of (its_start w)) (its_pass w) key.slot (Ok r.hold) it.takes.out r.between r.held.looked)
+    (both_none r.between.own (view_of it.between).own (its w') (added_none (opening_of (its_start w)) r.between _ _ _ (view_of it.between) r.adds (refl, (refl, tt)))
+    (retired_none (its_opening w) (view_of it.between) it.retired removal (its_pass w') it.retires))
 
-none_removed : (w w' : TableWorker) (key : Key) (why : KeyFault) (freed released : Option ℕ) → LeavesAlone w key why freed released w' → Unchanged w w'
+none_removed : (w w' : TableWorker) (key : Key) (why : KeyFault) (freed released : Option ℕ) → LeavesAlone w key why freed released w' → AddsNone (its w) (its w')
 none_removed w w' key why freed released it =
-    record { none = alone_none (its_start w) w.pass key why it.takes.out it.takes.back w'.pass it.takes.takes; holder = holder_same w w' it.holder }
+    alone_none (its_start w) w.pass key why it.takes.out it.takes.back w'.pass it.takes.takes
 
-remove_unchanged : (w w' : TableWorker) (key : Key) (result : Result Removal ServerRefusal) (freed released : Option ℕ) → RemovesByKey w key result freed released w' → Unchanged w w'
-remove_unchanged w w' key (Ok removal) freed released it = one_removes w w' key removal freed released it
-remove_unchanged w w' key (Err NoSlot) freed released it = none_removed w w' key fault.NoSlot freed released it
-remove_unchanged w w' key (Err Empty) freed released it = none_removed w w' key fault.Empty freed released it
-remove_unchanged w w' key (Err Stale) freed released it = none_removed w w' key fault.Other freed released it
-remove_unchanged w w' key (Err Again) freed released it = none_removed w w' key fault.Again freed released it
-remove_unchanged w w' key (Err Busy) freed released it = as_it_was w w' it.2.1
-remove_unchanged w w' key (Err Reader) freed released it = as_it_was w w' it.3
-remove_unchanged w w' key (Err Idle) freed released it = absurd it
-remove_unchanged w w' key (Err NoFree) freed released it = absurd it
-remove_unchanged w w' key (Err BadArgument) freed released it = absurd it
-remove_unchanged w w' key (Err NoMemory) freed released it = absurd it
+remove_none : (w w' : TableWorker) (key : Key) (result : Result Removal ServerRefusal) (freed released : Option ℕ) → RemovesByKey w key result freed released w' → AddsNone (its w) (its w')
+remove_none w w' key (Ok removal) freed released it = one_removes w w' key removal freed released it
+remove_none w w' key (Err NoSlot) freed released it = none_removed w w' key fault.NoSlot freed released it
+remove_none w w' key (Err Empty) freed released it = none_removed w w' key fault.Empty freed released it
+remove_none w w' key (Err Stale) freed released it = none_removed w w' key fault.Other freed released it
+remove_none w w' key (Err Again) freed released it = none_removed w w' key fault.Again freed released it
+remove_none w w' key (Err Busy) freed released it = same w w' it.2.1
+remove_none w w' key (Err Reader) freed released it = same w w' it.2.1
+remove_none w w' key (Err Idle) freed released it = absurd it
+remove_none w w' key (Err NoFree) freed released it = absurd it
+remove_none w w' key (Err BadArgument) freed released it = absurd it
+remove_none w w' key (Err NoMemory) freed released it = absurd it
 
-none_replaced : (w w' : TableWorker) (key : Key) (tag number : ℕ) (why : KeyFault) (freed released : Option ℕ) → KeepsAlone w key tag number why freed released w' → Unchanged w w'
+none_replaced : (w w' : TableWorker) (key : Key) (tag number : ℕ) (why : KeyFault) (freed released : Option ℕ) → KeepsAlone w key tag number why freed released w' → AddsNone (its w) (its w')
 none_replaced w w' key tag number why freed released it =
-    record { none = alone_none (its_start w) w.pass key why it.puts.out it.puts.back w'.pass it.puts.puts.1; holder = holder_same w w' it.holder }
+    alone_none (its_start w) w.pass key why it.puts.out it.puts.back w'.pass it.puts.puts.1
 
-replace_unchanged : (w w' : TableWorker) (key : Key) (tag number : ℕ) (reason : ServerRefusal) (freed released : Option ℕ) → ReplacesByKey w key tag number (Err reason) freed released w'
-    → Unchanged w w'
-replace_unchanged w w' key tag number NoSlot freed released it = none_replaced w w' key tag number fault.NoSlot freed released it
-replace_unchanged w w' key tag number Empty freed released it = none_replaced w w' key tag number fault.Empty freed released it
-replace_unchanged w w' key tag number Stale freed released it = none_replaced w w' key tag number fault.Other freed released it
-replace_unchanged w w' key tag number Again freed released it = none_replaced w w' key tag number fault.Again freed released it
-replace_unchanged w w' key tag number Busy freed released it = as_it_was w w' it.2.1
-replace_unchanged w w' key tag number Reader freed released (f, r, inl (none, is)) = as_it_was w w' is
-replace_unchanged w w' key tag number Reader freed released (f, r, inr (none, is)) = as_it_was w w' is
-replace_unchanged w w' key tag number Idle freed released it = absurd it
-replace_unchanged w w' key tag number NoFree freed released it = absurd it
-replace_unchanged w w' key tag number BadArgument freed released it = absurd it
-replace_unchanged w w' key tag number NoMemory freed released it = absurd it
+replace_none : (w w' : TableWorker) (key : Key) (tag number : ℕ) (reason : ServerRefusal) (freed released : Option ℕ) → ReplacesByKey w key tag number (Err reason) freed released w'
+    → AddsNone (its w) (its w')
+replace_none w w' key tag number NoSlot freed released it = none_replaced w w' key tag number fault.NoSlot freed released it
+replace_none w w' key tag number Empty freed released it = none_replaced w w' key tag number fault.Empty freed released it
+replace_none w w' key tag number Stale freed released it = none_replaced w w' key tag number fault.Other freed released it
+replace_none w w' key tag number Again freed released it = none_replaced w w' key tag number fault.Again freed released it
+replace_none w w' key tag number Busy freed released it = same w w' it.2.1
+replace_none w w' key tag number Reader freed released it = same w w' it.2.1
+replace_none w w' key tag number Idle freed released it = absurd it
+replace_none w w' key tag number NoFree freed released it = absurd it
+replace_none w w' key tag number BadArgument freed released it = absurd it
+replace_none w w' key tag number NoMemory freed released it = absurd it
 
 -- a replacement makes one file
 record Renewed (w w' : TableWorker) (tag number : ℕ) : Type 0 where
   new : File
   one : AddsOne (its w) (its w') new
   its_number : number_of_file new ≡ number
-  holder : InstallsNothing w.holder → InstallsNothing w'.holder
 
 renewed : (w w' : TableWorker) (key : Key) (tag number : ℕ) (removal : Removal) (freed released : Option ℕ) → ReplacesByKey w key tag number (Ok removal) freed released w'
     → Renewed w w' tag number
@@ -191,7 +177,6 @@ renewed w w' key tag number removal freed released it = let r = it.puts.puts in 
       (added_after (opening_of (its_start w)) r.between r.old (Put key.slot r.new (Some r.old)) _ _ (view_of it.between) r.new r.adds refl)
       (retired_none (its_opening w) (view_of it.between) it.retired removal (its_pass w') it.retires));
   its_number = number_of_new r.new tag number r.is_new;
-  holder = holder_same w w' it.holder;
 }
 
 remove_at_none : (w w' : TableWorker) (slot : ℕ) (result : Result Removal ServerRefusal) → RemovesFrom w slot result w' → AddsNone (its w) (its w')
@@ -233,63 +218,63 @@ find_none w w' (Err BadArgument) it = absurd it
 find_none w w' (Err NoMemory) it = absurd it
 find_none w w' (Err Stale) it = absurd it
 
-inserts : (w w' : TableWorker) (tag : ℕ) (result : Result PlacedAt ServerRefusal) → PutsAnyNext w tag result w' → w'.holder ≡ w.holder → KeepsItsNumbers w w'
-inserts w w' tag (Ok placed) it holder installing place some low d =
+inserts : (w w' : TableWorker) (tag : ℕ) (result : Result PlacedAt ServerRefusal) → PutsAnyNext w tag result w' → KeepsItsNumbers w w'
+inserts w w' tag (Ok placed) it installing place some low d =
     let new = it.1.1.0 in
-    installs installing place some low w w' d (holder_same w w' holder d.holder) new (added_one (its_opening w) (its_pass w) (Allocate placed.slot new) _ _ (its_pass w') new it.1.1.2 refl)
+    installs installing place some low w w' d new (added_one (its_opening w) (its_pass w) (Allocate placed.slot new) _ _ (its_pass w') new it.1.1.2 refl)
     (number_of_new new tag placed.number it.1.1.1.identity ∙ it.0.0) it.0.1
-inserts w w' tag (Err reason) it holder installing place some low d =
-    stays installing place some low w w' d (holder_same w w' holder d.holder) (insert_none w w' tag w.numbers.next reason it.1) it.0
+inserts w w' tag (Err reason) it installing place some low d =
+    stays installing place some low w w' d (insert_none w w' tag w.numbers.next reason it.1) it.0
 
-replaces_at : (w w' : TableWorker) (slot tag : ℕ) (result : Result Placed ServerRefusal) → PutsNext w slot tag result w' → w'.holder ≡ w.holder → KeepsItsNumbers w w'
-replaces_at w w' slot tag (Ok placed) it holder installing place some low d =
+replaces_at : (w w' : TableWorker) (slot tag : ℕ) (result : Result Placed ServerRefusal) → PutsNext w slot tag result w' → KeepsItsNumbers w w'
+replaces_at w w' slot tag (Ok placed) it installing place some low d =
     let put = it.1 in let new = put.placed.0 in
-    installs installing place some low w w' d (holder_same w w' holder d.holder) new
+    installs installing place some low w w' d new
     (one_then (its w) put.between.own (its w') new (placed_one (its_opening w) (its_pass w) slot new put.retired put.between put.placed.2)
     (any_none (its_opening w) put.between put.retired placed.removal (its_pass w') put.retires))
     (number_of_new new tag placed.number put.placed.1.identity ∙ it.0.0) it.0.1
-replaces_at w w' slot tag (Err reason) it holder installing place some low d =
-    stays installing place some low w w' d (holder_same w w' holder d.holder) (replace_at_none w w' slot tag w.numbers.next reason it.1) it.0
+replaces_at w w' slot tag (Err reason) it installing place some low d =
+    stays installing place some low w w' d (replace_at_none w w' slot tag w.numbers.next reason it.1) it.0
 
 replaces : (w w' : TableWorker) (key : Key) (tag : ℕ) (result : Result Placed ServerRefusal) (freed released : Option ℕ) → ReplacesByKeyNext w key tag result freed released w' → KeepsItsNumbers w w'
 replaces w w' key tag (Ok placed) freed released it installing place some low d =
     let made = renewed w w' key tag placed.number placed.removal freed released it.1 in
-    installs installing place some low w w' d (made.holder d.holder) made.new made.one (made.its_number ∙ it.0.0) it.0.1
+    installs installing place some low w w' d made.new made.one (made.its_number ∙ it.0.0) it.0.1
 replaces w w' key tag (Err reason) freed released it installing place some low d =
-    let un = replace_unchanged w w' key tag w.numbers.next reason freed released it.1 in
-    stays installing place some low w w' d (un.holder d.holder) un.none it.0
+    let none = replace_none w w' key tag w.numbers.next reason freed released it.1 in
+    stays installing place some low w w' d none it.0
 
-finds_next : (w w' : TableWorker) (result : Result PlacedAt ServerRefusal) → FindsNext w result w' → w'.holder ≡ w.holder → KeepsItsNumbers w w'
-finds_next w w' (Ok placed) it holder installing place some low d =
-    keeps installing place some low w w' d (holder_same w w' holder d.holder) (find_none w w' (Ok placed.slot) it.2) it.1
-finds_next w w' (Err reason) it holder installing place some low d =
-    stays installing place some low w w' d (holder_same w w' holder d.holder) (find_none w w' (Err reason) it.1) it.0
+finds_next : (w w' : TableWorker) (result : Result PlacedAt ServerRefusal) → FindsNext w result w' → KeepsItsNumbers w w'
+finds_next w w' (Ok placed) it installing place some low d =
+    keeps installing place some low w w' d (find_none w w' (Ok placed.slot) it.2) it.1
+finds_next w w' (Err reason) it installing place some low d =
+    stays installing place some low w w' d (find_none w w' (Err reason) it.1) it.0
 
-puts_empty : (w w' : TableWorker) (slot tag : ℕ) (result : Result (Unit {0}) ServerRefusal) → PutsEmptyKept w slot tag result w' → w'.holder ≡ w.holder → KeepsItsNumbers w w'
-puts_empty w w' slot tag (Ok done) it holder installing place some low d =
+puts_empty : (w w' : TableWorker) (slot tag : ℕ) (result : Result (Unit {0}) ServerRefusal) → PutsEmptyKept w slot tag result w' → KeepsItsNumbers w w'
+puts_empty w w' slot tag (Ok done) it installing place some low d =
     let new = it.1.0 in
-    installs_kept installing place some low w w' d (holder_same w w' holder d.holder) new
+    installs_kept installing place some low w w' d new
     (added_one (opening_of (its_start w)) (its_pass w) (Allocate slot new) _ _ (its_pass w') new it.1.2 refl)
     (number_of_new new tag w.numbers.kept it.1.1.identity) it.0
-puts_empty w w' slot tag (Err reason) it holder installing place some low d =
-    spends installing place some low w w' d (holder_same w w' holder d.holder) (put_empty_none (having_spent w) w' slot tag w.numbers.kept reason it.1) it.0
+puts_empty w w' slot tag (Err reason) it installing place some low d =
+    spends installing place some low w w' d (put_empty_none (having_spent w) w' slot tag w.numbers.kept reason it.1) it.0
 
 pub exports_keep : ExportsKeepNumbers
 exports_keep = record {
   get_at = λ w w' slot answer out it installing place some low d.
-      stays installing place some low w w' d (holder_same w w' it.holder d.holder) (finds_none w w' slot it.call.found it.call.freed it.looked.0) it.numbers;
+      stays installing place some low w w' d (finds_none w w' slot it.call.found it.call.freed it.looked.0) it.numbers;
   get = λ w w' key answer out it installing place some low d.
-      stays installing place some low w w' d (holder_same w w' it.holder d.holder) (finds_key_none w w' key it.call.found it.call.freed it.call.released it.found) it.numbers;
+      stays installing place some low w w' d (finds_key_none w w' key it.call.found it.call.freed it.call.released it.found) it.numbers;
   release = λ w w' answer dropped it installing place some low d.
-      stays installing place some low w w' d (holder_same w w' it.holder d.holder) (release_none w w' it.result it.released) it.numbers;
-  insert = λ w w' tag answer number it. inserts w w' tag it.result it.allocated it.holder;
-  replace_at = λ w w' slot tag answer out it. replaces_at w w' slot tag it.call.placed it.placed it.holder;
+      stays installing place some low w w' d (release_none w w' it.result it.released) it.numbers;
+  insert = λ w w' tag answer number it. inserts w w' tag it.result it.allocated;
+  replace_at = λ w w' slot tag answer out it. replaces_at w w' slot tag it.call.placed it.placed;
   replace = λ w w' key tag answer out it. replaces w w' key tag it.call.placed it.call.freed it.call.released it.placed;
   remove_at = λ w w' slot answer out it installing place some low d.
-      stays installing place some low w w' d (holder_same w w' it.holder d.holder) (remove_at_none w w' slot it.call.removal it.removed) it.numbers;
+      stays installing place some low w w' d (remove_at_none w w' slot it.call.removal it.removed) it.numbers;
   remove = λ w w' key answer out it installing place some low d.
-      let un = remove_unchanged w w' key it.call.removal it.call.freed it.call.released it.removed in
-      stays installing place some low w w' d (un.holder d.holder) un.none it.numbers;
-  find = λ w w' answer number it. finds_next w w' it.result it.found it.holder;
-  put_empty = λ w w' slot tag answer it. puts_empty w w' slot tag it.result it.placed it.holder;
+      let none = remove_none w w' key it.call.removal it.call.freed it.call.released it.removed in
+      stays installing place some low w w' d none it.numbers;
+  find = λ w w' answer number it. finds_next w w' it.result it.found;
+  put_empty = λ w w' slot tag answer it. puts_empty w w' slot tag it.result it.placed;
 }

@@ -1,16 +1,14 @@
 -- A worker of a table that was just opened has installed nothing.
-use Rattle.std.proofs.Common.{◌≡◌, inl, ℕ, zero, suc, ◌+◌, ◌<◌, ◌++◌, List, [], ◌∷◌, All, refl, sym, ap, subst, ◌∙◌, arith, drop, length, map, slice_index_or}
+use Rattle.std.proofs.Common.{◌≡◌, inl, ℕ, zero, suc, ◌+◌, ◌<◌, List, [], ◌∷◌, All, refl, sym, ap, subst, ◌∙◌, arith, drop, length, map, slice_index_or}
 use Rattle.std.specs.List.{range_with_len}
 use Rattle.std.proofs.lemmas.List.Elements.{All-cons, All-head, All-nil, All-same, All-tail}
 use Rattle.fx_plain.specs.Laws.{IsInstalled}
 use Rattle.fx_plain.specs.declared.event.Event.{Event}
 use Rattle.fx_plain.specs.declared.event.File.{File}
 use Rattle.fx_table.specs.Pass.{PassView, new_pass}
-use Rattle.fx_lasting.specs.Tables.{as_first, view_of}
-use Rattle.fx_lasting.specs.declared.pass.LastingPass.{LastingPass}
+use Rattle.fx_lasting.specs.Tables.{as_first}
 use Rattle.fx_server.specs.FileNumbers.{first_numbers, without_kept}
-use Rattle.fx_server.specs.FilesNumbers.{InstallsNothing, OpenedWorkersDrawTheirNumbers}
-use Rattle.fx_server.specs.Opened.{holder_at}
+use Rattle.fx_server.specs.FilesNumbers.{OpenedWorkersDrawTheirNumbers}
 use Rattle.fx_server.specs.Workers.{its_pass}
 use Rattle.fx_server.specs.declared.file_numbers.FileNumbers.{FileNumbers}
 use Rattle.fx_server.specs.declared.worker.TableWorker.{TableWorker}
@@ -22,14 +20,6 @@ IsNew v = v.own ≡ []
 all_new : (installing first n : ℕ) → All IsNew (map (as_first installing) (map new_pass (range_with_len first n)))
 all_new installing first zero = All-nil IsNew
 all_new installing first (suc n) = All-cons IsNew (as_first installing (new_pass first)) _ refl (all_new installing (first + 1) n)
-
-first_part : (xs ys : List PassView) → All IsNew (xs ++ ys) → All IsNew xs
-first_part [] ys all = All-nil IsNew
-first_part (x ∷ xs) ys all = All-cons IsNew x xs (All-head IsNew x (xs ++ ys) all) (first_part xs ys (All-tail IsNew x (xs ++ ys) all))
-
-second_part : (xs ys : List PassView) → All IsNew (xs ++ ys) → All IsNew ys
-second_part [] ys all = all
-second_part (x ∷ xs) ys all = second_part xs ys (All-tail IsNew x (xs ++ ys) all)
 
 of_views : {A : Type 0} (its : A → PassView) (list : List A) → All IsNew (map its list) → All (λ (a : A). IsNew (its a)) list
 of_views its [] all = All-nil (λ a. IsNew (its a))
@@ -48,18 +38,12 @@ at_place {A} its at first (suc n) (w ∷ ws) zero other is low = let e : first �
 at_place its at first (suc n) (w ∷ ws) (suc k) other is low =
     let e : first + 1 + k ≡ first + suc k = omega arith in at_place its at (first + 1) n ws k other (ap (drop 1) is) (omega (arith, low)) ∙ ap at e
 
-nothing_at : (holders : List LastingPass) → All (λ (p : LastingPass). IsNew (view_of p)) holders → (place : ℕ) → InstallsNothing (holder_at holders place)
-nothing_at [] all place = tt
-nothing_at (p ∷ ps) all zero = λ f it. subst (λ (own : List Event). IsInstalled own f) (All-head (λ (q : LastingPass). IsNew (view_of q)) p ps all) it
-nothing_at (p ∷ ps) all (suc place) = nothing_at ps (All-tail (λ (q : LastingPass). IsNew (view_of q)) p ps all) place
-
 pub opened_draw : OpenedWorkersDrawTheirNumbers
 opened_draw slots workers installing list opened place other low =
-    let all = All-same IsNew (map its_pass list ++ map view_of opened.holders) _ opened.passes (all_new installing 1 (workers + installing)) in
+    let all = All-same IsNew (map its_pass list) _ opened.passes (all_new installing 1 workers) in
     let w = slice_index_or list place other in
-    let own : (its_pass w).own ≡ [] = of_views its_pass list (first_part (map its_pass list) (map view_of opened.holders) all) place other low in
+    let own : (its_pass w).own ≡ [] = of_views its_pass list all place other low in
     let numbers : w.numbers ≡ first_numbers installing (1 + place) = at_place (λ (u : TableWorker). u.numbers) (first_numbers installing) 1 workers list place other opened.numbers low in
-    let holder : w.holder ≡ holder_at opened.holders (0 + place) = at_place (λ (u : TableWorker). u.holder) (holder_at opened.holders) 0 workers list place other opened.seconds low in
     let none : (f : File) → IsInstalled (its_pass w).own f → ⊥ = λ f it. subst (λ (events : List Event). IsInstalled events f) own it in
     record {
       draws = 0;
@@ -67,6 +51,4 @@ opened_draw slots workers installing list opened place other low =
       files = record { drawn = λ f it. absurd (none f it); apart = λ f g f_in g_in. absurd (none f f_in) };
       kept = inl (ap (λ (n : FileNumbers). n.kept) numbers);
       unused = λ f it. absurd (none f it);
-      holder = subst InstallsNothing (sym holder)
-          (nothing_at opened.holders (of_views view_of opened.holders (second_part (map its_pass list) (map view_of opened.holders) all)) (0 + place));
     }

@@ -17,7 +17,7 @@ use Rattle.fx_table.specs.declared.values.Doing.{Doing}
 use Rattle.fx_table.specs.declared.values.Doing.TheVariants.{Holding}
 use Rattle.fx_table.specs.declared.values.Hold.{Hold}
 use Rattle.fx_lasting.specs.slots.ByNode.{FitsMiss, IsOn, WasSo}
-use Rattle.fx_lasting.specs.slots.ByKey.{FailsByKey, HeldByKey, LookedByKey, fault_for}
+use Rattle.fx_lasting.specs.slots.ByKey.{HeldByKey, LookedByKey, fault_for}
 use Rattle.fx_lasting.specs.Passes.{state_at_start}
 use Rattle.fx_lasting.specs.Tables.{opening_of, view_of}
 use Rattle.fx_lasting.specs.declared.answers.Miss.{Miss}
@@ -29,7 +29,7 @@ use Rattle.fx_lasting.specs.declared.view.Start.{Start}
 use Rattle.fx_lasting.specs.slots.Alone.{TakesAlone}
 use Rattle.fx_server.specs.ByKey.{FindsByKey, RemovesByKey, ReplacesByKeyNext}
 use Rattle.fx_server.specs.StaleKeys.{HadAnother, IsAnother, StaleKeysHadAnother}
-use Rattle.fx_server.specs.Workers.{HolderIsIdle, IsGood, its_pass, its_start, its_table}
+use Rattle.fx_server.specs.Workers.{IsGood, its_pass, its_start}
 use Rattle.fx_server.specs.declared.answers.FoundFile.{FoundFile}
 use Rattle.fx_server.specs.declared.answers.Placed.{Placed}
 use Rattle.fx_server.specs.declared.answers.Removal.{Removal}
@@ -125,10 +125,6 @@ module _ (w w' : TableWorker) (key : Key) (good : IsGood w) where
   -- a pass of the worker found the other file
   by_pass : (out back : Option Identity) → LookedByKey (its_start w) (its_pass w) key (Err Other) out back (its_pass w') → HadAnother w key w'
   by_pass out back looked = record {
-    before = (its_pass w).front;
-    after = (its_pass w').front;
-    from = inl refl;
-    until = inl refl;
     was = had_other (its_start w) key (its_pass w) (its_pass w') out back good.fits.front looked;
   }
 
@@ -136,10 +132,6 @@ module _ (w w' : TableWorker) (key : Key) (good : IsGood w) where
   by_alone : (out back : Option Identity) → TakesAlone (its_start w) w.pass key (Err Other) out back w'.pass → HadAnother w key w'
   by_alone out back (inl looked) = by_pass out back looked
   by_alone out back (inr left) = record {
-    before = (its_pass w).front;
-    after = (its_pass w').front;
-    from = inl refl;
-    until = inl refl;
     was = had_after (its_start w) key (its_pass w) (its_pass w') (its_pass w') left.hold out back left.holder
         (left_other (its_start w) key (its_pass w) left.holder.between (its_pass w') left.hold.node left.miss left.same left.was);
   }

@@ -17,7 +17,7 @@ use Rattle.fx_server.specs.declared.answers.RemoveAnswer.{RemoveAnswer}
 use Rattle.fx_server.specs.declared.answers.ServerRefusal.{ServerRefusal}
 use Rattle.fx_server.specs.declared.worker.TableWorker.{TableWorker}
 
--- the worker is good and in its table; its second pass is idle
+-- the worker is good and in its table
 pub record StaysInTable (w w' : TableWorker) : Type 0 where
   pub good : IsGood w'
   pub table : w'.shared ≡ w.shared
@@ -29,7 +29,6 @@ pub record GetsAtAs (w : TableWorker) (slot : ℕ) (answer : ℤ) (out : CoreOut
   pub stays : StaysInTable w w'
   pub looked : LooksUp w slot call w'
   pub numbers : DrawsNone w w'
-  pub holder : w'.holder ≡ w.holder
   pub its_answer : answer ≡ found_code call.found
   pub its_outcome : out ≡ found_outcome call
 
@@ -40,7 +39,6 @@ pub record GetsAs (w : TableWorker) (key : Key) (answer : ℤ) (out : CoreOutcom
   pub stays : StaysInTable w w'
   pub found : FindsByKey w key call.found call.freed call.released w'
   pub numbers : DrawsNone w w'
-  pub holder : w'.holder ≡ w.holder
   pub its_answer : answer ≡ found_code call.found
   pub its_outcome : out ≡ found_outcome call
 
@@ -51,7 +49,6 @@ pub record ReleasesAs (w : TableWorker) (answer : ℤ) (dropped : ℕ) (w' : Tab
   pub stays : StaysInTable w w'
   pub released : ReleasesHeld w result w'
   pub numbers : DrawsNone w w'
-  pub holder : w'.holder ≡ w.holder
   pub its_answer : answer ≡ release_code result
   pub its_tag : dropped ≡ released_tag result
 
@@ -61,7 +58,6 @@ pub record InsertsAs (w : TableWorker) (tag : ℕ) (answer : ℤ) (number : ℕ)
   pub result : Result PlacedAt ServerRefusal
   pub stays : StaysInTable w w'
   pub allocated : PutsAnyNext w tag result w'
-  pub holder : w'.holder ≡ w.holder
   pub its_answer : answer ≡ slot_code result
   pub its_number : number ≡ slot_number result
 
@@ -71,7 +67,6 @@ pub record ReplacesAtAs (w : TableWorker) (slot tag : ℕ) (answer : ℤ) (out :
   pub call : PlaceAnswer
   pub stays : StaysInTable w w'
   pub placed : PutsNext w slot tag call.placed w'
-  pub holder : w'.holder ≡ w.holder
   pub no_tags : (call.freed ≡ None) × (call.released ≡ None)
   pub its_answer : answer ≡ placed_code call.placed
   pub its_outcome : out ≡ placed_outcome call
@@ -93,7 +88,6 @@ pub record RemovesAtAs (w : TableWorker) (slot : ℕ) (answer : ℤ) (out : Core
   pub stays : StaysInTable w w'
   pub removed : RemovesFrom w slot call.removal w'
   pub numbers : DrawsNone w w'
-  pub holder : w'.holder ≡ w.holder
   pub no_tags : (call.freed ≡ None) × (call.released ≡ None)
   pub its_answer : answer ≡ removal_code call.removal
   pub its_outcome : out ≡ removed_outcome call
@@ -114,7 +108,6 @@ pub record FindsAs (w : TableWorker) (answer : ℤ) (number : ℕ) (w' : TableWo
   pub result : Result PlacedAt ServerRefusal
   pub stays : StaysInTable w w'
   pub found : FindsNext w result w'
-  pub holder : w'.holder ≡ w.holder
   pub its_answer : answer ≡ slot_code result
   pub its_number : number ≡ slot_number result
 
@@ -124,5 +117,4 @@ pub record PutsEmptyAs (w : TableWorker) (slot tag : ℕ) (answer : ℤ) (w' : T
   pub result : Result (Unit {0}) ServerRefusal
   pub stays : StaysInTable w w'
   pub placed : PutsEmptyKept w slot tag result w'
-  pub holder : w'.holder ≡ w.holder
   pub its_answer : answer ≡ done_code result

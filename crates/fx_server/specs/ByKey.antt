@@ -1,5 +1,5 @@
 -- The calls of a worker by key: the slot of a file and its number.
-use Rattle.std.specs.Prelude.{◌≡◌, ◌⊎◌, ℕ, Option, Some, None, Result, Ok, Err}
+use Rattle.std.specs.Prelude.{◌≡◌, ℕ, Option, Some, None, Result, Ok, Err}
 use Rattle.fx_base.specs.Identity.{Identity}
 use Rattle.fx_table.specs.Pass.{PassView}
 use Rattle.fx_table.specs.declared.values.Hold.{Hold}
@@ -85,14 +85,12 @@ pub record RemovesByOne (w : TableWorker) (key : Key) (removal : Removal)
   pub between : LastingPass
   pub takes : TakesKeyAlone w key (Ok retired) freed released between
   pub retires : RetiresAs (its_opening w) (view_of between) retired removal (its_pass w')
-  pub holder : w'.holder ≡ w.holder
 
 -- the slot was left as it was, for this reason: `Again` only if another pass was at the slot after
 -- the look-up
 pub record LeavesAlone (w : TableWorker) (key : Key) (why : KeyFault) (freed released : Option ℕ)
     (w' : TableWorker) : Type 0 where
   pub takes : TakesKeyAlone w key (Err why) freed released w'.pass
-  pub holder : w'.holder ≡ w.holder
 
 -- a removal by key
 abbrev pub RemovesByKey : TableWorker → Key → Result Removal ServerRefusal
@@ -105,7 +103,7 @@ RemovesByKey w key (Err Stale) freed released w' = LeavesAlone w key fault.Other
 RemovesByKey w key (Err Again) freed released w' = LeavesAlone w key fault.Again freed released w'
 RemovesByKey w key (Err Busy) freed released w' = (freed ≡ None) × (released ≡ None) × IsBusy w w'
 RemovesByKey w key (Err Reader) freed released w' =
-    (freed ≡ None) × (released ≡ None) × (w.holder ≡ None) × (w' ≡ w)
+    (freed ≡ None) × (released ≡ None) × IsReader w w'
 RemovesByKey w key (Err _) freed released w' = ⊥
 
 -- a replacement by key by the worker's pass alone, which is `p` afterwards
@@ -124,7 +122,6 @@ pub record ReplacesByOne (w : TableWorker) (key : Key) (tag number : ℕ) (remov
   pub between : LastingPass
   pub puts : PutsKeyAlone w key (file_with tag number) (Replaced retired) freed released between
   pub retires : RetiresAs (its_opening w) (view_of between) retired removal (its_pass w')
-  pub holder : w'.holder ≡ w.holder
 
 -- the slot was left as it was, for this reason: `Again` only if another pass was at the slot after
 -- the look-up
@@ -132,7 +129,6 @@ pub record KeepsAlone (w : TableWorker) (key : Key) (tag number : ℕ) (why : Ke
     (freed released : Option ℕ) (w' : TableWorker) : Type 0 where
   pub puts : PutsKeyAlone w key (file_with tag number) (Missed why (file_with tag number)) freed
       released w'.pass
-  pub holder : w'.holder ≡ w.holder
 
 -- a replacement by key
 abbrev pub ReplacesByKey : TableWorker → Key → (tag number : ℕ) → Result Removal ServerRefusal
@@ -149,8 +145,8 @@ ReplacesByKey w key tag number (Err Again) freed released w' =
     KeepsAlone w key tag number fault.Again freed released w'
 ReplacesByKey w key tag number (Err Busy) freed released w' =
     (freed ≡ None) × (released ≡ None) × IsBusy w w'
-ReplacesByKey w key tag number (Err Reader) freed released w' = (freed ≡ None) × (released ≡ None)
-    × (((w.holder ≡ None) × (w' ≡ w)) ⊎ IsReader w w')
+ReplacesByKey w key tag number (Err Reader) freed released w' =
+    (freed ≡ None) × (released ≡ None) × IsReader w w'
 ReplacesByKey w key tag number (Err _) freed released w' = ⊥
 
 -- the same with the next number of the worker, which only a file that is installed uses up

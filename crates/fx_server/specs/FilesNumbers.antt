@@ -41,13 +41,8 @@ FilesHaveTheirOwnNumbers = (installing : ℕ) (h : List Event) → installing �
     → ((pass : ℕ) → (draws : ℕ) × HaveDrawnNumbers installing pass draws (part_of_pass pass h))
     → HaveTheirOwnKeys h
 
--- a pass has installed no file
-abbrev pub InstallsNothing : Option LastingPass → Type 0
-InstallsNothing None = Unit {0}
-InstallsNothing (Some pass) = (f : File) → IsInstalled (view_of pass).own f → ⊥
-
 -- the worker at a place has installed files with numbers that it drew, each but 0 for one file, and
--- keeps one of which no file was installed; its second pass has installed no file
+-- keeps one of which no file was installed
 pub record DrawsItsNumbers (installing place : ℕ) (w : TableWorker) : Type 0 where
   pub draws : ℕ
   pub numbers : without_kept w.numbers ≡ after_draws (first_numbers installing place) draws
@@ -55,7 +50,6 @@ pub record DrawsItsNumbers (installing place : ℕ) (w : TableWorker) : Type 0 w
   pub kept : WasDrawn installing place draws w.numbers.kept
   pub unused : (f : File) → IsInstalled (its_pass w).own f → w.numbers.kept ≢ 0
       → number_of_file f ≢ w.numbers.kept
-  pub holder : InstallsNothing w.holder
 
 -- a call of this worker keeps that
 abbrev pub KeepsItsNumbers : TableWorker → TableWorker → Type 0

@@ -1,13 +1,11 @@
 -- The workers of a table that was just opened.
-use Rattle.std.specs.Prelude.{◌≡◌, ℕ, zero, suc, ◌+◌, List, [], ◌∷◌, ◌++◌, All, Option, Some, None}
-use Rattle.std.specs.Prelude.{map, length}
+use Rattle.std.specs.Prelude.{◌≡◌, ℕ, List, All, None, map, length}
 use Rattle.std.specs.Arc.{arc_value}
 use Rattle.std.specs.Global.{Box}
-use Rattle.std.specs.List.{range_with_len}
 use Rattle.fx_plain.specs.Contents.{Contents, state_of}
 use Rattle.fx_plain.specs.State.{vacant}
 use Rattle.fx_table.specs.Opening.{lasting_opening}
-use Rattle.fx_lasting.specs.Tables.{opening_of_table, first_passes, view_of}
+use Rattle.fx_lasting.specs.Tables.{opening_of_table, first_passes}
 use Rattle.fx_lasting.specs.declared.pass.LastingPass.{LastingPass}
 use Rattle.fx_lasting.specs.declared.table.LastingTable.{LastingTable}
 use Rattle.fx_server.specs.FileNumbers.{numbers_of_all}
@@ -18,39 +16,25 @@ use Rattle.fx_server.specs.declared.worker.TableWorker.{TableWorker}
 abbrev pub workers_in : List (Box TableWorker) → List TableWorker
 workers_in list = map (λ (b : Box TableWorker). b.value) list
 
--- the second pass of the worker at a place from 0: the first workers have one each
-abbrev pub holder_at : List LastingPass → ℕ → Option LastingPass
-holder_at [] place = None
-holder_at (pass ∷ others) zero = Some pass
-holder_at (pass ∷ others) (suc place) = holder_at others place
-
-abbrev pub holders_of_all : List LastingPass → ℕ → List (Option LastingPass)
-holders_of_all holders workers = map (holder_at holders) (range_with_len 0 workers)
-
--- each worker holds nothing and shares this table; their passes are these, in this order, and so
--- are the second passes of the first workers; and each has its first numbers
-pub record AreDealt (shared : Shared) (passes holders : List LastingPass) (installing : ℕ)
+-- each worker holds nothing and shares this table; their passes are these, in this order; and each
+-- has its first numbers
+pub record AreDealt (shared : Shared) (passes : List LastingPass) (installing : ℕ)
     (list : List TableWorker) : Type 0 where
   pub shares : All (λ (w : TableWorker). arc_value w.shared ≡ shared) list
   pub idle : All (λ (w : TableWorker). w.held ≡ None) list
   pub order : map (λ (w : TableWorker). w.pass) list ≡ passes
-  pub seconds : map (λ (w : TableWorker). w.holder) list ≡ holders_of_all holders (length list)
   pub numbers : map (λ (w : TableWorker). w.numbers) list
       ≡ numbers_of_all installing (length list)
 
 -- the workers share one table, which was opened with `slots` empty slots; each holds nothing; and
 -- their passes are those of a new table in their order: the first `installing` install files, whose
--- first numbers are their places from 1, and have a second pass each
+-- first numbers are their places from 1
 pub record AreOpened (slots workers installing : ℕ) (list : List TableWorker) : Type 0 where
   pub table : LastingTable
   pub contents : Contents
-  pub holders : List LastingPass
-  pub opening : opening_of_table table ≡ lasting_opening contents (workers + installing)
+  pub opening : opening_of_table table ≡ lasting_opening contents workers
   pub empty : state_of contents ≡ vacant slots
   pub shares : All (λ (w : TableWorker). its_table w ≡ table) list
   pub idle : All (λ (w : TableWorker). w.held ≡ None) list
-  pub passes : map its_pass list ++ map view_of holders
-      ≡ first_passes installing (workers + installing)
-  pub count : length holders ≡ installing
-  pub seconds : map (λ (w : TableWorker). w.holder) list ≡ holders_of_all holders workers
+  pub passes : map its_pass list ≡ first_passes installing workers
   pub numbers : map (λ (w : TableWorker). w.numbers) list ≡ numbers_of_all installing workers

@@ -1,13 +1,10 @@
 -- The answer `Stale` of a call by key: the slot had another file than that of the key at a moment
 -- of the call.
-use Rattle.std.specs.Prelude.{◌≡◌, ◌≢◌, ◌⊎◌, ℕ, ℤ, List, Option, Some, Err}
-use Rattle.fx_plain.specs.declared.event.Event.{Event}
+use Rattle.std.specs.Prelude.{◌≡◌, ◌≢◌, ℕ, ℤ, Option, Some, Err}
 use Rattle.fx_plain.specs.declared.event.File.{File}
 use Rattle.fx_lasting.specs.slots.ByNode.{WasSo}
 use Rattle.fx_lasting.specs.slots.ByKey.{IsKeyOf}
-use Rattle.fx_lasting.specs.Tables.{view_of}
 use Rattle.fx_lasting.specs.declared.key.Key.{Key}
-use Rattle.fx_lasting.specs.declared.pass.LastingPass.{LastingPass}
 use Rattle.fx_server.specs.Answers.{GetsAs, RemovesAs, ReplacesAs}
 use Rattle.fx_server.specs.Workers.{IsGood, its_pass, its_start}
 use Rattle.fx_server.specs.declared.answers.CoreOutcome.{CoreOutcome}
@@ -19,18 +16,9 @@ abbrev pub IsAnother : Key → Option File → Type 0
 IsAnother key there = (f : File) × (there ≡ Some f)
     × (IsKeyOf key f → (g : File) × IsKeyOf key g × (g ≢ f))
 
--- the history is what one of the worker's passes has seen
-abbrev pub HasSeen : TableWorker → List Event → Type 0
-HasSeen w history = (history ≡ (its_pass w).front)
-    ⊎ ((pass : LastingPass) × (w.holder ≡ Some pass) × (history ≡ (view_of pass).front))
-
 -- at a moment of a call of the worker the slot had another file than that of the key
 pub record HadAnother (w : TableWorker) (key : Key) (w' : TableWorker) : Type 0 where
-  pub before : List Event
-  pub after : List Event
-  pub from : HasSeen w before
-  pub until : HasSeen w' after
-  pub was : WasSo (its_start w) key.slot (IsAnother key) before after
+  pub was : WasSo (its_start w) key.slot (IsAnother key) (its_pass w).front (its_pass w').front
 
 -- a call by key says `Stale` only if the slot had another file at a moment of the call
 pub record StaleKeysHadAnother : Type 0 where

@@ -40,11 +40,10 @@ use Rattle.fx_server.specs.declared.answers.Removal.TheVariants.{Nothing, InUse,
 use Rattle.fx_server.specs.declared.worker.Held.{Held}
 use Rattle.fx_server.specs.declared.worker.TableWorker.{TableWorker}
 
--- a table can have this many slots and workers, and workers that install files, each of which has
--- two passes
+-- a table can have this many slots and workers, and workers that install files
 abbrev pub IsInRange : (slots workers installing : ℕ) → Type 0
 IsInRange slots workers installing = (1 ≤ slots) × (slots ≤ MOST_SLOTS) × (1 ≤ workers)
-    × (workers + installing ≤ MOST_PASSES) × (1 ≤ installing) × (installing ≤ MOST_INSTALLING)
+    × (workers ≤ MOST_PASSES) × (1 ≤ installing) × (installing ≤ MOST_INSTALLING)
     × (installing ≤ workers)
 
 abbrev pub its_table : TableWorker → LastingTable
@@ -68,17 +67,10 @@ abbrev pub DoesAsHeld : PassView → Option Held → Type 0
 DoesAsHeld v None = IsIdle v
 DoesAsHeld v (Some held) = IsHoldOf v (hold_in held)
 
--- the second pass of a worker, if it has one, is one of the table, and idle
-abbrev pub HolderIsIdle : LastingTable → Option LastingPass → Type 0
-HolderIsIdle table None = Unit {0}
-HolderIsIdle table (Some pass) = IsPassOfTable table pass × IsIdle (view_of pass)
-
--- between two calls: the pass is one of the table, and is idle or holds by the worker's hold; and
--- so is its second pass, which is idle
+-- between two calls: the pass is one of the table, and is idle or holds by the worker's hold
 pub record IsGood (w : TableWorker) : Type 0 where
   pub fits : IsPassOfTable (its_table w) w.pass
   pub does : DoesAsHeld (its_pass w) w.held
-  pub holder : HolderIsIdle (its_table w) w.holder
 
 -- the tag of a file that came out
 abbrev pub tag_in : Option Identity → Option ℕ

@@ -17,7 +17,6 @@ impl TableWorker {
         ensures good { IsGood self.new }
         ensures table { self.new.shared ≡ self.old.shared }
         ensures numbers { self.new.numbers ≡ self.old.numbers }
-        ensures holder { self.new.holder ≡ self.old.holder }
         ensures found { FindsByKey self.old (key_of slot number) result.found result.freed
             result.released self.new }
     {
@@ -62,15 +61,15 @@ impl TableWorker {
         if self.held.is_some() {
             return not_removed(ServerRefusal::Busy);
         }
-        if self.holder.is_none() {
+        let table = &self.shared.table;
+        if !table.installs(&self.pass) {
             return not_removed(ServerRefusal::Reader);
         }
-        let table = &self.shared.table;
         let KeyTaken {
             taken,
             freed,
             released,
-        } = table.take_key_alone(&mut self.pass, Key { slot, number });
+        } = table.take_key(&mut self.pass, Key { slot, number });
         let freed = tag_of(freed);
         let released = tag_of(released);
         let removal = match taken {
@@ -132,9 +131,6 @@ impl TableWorker {
         if self.held.is_some() {
             return not_removed(ServerRefusal::Busy);
         }
-        if self.holder.is_none() {
-            return not_removed(ServerRefusal::Reader);
-        }
         let table = &self.shared.table;
         if !table.installs(&self.pass) {
             return not_removed(ServerRefusal::Reader);
@@ -144,7 +140,7 @@ impl TableWorker {
             put,
             freed,
             released,
-        } = table.put_key_alone(&mut self.pass, Key { slot, number }, file);
+        } = table.put_over_key(&mut self.pass, Key { slot, number }, file);
         let freed = tag_of(freed);
         let released = tag_of(released);
         let removal = match put {

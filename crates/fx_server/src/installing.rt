@@ -18,7 +18,6 @@ impl TableWorker {
         requires good { IsGood self.old }
         ensures good { IsGood self.new }
         ensures table { self.new.shared ≡ self.old.shared }
-        ensures holder { self.new.holder ≡ self.old.holder }
         ensures placed { PutsNext self.old slot tag result.placed self.new }
         ensures no_tags { (result.freed ≡ None) × (result.released ≡ None) }
     {
@@ -47,7 +46,6 @@ impl TableWorker {
         requires good { IsGood self.old }
         ensures good { IsGood self.new }
         ensures table { self.new.shared ≡ self.old.shared }
-        ensures holder { self.new.holder ≡ self.old.holder }
         ensures allocated { PutsAnyNext self.old tag result self.new }
     {
         let slot = self.insert_as(tag, self.numbers.next)?;
@@ -67,7 +65,6 @@ impl TableWorker {
         requires good { IsGood self.old }
         ensures good { IsGood self.new }
         ensures table { self.new.shared ≡ self.old.shared }
-        ensures holder { self.new.holder ≡ self.old.holder }
         ensures found { FindsNext self.old result self.new }
     {
         let slot = self.find_slot()?;
@@ -86,7 +83,6 @@ impl TableWorker {
         requires good { IsGood self.old }
         ensures good { IsGood self.new }
         ensures table { self.new.shared ≡ self.old.shared }
-        ensures holder { self.new.holder ≡ self.old.holder }
         ensures placed { PutsEmptyKept self.old slot tag result self.new }
     {
         let number = self.numbers.spend_kept();

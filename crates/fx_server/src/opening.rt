@@ -1,6 +1,6 @@
 //! Opening a table with its workers.
 ghost use Rattle.std.specs.Prelude.{◌≡◌, ◌<◌, ◌≤◌, ◌+◌, All, IfOk, IfErr, Err, None, ◌⊎◌};
-ghost use Rattle.std.specs.Prelude.{drop, length, take};
+ghost use Rattle.std.specs.Prelude.{length};
 ghost use Rattle.std.specs.Arc.{arc_value};
 ghost use Rattle.fx_server.specs.Opened.{AreDealt, AreOpened, workers_in};
 ghost use Rattle.fx_server.specs.Workers.{IsGood, IsInRange};
@@ -10,14 +10,13 @@ ghost use Rattle.fx_server.specs.declared.answers.ServerRefusal.TheVariants.{Bad
 use crate::answers::ServerRefusal;
 use crate::file_numbers::FileNumbers;
 use crate::shared::Shared;
-use crate::worker::{TableWorker, abandon};
+use crate::worker::TableWorker;
 use fx_lasting::{LastingPass, LastingTable, MOST_INSTALLING, MOST_PASSES, MOST_SLOTS};
 use std::alloc::{AllocError, Global};
 use std::sync::Arc;
 
-/// Opens a table of 1 to 1,048,576 empty slots, and returns its workers, each in a box. They hold
-/// nothing. The first `installing`, 1 to 64, install files, and have a second pass each; a table
-/// has 1 to 1,024 passes.
+/// Opens a table of 1 to 1,048,576 empty slots, and returns its 1 to 1,024 workers, each in a box.
+/// They hold nothing. The first `installing`, 1 to 64, install files.
 ///
 /// # Errors
 /// `BadArgument` if a number is out of its range, `NoMemory` if an allocation fails.
@@ -41,82 +40,64 @@ pub fn open(
     if installing < 1 || installing > MOST_INSTALLING || installing > workers {
         return Err(ServerRefusal::BadArgument);
     }
-    let count = workers + installing;
-    if count > MOST_PASSES {
-        return Err(ServerRefusal::BadArgument);
-    }
-    let opened = LastingTable::open_sparse(alloc, slots, (0, slots), count, installing);
+    let opened = LastingTable::open_sparse(alloc, slots, (0, slots), workers, installing);
     let Ok((table, passes)) = opened else {
         return Err(ServerRefusal::NoMemory);
     };
-    let list = share(alloc, Shared { table }, passes, workers, installing)?;
+    let list = share(alloc, Shared { table }, passes, installing)?;
     Ok(list)
 }
 
-// Hands a pass to each worker, and a second one to each of the first workers.
+// Hands each pass to a worker.
 fn share(
     alloc: Global,
     shared: Shared,
-    mut passes: Vec<LastingPass>,
-    workers: u32,
+    passes: Vec<LastingPass>,
     installing: u32,
 ) -> Result<Vec<Box<TableWorker>>, ServerRefusal>
     requires few { length passes.items ≤ MOST_PASSES }
-    requires enough { workers ≤ length passes.items }
-    ensures dealt { IfOk result (λ list. AreDealt shared (take workers passes.items)
-        (drop workers passes.items) installing (workers_in list.items)) }
+    ensures dealt { IfOk result (λ list.
+        AreDealt shared passes.items installing (workers_in list.items)) }
     ensures memory { IfErr result (λ refusal. refusal ≡ RanOut) }
 {
-    let Ok(holders) = passes.split_off(workers as usize) else {
-        spend(passes);
-        return Err(ServerRefusal::NoMemory);
-    };
     let Ok(shared) = Arc::new(alloc, shared) else {
         spend(passes);
-        spend(holders);
         return Err(ServerRefusal::NoMemory);
     };
     let Ok(list) = Vec::with_capacity(alloc, passes.len()) else {
         spend(passes);
-        spend(holders);
         return Err(ServerRefusal::NoMemory);
     };
-    deal(alloc, shared, passes, holders, installing, list)
+    deal(alloc, shared, passes, installing, list)
 }
 
-// Turns the passes into workers, in their order. The first of them get the second passes.
+// Turns the passes into workers, in their order.
 fn deal(
     alloc: Global,
     shared: Arc<Shared, Global>,
     mut passes: Vec<LastingPass>,
-    mut holders: Vec<LastingPass>,
     installing: u32,
     mut workers: Vec<Box<TableWorker>>,
 ) -> Result<Vec<Box<TableWorker>>, ServerRefusal>
     requires none { length workers.items ≡ 0 }
     requires few { length passes.items ≤ MOST_PASSES }
-    ensures dealt { IfOk result (λ list. AreDealt (arc_value shared) passes.items holders.items
-        installing (workers_in list.items)) }
+    ensures dealt { IfOk result (λ list.
+        AreDealt (arc_value shared) passes.items installing (workers_in list.items)) }
     ensures memory { IfErr result (λ refusal. refusal ≡ RanOut) }
 {
     passes.reverse();
-    holders.reverse();
     while let Some(pass) = passes.pop() {
         let numbers = FileNumbers::first(installing, workers.len() as u32 + 1);
-        let holder = holders.pop();
-        let Ok(worker) = begin(alloc, &shared, pass, holder, numbers) else {
+        let Ok(worker) = begin(alloc, &shared, pass, numbers) else {
             spend(passes);
-            spend(holders);
             return Err(ServerRefusal::NoMemory);
         };
         let Ok(()) = workers.push(worker) else {
             spend(passes);
-            spend(holders);
             return Err(ServerRefusal::NoMemory);
         };
     }
     passes.destroy_empty();
-    spend(holders);
     Ok(workers)
 }
 
@@ -125,24 +106,20 @@ fn begin(
     alloc: Global,
     shared: &Arc<Shared, Global>,
     pass: LastingPass,
-    holder: Option<LastingPass>,
     numbers: FileNumbers,
 ) -> Result<Box<TableWorker>, AllocError>
     ensures table { IfOk result (λ b. arc_value b.value.shared ≡ arc_value shared.now) }
     ensures pass { IfOk result (λ b. b.value.pass ≡ pass) }
-    ensures holder { IfOk result (λ b. b.value.holder ≡ holder) }
     ensures idle { IfOk result (λ b. b.value.held ≡ None) }
     ensures numbers { IfOk result (λ b. b.value.numbers ≡ numbers) }
 {
     let Ok(shared) = Arc::try_clone(shared) else {
         pass.abandon();
-        abandon(holder);
         return Err(AllocError);
     };
     let worker = TableWorker {
         shared,
         pass,
-        holder,
         held: None,
         numbers,
     };

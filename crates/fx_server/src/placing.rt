@@ -22,9 +22,9 @@ pub fn place_all(mut workers: Vec<Box<TableWorker, Global>>, places: &mut [Worke
     }
 }
 
-/// Opens a table of 1 to 1,048,576 empty slots, with a worker for each place of `workers`. The
-/// first `installing` of them, 1 to 64, install files, and count twice: with them the workers are
-/// at most 1,024. It returns `DONE`; or `BAD_ARGUMENT` or `NO_MEMORY`, and writes nothing.
+/// Opens a table of 1 to 1,048,576 empty slots, with a worker for each of the 1 to 1,024 places of
+/// `workers`. The first `installing` of them, 1 to 64, install files. It returns `DONE`; or
+/// `BAD_ARGUMENT` or `NO_MEMORY`, and writes nothing.
 pub fn open_places(alloc: Global, slots: u32, installing: u32, workers: &mut [WorkerPlace]) -> i64
     ensures opened { result ≡ DONE → OpensAs slots installing workers.new }
     ensures nothing { result ≢ DONE → workers.new ≡ workers.old }

@@ -23,7 +23,6 @@ impl TableWorker {
         ensures good { IsGood self.new }
         ensures table { self.new.shared ≡ self.old.shared }
         ensures numbers { self.new.numbers ≡ self.old.numbers }
-        ensures holder { self.new.holder ≡ self.old.holder }
         ensures placed { Puts self.old slot tag number result self.new }
     {
         if self.held.is_some() {
@@ -54,7 +53,6 @@ impl TableWorker {
         ensures good { IsGood self.new }
         ensures table { self.new.shared ≡ self.old.shared }
         ensures numbers { self.new.numbers ≡ self.old.numbers }
-        ensures holder { self.new.holder ≡ self.old.holder }
         ensures allocated { PutsAny self.old tag number result self.new }
     {
         if self.held.is_some() {
@@ -94,7 +92,6 @@ impl TableWorker {
         ensures good { IsGood self.new }
         ensures table { self.new.shared ≡ self.old.shared }
         ensures numbers { self.new.numbers ≡ self.old.numbers }
-        ensures holder { self.new.holder ≡ self.old.holder }
         ensures placed { PutsEmpty self.old slot tag number result self.new }
     {
         if self.held.is_some() {
@@ -132,7 +129,6 @@ impl TableWorker {
         ensures good { IsGood self.new }
         ensures table { self.new.shared ≡ self.old.shared }
         ensures numbers { self.new.numbers ≡ self.old.numbers }
-        ensures holder { self.new.holder ≡ self.old.holder }
         ensures found { FindsSlot self.old result self.new }
     {
         if self.held.is_some() {

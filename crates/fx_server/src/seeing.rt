@@ -16,7 +16,6 @@ impl TableWorker {
         ensures good { IsGood self.new }
         ensures table { self.new.shared ≡ self.old.shared }
         ensures numbers { self.new.numbers ≡ self.old.numbers }
-        ensures holder { self.new.holder ≡ self.old.holder }
         ensures same { (self.new.held ≡ self.old.held) × (its_pass self.new ≡ its_pass self.old) }
         ensures here { IsSeenOf (its_table self.old) result }
         ensures shown { shown_of result ≡ (its_pass self.old).front }
@@ -32,7 +31,6 @@ impl TableWorker {
         ensures good { IsGood self.new }
         ensures table { self.new.shared ≡ self.old.shared }
         ensures numbers { self.new.numbers ≡ self.old.numbers }
-        ensures holder { self.new.holder ≡ self.old.holder }
         ensures held { self.new.held ≡ self.old.held }
         ensures learns { Learns (its_opening self.old) (shown_of seen.now) (its_pass self.old)
             (its_pass self.new) }

@@ -23,15 +23,12 @@ pub struct Held {
     pub entry: u8,
 }
 
-/// A pass with its table. It holds at most one file at a time, by the user's look-up. A worker that
-/// installs files has a second pass, its holder, which holds the file of a key within a
-/// replacement, or within a removal from a hot slot. The pass is last, so that the workers of two
-/// threads share no cache line (`LastingPass`).
+/// A pass with its table. It holds at most one file at a time, by the user's look-up. The pass is
+/// last, so that the workers of two threads share no cache line (`LastingPass`).
 pub struct TableWorker {
     pub shared: Arc<Shared, Global>,
     pub held: Option<Held>,
     pub(crate) numbers: FileNumbers,
-    pub holder: Option<LastingPass>,
     pub pass: LastingPass,
 }
 
@@ -40,12 +37,10 @@ impl Drop for TableWorker {
         let TableWorker {
             shared,
             pass,
-            holder,
             held: _,
             numbers: _,
         } = self;
         pass.abandon();
-        abandon(holder);
         drop(shared);
     }
 }
@@ -58,7 +53,6 @@ impl TableWorker {
         ensures good { IsGood self.new }
         ensures table { self.new.shared ≡ self.old.shared }
         ensures numbers { self.new.numbers ≡ self.old.numbers }
-        ensures holder { self.new.holder ≡ self.old.holder }
         ensures looked { LooksUp self.old slot result self.new }
     {
         let table = &self.shared.table;
@@ -89,7 +83,6 @@ impl TableWorker {
         ensures good { IsGood self.new }
         ensures table { self.new.shared ≡ self.old.shared }
         ensures numbers { self.new.numbers ≡ self.old.numbers }
-        ensures holder { self.new.holder ≡ self.old.holder }
         ensures released { ReleasesHeld self.old result self.new }
     {
         let Some(Held { node, entry }) = self.held.take() else {
@@ -110,7 +103,6 @@ impl TableWorker {
         ensures good { IsGood self.new }
         ensures table { self.new.shared ≡ self.old.shared }
         ensures numbers { self.new.numbers ≡ self.old.numbers }
-        ensures holder { self.new.holder ≡ self.old.holder }
         ensures removed { RemovesFrom self.old slot result.removal self.new }
         ensures no_tags { (result.freed ≡ None) × (result.released ≡ None) }
     {
@@ -132,13 +124,6 @@ impl TableWorker {
             },
             Err(Empty) => not_removed(ServerRefusal::Empty),
         }
-    }
-}
-
-// Abandons the second pass of a worker, if it has one.
-pub(crate) fn abandon(holder: Option<LastingPass>) {
-    if let Some(pass) = holder {
-        pass.abandon();
     }
 }
 

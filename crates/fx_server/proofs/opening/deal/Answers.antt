@@ -1,17 +1,14 @@
 use Rattle.std.specs.Arc.{arc_value}
-use Rattle.std.proofs.Common.{◌≡◌, ◌+◌, [], ◌∷◌, None, ap, ◌∙◌, arith, length, length-append}
+use Rattle.std.proofs.Common.{◌≡◌, [], ◌∷◌, None, ap, ◌∙◌, arith, length, length-append}
 use Rattle.fx_server.specs.declared.worker.TableWorker.{TableWorker}
-use Rattle.fx_server.proofs.Dealing.{all_pushed, dealt_one, in_places, left_over, second_popped}
+use Rattle.fx_server.proofs.Dealing.{all_pushed, dealt_one, in_places}
 use Rattle.fx_server.specs.FileNumbers.{first_numbers}
-use Rattle.fx_server.specs.Opened.{holder_at}
 use Rattle.fx_server.proofs.opening.deal.Goals as goal
 
 pub loop-pass-preserved : goal.loop-pass-preserved
 loop-pass-preserved c =
     let was = c.loop-pass.invariant in
     let pushed = c.in-Ok-push.ensures.items in
-    let from_0 : length c.loop-pass.workers.items ≡ 0 + length c.loop-pass.workers.items = omega arith in
-    let second = second_popped c.args.holders.items _ _ (length c.loop-pass.workers.items) _ _ c.pop-holder.result c.pop-holder.ensures.items c.loop-pass.holders.ok.0 c.pop-holder.ensures.cases was.left in
     record {
       shares = all_pushed (λ (w : TableWorker). arc_value w.shared ≡ arc_value c.args.shared) _ _ c.in-Ok.worker pushed was.shares (rw (← was.same) c.in-Ok.ensures.table);
       idle = all_pushed (λ (w : TableWorker). w.held ≡ None) _ _ c.in-Ok.worker pushed was.idle c.in-Ok.ensures.idle;
@@ -28,6 +25,4 @@ loop-pass-preserved c =
         length-append c.pop.new.self.items (c.in-Some.pass ∷ []),
       );
       passes = dealt_one _ _ c.in-Ok.worker _ _ c.in-Some.pass _ pushed c.in-Some.ensures.items c.in-Ok.ensures.pass was.passes;
-      seconds = in_places (λ (w : TableWorker). w.holder) (holder_at c.args.holders.items) 0 _ _ c.in-Ok.worker pushed (c.in-Ok.ensures.holder ∙ second.0 ∙ ap (holder_at c.args.holders.items) from_0) was.seconds;
-      left = left_over c.args.holders.items _ _ _ c.in-Ok.worker pushed second.1;
     }

@@ -1,12 +1,11 @@
-use Rattle.std.proofs.Common.{◌≡◌, ◌+◌, ◌++◌, All, None, drop, length, map, reverse}
+use Rattle.std.proofs.Common.{◌≡◌, ◌+◌, ◌++◌, All, None, length, map, reverse}
 use Rattle.std.specs.Arc.{arc_value}
 use Rattle.fx_server.specs.FileNumbers.{numbers_of_all}
-use Rattle.fx_server.specs.Opened.{holders_of_all, workers_in}
+use Rattle.fx_server.specs.Opened.{workers_in}
 use Rattle.fx_server.specs.declared.worker.TableWorker.{TableWorker}
 use Rattle.fx_server.proofs.opening.deal.Given as goal
 
--- the workers so far have the first passes, and the others are left, the last one first; and so are
--- the second passes
+-- the workers so far have the first passes, and the others are left, the last one first
 abbrev pub invariant-loop-pass : goal.invariant-loop-pass
 invariant-loop-pass l = record {
   shares : All (λ (w : TableWorker). arc_value w.shared ≡ arc_value l.fn.shared) (workers_in l.workers.items);
@@ -15,8 +14,6 @@ invariant-loop-pass l = record {
   numbers : map (λ (w : TableWorker). w.numbers) (workers_in l.workers.items) ≡ numbers_of_all l.fn.installing (length (workers_in l.workers.items));
   count : length l.workers.items + length l.passes.items ≡ length l.fn.passes.items;
   passes : map (λ (w : TableWorker). w.pass) (workers_in l.workers.items) ++ reverse l.passes.items ≡ l.fn.passes.items;
-  seconds : map (λ (w : TableWorker). w.holder) (workers_in l.workers.items) ≡ holders_of_all l.fn.holders.items (length (workers_in l.workers.items));
-  left : reverse l.holders.items ≡ drop (length l.workers.items) l.fn.holders.items;
 }
 
 abbrev pub decreases-loop-pass : goal.decreases-loop-pass

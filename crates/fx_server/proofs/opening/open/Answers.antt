@@ -12,7 +12,7 @@ returns-clause-opened c =
     c.in-Ok.ensures.opened c.in-Ok.ensures.empty c.in-Ok.ensures.count c.in-Ok.ensures.new).0
 
 pub returns-clause-good : goal.returns-clause-good
-returns-clause-good c = good_of _ _ c.args.workers c.args.installing _ c.in_ok-list.ensures.dealt c.in-Ok.ensures.ready
+returns-clause-good c = good_of _ _ c.args.installing _ c.in_ok-list.ensures.dealt c.in-Ok.ensures.ready
 
 pub returns-clause-count : goal.returns-clause-count
 returns-clause-count c = omega (

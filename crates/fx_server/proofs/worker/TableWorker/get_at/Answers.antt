@@ -15,7 +15,6 @@ returns-clause-good c =
       does = subst (λ (v : PassView). DoesAsHeld v c.note-found.new.held) (sym noted.same) (does_as_held (opening_of_table t) (view_of c.args.self.now.pass)
           (view_of call.new.pass) c.args.slot call.result.found call.result.freed c.note-found.result c.note-found.new.held noted.notes
           call.ensures.never_spent call.ensures.looked);
-      holder = c.requires.good.holder;
     }
 
 pub returns-clause-looked : goal.returns-clause-looked

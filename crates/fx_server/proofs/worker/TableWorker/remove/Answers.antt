@@ -10,7 +10,7 @@ use Rattle.fx_server.proofs.worker.TableWorker.remove.Goals as goal
 pub returns-in-Ok-clause-removed : goal.returns-in-Ok-clause-removed
 returns-in-Ok-clause-removed c =
     let w = c.args.self.now in
-    let call = c.take_key_alone-taken in
+    let call = c.take_key-taken in
     let key = key_of c.args.slot c.args.number in
     record {
       retired = c.in-Ok.retired;
@@ -23,13 +23,12 @@ returns-in-Ok-clause-removed c =
             c.in-Ok.is (rw (← c.deref.ensures) call.ensures.taken);
       };
       retires = rw (← c.deref.ensures) c.retire.ensures.retired;
-      holder = refl;
     }
 
 pub returns-in-Err-clause-removed : goal.returns-in-Err-clause-removed
 returns-in-Err-clause-removed c =
     let w = c.args.self.now in
-    let call = c.take_key_alone-taken in
+    let call = c.take_key-taken in
     let key = key_of c.args.slot c.args.number in
     leaves_alone w (record w { pass = call.new.pass }) key c.tag_of-freed.result c.tag_of-released.result c.in-Err.fault c.key_refusal.result c.key_refusal.ensures
     (record {
@@ -40,5 +39,4 @@ returns-in-Err-clause-removed c =
         takes = subst (λ (t : Result Retired KeyFault). TakesAlone (its_start w) w.pass key t call.result.freed call.result.released call.new.pass)
             c.in-Err.is (rw (← c.deref.ensures) call.ensures.taken);
       };
-      holder = refl;
     })

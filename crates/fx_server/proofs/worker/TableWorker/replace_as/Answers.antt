@@ -11,7 +11,7 @@ use Rattle.fx_server.proofs.worker.TableWorker.replace_as.Goals as goal
 pub returns-in-Replaced-clause-placed : goal.returns-in-Replaced-clause-placed
 returns-in-Replaced-clause-placed c =
     let w = c.args.self.now in
-    let call = c.put_key_alone-put in
+    let call = c.put_over_key-put in
     let r = call.result in
     let key = key_of c.args.slot c.args.number in
     record {
@@ -26,13 +26,12 @@ returns-in-Replaced-clause-placed c =
             c.in-Replaced.is (rw (← c.deref.ensures) call.ensures.placed));
       };
       retires = rw (← c.deref.ensures) c.retire.ensures.retired;
-      holder = refl;
     }
 
 pub returns-in-Missed-clause-placed : goal.returns-in-Missed-clause-placed
 returns-in-Missed-clause-placed c =
     let w = c.args.self.now in
-    let call = c.put_key_alone-put in
+    let call = c.put_over_key-put in
     let r = call.result in
     let key = key_of c.args.slot c.args.number in
     let missed = subst (λ (f : Identity). PutsAlone (its_start w) w.pass key f (Missed c.in-Missed.fault c.in-Missed.file) r.freed r.released call.new.pass) c.file_with-file.ensures.file
@@ -47,5 +46,4 @@ returns-in-Missed-clause-placed c =
         tags = record { its_freed = c.tag_of-freed.ensures; its_released = c.tag_of-released.ensures };
         puts = (refl, missed.1);
       };
-      holder = refl;
     })
