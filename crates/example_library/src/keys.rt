@@ -61,24 +61,21 @@ fn find(
     Ok(entry)
 }
 
-// Removes the file of a key, which the holder holds meanwhile, and retires it.
+// Removes the file of a key, and retires it.
 fn remove(
     table: &LastingTable,
-    holder: &mut LastingPass,
     pass: &mut LastingPass,
     bits: u64,
     closed: &AtomicU32,
 ) -> Result<(), KeyFault>
-    requires holder { IsPassOfTable table.now holder.old × IsIdle (view_of holder.old) }
-    requires pass { IsPassOfTable table.now pass.old × IsIdle (view_of pass.old) }
-    ensures holder { IsPassOfTable table.now holder.new × IsIdle (view_of holder.new) }
-    ensures pass { IsPassOfTable table.now pass.new × IsIdle (view_of pass.new) }
+    requires ready { IsPassOfTable table.now pass.old × IsIdle (view_of pass.old) }
+    ensures ready { IsPassOfTable table.now pass.new × IsIdle (view_of pass.new) }
 {
     let KeyTaken {
         taken,
         freed,
         released,
-    } = table.take_key(holder, pass, Key::from_bits(bits));
+    } = table.take_key(pass, Key::from_bits(bits));
     discard(freed, closed);
     discard(released, closed);
     let removed = taken?;
@@ -86,22 +83,19 @@ fn remove(
     Ok(())
 }
 
-// Puts a file over that of a key, which the holder holds meanwhile, and retires the old file.
-// Returns `None` if the pass may not install files.
+// Puts a file over that of a key, and retires the old file. Returns `None` if the pass may not
+// install files.
 fn put_over(
     catalogue: &Catalogue,
     table: &LastingTable,
-    holder: &mut LastingPass,
     pass: &mut LastingPass,
     bits: u64,
     i: u32,
     closed: &AtomicU32,
 ) -> Option<Result<(), KeyFault>>
-    requires holder { IsPassOfTable table.now holder.old × IsIdle (view_of holder.old) }
-    requires pass { IsPassOfTable table.now pass.old × IsIdle (view_of pass.old) }
+    requires ready { IsPassOfTable table.now pass.old × IsIdle (view_of pass.old) }
     requires entry { 0 < length catalogue.now }
-    ensures holder { IsPassOfTable table.now holder.new × IsIdle (view_of holder.new) }
-    ensures pass { IsPassOfTable table.now pass.new × IsIdle (view_of pass.new) }
+    ensures ready { IsPassOfTable table.now pass.new × IsIdle (view_of pass.new) }
 {
     if table.numbers_left(pass) == 0 {
         return None;
@@ -111,7 +105,7 @@ fn put_over(
         put,
         freed,
         released,
-    } = table.put_over_key(holder, pass, Key::from_bits(bits), file);
+    } = table.put_over_key(pass, Key::from_bits(bits), file);
     discard(freed, closed);
     discard(released, closed);
     match put {
@@ -162,56 +156,53 @@ fn print_closed<R: Print, A: Debug>(rt: &R, call: &str, answer: &A, closed: &Ato
     let _ = println!(rt; "{call}: {answer:?}, files closed: {count}");
 }
 
-// Puts a file, removes it by its key, and puts another file at its slot. Prints what is found by
-// the keys. Stops early if a file can't be put.
+// Puts a file, removes it by its key, and puts another file at its slot. Prints what the other pass
+// finds by the keys. Stops early if a file can't be put.
 fn use_keys<R: Wait + Print>(
     rt: &R,
     catalogue: &Catalogue,
     table: &LastingTable,
-    holder: &mut LastingPass,
+    finder: &mut LastingPass,
     pass: &mut LastingPass,
 ) -> Option<()>
-    requires holder { IsPassOfTable table.now holder.old × IsIdle (view_of holder.old) }
+    requires finder { IsPassOfTable table.now finder.old × IsIdle (view_of finder.old) }
     requires pass { IsPassOfTable table.now pass.old × IsIdle (view_of pass.old) }
     requires entry { 0 < length catalogue.now }
-    ensures holder { IsPassOfTable table.now holder.new × IsIdle (view_of holder.new) }
+    ensures finder { IsPassOfTable table.now finder.new × IsIdle (view_of finder.new) }
     ensures pass { IsPassOfTable table.now pass.new × IsIdle (view_of pass.new) }
 {
     let closed = AtomicU32::new(0);
     let old = publish(rt, catalogue, table, pass, 1)?;
     print_key(rt, old);
-    let found = find(table, holder, old, &closed);
+    let found = find(table, finder, old, &closed);
     let _ = println!(rt; "looked up by the key: {found:?}");
-    let removed = remove(table, holder, pass, old, &closed);
+    let removed = remove(table, pass, old, &closed);
     print_closed(rt, "removed by the key", &removed, &closed);
     let new = publish(rt, catalogue, table, pass, 2)?;
     print_key(rt, new);
-    let stale = find(table, holder, old, &closed);
-    let found = find(table, holder, new, &closed);
+    let stale = find(table, finder, old, &closed);
+    let found = find(table, finder, new, &closed);
     let _ = println!(rt; "looked up by the old key: {stale:?}, by the new key: {found:?}");
-    replace_by_key(rt, catalogue, table, holder, pass, new)
+    replace_by_key(rt, catalogue, table, pass, new)
 }
 
-// Replaces the file of a key twice, by the key and by its slot. Prints what is found by the keys.
-// Stops early if a file can't be put.
+// Replaces the file of a key twice, by the key and by its slot. Prints what the calls return. Stops
+// early if a file can't be put.
 fn replace_by_key<R: Print>(
     rt: &R,
     catalogue: &Catalogue,
     table: &LastingTable,
-    holder: &mut LastingPass,
     pass: &mut LastingPass,
     bits: u64,
 ) -> Option<()>
-    requires holder { IsPassOfTable table.now holder.old × IsIdle (view_of holder.old) }
-    requires pass { IsPassOfTable table.now pass.old × IsIdle (view_of pass.old) }
+    requires ready { IsPassOfTable table.now pass.old × IsIdle (view_of pass.old) }
     requires entry { 0 < length catalogue.now }
-    ensures holder { IsPassOfTable table.now holder.new × IsIdle (view_of holder.new) }
-    ensures pass { IsPassOfTable table.now pass.new × IsIdle (view_of pass.new) }
+    ensures ready { IsPassOfTable table.now pass.new × IsIdle (view_of pass.new) }
 {
     let closed = AtomicU32::new(0);
-    let replaced = put_over(catalogue, table, holder, pass, bits, 3, &closed)?;
+    let replaced = put_over(catalogue, table, pass, bits, 3, &closed)?;
     print_closed(rt, "replaced by the key", &replaced, &closed);
-    let again = put_over(catalogue, table, holder, pass, bits, 4, &closed)?;
+    let again = put_over(catalogue, table, pass, bits, 4, &closed)?;
     let _ = println!(rt; "replaced by the same key again: {again:?}");
     let key = put_at_first(catalogue, table, pass, 5, &closed)?;
     print_closed(rt, "put at the slot", &key, &closed);
@@ -231,11 +222,11 @@ fn use_keys_between<R: Wait + Print>(
     ensures two { length passes.new.items ≡ 2 }
     ensures ready { All (λ p. IsPassOfTable table.now p × IsIdle (view_of p)) passes.new.items }
 {
-    let mut holder = passes.pop().unwrap();
+    let mut finder = passes.pop().unwrap();
     let mut pass = passes.pop().unwrap();
-    use_keys(rt, catalogue, table, &mut holder, &mut pass);
+    use_keys(rt, catalogue, table, &mut finder, &mut pass);
     passes.push_reserved(pass);
-    passes.push_reserved(holder);
+    passes.push_reserved(finder);
 }
 
 /// Opens a table of one slot for two passes, the first of which may install files, and uses keys.

@@ -20,7 +20,7 @@ pub use Rattle.fx_lasting.specs.Laws.{ChecksKeep, BreaksKeep, BeginsKeep, Counts
 pub use Rattle.fx_lasting.specs.Laws.{LettingGoKeeps, SeeksKeep, BirthsKeep, RestsKeep, VisitsKeep, MarksKeep, ParksKeep, ResumesKeep, SettlesKeep}
 pub use Rattle.fx_lasting.specs.Laws.{HasItsPlace, RecallsTagKeep, TagsKeep, NumbersKeep, ReadsTagKeep, ReadsNumberKeep, RetiresKeep, IsInRange, ListsKeep, SkimsKeep}
 pub use Rattle.fx_lasting.specs.Laws.{IsPassed, SeesKeep, TakesIfKeep, SwapsIfKeep, ReplacesKeep, FinishesKeep, SwapsOutKeep}
-pub use Rattle.fx_lasting.specs.Laws.{MayAnnounce, StandsDownKeep, SwapsHeldKeep, TakesHeldKeep}
+pub use Rattle.fx_lasting.specs.Laws.{MayAnnounce, EndsItsHoldKeep, SwapsHeldKeep, TakesHeldKeep}
 pub use Rattle.fx_lasting.specs.nodes.LabelSteps.{RecallsTag, Tags, Numbers, ReadsTag, ReadsNumber}
 pub use Rattle.fx_lasting.specs.nodes.Labels.{number_of_mark, label_of, as_written, HasWritten}
 pub use Rattle.fx_lasting.specs.nodes.KeepSteps.{Parks, Resumes, SettlesNode}
@@ -54,7 +54,7 @@ pub use Rattle.fx_lasting.specs.Effects.{Withdraws, glance_after, Takes, HeatsSl
 pub use Rattle.fx_lasting.specs.Effects.{IsInside, Stepped, Goes, Glances, Exchanges, LettingGo, Seeks, Births, Rests, Visits, Marks, Retires}
 pub use Rattle.fx_lasting.specs.Effects.{first_visit, retiring_work, Found, Installs, Removes, Turns, Asks, Peeks, as_asked, group_at, as_stocked}
 pub use Rattle.fx_lasting.specs.Effects.{IsWatching, MeetsOne, IsOvertaken, HasGap, as_swapped, NamesANode, Lowers, Checks, Breaks, Raises, Begins, Counts, Decides, Sees, TakesIf, Replaces}
-pub use Rattle.fx_lasting.specs.Effects.{HasAnnounced, HasItsHold, StandsDown, announcing, guarded_round, guarding, leaving_work, removal_work}
+pub use Rattle.fx_lasting.specs.Effects.{HasAnnounced, HasItsHold, EndsItsHold, announcing, guarded_round, guarding, leaving_work, removal_work}
 pub use Rattle.fx_lasting.specs.holds.Visits.{HasVisited, round_to}
 pub use Rattle.fx_lasting.specs.nodes.Searches.{next_of}
 pub use Rattle.fx_lasting.specs.declared.view.Change.{Change}
@@ -123,8 +123,8 @@ pub use Rattle.fx_table.specs.declared.values.Hold.{Hold}
 pub use Rattle.fx_lasting.specs.holds.HeldFiles.{IsOneOnItsNode}
 pub use Rattle.fx_lasting.specs.slots.ByNode.{IsOn, HasMissed, HasTakenIf, HasPutIf, FitsMiss, WasSo, WasIn, SaysIf, SawIf, FailedIf, HasTriedIf, TriesTake, TriesPut, TriedTake}
 pub use Rattle.fx_lasting.specs.slots.ByNode.{TriedReplace, TriedSwap, TriedOut, HasMet, WasOvertaken, WasOvertakenIn}
-pub use Rattle.fx_lasting.specs.slots.ByKey.{LookedByKey, HeldByKey, LeftIt, FailsByKey, TakesByKey, PutsOverKey, fault_for, taken_answer, put_answer}
-pub use Rattle.fx_lasting.specs.slots.ByKey.{TriesKey, TriesToTake, TriesToPut}
+pub use Rattle.fx_lasting.specs.slots.ByKey.{LookedByKey, HeldByKey, fault_for}
+pub use Rattle.fx_lasting.specs.slots.ByKey.{TriesKey}
 pub use Rattle.fx_lasting.specs.slots.ByKey.{KeysAreOfOneFile, KeysComeBack, HasShortNumber, key_of_bits}
 pub use Rattle.fx_lasting.specs.declared.answers.Miss.{Miss}
 pub use Rattle.fx_lasting.specs.declared.key_answers.KeyFault.{KeyFault}

@@ -9,7 +9,7 @@ pub mod Looking
 pub mod Taking
 pub mod Retiring
 pub mod Finishing
-pub mod StandingDown
+pub mod EndingHold
 pub mod Visiting
 pub mod Skimming
 pub mod Rounds

@@ -20,5 +20,4 @@ pub mod HeldTries
 pub mod RenewalTries
 pub mod RenewalEnds
 pub mod EmptySlots
-pub mod ByKey
 pub mod KeyLemmas

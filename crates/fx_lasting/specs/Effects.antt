@@ -307,8 +307,8 @@ round_from place found = record {
   guarded = false;
 }
 
--- Stand down: the hold word of a pass that removed the file that it held by it names no node
-pub record StandsDown (st : At) (m : Sat) (found : ℕ) (m' : Sat) : Type 0 where
+-- End of a hold: the hold word of a pass that removed the file it held names no node any more
+pub record EndsItsHold (st : At) (m : Sat) (found : ℕ) (m' : Sat) : Type 0 where
   pub goes : (f : File) (node takes : ℕ) (round : Round) (marks : ℕ)
       → m.0.work ≡ Retiring f node takes round marks
       → Goes m [] (Retiring f node takes (record round { guarded = false }) marks) m.0.glance m'

@@ -208,8 +208,8 @@ SettlesKeep tells = (k : Start) (slots id i n lost : ℕ) (m : Sat) (x : Log) �
     → Allows (Agrees k) slots id m i (λ _. 0) (λ _. tells (step slots i 0 0 none) m 0)
 
 -- a pass stores 0 in its hold word, which names the node whose file it has removed
-abbrev pub StandsDownKeep : Kind → Type 0
-StandsDownKeep tells = (k : Start) (slots id i node takes marks : ℕ) (round : Round) (f : File)
+abbrev pub EndsItsHoldKeep : Kind → Type 0
+EndsItsHoldKeep tells = (k : Start) (slots id i node takes marks : ℕ) (round : Round) (f : File)
     (m : Sat) (x : Log) → HasPass k m x → m.0.work ≡ Retiring f node takes round marks
     → round.guarded ≡ true → i ≡ hold_word_of k x.number
     → Allows (Agrees k) slots id m i (λ _. 0) (λ _. tells (step slots i 0 0 none) m 0)

@@ -17,8 +17,9 @@ use Rattle.fx_lasting.specs.declared.view.Log.{Log}
 use Rattle.fx_lasting.specs.declared.view.Start.{Start}
 use Rattle.fx_lasting.specs.declared.view.View.{View}
 use Rattle.fx_lasting.specs.declared.view.Work.{Work}
-use Rattle.fx_lasting.specs.declared.view.Work.TheVariants.{Announced, Counted, Guarded, Owing}
-use Rattle.fx_lasting.specs.declared.view.Work.TheVariants.{Yielding, Renewing, Nearing, Relieving, Retiring}
+use Rattle.fx_lasting.specs.declared.view.Work.TheVariants.{Announced, Counted, Guarded, Nearing}
+use Rattle.fx_lasting.specs.declared.view.Work.TheVariants.{Owing, Relieving, Renewing, Retiring}
+use Rattle.fx_lasting.specs.declared.view.Work.TheVariants.{Yielding}
 
 -- the pass of a seat that has one pass, as calls show it
 pub record IsPassAt (s : Shared) (seat : ℕ) (pass : PassView) : Type 0 where

@@ -224,13 +224,13 @@ impl Play<Option<OpenFile>, View> for Settling {
     ghost then = { SettlesNode };
 }
 
-/// Stand down: the hold word of a pass that removed the file that it held by it names no node.
-pub struct StandingDown;
+/// End of a hold: the hold word of a pass that removed the file it held names no node any more.
+pub struct EndingHold;
 
-impl Play<Option<OpenFile>, View> for StandingDown {
-    ghost use Rattle.fx_lasting.specs.Effects.{StandsDown};
+impl Play<Option<OpenFile>, View> for EndingHold {
+    ghost use Rattle.fx_lasting.specs.Effects.{EndsItsHold};
 
-    ghost then = { StandsDown };
+    ghost then = { EndsItsHold };
 }
 
 /// Skim: a pass that removed a hot file reads which of 64 passes are listed, and so may announce
@@ -339,8 +339,8 @@ impl Play<Option<OpenFile>, View> for SwappingIf {
     ghost then = { SwapsIf };
 }
 
-/// Swap, if the slot still has the word that the pass saw, by a pass that holds the slot's file: the
-/// slot is emptied for a close as by [`SwappingIf`], and the hold ends with the step.
+/// Swap, if the slot still has the word that the pass saw, by a pass that holds the slot's file:
+/// the slot is emptied for a close as by [`SwappingIf`], and the hold ends with the step.
 pub struct SwappingHeld;
 
 impl Play<Option<OpenFile>, View> for SwappingHeld {
@@ -379,7 +379,8 @@ impl Play<Option<OpenFile>, View> for ReplacingHeld {
 }
 
 /// Take, if the slot still has the word that the pass saw, by a pass without a stock that holds the
-/// slot's file: the slot is emptied for a close as by [`TakingIf`], and the hold ends with the step.
+/// slot's file: the slot is emptied for a close as by [`TakingIf`], and the hold ends with the
+/// step.
 pub struct TakingHeld;
 
 impl Play<Option<OpenFile>, View> for TakingHeld {

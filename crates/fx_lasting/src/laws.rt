@@ -20,14 +20,14 @@ ghost use Rattle.fx_lasting.specs.Laws.{CountsKeep, DecidesKeep, PeeksKeep, Spli
 ghost use Rattle.fx_lasting.specs.Laws.{ClearsKeep, TakesOutKeep, SwapsOutKeep, InstallsKeep};
 ghost use Rattle.fx_lasting.specs.Laws.{ExchangesKeep, SeesKeep, TakesIfKeep, SwapsIfKeep};
 ghost use Rattle.fx_lasting.specs.Laws.{SwapsHeldKeep, TakesHeldKeep, ReplacesKeep, AimsKeep};
-ghost use Rattle.fx_lasting.specs.Laws.{TakesBesideKeep, ReplacesHeldKeep, StandsDownKeep};
+ghost use Rattle.fx_lasting.specs.Laws.{TakesBesideKeep, ReplacesHeldKeep, EndsItsHoldKeep};
 
 use crate::kinds::{
     Aiming, Announcing, Asking, Beginning, Birth, Breaking, Checking, Clearing, Confirming,
-    Counting, Deal, Deciding, Exchanging, Finishing, Gather, Glancing, HeatingUp, Installing,
-    Letting, Listing, Lowering, Marking, Numbering, OneHistory, Parking, Peeking, Raising,
-    ReadingNumber, ReadingTag, RecallingTag, Replacing, ReplacingHeld, Resting, Resuming, Retire,
-    Seeing, Seeking, Settling, Skimming, StandingDown, SteppingDown, SwappingClear, SwappingHeld,
+    Counting, Deal, Deciding, EndingHold, Exchanging, Finishing, Gather, Glancing, HeatingUp,
+    Installing, Letting, Listing, Lowering, Marking, Numbering, OneHistory, Parking, Peeking,
+    Raising, ReadingNumber, ReadingTag, RecallingTag, Replacing, ReplacingHeld, Resting, Resuming,
+    Retire, Seeing, Seeking, Settling, Skimming, SteppingDown, SwappingClear, SwappingHeld,
     SwappingIf, SwappingTake, Tagging, Taking, TakingBeside, TakingHeld, TakingIf, TakingOut,
     Visiting, Withdrawing,
 };
@@ -165,8 +165,8 @@ pub fn settle_keeps_rule()
 {}
 
 /// A pass that removed the file that it held by its hold word, and stores 0 there, keeps the rule.
-pub fn stand_down_keeps_rule()
-    ensures { StandsDownKeep ⟦<StandingDown as Play<Option<OpenFile>, View>>⟧.then }
+pub fn end_hold_keeps_rule()
+    ensures { EndsItsHoldKeep ⟦<EndingHold as Play<Option<OpenFile>, View>>⟧.then }
 {}
 
 /// A pass that removed a hot file and loads a word of the list keeps the rule. It need not visit

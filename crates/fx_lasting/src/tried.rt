@@ -37,7 +37,7 @@ pub(crate) enum Taken {
 
 // The result of a try to replace the file of a key.
 pub(crate) enum Renewal {
-    // What the call returns, and a file that its release was the last to use.
+    // The result of the call, and a file that its release was the last to use.
     Ends(PutOverKey, Option<OpenFile>),
     // Nothing was changed: the slot has had another file since the pass aimed at it. The new file
     // comes back, with a removed file that the announcement was the last to use.

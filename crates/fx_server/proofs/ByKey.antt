@@ -18,7 +18,6 @@ use Rattle.fx_table.specs.Pass.{IsIdle}
 use Rattle.fx_plain.specs.declared.event.File.{File}
 use Rattle.fx_lasting.specs.declared.key_answers.PutOverKey.TheVariants.{Missed}
 use Rattle.fx_lasting.specs.slots.PutAlone.{PutsAlone}
-use Rattle.fx_server.specs.Files.{file_with}
 use Rattle.fx_server.specs.ByKey.{FindsByKey, KeepsAlone, LeavesAlone, RemovesByKey, ReplacesByKey, key_refusal}
 use Rattle.fx_server.specs.Workers.{Notes, its_pass, its_start, tag_in}
 use Rattle.fx_server.specs.declared.answers.FoundFile.{FoundFile}

@@ -1,17 +1,14 @@
 -- A removal or a replacement by key that is done has made the event that ends the key.
-use Rattle.std.proofs.Common.{◌≡◌, inl, inr, ℕ, ◌++◌, List, [], ◌∷◌, map, Option, Some, None, Ok, Result, refl, sym, ap, subst, ◌∙◌}
+use Rattle.std.proofs.Common.{◌≡◌, ℕ, List, [], ◌∷◌, map, Option, Some, None, Ok, Result, refl, ap, subst, ◌∙◌}
 use Rattle.fx_base.specs.Identity.{Identity}
 use Rattle.fx_plain.specs.History.{◌▷◌, ◌▷▷◌}
 use Rattle.fx_plain.specs.declared.event.Action.TheVariants.{Close, Look, Put, Release, Take}
 use Rattle.fx_plain.specs.declared.event.Event.{Event}
 use Rattle.fx_plain.specs.declared.event.File.{File}
-use Rattle.fx_table.specs.Calls.{LookedUp, ReleasesFile}
+use Rattle.fx_table.specs.Calls.{LookedUp}
 use Rattle.fx_table.specs.Opening.{Opening}
 use Rattle.fx_table.specs.declared.values.Hold.{Hold}
 use Rattle.fx_lasting.specs.Tables.{opening_of, view_of}
-use Rattle.fx_server.specs.Files.{file_with}
-use Rattle.fx_lasting.specs.declared.pass.LastingPass.{LastingPass}
-use Rattle.fx_table.proofs.Words.{append_assoc}
 use Rattle.fx_table.specs.Pass.{PassView, event_of}
 use Rattle.fx_table.specs.declared.values.Retired.{Retired}
 use Rattle.fx_lasting.specs.slots.ByKey.{IsKeyOf}

@@ -1,5 +1,5 @@
 -- Each export keeps the numbers of its worker's files.
-use Rattle.std.proofs.Common.{◌≡◌, inl, inr, ℕ, List, Option, Some, None, Result, Ok, Err, refl, sym, ap, subst, ◌∙◌}
+use Rattle.std.proofs.Common.{◌≡◌, inl, inr, ℕ, List, Option, Some, None, Result, Ok, Err, refl, subst, ◌∙◌}
 use Rattle.fx_base.specs.Identity.{Identity}
 use Rattle.fx_plain.specs.Laws.{IsInstalled}
 use Rattle.fx_plain.specs.declared.event.Action.TheVariants.{Allocate, Put}
@@ -18,8 +18,7 @@ use Rattle.fx_lasting.specs.declared.key_answers.KeyFault.TheVariants as fault
 use Rattle.fx_lasting.specs.slots.Alone.{TakesAlone}
 use Rattle.fx_lasting.specs.declared.pass.LastingPass.{LastingPass}
 use Rattle.fx_lasting.specs.declared.view.Start.{Start}
-use Rattle.fx_server.specs.ByKey.{FindsByKey, KeepsAlone, LeavesAlone, LooksKey, RemovesByKey, RemovesByOne, ReplacesByKey, ReplacesByKeyNext, key_refusal}
-use Rattle.fx_server.specs.Files.{file_with}
+use Rattle.fx_server.specs.ByKey.{FindsByKey, KeepsAlone, LeavesAlone, LooksKey, RemovesByKey, RemovesByOne, ReplacesByKey, ReplacesByKeyNext}
 use Rattle.fx_server.specs.FilesNumbers.{ExportsKeepNumbers, KeepsItsNumbers, number_of_file}
 use Rattle.fx_server.specs.Installing.{FindsNext, PutsAnyNext, PutsEmptyKept, PutsNext, having_spent}
 use Rattle.fx_server.specs.Workers.{Finds, FindsSlot, PutsAny, PutsEmpty, Puts, ReleasesHeld, RemovesFrom, RetiresAny, hold_in, its_opening, its_pass, its_start}
@@ -30,7 +29,7 @@ use Rattle.fx_server.specs.declared.answers.Removal.{Removal}
 use Rattle.fx_server.specs.declared.answers.ServerRefusal.{ServerRefusal}
 use Rattle.fx_server.specs.declared.answers.ServerRefusal.TheVariants.{Again, BadArgument, Busy, Empty, Full as NoFree, Idle, NoMemory, NoSlot, Reader, Stale}
 use Rattle.fx_server.specs.declared.worker.TableWorker.{TableWorker}
-use Rattle.fx_server.proofs.DrawnByCalls.{AddsNone, AddsOne, added_after, added_none, added_one, none_then, both_none, fails_none, held_none, installs, installs_kept, keeps, key_none, looked_none, number_of_new, one_then, released_none, retired_none, same_none, spends, stays}
+use Rattle.fx_server.proofs.DrawnByCalls.{AddsNone, AddsOne, added_after, added_none, added_one, none_then, both_none, held_none, installs, installs_kept, keeps, key_none, looked_none, number_of_new, one_then, released_none, retired_none, same_none, spends, stays}
 
 -- the events of a worker's own pass
 abbrev its : TableWorker → List Event

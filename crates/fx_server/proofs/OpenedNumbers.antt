@@ -1,5 +1,5 @@
 -- A worker of a table that was just opened has installed nothing.
-use Rattle.std.proofs.Common.{◌≡◌, inl, ℕ, zero, suc, ◌+◌, ◌<◌, List, [], ◌∷◌, All, refl, sym, ap, subst, ◌∙◌, arith, drop, length, map, slice_index_or}
+use Rattle.std.proofs.Common.{◌≡◌, inl, ℕ, zero, suc, ◌+◌, ◌<◌, List, [], ◌∷◌, All, refl, ap, subst, ◌∙◌, arith, drop, length, map, slice_index_or}
 use Rattle.std.specs.List.{range_with_len}
 use Rattle.std.proofs.lemmas.List.Elements.{All-cons, All-head, All-nil, All-same, All-tail}
 use Rattle.fx_plain.specs.Laws.{IsInstalled}

@@ -19,12 +19,11 @@ use Rattle.fx_table.specs.declared.values.Hold.{Hold}
 use Rattle.fx_lasting.specs.slots.ByNode.{FitsMiss, IsOn, WasSo}
 use Rattle.fx_lasting.specs.slots.ByKey.{HeldByKey, LookedByKey, fault_for}
 use Rattle.fx_lasting.specs.Passes.{state_at_start}
-use Rattle.fx_lasting.specs.Tables.{opening_of, view_of}
+use Rattle.fx_lasting.specs.Tables.{opening_of}
 use Rattle.fx_lasting.specs.declared.answers.Miss.{Miss}
 use Rattle.fx_lasting.specs.declared.answers.Miss.TheVariants as miss
 use Rattle.fx_lasting.specs.declared.key.Key.{Key}
 use Rattle.fx_lasting.specs.declared.key_answers.KeyFault.TheVariants.{Other}
-use Rattle.fx_lasting.specs.declared.pass.LastingPass.{LastingPass}
 use Rattle.fx_lasting.specs.declared.view.Start.{Start}
 use Rattle.fx_lasting.specs.slots.Alone.{TakesAlone}
 use Rattle.fx_server.specs.ByKey.{FindsByKey, RemovesByKey, ReplacesByKeyNext}

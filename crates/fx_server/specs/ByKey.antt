@@ -1,7 +1,6 @@
 -- The calls of a worker by key: the slot of a file and its number.
 use Rattle.std.specs.Prelude.{◌≡◌, ℕ, Option, Some, None, Result, Ok, Err}
 use Rattle.fx_base.specs.Identity.{Identity}
-use Rattle.fx_table.specs.Pass.{PassView}
 use Rattle.fx_table.specs.declared.values.Hold.{Hold}
 use Rattle.fx_table.specs.declared.values.Retired.{Retired}
 use Rattle.fx_lasting.specs.slots.Alone.{TakesAlone}

@@ -1,15 +1,13 @@
 -- The numbers of the files that workers install: no two files of a history have one.
-use Rattle.std.specs.Prelude.{◌≡◌, ◌≢◌, ◌⊎◌, ℕ, ℤ, ◌+◌, ◌<◌, ◌≤◌, List, Option, Some, None}
+use Rattle.std.specs.Prelude.{◌≡◌, ◌≢◌, ◌⊎◌, ℕ, ℤ, ◌+◌, ◌<◌, ◌≤◌, List}
 use Rattle.std.specs.Prelude.{length, slice_index_or}
 use Rattle.fx_plain.specs.History.{part_of_pass}
 use Rattle.fx_plain.specs.Laws.{IsInstalled}
 use Rattle.fx_plain.specs.declared.event.Event.{Event}
 use Rattle.fx_plain.specs.declared.event.File.{File}
 use Rattle.fx_lasting.specs.nodes.Labels.{number_of_mark}
-use Rattle.fx_lasting.specs.Tables.{view_of}
 use Rattle.fx_lasting.specs.declared.key.Key.{Key}
 use Rattle.fx_lasting.specs.declared.life.layout.TheConstants.{MOST_INSTALLING}
-use Rattle.fx_lasting.specs.declared.pass.LastingPass.{LastingPass}
 use Rattle.fx_server.specs.Answers.{FindsAs, GetsAs, GetsAtAs, InsertsAs, PutsEmptyAs, ReleasesAs}
 use Rattle.fx_server.specs.Answers.{RemovesAs, RemovesAtAs, ReplacesAs, ReplacesAtAs}
 use Rattle.fx_server.specs.EndsOfKeys.{HaveTheirOwnKeys}

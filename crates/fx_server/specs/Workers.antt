@@ -1,5 +1,5 @@
 -- The calls of a worker: the events that each adds to its pass.
-use Rattle.std.specs.Prelude.{◌≡◌, ℕ, ◌+◌, ◌≤◌, ◌<◌, true, [], Option, Some, None, option_map}
+use Rattle.std.specs.Prelude.{◌≡◌, ℕ, ◌≤◌, ◌<◌, true, [], Option, Some, None, option_map}
 use Rattle.std.specs.Prelude.{is_some, Result, Ok, Err}
 use Rattle.std.specs.Arc.{arc_value}
 use Rattle.fx_base.specs.Identity.{Identity}
@@ -24,7 +24,6 @@ use Rattle.fx_lasting.specs.Tables.{view_of, opening_of_table, IsPassOfTable}
 use Rattle.fx_lasting.specs.declared.answers.FoundSlot.TheVariants as found
 use Rattle.fx_lasting.specs.declared.answers.PutEmpty.{PutEmpty}
 use Rattle.fx_lasting.specs.declared.answers.PutEmpty.TheVariants as empty
-use Rattle.fx_lasting.specs.declared.pass.LastingPass.{LastingPass}
 use Rattle.fx_lasting.specs.declared.table.LastingTable.{LastingTable}
 use Rattle.fx_lasting.specs.slots.AtEmpty.{FellShort, HasPutEmpty, HasSearched}
 use Rattle.fx_lasting.specs.declared.view.Start.{Start}

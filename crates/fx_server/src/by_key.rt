@@ -1,8 +1,8 @@
 //! The calls by key: the slot of a file and its number.
-ghost use Rattle.std.specs.Prelude.{◌≡◌, ◌<◌, None, Err};
+ghost use Rattle.std.specs.Prelude.{◌≡◌, Err};
 ghost use Rattle.fx_server.specs.ByKey.{FindsByKey, RemovesByKey, ReplacesByKey, ReplacesByKeyNext, key_of};
 ghost use Rattle.fx_server.specs.ByKey.{key_refusal};
-ghost use Rattle.fx_server.specs.Workers.{IsGood, its_pass};
+ghost use Rattle.fx_server.specs.Workers.{IsGood};
 
 use crate::answers::{LookAnswer, PlaceAnswer, Placed, RemoveAnswer, ServerRefusal};
 use crate::shared::file_with;

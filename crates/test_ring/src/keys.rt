@@ -62,7 +62,7 @@ fn take<H: Host>(rt: &H, table: &LastingTable, pass: &mut LastingPass, key: Key)
         taken,
         freed,
         released,
-    } = table.take_key_alone(pass, key);
+    } = table.take_key(pass, key);
     discard(freed);
     discard(released);
     match taken {
@@ -95,7 +95,7 @@ fn replace<H: Host>(
         put,
         freed,
         released,
-    } = table.put_key_alone(pass, key, file_of(i));
+    } = table.put_over_key(pass, key, file_of(i));
     discard(freed);
     discard(released);
     match put {

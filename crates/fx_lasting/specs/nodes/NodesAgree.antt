@@ -74,7 +74,7 @@ module _ (at : ℕ → Option File) (size : ℕ) (takes_at : ℕ → ℕ) (node_
     pub few_takes : takes < 2 ^ 20
     pub few_marks : marks < round.next
     pub few_visits : round.next ≤ 2 ^ 16
-    -- no pass visits before the one that removed it has stood down
+    -- no pass visits before the pass that removed the file has ended its hold
     pub unowed : round.guarded ≡ true → owing ≡ 0
 
   -- its file was retired: the word counts who has still to let it go

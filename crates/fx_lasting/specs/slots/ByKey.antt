@@ -1,21 +1,17 @@
 -- Keys: the name of a file by its slot and the number of its mark, and the calls that take one.
 use Rattle.std.specs.Prelude.{◌≡◌, ◌≢◌, ℕ, ◌+◌, ◌*◌, ◌/◌, ◌%◌, ◌^◌, ◌<◌, ◌≤◌, ◌⊎◌, ◌==◌, nat_lt}
-use Rattle.std.specs.Prelude.{if◌then◌else◌, List, [], Contains, Option, Some, None}
+use Rattle.std.specs.Prelude.{if◌then◌else◌, List, Contains, Option, Some, None}
 use Rattle.std.specs.Prelude.{Result, Ok, Err}
 use Rattle.fx_base.specs.Identity.{Identity}
 use Rattle.fx_base.specs.declared.mark.Mark.{Mark}
 use Rattle.fx_base.specs.declared.mark.Mark.TheVariants.{Registered, Submitted}
-use Rattle.fx_plain.specs.History.{◌▷◌}
-use Rattle.fx_plain.specs.declared.event.Action.TheVariants.{Put, Take}
 use Rattle.fx_plain.specs.declared.event.File.{File}
-use Rattle.fx_table.specs.Calls.{Adds, LookedUp, ReleasesFile, no_use, one_number}
-use Rattle.fx_table.specs.Pass.{PassView, IsFileRemoval}
-use Rattle.fx_table.specs.declared.values.Doing.TheVariants.{Idle as DoesNothing, Holding}
-use Rattle.fx_table.specs.declared.values.Doing.TheVariants.{Retiring as Retires}
+use Rattle.fx_table.specs.Calls.{LookedUp, ReleasesFile}
+use Rattle.fx_table.specs.Pass.{PassView}
+use Rattle.fx_table.specs.declared.values.Doing.TheVariants.{Holding}
 use Rattle.fx_table.specs.declared.values.Hold.{Hold}
 use Rattle.fx_table.specs.declared.values.LookFault.TheVariants.{Empty as EmptySlot}
-use Rattle.fx_table.specs.declared.values.Retired.{Retired}
-use Rattle.fx_lasting.specs.slots.ByNode.{FitsMiss, HasMet, IsOn, WasSo}
+use Rattle.fx_lasting.specs.slots.ByNode.{HasMet, IsOn}
 use Rattle.fx_lasting.specs.nodes.Labels.{number_of_mark}
 use Rattle.fx_lasting.specs.Passes.{slots_of}
 use Rattle.fx_lasting.specs.Tables.{opening_of, view_of}
@@ -29,8 +25,6 @@ use Rattle.fx_lasting.specs.declared.answers.TakenIf.TheVariants as taken
 use Rattle.fx_lasting.specs.declared.key.Key.{Key}
 use Rattle.fx_lasting.specs.declared.key_answers.KeyFault.{KeyFault}
 use Rattle.fx_lasting.specs.declared.key_answers.KeyFault.TheVariants.{NoSlot, Empty, Other, Again}
-use Rattle.fx_lasting.specs.declared.key_answers.PutOverKey.{PutOverKey}
-use Rattle.fx_lasting.specs.declared.key_answers.PutOverKey.TheVariants.{Replaced, Missed}
 use Rattle.fx_lasting.specs.declared.pass.LastingPass.{LastingPass}
 use Rattle.fx_lasting.specs.declared.view.Start.{Start}
 
@@ -127,71 +121,6 @@ fault_for miss.Empty = Empty
 fault_for miss.Other = Other
 fault_for miss.Again = Again
 
--- the results of the calls by key, from those of the calls by node
-abbrev pub taken_answer : TakenIf → Result Retired KeyFault
-taken_answer (taken.Removed x) = Ok x
-taken_answer (taken.Missed miss) = Err (fault_for miss)
-
-abbrev pub put_answer : PutIf → PutOverKey
-put_answer (put.Replaced x) = Replaced x
-put_answer (put.Missed miss file) = Missed (fault_for miss) file
-
--- at a moment after the holder's look-up the slot was empty; or had a file on another node than the
--- held file; or, for `Again`, had the file on that node. It was left as it is
-pub record LeftIt (k : Start) (v between : PassView) (slot node : ℕ) (fault : KeyFault)
-    (w : PassView) : Type 0 where
-  pub miss : Miss
-  pub same : fault ≡ fault_for miss
-  pub was : WasSo k slot (FitsMiss k node miss) between.front w.front
-  pub adds : Adds (opening_of k) v [] DoesNothing no_use w
-
--- another pass was first
-pub record WasHeld (k : Start) (vh v : PassView) (key : Key) (fault : KeyFault)
-    (freed released : Option Identity) (wh w : PassView) : Type 0 where
-  pub hold : Hold
-  pub holder : HeldByKey k vh key hold freed released wh
-  pub left : LeftIt k v holder.between key.slot hold.node fault w
-
--- the call changed nothing: the holder found no file of the key, or another pass was first
-abbrev pub FailsByKey : Start → (vh v : PassView) → Key → KeyFault
-    → (freed released : Option Identity) → (wh w : PassView) → Type 0
-FailsByKey k vh v key fault freed released wh w =
-    (LookedByKey k vh key (Err fault) freed released wh × (w ≡ v))
-    ⊎ WasHeld k vh v key fault freed released wh w
-
--- the file of the key, which the holder held, was removed from its slot
-pub record RemovesKey (k : Start) (vh v : PassView) (key : Key) (x : Retired)
-    (freed released : Option Identity) (wh w : PassView) : Type 0 where
-  pub hold : Hold
-  pub holder : HeldByKey k vh key hold freed released wh
-  pub removal : IsFileRemoval (opening_of k) holder.file x
-  pub adds : Adds (opening_of k) v ([] ▷ Take key.slot (Some holder.file))
-      (Retires holder.file x) no_use w
-
-abbrev pub TakesByKey : Start → (vh v : PassView) → Key → Result Retired KeyFault
-    → (freed released : Option Identity) → (wh w : PassView) → Type 0
-TakesByKey k vh v key (Ok x) freed released wh w = RemovesKey k vh v key x freed released wh w
-TakesByKey k vh v key (Err fault) freed released wh w =
-    FailsByKey k vh v key fault freed released wh w
-
--- the file of the key, which the holder held, was replaced
-pub record ReplacesKey (k : Start) (vh v : PassView) (key : Key) (file : Identity) (x : Retired)
-    (freed released : Option Identity) (wh w : PassView) : Type 0 where
-  pub hold : Hold
-  pub holder : HeldByKey k vh key hold freed released wh
-  pub new : File
-  pub is_new : new.identity ≡ file
-  pub removal : IsFileRemoval (opening_of k) holder.file x
-  pub adds : Adds (opening_of k) v ([] ▷ Put key.slot new (Some holder.file))
-      (Retires holder.file x) one_number w
-
-abbrev pub PutsOverKey : Start → (vh v : PassView) → Key → Identity → PutOverKey
-    → (freed released : Option Identity) → (wh w : PassView) → Type 0
-PutsOverKey k vh v key file (Replaced x) freed released wh w =
-    ReplacesKey k vh v key file x freed released wh w
-PutsOverKey k vh v key file (Missed fault back) freed released wh w =
-    (back ≡ file) × FailsByKey k vh v key fault freed released wh w
-
 -- the holder had found the file of the key, and afterwards another pass than that of the call acted
 -- at the slot, or heated it
 pub record OvertakenByKey (k : Start) (vh : PassView) (key : Key) (freed : Option Identity)
@@ -211,16 +140,6 @@ TriesKey k vh key Again freed p p' = OvertakenByKey k vh key freed p p'
 TriesKey k vh key NoSlot freed p p' = Unit {0}
 TriesKey k vh key Empty freed p p' = Unit {0}
 TriesKey k vh key Other freed p p' = Unit {0}
-
-abbrev pub TriesToTake : Start → PassView → Key → Result Retired KeyFault → Option Identity
-    → LastingPass → LastingPass → Type 0
-TriesToTake k vh key (Ok x) freed p p' = Unit {0}
-TriesToTake k vh key (Err fault) freed p p' = TriesKey k vh key fault freed p p'
-
-abbrev pub TriesToPut : Start → PassView → Key → PutOverKey → Option Identity
-    → LastingPass → LastingPass → Type 0
-TriesToPut k vh key (Replaced x) freed p p' = Unit {0}
-TriesToPut k vh key (Missed fault back) freed p p' = TriesKey k vh key fault freed p p'
 
 -- an allocation whose slot is that of the returned key
 abbrev pub slot_found : Result Key Identity → Result ℕ Identity

@@ -1,10 +1,9 @@
 //! The round of a retirement through the other passes: each announcement of the removed file is
 //! marked. A pass that isn't listed announces nothing, and isn't visited.
-ghost use Rattle.std.specs.Prelude.{◌≡◌, ◌≢◌, ◌+◌, ◌*◌, ◌-◌, ◌<◌, ◌≤◌, [], ℕ};
+ghost use Rattle.std.specs.Prelude.{◌≡◌, ◌≢◌, ◌+◌, ◌*◌, ◌-◌, ◌<◌, ◌≤◌, ℕ};
 ghost use Rattle.std.specs.Prelude.{◌⊎◌, false};
 ghost use Rattle.fx_plain.specs.declared.event.File.{File};
 ghost use Rattle.fx_lasting.specs.AtWork.{IsAtWork};
-ghost use Rattle.fx_lasting.specs.Ends.{Does};
 ghost use Rattle.fx_lasting.specs.Laws.{IsPassed};
 ghost use Rattle.fx_lasting.specs.Passes.{Sat};
 ghost use Rattle.fx_lasting.specs.Effects.{new_round};

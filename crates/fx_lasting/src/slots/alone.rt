@@ -1,8 +1,8 @@
-//! The removal by key that one pass makes. The pass holds the file of the key, so no other file is
-//! on its node. Its hold ends with the step that empties the slot. If it held the file by a take,
-//! the retirement counts one take less, and nothing is dropped. If it held it by its hold word, the
-//! next step stores 0 there: a retirement visits the other passes only, so nobody has marked it. So
-//! the pass keeps the node, as after a removal by slot.
+//! The removal by key. The pass holds the file of the key, so no other file is on its node. Its
+//! hold ends with the step that empties the slot. If it held the file by a take, the retirement
+//! counts one take less, and nothing is dropped. If it held it by its hold word, the next step
+//! stores 0 there: a retirement visits the other passes only, so nobody has marked it. So the pass
+//! keeps the node, as after a removal by slot.
 ghost use Rattle.std.specs.Prelude.{◌≡◌, ℕ, ◌+◌, ◌<◌, ◌≤◌, [], Some};
 ghost use Rattle.fx_plain.specs.declared.event.File.{File};
 ghost use Rattle.fx_table.specs.Opening.{size_of};
@@ -23,7 +23,7 @@ use crate::answers::{Miss, TakenIf};
 use crate::fields::{empty_word, without_file};
 use crate::key::Key;
 use crate::key_answers::{KeyLook, KeyTaken};
-use crate::kinds::{StandingDown, SwappingHeld, TakingHeld};
+use crate::kinds::{EndingHold, SwappingHeld, TakingHeld};
 use crate::life::layout::{hold_place, slot_place};
 use crate::pass::LastingPass;
 use crate::slots::by_key::fault_of;
@@ -41,7 +41,7 @@ impl LastingTable {
     /// slot is left as it is, and the pass is idle again. The answer is `Again` only if another
     /// pass was at the slot after the look-up.
     #[inline(always)]
-    pub fn take_key_alone(&self, pass: &mut LastingPass, key: Key) -> KeyTaken
+    pub fn take_key(&self, pass: &mut LastingPass, key: Key) -> KeyTaken
         requires fits { IsPassOfTable self.now pass.old }
         requires idle { IsIdle (view_of pass.old) }
         ensures fits { IsPassOfTable self.now pass.new }
@@ -146,7 +146,7 @@ impl LastingTable {
     {
         if guarded {
             let place = hold_place(self.size, number);
-            self.table.shared.store::<StandingDown>(seat, place, 0);
+            self.table.shared.store::<EndingHold>(seat, place, 0);
             return word;
         }
         word - 1

@@ -1,8 +1,7 @@
-//! The replacement by key that one pass makes. The pass places the new file, then holds the file at
-//! the slot and compares its number, so no other file is on that node. It holds it by a take, or at
-//! a hot slot by its hold word. Its hold ends with the step that puts the new file there, as that of
-//! a removal does (`slots/alone.rt`). So the pass keeps the old file's node, as after a replacement
-//! by slot.
+//! The replacement by key. The pass places the new file, then holds the file at the slot and
+//! compares its number, so no other file is on that node. It holds it by a take, or at a hot slot
+//! by its hold word. Its hold ends with the step that puts the new file there, as that of a removal
+//! does (`slots/alone.rt`). So the pass keeps the old file's node, as after a replacement by slot.
 ghost use Rattle.std.specs.Prelude.{◌≡◌, ◌≢◌, ℕ, ◌+◌, ◌*◌, ◌<◌, ◌≤◌, [], true, false, Some, is_some};
 ghost use Rattle.fx_base.specs.declared.open_file.Closed.{Closed};
 ghost use Rattle.fx_plain.specs.declared.event.File.{File};
@@ -45,7 +44,7 @@ impl LastingTable {
     /// be retired. Otherwise the slot is left as it is, the new file comes back, and the pass is
     /// idle again. The answer is `Again` only if another pass was at the slot after the look-up.
     #[inline(always)]
-    pub fn put_key_alone(&self, pass: &mut LastingPass, key: Key, file: OpenFile) -> KeyPut
+    pub fn put_over_key(&self, pass: &mut LastingPass, key: Key, file: OpenFile) -> KeyPut
         requires fits { IsPassOfTable self.now pass.old }
         requires idle { IsIdle (view_of pass.old) }
         requires numbers { 0 < (view_of pass.old).numbers_left }
@@ -106,8 +105,8 @@ impl LastingTable {
         pass.listed = true;
     }
 
-    // Loads the slot's word, in one step. What a cold slot names is to be taken, and the node of a
-    // hot one is to be announced.
+    // Loads the slot's word, in one step. A cold slot's file is to be taken, and a hot slot's node
+    // is to be announced.
     #[inline(always)]
     fn aim(&self, seat: &mut Seat<Option<OpenFile>, View>, slot: u32) -> Aim
         requires table { seat.old.table_id ≡ self.now.table.shared.table_id }

@@ -6,11 +6,11 @@ use Rattle.fx_lasting.specs.declared.pass.LastingPass.{LastingPass}
 use Rattle.fx_table.specs.Pass.{IsIdle}
 use Rattle.example_library.proofs.keys.use_keys_between.Goals as goal
 
-pub use_keys-requires-clause-holder : goal.use_keys-requires-clause-holder
-use_keys-requires-clause-holder g c =
+pub use_keys-requires-clause-finder : goal.use_keys-requires-clause-finder
+use_keys-requires-clause-finder g c =
     let Ready : LastingPass → Type 0 = λ p. IsPassOfTable c.args.table.now p × IsIdle (view_of p) in
     let first = All-pop Ready c.args.passes.now.items c.pop.new.self.items c.pop.result c.pop.ensures.items c.requires.ready in
-    subst (λ (r : Option LastingPass). IfSome r Ready) c.unwrap-holder.ensures first.1
+    subst (λ (r : Option LastingPass). IfSome r Ready) c.unwrap-finder.ensures first.1
 
 pub use_keys-requires-clause-pass : goal.use_keys-requires-clause-pass
 use_keys-requires-clause-pass g c =

@@ -1,7 +1,7 @@
 use Rattle.fx_lasting.proofs.Words.{◌≡◌, ◌≢◌, ◌-◌, ◌<◌, ℕ, ap, ◌∙◌, subst, arith, refl, ne_eqb, [], Bool, Start, Runs, HasItsHold, leaving_work}
 use Rattle.fx_lasting.proofs.Words.{IsHot, heat_in, first_visit, Retiring, guarded_round, new_round, one_less, true, false, full_name_in, count_in, Round}
 use Rattle.fx_lasting.proofs.Calling.{hold_inside, hold_word}
-use Rattle.fx_lasting.proofs.hold_lemmas.StandingDown.{stands_down_keep}
+use Rattle.fx_lasting.proofs.hold_lemmas.EndingHold.{ends_hold_keep}
 use Rattle.fx_lasting.proofs.Running.{runs_goes, placed_none, runs_within}
 use Rattle.fx_lasting.proofs.table.LastingTable.end_hold.Goals as goal
 
@@ -15,7 +15,7 @@ store-requires c =
     let works = c.requires.left.1 ∙ ap (λ (b : Bool). leaving_work t.table.shared.key b word f) is in (
       c.requires.table,
       hold_inside t at.high c.hold_place-place.ensures,
-      stands_down_keep _ _ _ _ (full_name_in word - 1) (count_in word) 0 guarded_round f c.args.seat.now.me _ at.pass works refl
+      ends_hold_keep _ _ _ _ (full_name_in word - 1) (count_in word) 0 guarded_round f c.args.seat.now.me _ at.pass works refl
           (hold_word t at.its_number c.hold_place-place.ensures),
     )
 

@@ -1,58 +1,81 @@
-use Rattle.fx_lasting.proofs.Words.{sym, subst, Start, opening_of, view_of, Result, PassView, Learns, Hold, LookedByKey, PutsOverKey, KeyFault, TriesToPut}
-use Rattle.fx_lasting.specs.declared.key_answers.PutOverKey.{PutOverKey}
-use Rattle.fx_lasting.proofs.slot_lemmas.ByKey.{puts_so, puts_tried, not_tried}
+use Rattle.fx_lasting.proofs.Words.{◌≤◌, [], ◌▷◌, refl, ◌∙◌, subst, arith, inl, Start, Doing, DoesNothing, Adds, no_use, one_look, opening_of, view_of, pass_of, Look, None, adds_then}
+use Rattle.fx_lasting.proofs.Words.{◌<◌, Closed, Glance, LastingPass, Option, Runs, Sat, TableId, meetings, sym}
+use Rattle.fx_lasting.proofs.Calling.{slot_low}
+use Rattle.fx_lasting.proofs.Passing.{adds_so, at_ease, still_pass}
+use Rattle.fx_lasting.proofs.slot_lemmas.RenewalEnds.{frees_later, puts_before}
+use Rattle.fx_lasting.proofs.Words.{IsSeatOf}
+use Rattle.fx_lasting.specs.slots.PutAlone.{FreesFirst, PutsAlone}
+use Rattle.fx_lasting.proofs.table.LastingTable.put_over_key.Goals.{in-Cold, in-Hot}
 use Rattle.fx_lasting.proofs.table.LastingTable.put_over_key.Goals as goal
 
-pub put_if-put-requires-clause-slot : goal.put_if-put-requires-clause-slot
-put_if-put-requires-clause-slot c =
-    let k : Start = c.args.self.now.table.shared.key in
-    let look = subst (λ (r : Result Hold KeyFault). LookedByKey k (view_of c.args.holder.now) c.args.key r c.look_key-found.result.freed
-    c.look_key-found.result.released (view_of c.look_key-found.new.pass)) c.in-Ok.is c.look_key-found.ensures.looked in
-    look.2.inside
+pub returns-in-Empty-clause-fits : goal.returns-in-Empty-clause-fits
+returns-in-Empty-clause-fits c =
+    let fits = c.enlist.ensures.fits in
+    let s = fits.seated in
+    still_pass s _ (at_ease s c.in-Empty.ensures.aimed) (refl, refl) c.aim.ensures.table (c.aim.ensures.places ∙ s.places) (refl, s.next) fits.knows
 
-pub returns-clause-placed : goal.returns-clause-placed
-returns-clause-placed c =
+pub returns-in-Empty-clause-placed : goal.returns-in-Empty-clause-placed
+returns-in-Empty-clause-placed c =
     let k : Start = c.args.self.now.table.shared.key in
-    let vh = view_of c.args.holder.now in
+    let s = c.enlist.ensures.fits.seated in
+    let first = c.enlist.ensures.adds in
     let v = view_of c.args.pass.now in
-    let key = c.args.key in
-    let freed = c.look_key-found.result.freed in
-    let other = c.look_key-found.result.released in
-    let b = view_of c.look_key-found.new.pass in
-    let w = view_of c.put_if-put.new.pass in
-    let b' = view_of c.hear-2.new.pass in
-    let released = c.release-released.result in
-    let wh = view_of c.release-released.new.pass in
-    let look = subst (λ (r : Result Hold KeyFault). LookedByKey k vh key r freed other b) c.in-Ok.is c.look_key-found.ensures.looked in
-    let hears = subst (λ (z : PassView). Learns (opening_of k) w.front z b') c.hear.ensures.same c.hear-2.ensures.learns in
-    subst (λ (z : PutOverKey × PassView). PutsOverKey k vh v key c.args.file z.0 freed released wh z.1) (λ i. (sym c.put_answer.ensures i, sym c.hear-2.ensures.same i))
-    (puts_so k vh v key c.in-Ok.hold freed other b (view_of c.hear.new.pass) w b' released wh look c.look_key-found.ensures.fits.front
-    c.hear.ensures.learns hears c.release-released.ensures.released c.args.file c.put_if-put.result c.put_if-put.ensures.placed)
+    let v₁ = view_of c.enlist.new.pass in
+    let w = pass_of c.aim.new.seat.me.0 in
+    let looked = subst (λ (d : Doing). Adds (opening_of k) v₁ ([] ▷ Look c.args.key.slot None) d one_look w) first.now (adds_so s c.in-Empty.ensures.aimed one_look) in
+    (refl, inl (adds_then (opening_of k) v v₁ w [] ([] ▷ Look c.args.key.slot None) DoesNothing DoesNothing no_use one_look first looked, refl))
 
-pub returns-in-Err-clause-tries : goal.returns-in-Err-clause-tries
-returns-in-Err-clause-tries c =
-    let k : Start = c.args.self.now.table.shared.key in
-    let vh = view_of c.args.holder.now in
-    let key = c.args.key in
-    let freed = c.look_key-found.result.freed in
-    let other = c.look_key-found.result.released in
-    let b = view_of c.look_key-found.new.pass in
-    let p = c.args.pass.now in
-    not_tried k vh key c.in-Err.fault freed other b p p
-    (subst (λ (r : Result Hold KeyFault). LookedByKey k vh key r freed other b) c.in-Err.is c.look_key-found.ensures.looked)
+-- the pass listed itself, if need be, and aimed at its slot
+aims : (u : LastingPass) {id : TableId} {k : Start} {p : LastingPass} → IsSeatOf id k p → Adds (opening_of k) (view_of u) [] DoesNothing no_use (view_of p)
+    → (g : Glance) (m : Sat) → Runs p.seat.me [] p.seat.me.0.work g p.seat.me.0.change 1 m → Adds (opening_of k) (view_of u) [] DoesNothing no_use (pass_of m.0)
+aims u {k = k} {p = p} s first g m run = adds_then (opening_of k) (view_of u) (view_of p) (pass_of m.0) [] [] DoesNothing DoesNothing no_use no_use first
+    (subst (λ (d : Doing). Adds (opening_of k) (view_of p) [] d no_use (pass_of m.0)) first.now (adds_so s run no_use))
 
-pub returns-clause-tries : goal.returns-clause-tries
-returns-clause-tries c =
-    let k : Start = c.args.self.now.table.shared.key in
-    let vh = view_of c.args.holder.now in
-    let key = c.args.key in
-    let freed = c.look_key-found.result.freed in
-    let other = c.look_key-found.result.released in
-    let b = view_of c.look_key-found.new.pass in
-    let p = c.args.pass.now in
-    let p' = c.hear-2.new.from in
-    let look = subst (λ (r : Result Hold KeyFault). LookedByKey k vh key r freed other b) c.in-Ok.is c.look_key-found.ensures.looked in
-    let learns = c.hear.ensures.learns in
-    subst (λ (z : PutOverKey). TriesToPut k vh key z freed p p') (sym c.put_answer.ensures)
-    (puts_tried k vh key c.in-Ok.hold freed other b p c.hear.new.pass c.put_if-put.new.pass p' look learns c.hear.ensures.met c.hear-2.ensures.same
-    c.hear-2.ensures.from_met c.put_if-put.result c.put_if-put.ensures.tries)
+pub returns-in-Ends-clause-placed : goal.returns-in-Ends-clause-placed
+returns-in-Ends-clause-placed c =
+    let t = c.args.self.now in
+    let k : Start = t.table.shared.key in
+    let low : c.args.key.slot < t.size = omega (arith, c.if-self-key.false) in
+    let m = c.aim.new.seat.me in
+    let s = c.enlist.ensures.fits.seated in
+    let p : LastingPass = record c.enlist.new.pass { seat = c.aim.new.seat } in
+    let p' = c.renew.new.pass in
+    let done = c.in-Ends.ensures.renews.1 in
+    elim c.match-aim.branch [
+      | in-Cold w ↦ puts_before k c.args.pass.now p p' c.args.key None (aims c.args.pass.now s c.enlist.ensures.adds _ m w.in-Cold.ensures.aimed)
+          (let few = w.in-Cold.ensures.aimed.met in omega (arith, c.enlist.ensures.met)) (slot_low t low) c.args.file c.in-Ends.put c.in-Ends.released done
+      | in-Hot w ↦ puts_before k c.args.pass.now p p' c.args.key None (aims c.args.pass.now s c.enlist.ensures.adds _ m w.in-Hot.ensures.aimed)
+          (let few = w.in-Hot.ensures.aimed.met in omega (arith, c.enlist.ensures.met)) (slot_low t low) c.args.file c.in-Ends.put c.in-Ends.released done
+    ]
+
+pub returns-in-Moved-clause-placed : goal.returns-in-Moved-clause-placed
+returns-in-Moved-clause-placed c =
+    let t = c.args.self.now in
+    let k : Start = t.table.shared.key in
+    let low : c.args.key.slot < t.size = omega (arith, c.if-self-key.false) in
+    let m = c.aim.new.seat.me in
+    let s = c.enlist.ensures.fits.seated in
+    let p₁ = c.renew.new.pass in
+    let p' = c.renew_cold.new.pass in
+    let moved = c.in-Moved.ensures.renews in
+    let before : FreesFirst (opening_of k) (view_of c.args.pass.now) c.in-Moved.freed (view_of p₁) = elim c.match-aim.branch [
+      | in-Cold w ↦ frees_later k (view_of c.args.pass.now) (pass_of m.0) (view_of p₁) c.in-Moved.freed (aims c.args.pass.now s c.enlist.ensures.adds _ m w.in-Cold.ensures.aimed) moved.2.frees
+      | in-Hot w ↦ frees_later k (view_of c.args.pass.now) (pass_of m.0) (view_of p₁) c.in-Moved.freed (aims c.args.pass.now s c.enlist.ensures.adds _ m w.in-Hot.ensures.aimed) moved.2.frees
+    ] in
+    let few : meetings c.args.pass.now ≤ meetings p₁ = elim c.match-aim.branch [
+      | in-Cold w ↦ let seen = w.in-Cold.ensures.aimed.met in omega (arith, c.enlist.ensures.met, c.renew.ensures.met, seen)
+      | in-Hot w ↦ let seen = w.in-Hot.ensures.aimed.met in omega (arith, c.enlist.ensures.met, c.renew.ensures.met, seen)
+    ] in
+    let done : PutsAlone k p₁ c.args.key c.args.file c.renew_cold.result.put None c.renew_cold.result.released p' =
+    subst (λ (z : Closed). PutsAlone k p₁ c.args.key z c.renew_cold.result.put None c.renew_cold.result.released p') moved.0 c.renew_cold.ensures.placed in
+    subst (λ (z : Option Closed). PutsAlone k c.args.pass.now c.args.key c.args.file c.renew_cold.result.put z c.renew_cold.result.released p') (sym c.renew_cold.ensures.freed)
+    (puts_before k c.args.pass.now p₁ p' c.args.key c.in-Moved.freed before few (slot_low t low) c.args.file c.renew_cold.result.put
+    c.renew_cold.result.released done)
+
+pub returns-in-Moved-clause-steps : goal.returns-in-Moved-clause-steps
+returns-in-Moved-clause-steps c =
+    let moved = c.in-Moved.ensures.renews in
+    elim c.match-aim.branch [
+      | in-Cold w ↦ let few = w.in-Cold.ensures.aimed.steps in omega (arith, c.enlist.ensures.steps, c.renew_cold.ensures.steps, moved.2.steps, c.args.self.now.key.0)
+      | in-Hot w ↦ let few = w.in-Hot.ensures.aimed.steps in omega (arith, c.enlist.ensures.steps, c.renew_cold.ensures.steps, moved.2.steps, c.args.self.now.key.0)
+    ]

@@ -1,4 +1,4 @@
-use Rattle.std.proofs.Common.{◌≡◌, Result, Err, Ok, refl, subst}
+use Rattle.std.proofs.Common.{Result, subst}
 use Rattle.fx_table.specs.declared.values.Retired.{Retired}
 use Rattle.fx_lasting.specs.slots.Alone.{TakesAlone}
 use Rattle.fx_lasting.specs.declared.key_answers.KeyFault.{KeyFault}

@@ -1,6 +1,6 @@
 -- A pass that removed the file that it held by its hold word stores 0 there: nobody has marked the
 -- word, since it alone visits the node's passes.
-use Rattle.fx_lasting.proofs.Words.{Round, IsToVisit, NamesNode, StillNames, StandsDown, StandsDownKeep, MayBeUnmarked, WorkAgrees}
+use Rattle.fx_lasting.proofs.Words.{Round, IsToVisit, NamesNode, StillNames, EndsItsHold, EndsItsHoldKeep, MayBeUnmarked, WorkAgrees}
 use Rattle.fx_lasting.proofs.Words.{◌≡◌, ℕ, ◌+◌, ◌<◌, ◌≤◌, List, [], sym, refl, ap, ◌∙◌, subst, arith, Option, none, keeps, Closed, File, Bool, true, false}
 use Rattle.fx_lasting.proofs.Words.{slots_of, nodes_of, hold_word_of, held_in, if_file, taken_of, taking, Phase, leaving, owner, file_in, removed_in}
 use Rattle.fx_lasting.proofs.Words.{changed_here, Work, Retiring, step, inr, ⊎_elim, Goes, sum_set, Agrees, Labels, label_of, written_in}
@@ -55,8 +55,8 @@ module _ (turn : Turn) (f : File) (n t : ℕ) (nx : Round) (m : ℕ) (works : tu
   same_slots : (s : ℕ) → s < slots_of v.start → slot_word words' s ≡ slot_word st.words s
   same_slots = hold_slot turn x.number low high 0
 
-  stands_down : Agrees v.start (end turn down_after)
-  stands_down = node_kept turn n its.0 ph r.history words' st.homes r.debt d v.glance record {
+  ends_hold : Agrees v.start (end turn down_after)
+  ends_hold = node_kept turn n its.0 ph r.history words' st.homes r.debt d v.glance record {
     leaves_else = hold_leaves turn x.number low high 0 n;
     homes = refl;
     grows = grows_none x.number r.history;
@@ -94,13 +94,13 @@ module _ (turn : Turn) (f : File) (n t : ℕ) (nx : Round) (m : ℕ) (works : tu
     holds = λ k. let a = ap (λ (z : Work). if_file k (held_in z)) works in omega arith;
   }
 
-  pub stand_down : (slots : ℕ) (carried : List (ℕ × Option Closed)) → Made turn carried (hold_word_of v.start x.number) (λ _. 0)
-      (λ _. StandsDown (step slots (hold_word_of v.start x.number) 0 0 none) (v, carried) 0)
-  stand_down slots carried = (
+  pub end_hold : (slots : ℕ) (carried : List (ℕ × Option Closed)) → Made turn carried (hold_word_of v.start x.number) (λ _. 0)
+      (λ _. EndsItsHold (step slots (hold_word_of v.start x.number) 0 0 none) (v, carried) 0)
+  end_hold slots carried = (
     w turn down_after,
     keeps,
     tt,
-    stands_down,
+    ends_hold,
     record {
       goes = λ g i a b c its'. let e : Retiring f n t nx m ≡ Retiring g i a b c = sym works ∙ its' in
           let same : d ≡ Retiring g i a (record b { guarded = false }) c = cc e in
@@ -111,7 +111,7 @@ module _ (turn : Turn) (f : File) (n t : ℕ) (nx : Round) (m : ℕ) (works : tu
     },
   )
 
-pub stands_down_keep : StandsDownKeep StandsDown
-stands_down_keep k slots id i n t m nx f s x has works up place = by_turn slots (λ _. Unit {0}) (λ k. hold_word_of k x.number) (λ _. 0)
-    (λ i _. StandsDown (step slots i 0 0 none) s 0) has tt place
-    (λ st r here _ fits. stand_down (turn_of s x has.1 id st r here) f n t nx m works up slots s.1)
+pub ends_hold_keep : EndsItsHoldKeep EndsItsHold
+ends_hold_keep k slots id i n t m nx f s x has works up place = by_turn slots (λ _. Unit {0}) (λ k. hold_word_of k x.number) (λ _. 0)
+    (λ i _. EndsItsHold (step slots i 0 0 none) s 0) has tt place
+    (λ st r here _ fits. end_hold (turn_of s x has.1 id st r here) f n t nx m works up slots s.1)
