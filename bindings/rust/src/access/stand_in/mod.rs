@@ -76,7 +76,6 @@ impl Worker {
     }
 
     // Removes the file of a key. The pass holds it meanwhile, and its hold ends with the removal.
-    // At a hot slot the second pass holds it.
     fn remove(&mut self, slot: u32, number: u64, out: &mut Outcome) -> i64 {
         if let Some(refusal) = self.refuses(None, true) {
             return refusal;
@@ -86,27 +85,17 @@ impl Worker {
             Ok(node) => node,
             Err(refusal) => return refusal,
         };
-        if !pass.guarded {
-            match table.take_if(pass, slot as usize, node) {
-                // without the pass's own take
-                Ok(word) => return self.retire(word - 1, out),
-                Err(miss) => {
-                    out.released = table.release(pass, node).unwrap_or(0);
-                    return code_of(miss);
-                }
+        match table.take_held(pass, slot as usize, node) {
+            Ok(word) => self.retire(word, out),
+            Err(miss) => {
+                out.released = table.release(pass, node).unwrap_or(0);
+                code_of(miss)
             }
         }
-        out.released = table.release(pass, node).unwrap_or(0);
-        if out.freed | out.released != 0 {
-            return AGAIN;
-        }
-        self.by_key(slot, number, out, |table, pass, node| {
-            table.take_if(pass, slot as usize, node)
-        })
     }
 
     // Replaces the file of a key. The pass holds it meanwhile, and its hold ends with the
-    // replacement. At a hot slot the second pass holds it.
+    // replacement.
     fn replace(&mut self, slot: u32, number: u64, tag: u64, out: &mut Outcome) -> i64 {
         if let Some(refusal) = self.refuses(None, true) {
             return refusal;
@@ -116,40 +105,10 @@ impl Worker {
         if slot as usize >= table.size {
             return NO_SLOT;
         }
-        let Some((changed, released)) = table.put_key(pass, slot as usize, number, tag, next)
-        else {
-            return self.by_key(slot, number, out, |table, pass, node| {
-                table.put_if(pass, slot as usize, node, tag, next)
-            });
-        };
-        out.released = released.unwrap_or(0);
-        match changed {
-            Ok(word) => self.retire(word, out),
-            Err(miss) => code_of(miss),
-        }
-    }
-
-    // Makes a change by key while the second pass holds the file of the key.
-    fn by_key(
-        &mut self,
-        slot: u32,
-        number: u64,
-        out: &mut Outcome,
-        change: impl FnOnce(&Table, &mut Pass, usize) -> Result<u64, Miss>,
-    ) -> i64 {
-        if let Some(refusal) = self.refuses(None, true) {
-            return refusal;
-        }
-        let (table, Some(holder)) = (&*self.table, &mut self.holder) else {
-            return READER;
-        };
-        let node = match look_key(table, holder, slot, number, out) {
-            Ok(node) => node,
-            Err(refusal) => return refusal,
-        };
-        let changed = change(table, &mut self.pass, node);
-        out.released = table.release(holder, node).unwrap_or(0);
-        match changed {
+        let it = table.put_key(pass, slot as usize, number, tag, next);
+        out.freed = it.freed.unwrap_or(0);
+        out.released = it.released.unwrap_or(0);
+        match it.changed {
             Ok(word) => self.retire(word, out),
             Err(miss) => code_of(miss),
         }

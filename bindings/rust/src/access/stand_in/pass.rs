@@ -39,6 +39,15 @@ pub(crate) struct Looked {
     pub(crate) freed: Option<u64>,
 }
 
+/// What a replacement by key changed: the word that it found, which is to be retired, or the reason
+/// why it changed nothing. Of two files that the pass was the last to use, `freed` is one that it
+/// announced, and `released` the one that it held.
+pub(crate) struct Replaced {
+    pub(crate) changed: Result<u64, Miss>,
+    pub(crate) freed: Option<u64>,
+    pub(crate) released: Option<u64>,
+}
+
 /// Returns the word of a slot if it names a file on the node.
 fn named_by(word: u64, node: usize) -> Result<u64, Miss> {
     match node_in(word) {
@@ -101,6 +110,15 @@ impl Table {
             }
         }
         Looked { found, freed }
+    }
+
+    // Lists a pass that isn't listed.
+    fn enlist(&self, pass: &mut Pass) {
+        if !pass.listed {
+            self.list(pass.number)
+                .fetch_add(bit_of(pass.number), SeqCst);
+            pass.listed = true;
+        }
     }
 
     // Announces the node of a hot slot, and holds its file if the slot is still hot and names it.
@@ -210,46 +228,26 @@ impl Table {
         found
     }
 
-    /// Empties a slot if its file is on the node. Returns the word that it found.
-    pub(crate) fn take_if(&self, pass: &mut Pass, slot: usize, node: usize) -> Result<u64, Miss> {
-        self.settle(pass);
+    /// Empties a slot if its file is on the node, for a pass that holds the file. The hold ends
+    /// then. Returns the word that it found, which is to be retired.
+    #[inline(always)]
+    pub(crate) fn take_held(&self, pass: &mut Pass, slot: usize, node: usize) -> Result<u64, Miss> {
         let word = named_by(self.slot(slot).load(SeqCst), node)?;
         self.lower(slot);
         let own = empty_word(pass.stock[pass.entry]);
         let found = self.exchange(slot, node, word, own);
-        match found {
-            Ok(_) => {
-                pass.stock[pass.entry] = node;
-                pass.emptied.keep(slot);
-            }
-            Err(_) => self.raise(slot, true),
+        if found.is_err() {
+            self.raise(slot, true);
+            return found;
         }
-        found
+        pass.stock[pass.entry] = node;
+        pass.emptied.keep(slot);
+        found.map(|word| self.end_hold(pass, word))
     }
 
-    /// Installs a file at a slot in place of one that is on the node. Returns the word that it
-    /// found.
-    pub(crate) fn put_if(
-        &self,
-        pass: &mut Pass,
-        slot: usize,
-        node: usize,
-        tag: u64,
-        number: u64,
-    ) -> Result<u64, Miss> {
-        let word = named_by(self.slot(slot).load(SeqCst), node)?;
-        let own = self.place(pass, tag, number);
-        let found = self.exchange(slot, node, word, own);
-        match found {
-            Ok(_) => pass.stock[pass.entry] = node,
-            Err(_) => drop(self.take_out(named_in(own))),
-        }
-        found
-    }
-
-    /// Installs a file at a cold slot in place of the file with the number `its`, which the pass
-    /// holds by a take meanwhile. Returns the word that it found without the pass's own take, and
-    /// the tag of a file that the pass was the last to use. Returns `None` if the slot is hot.
+    /// Installs a file at a slot in place of the file with the number `its`, for a pass that holds
+    /// that one meanwhile, by a take or by its hold word. The hold ends with the exchange.
+    #[inline(always)]
     pub(crate) fn put_key(
         &self,
         pass: &mut Pass,
@@ -257,40 +255,68 @@ impl Table {
         its: u64,
         tag: u64,
         number: u64,
-    ) -> Option<(Result<u64, Miss>, Option<u64>)> {
-        if !pass.listed {
-            self.list(pass.number)
-                .fetch_add(bit_of(pass.number), SeqCst);
-            pass.listed = true;
-        }
+    ) -> Replaced {
+        self.enlist(pass);
+        let mut it = Replaced {
+            changed: Err(Miss::Empty),
+            freed: None,
+            released: None,
+        };
         let word = self.slot(slot).load(SeqCst);
-        if node_in(word).is_none() {
-            return Some((Err(Miss::Empty), None));
-        }
-        if is_hot(word) {
-            return None;
-        }
-        let own = self.place(pass, tag, number);
-        let Some((node, _)) = self.take_at(slot) else {
+        let Some(named) = node_in(word) else {
+            return it;
+        };
+        let mut own = self.place(pass, tag, number);
+        pass.guarded = is_hot(word);
+        if pass.guarded && self.guard(pass, slot, named).is_none() {
+            // the slot has had another file since, so the pass takes what it has now
             self.take_out(named_in(own));
-            return Some((Err(Miss::Empty), None));
-        };
-        let found = if self.number(node).load(SeqCst) == its && its != 0 {
-            named_by(self.slot(slot).load(SeqCst), node)
-                .and_then(|word| self.exchange(slot, node, word, own))
-        } else {
-            Err(Miss::Other)
-        };
-        match found {
-            Ok(word) => {
-                pass.stock[pass.entry] = node;
-                Some((Ok(word - 1), None))
-            }
-            Err(miss) => {
-                self.take_out(named_in(own));
-                Some((Err(miss), self.let_go(node)))
-            }
+            it.freed = self.empty_hold(pass, named);
+            own = self.place(pass, tag, number);
+            pass.guarded = false;
         }
+        let node = match pass.guarded {
+            true => Some(named),
+            false => self.take_at(slot).map(|it| it.0),
+        };
+        if let Some(node) = node {
+            it.changed = self.put_held(pass, slot, node, its, own);
+        }
+        if it.changed.is_err() {
+            self.take_out(named_in(own));
+            it.released = node.and_then(|node| self.release(pass, node));
+        }
+        it
+    }
+
+    // Installs the word at the slot in place of the file with the number `its`, if that is on the
+    // node, whose file the pass holds.
+    fn put_held(
+        &self,
+        pass: &mut Pass,
+        slot: usize,
+        node: usize,
+        its: u64,
+        own: u64,
+    ) -> Result<u64, Miss> {
+        if self.number(node).load(SeqCst) != its || its == 0 {
+            return Err(Miss::Other);
+        }
+        let word = named_by(self.slot(slot).load(SeqCst), node)?;
+        let word = self.exchange(slot, node, word, own)?;
+        pass.stock[pass.entry] = node;
+        Ok(self.end_hold(pass, word))
+    }
+
+    // Ends the hold of the file that the pass has just taken off its slot. Returns the word of the
+    // slot without the pass's own take. Nobody has marked its hold word, since a retirement visits
+    // the other passes only.
+    fn end_hold(&self, pass: &Pass, word: u64) -> u64 {
+        if pass.guarded {
+            self.hold(pass.number).store(0, SeqCst);
+            return word;
+        }
+        word - 1
     }
 
     // Exchanges the word of a slot while it names the node. Returns the word that was there.
