@@ -54,7 +54,7 @@ const char *yacht_version(void);
 #define yacht_open yacht_open_5
 
 /* The largest numbers of slots, of handles that install values, and of handles and readers
- * together, where each handle counts twice. */
+ * together. */
 enum { YACHT_MOST_SLOTS = 1048576, YACHT_MOST_HANDLES = 64, YACHT_MOST_IN_ALL = 1024 };
 
 /* What a function returns. A negative number is an error: the call has changed no slot. */
@@ -95,9 +95,9 @@ typedef struct yacht_key {
 typedef void yacht_drop(void *value, void *with);
 
 /* Opens a table of 1 to YACHT_MOST_SLOTS empty slots, with 1 to YACHT_MOST_HANDLES handles that
- * install values, and with readers: the readers, and twice the handles, are at most
- * YACHT_MOST_IN_ALL together. `drop` is called once for each value, with `with`. While the table is
- * opened, it takes twice its memory.
+ * install values, and with readers; the handles and the readers are at most YACHT_MOST_IN_ALL
+ * together. `drop` is called once for each value, with `with`. While the table is opened, it takes
+ * twice its memory.
  * Returns YACHT_DONE and writes *table; or YACHT_BAD_ARGUMENT or YACHT_NO_MEMORY, and writes
  * nothing. */
 int yacht_open(yacht_table **table, uint32_t slots, uint32_t handles, uint32_t readers,

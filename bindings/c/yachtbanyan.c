@@ -68,7 +68,7 @@ int yacht_open(yacht_table **table, uint32_t slots, uint32_t handles, uint32_t r
                yacht_drop *drop, void *with) {
     if (!table || !drop || slots < 1 || slots > YACHT_MOST_SLOTS) return YACHT_BAD_ARGUMENT;
     if (handles < 1 || handles > YACHT_MOST_HANDLES) return YACHT_BAD_ARGUMENT;
-    if (readers > YACHT_MOST_IN_ALL - 2 * handles) return YACHT_BAD_ARGUMENT;
+    if (readers > YACHT_MOST_IN_ALL - handles) return YACHT_BAD_ARGUMENT;
     uint32_t count = handles + readers;
     yacht_table *it = calloc(1, sizeof *it + count * sizeof *it->all);
     yacht_core *cores = calloc(count, sizeof *cores);

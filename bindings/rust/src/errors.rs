@@ -239,8 +239,8 @@ impl fmt::Display for NoSeat {
     fn fmt(&self, f: &mut fmt::Formatter<'_>) -> fmt::Result {
         let (in_use, kind, most) = match *self {
             NoSeat::Handle { in_use } => (in_use, "handle", MOST_INSTALLING),
-            NoSeat::Reader { in_use } => (in_use, "reader", MOST_WORKERS - 3),
-            NoSeat::Guard { in_use } => (in_use, "guard", MOST_WORKERS - 3),
+            NoSeat::Reader { in_use } => (in_use, "reader", MOST_WORKERS - 2),
+            NoSeat::Guard { in_use } => (in_use, "guard", MOST_WORKERS - 2),
         };
         let are = if in_use == 1 { " is" } else { "s are" };
         write!(

@@ -4,9 +4,8 @@ use crate::errors::OpenError;
 
 /// The size of a table: its slots, and its seats.
 ///
-/// A handle takes three seats: one that installs, one that holds a value while it replaces that by
-/// its key or removes it from a hot slot, and one for its first living guard. A reader takes one,
-/// for its first living guard. Each other living guard takes one. A table has at most
+/// A handle takes two seats: one that installs, and one for its first living guard. A reader takes
+/// one, for its first living guard. Each other living guard takes one. A table has at most
 /// [`MOST_SEATS`](crate::MOST_SEATS) seats.
 ///
 /// ```
@@ -75,7 +74,7 @@ impl Options {
     /// let key = handle.insert(7)?;
     /// let (_first, _second) = (handle.get(key)?, handle.get(key)?);
     /// let error = table.get_owned(key).unwrap_err();
-    /// assert_eq!(error.to_string(), "1 guard is in use; Options::guards sets at most 1021");
+    /// assert_eq!(error.to_string(), "1 guard is in use; Options::guards sets at most 1022");
     /// # Ok::<(), Box<dyn std::error::Error>>(())
     /// ```
     pub fn guards(self, guards: u32) -> Options {
@@ -92,7 +91,7 @@ impl Options {
     /// use yachtbanyan::{OpenError, Options};
     ///
     /// let error = Options::new(1).handles(64).readers(0).guards(900).open::<u64>().unwrap_err();
-    /// assert_eq!(error, OpenError::Seats(1_092));
+    /// assert_eq!(error, OpenError::Seats(1_028));
     /// ```
     pub fn open<T>(self) -> Result<Table<T>, OpenError> {
         if !(1..=MOST_SLOTS).contains(&self.slots) {
@@ -104,13 +103,12 @@ impl Options {
         Table::open(&self)
     }
 
-    /// Returns the number of workers of the core, in which each handle has two: one that installs,
-    /// and has two seats, and one for its first living guard.
+    /// Returns the number of workers of the core: one for each seat.
     pub(crate) fn workers(&self) -> Result<usize, OpenError> {
-        let seats = 3 * u64::from(self.handles) + u64::from(self.readers) + u64::from(self.guards);
+        let seats = 2 * u64::from(self.handles) + u64::from(self.readers) + u64::from(self.guards);
         if seats > u64::from(MOST_WORKERS) {
             return Err(OpenError::Seats(seats));
         }
-        Ok((seats - u64::from(self.handles)) as usize)
+        Ok(seats as usize)
     }
 }

@@ -254,12 +254,12 @@ fn a_table_that_is_too_large_or_too_small_is_refused() {
         );
     }
     let most = Options::new(MOST_SLOTS).handles(64).readers(400);
-    assert_eq!(refused(most.guards(433)), OpenError::Seats(1_025));
+    assert_eq!(refused(most.guards(497)), OpenError::Seats(1_025));
     assert_eq!(
         refused(most.guards(u32::MAX)),
-        OpenError::Seats((1 << 32) + 591)
+        OpenError::Seats((1 << 32) + 527)
     );
-    let largest = most.guards(432).open::<u8>().unwrap();
+    let largest = most.guards(496).open::<u8>().unwrap();
     let (handle, reader) = (largest.handle().unwrap(), largest.reader().unwrap());
     assert_eq!(handle.replace_at(0, 1).map(|(_, old)| old), Ok(Old::None));
     let handles: Vec<Handle<u8>> = (1..64).map(|_| largest.handle().unwrap()).collect();
@@ -269,14 +269,14 @@ fn a_table_that_is_too_large_or_too_small_is_refused() {
         "64 handles are in use; Options::handles sets at most 64"
     );
     drop(handles);
-    let guards: Vec<OwnedGuard<u8>> = (0..432).map(|_| largest.get_owned_at(0).unwrap()).collect();
+    let guards: Vec<OwnedGuard<u8>> = (0..496).map(|_| largest.get_owned_at(0).unwrap()).collect();
     assert_eq!(
         (*handle.get_at(0).unwrap(), *reader.get_at(0).unwrap()),
         (1, 1)
     );
     assert_eq!(
         largest.get_owned_at(0).unwrap_err(),
-        GetError::NoSeat(NoSeat::Guard { in_use: 432 })
+        GetError::NoSeat(NoSeat::Guard { in_use: 496 })
     );
     drop(guards);
 }

@@ -23,7 +23,7 @@ fn used() -> usize {
 fn bytes(slots: u32, handles: u32, seats: u32) -> f64 {
     let before = used();
     let options = Options::new(slots).handles(handles).readers(0);
-    let opened = options.guards(seats - 3 * handles).open::<u64>();
+    let opened = options.guards(seats - 2 * handles).open::<u64>();
     let table = opened.expect("memory");
     let found = used() - before;
     drop(table);
@@ -34,17 +34,17 @@ fn bytes(slots: u32, handles: u32, seats: u32) -> f64 {
 /// takes.
 pub fn print_all() {
     for (slots, handles, seats) in [
-        (256, 16, 192),
-        (1_048_576, 16, 192),
+        (256, 16, 176),
+        (1_048_576, 16, 176),
         (256, 64, 1024),
         (1_048_576, 64, 1024),
     ] {
         let megabytes = bytes(slots, handles, seats) / 1e6;
         println!("memory: {slots} slots, {handles} handles, {seats} seats: {megabytes:.2} MB");
     }
-    let first = (bytes(4096, 1, 3) - bytes(256, 1, 3)) / 3840.0;
-    let further = (bytes(1_048_576, 1, 3) - bytes(65_536, 1, 3)) / 983_040.0;
-    let pair = (bytes(65_536, 33, 192) - bytes(65_536, 1, 192)) / (32.0 * 192.0);
+    let first = (bytes(4096, 1, 2) - bytes(256, 1, 2)) / 3840.0;
+    let further = (bytes(1_048_576, 1, 2) - bytes(65_536, 1, 2)) / 983_040.0;
+    let pair = (bytes(65_536, 33, 176) - bytes(65_536, 1, 176)) / (32.0 * 176.0);
     let seat = (bytes(65_536, 1, 1000) - bytes(65_536, 1, 200)) / 800.0 - pair;
     println!(
         "memory: each of the first 4096 slots {first:.1} bytes, each further one {further:.1}"

@@ -29,7 +29,7 @@ impl Core {
 
 /// The largest number of slots.
 pub(crate) const MOST_SLOTS: u32 = 1_048_576;
-/// The largest number of workers, in which each that installs values counts twice.
+/// The largest number of workers.
 pub(crate) const MOST_WORKERS: u32 = 1024;
 /// The largest number of workers that install values.
 pub(crate) const MOST_INSTALLING: u32 = 64;

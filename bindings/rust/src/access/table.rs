@@ -107,7 +107,7 @@ impl<T> Table<T> {
     /// let table = yachtbanyan::Options::new(4).readers(100).open::<u64>()?;
     /// let readers: Vec<_> = (0..100).map(|_| table.reader().unwrap()).collect();
     /// let error = table.reader().unwrap_err();
-    /// assert_eq!(error.to_string(), "100 readers are in use; Options::readers sets at most 1021");
+    /// assert_eq!(error.to_string(), "100 readers are in use; Options::readers sets at most 1022");
     /// # Ok::<(), Box<dyn std::error::Error>>(())
     /// ```
     pub fn reader(&self) -> Result<Reader<T>, NoSeat> {

@@ -22,7 +22,7 @@ pub(crate) use pass::{Looked, Miss, Pass};
 pub(crate) use range::Found;
 pub(crate) use words::{node_in, Config, Table};
 
-/// A worker: a pass, and a second one, its holder, if it installs.
+/// A worker: a pass, and the file that it holds.
 struct Worker {
     table: Arc<Table>,
     held: Option<usize>,
@@ -31,7 +31,6 @@ struct Worker {
     number: u64,
     step: u64,
     kept: u64,
-    holder: Option<Pass>,
     pass: Pass,
 }
 
@@ -54,7 +53,7 @@ impl Worker {
         if slot.is_some_and(|it| it as usize >= self.table.size) {
             return Some(NO_SLOT);
         }
-        (installs && self.holder.is_none()).then_some(READER)
+        (installs && self.pass.stock.is_empty()).then_some(READER)
     }
 
     // Notes that the worker holds the file of a node. Writes its tag, and its number, which is
@@ -178,14 +177,13 @@ pub(crate) unsafe fn yacht_core_open(
 ) -> i64 {
     let is_right = (1..=MOST_SLOTS).contains(&slots)
         && (1..=MOST_INSTALLING.min(count as u32)).contains(&installing)
-        && count + installing as usize <= MOST_WORKERS as usize;
+        && count <= MOST_WORKERS as usize;
     if !is_right {
         return BAD_ARGUMENT;
     }
     let (slots, makers) = (slots as usize, installing as usize);
-    let passes = count + makers;
-    let config = sync::config(Config::of_core(slots, passes));
-    let table = Arc::new(Table::open(config, slots, passes, makers));
+    let config = sync::config(Config::of_core(slots, count));
+    let table = Arc::new(Table::open(config, slots, count, makers));
     for at in 0..count {
         let installs = at < makers;
         let it = Worker {
@@ -194,7 +192,6 @@ pub(crate) unsafe fn yacht_core_open(
             number: if installs { at as u64 + 1 } else { 0 },
             step: installing.into(),
             kept: 0,
-            holder: installs.then(|| Pass::new(&table, count + at + 1, false)),
             pass: Pass::new(&table, at + 1, installs),
         };
         // SAFETY: there is room for `count` handles.
