@@ -153,6 +153,13 @@ MORE = "call 7 open b at 1\ndone 7.1 0\ncall 4 look 0\ndone 4.1 0 2.1.0\nfree 4\
 # earlier file goes
 EARLIER = "call 8 open b at 0\ndone 8.1 0\ncall 9 close 0\ndone 9.1 0\nclosed 8.1.0 b\nsettled\n"
 HELD = "call 2 open a at 0\ndone 2.1 0\ncall 3 look 0\ndone 3.1 0 2.1.0\n"
+# a slot that was emptied, and filled again before an answer says that it is empty: the file that
+# filled it stays, and the first one goes
+EMPTIED = "call 2 open a at 0\ndone 2.1 0\ncall 3 close 0\ndone 3.1 0\n"
+REFILLED = "call 5 open b at 0\ndone 5.1 0\n"
+FINDS_EMPTY = "call 6 open a any\ndone 6.1 0\n", "call 6 look 0\ndone 6.1 -9\n", "call 6 close 0\ndone 6.1 -9\n"
+# the same, but the close may remove either file, and a look after it finds the second one
+SEEN = "call 2 open a at 0\ndone 2.1 0\ncall 3 close 0\ncall 5 open b at 0\ndone 5.1 0\nclosed 2.1.0 a\ndone 3.1 0\ncall 4 look 0\ndone 4.1 0 5.1.0\nfree 4\n"
 REMOVERS = ["call 4 close 0\ndone 4.1 0\n", "call 5 open b at 0\ndone 5.1 0\n"]
 WHY_STALE = """    2.1.0 was gone from slot 0 after close 3, which answered 0, since open 2 had installed 2.1.0 at line 6 and close 3 was called at line 7
     look 5 found 2.1.0 at slot 0; but 2.1.0 was gone from slot 0 after close 3, close 3 was answered at line 8 and look 5 was called at line 9
@@ -166,6 +173,7 @@ FILES = {"between": BETWEEN.replace("call 2", "call 6 close 1\ndone 6.1 -9\ncall
          "right": OPENED, "wrong": OPENED.replace("done 2.1 0", "done 2.1 7"), "none": "x\n", "stale": f"{STALE}free 5\nsettled\n".replace("call 3", MORE),
          "early": f"{HEAD}{EARLIER}{HELD}{''.join(REMOVERS)}closed 2.1.0 a\nfree 3\n",
          "gone": f"{HEAD}call 2 open b any link ; close 0\ndone 2.1 0\ndone 2.2 0\ncall 3 read 0 0 1\ndone 3.1 1 62\n"}
+FILES |= {f"emptied{nth}": f"{HEAD}{EMPTIED}{REFILLED}{it}" for nth, it in enumerate(FINDS_EMPTY)} | {"seen": f"{HEAD}{SEEN}{FINDS_EMPTY[0]}"}
 ARGUMENTS = [
     ([], USAGE, "usage: yachtlog.py"),
     (["--help"], LEGAL, "usage: yachtlog.py"),
@@ -181,6 +189,8 @@ ARGUMENTS = [
     (["--shorten", "stale"], NOT_LEGAL, f"^{STALE}.*stale: not legal: line 10: done 5.1 0 2.1.0\n{WHY_STALE}$"),
     (["--full-reason", "--shorten", "stale"], NOT_LEGAL, f"^{STALE}.*stale: not legal: line 10: done 5.1 0 2.1.0\n{WHY_STALE}$"),
     (["--shorten", "early"], NOT_LEGAL, f"^{HEAD}{HELD}({'|'.join(REMOVERS)})closed 2.1.0 a\n.*early: not legal: line 11: closed 2.1.0 a\n{WHY_EARLY}$"),
+    *((["--shorten", f"emptied{nth}"], NOT_LEGAL, f"^{HEAD}{REFILLED}{it}.*: not legal: line 8: ") for nth, it in enumerate(FINDS_EMPTY)),
+    (["--shorten", "seen"], NOT_LEGAL, f"^{HEAD}{REFILLED}{FINDS_EMPTY[0]}.*: not legal: line 8: "),
     (["--full-reason", "gone"], NOT_LEGAL, f"gone: not legal: line 9: done 3.1 1 62\n.*{WHY_GONE}"),
     (["--shorten", "none"], NOT_A_LOG, "not a log: line 1"),
     (["between"], LEGAL, "between: legal\n$"),
@@ -241,6 +251,10 @@ WRONG = [
     ("yachtlog", "        verdict = Verdict(verdict.word, log.source.count", "        return log, verdict, []\n        verdict = Verdict(verdict.word, log.source.count"),
     ("yachtlog", "    except MemoryError:", "    except ZeroDivisionError:"),
     ("yachtshorten", "yield call, [answer.found[0]]", "return"),
+    ("yachtshorten", ", *self._needs_of_last(last)]", "]"),
+    ("yachtshorten", 'it.kind == "open" and it.slot is None and answer.result >= 0', "False"),
+    ("yachtshorten", 'it.kind in ("look", "read", "close") and answer', 'it.kind == "look" and answer'),
+    ("yachtshorten", "self._end.get(it, line) > seen", "True"),
     ("yachtshorten", "return calls if self.kept <= calls else None", "return calls | self.kept"),
     ("yachtshorten", "self.lines = text.split(\"\\n\")[:last]", "self.lines = text.split(\"\\n\")[:-1]"),
     ("yachtshorten", "is_shorter = True\n        while", "is_shorter = False\n        while"),

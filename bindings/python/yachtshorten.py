@@ -5,7 +5,7 @@ from __future__ import annotations
 import time
 from collections.abc import Callable, Iterator
 
-from yachtlines import Lines, Mark, Request
+from yachtlines import EBADF, Lines, Mark, Request
 
 # no further log is tried after this many seconds
 SECONDS = 50
@@ -37,7 +37,7 @@ class Shortening:
             for slot in self._written(call):
                 self._writers.setdefault(slot, []).append(call)
         # a call, and others of which one must stay with it: so a file isn't wrong only since its installation is gone
-        self.needs = list(self._needs())
+        self.needs = [*self._needs(), *self._needs_of_last(last)]
         self.kept = {self.owners[-1]} - {None}
         self.kept |= {others[0] for call, others in self.needs if call in self.kept and len(others) == 1}
 
@@ -96,6 +96,31 @@ class Shortening:
             for writers in ([by for by in self._writers.get(slot, ()) if by != call and self._place[by] < line] for slot in range(self.log.slots)):
                 if writers:
                     yield call, writers
+
+    def _found_empty(self, line: int) -> tuple[int, int | None]:
+        """Returns the call that a line answers, and the slot that the answer says was empty, or None."""
+        event = next((it for it in self.log.events if (it.line, it.word) == (line, "done")), None)
+        if event is None:
+            return 0, None
+        it, answer = self.log.chains[event.call][event.member - 1], self.log.answers[event.call, event.member]
+        if it.kind == "open" and it.slot is None and answer.result >= 0:
+            return event.call, answer.result
+        return event.call, it.slot if it.kind in ("look", "read", "close") and answer.result == EBADF else None
+
+    def _seen(self, mark: Mark) -> int:
+        """Returns the line of the call of the last look that found a file: until then the file was at its slot."""
+        those = (call for (call, _), answer in self.log.answers.items() if answer.found == mark and call in self._place)
+        return max((self._place[it] for it in those), default=self._place[mark[0]])
+
+    def _needs_of_last(self, line: int) -> Iterator[tuple[int, list[int]]]:
+        """Yields each call that installed a file at the slot which the wrong line found empty, with those that may have removed the file:
+        so the slot isn't full only since they are gone."""
+        last, slot = self._found_empty(line)
+        for mark in [it for it, its in self._slot.items() if its == slot and it[0] != last and self._place[it[0]] < line]:
+            seen = self._seen(mark)
+            removers = [it for it in self._writers[slot] if it not in (mark[0], last) and self._place[it] < line and self._end.get(it, line) > seen]
+            if removers:
+                yield mark[0], removers
 
     def text(self, calls: set[int]) -> str:
         """Returns the log with some of its calls alone."""
