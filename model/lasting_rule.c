@@ -252,5 +252,5 @@ _Static_assert(sizeof(struct state) <= MOST_STATE, "a state has room");
 
 const struct step_table the_table = {
     "lasting table", sizeof(struct state), sizeof families / sizeof families[0], WRONG_TABLES, wrong_names, begin_family, take_step,
-    check_state, NULL, first_family
+    check_state, first_family
 };

@@ -20,9 +20,7 @@ struct step_table {
     bool (*take_step)(void *state, int who, int nth);
     /* Checks a state between two steps. */
     void (*check)(const void *state);
-    /* After all families: what no order has reached, or NULL. */
-    const char *(*missing)(void);
-    /* Returns the family with which the search for a wrong table begins; without it, it's 0. */
+    /* Returns the family with which the search for a wrong table begins. */
     int (*first_family)(int wrong);
 };
 

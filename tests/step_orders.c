@@ -145,8 +145,7 @@ static bool explore(const struct step_table *table, int family, int wrong) {
 }
 
 static bool is_found(const struct step_table *table, int wrong) {
-    int first = table->first_family ? table->first_family(wrong) : 0;
-    for (int family = first; family < table->families; family++) {
+    for (int family = table->first_family(wrong); family < table->families; family++) {
         if (!explore(table, family, wrong)) {
             return true;
         }
@@ -160,10 +159,6 @@ static bool is_right(const struct step_table *table, bool up_to_first) {
     bool right = true;
     for (int family = 0; family < table->families && (right || !up_to_first); family++) {
         right &= explore(table, family, 0);
-    }
-    if (right && table->missing != NULL && table->missing() != NULL) {
-        printf("%s: %s\n", table->name, table->missing());
-        right = false;
     }
     return right;
 }
