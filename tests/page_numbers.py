@@ -1,6 +1,6 @@
 """The numbers of the pages, and where they come from: each number of two digits or more, negated number and exit status of README.md, the
-pages of docs/use and of the crates, the newest part of CHANGELOG.md, the manual pages, and the comments of the headers is in a row of
-tests/numbers.txt.
+pages of docs/use and of the crates, CONTRIBUTING and DECISIONS of docs/inside, the newest part of CHANGELOG.md, the manual pages, and the
+comments of the headers is in a row of tests/numbers.txt.
 
 That file has the rows of each page after a line `== PAGE`. A row is a part of the page, word for word, in which {=EXPRESSION} is a number
 that is computed: of constants (`fx_lasting.MOST_SLOTS`, `yachtjudge.YACHT_STATES`), of the functions below, and of Python's operators.
@@ -35,7 +35,7 @@ IN, RUN_BY = "in ", "run by "
 
 
 def pages():
-    ways = "README.md", "docs/use/*.md", "bindings/*/README.md", "CHANGELOG.md", "man/*.[0-9]", "include/*.h"
+    ways = "README.md", "docs/use/*.md", "docs/inside/[CD]*.md", "bindings/*/README.md", "CHANGELOG.md", "man/*.[0-9]", "include/*.h"
     return [it for way in ways for it in sorted(glob.glob(way, root_dir=ROOT))]
 
 
@@ -123,6 +123,13 @@ class Sources(dict):
         if re.match("(fx|check|yacht)", name):
             return Constants(name)
         raise ValueError(f"there is no {name}")
+
+
+def naming(*names):
+    """Returns the number of files of crates, and of these crates, whose words have one of the names."""
+    those = [(crate, it) for crate in os.listdir(f"{ROOT}/crates") for it in files_of(crate, "src", "specs", "proofs")]
+    found = [crate for crate, it in those if re.search(rf"\b({'|'.join(names)})\b", read(it))]
+    return len(found), len(set(found))
 
 
 def gate():
@@ -336,7 +343,7 @@ def whole(path, pattern):
     return round(float(found(path, pattern)))
 
 
-FUNCTIONS = (answer, bits, busy, calls, constant_of, counted, crate, date, entries, found, gate, judged, judged_one, lasting, liburing, line, lines, linux, loads, measured, middle, minutes, narrow,
+FUNCTIONS = (answer, bits, busy, calls, constant_of, counted, crate, date, entries, found, gate, judged, judged_one, lasting, liburing, line, lines, linux, loads, measured, middle, minutes, naming, narrow,
              number, of_runs, on_four_threads, program, python, ratio, round, span, stale, status, version, whole, width, width_of_slots)
 SOURCES = Sources({it.__name__: it for it in FUNCTIONS})
 
