@@ -70,10 +70,11 @@ typedef struct yacht_verdict {
 /* Decides whether a script may print a text. For each part of a submission that has slots of its
  * own, the search keeps at most `states` states and `memory` MiB of them.
  * The note is advice for a person. For a text that isn't legal it is what is expected at the break:
- * the likeliest text, or a line in words; or, if no order of a submission's requests explains its
- * lines, the submission and the reason, as in `submission 2: slot 3 alone has no order`. For bytes
- * that aren't a script it is the name of the first fault, such as `word-count`. Its first bytes are
- * written, at most note_length, without a 0 at the end. No contract speaks of it.
+ * the likeliest text, or a line in words; or, if the text should end there or no order of a
+ * submission's requests explains its lines, the reason that fixcheck prints, of one line or more,
+ * without the last line's end. For bytes that aren't a script it is the name of the first fault,
+ * such as `word-count`. Its first bytes are written, at most note_length, without a 0 at the end.
+ * No contract speaks of it.
  * Returns YACHT_LEGAL, YACHT_NOT_LEGAL, YACHT_UNDECIDED, YACHT_BAD_SCRIPT or
  * YACHT_JUDGE_NO_MEMORY, and writes *verdict. */
 uint32_t yacht_judge(const uint8_t *script, size_t script_length, const uint8_t *text,

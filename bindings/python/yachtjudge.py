@@ -71,8 +71,8 @@ class Verdict:
 
     Of a text that is not legal, `commands` is the number of commands that may have printed its first `at` bytes; no play prints a
     beginning of the text with one command more, unless a `closed` or `tag` line follows it. `expected` is advice: the likeliest text
-    there, or a line in words, or the reason if no order of a submission's requests explains its lines. Of an undecided text, `submission`
-    was not decided within the limits, counted from 1."""
+    there, or a line in words. If the text should end there, or no order of a submission's requests explains its lines, it is the reason that
+    `fixcheck` prints. Of an undecided text, `submission` was not decided within the limits, counted from 1."""
 
     word: Literal["legal", "not legal", "undecided"]
     commands: int = 0

@@ -14,8 +14,9 @@ pub enum Verdict {
         commands: u64,
         /// The number of bytes of the text before the break.
         at: u64,
-        /// Advice for a person: the likeliest text there, or a line in words, or the reason if no
-        /// order of a submission's requests explains its lines.
+        /// Advice for a person: the likeliest text there, or a line in words. If the text should
+        /// end there, or no order of a submission's requests explains its lines, it is the reason
+        /// that `fixcheck` prints.
         expected: String,
     },
     /// Neither was shown within the limits.

@@ -3,15 +3,13 @@
 ghost use Rattle.std.specs.Prelude.{IfOk};
 ghost use Rattle.check_judge.specs.Judged.{IsJudged};
 
-use check_explain::{AskedLine, Case, Facts, Lines, Words, cut_word};
+use check_explain::{Facts, Lines, Question, Words, cut_word};
 use check_judge::{Break, Fault, Judgement, judge, judge_from};
-use check_lines::{accepted_in, copy_of};
+use check_lines::copy_of;
 use check_search::Limits;
-use fx_arguments::fixcheck::Settings;
 use fx_base::NoMemory;
 use fx_order::RingSlots;
-use fx_script::{Command, Script};
-use std::alloc::Global;
+use fx_script::Script;
 use std::io::IsTerminal;
 use std::time::Instant;
 
@@ -28,55 +26,6 @@ const SEARCHES: usize = 32;
 
 /// The number of seconds before anything is printed.
 const QUIET_SECONDS: u64 = 2;
-
-/// A script, a text that is judged for it, and the settings.
-#[derive(Clone, Copy)]
-pub(crate) struct Question<'a> {
-    pub alloc: Global,
-    pub script: &'a Script,
-    /// The lines of the script that are commands or requests.
-    pub asked: &'a [AskedLine<'a>],
-    pub text: &'a [u8],
-    pub settings: Settings<'a>,
-}
-
-impl Question<'_> {
-    /// Returns the lines of the script after those of the first `commands` commands.
-    pub(crate) fn asked_after(&self, commands: usize) -> &[AskedLine<'_>] {
-        let (script, mut lines) = (self.script.commands(), 0usize);
-        for i in 0..commands {
-            if let Some(Command::Submit(requests)) = script.get(i) {
-                lines = lines.saturating_add(requests.len());
-            }
-            lines = lines.saturating_add(1);
-        }
-        self.asked.get(lines..).unwrap_or(&[])
-    }
-
-    /// Returns the facts of the submission at a break, if it is one that is accepted.
-    ///
-    /// # Errors
-    /// `NoMemory` if an allocation fails.
-    pub(crate) fn facts_at<'b>(&'b self, broken: &'b Break) -> Result<Option<Facts<'b>>, NoMemory> {
-        let submissions = broken.ring.submissions;
-        let Some(command) = self.script.commands().get(broken.commands) else {
-            return Ok(None);
-        };
-        let Some(requests) = accepted_in(command, submissions) else {
-            return Ok(None);
-        };
-        let facts = Facts::new(&Case {
-            alloc: self.alloc,
-            catalogue: self.script.catalogue(),
-            slots: &broken.ring.slots,
-            submissions,
-            asked: self.asked_after(broken.commands),
-            requests,
-            text: Lines::at(self.text, broken.at),
-        })?;
-        Ok(Some(facts))
-    }
-}
 
 // Prints that a submission has more states than were met, unless the search began a moment ago.
 // What can't be printed is left out.

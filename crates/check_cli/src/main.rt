@@ -6,7 +6,7 @@ mod judging;
 mod lists;
 mod verdict;
 
-use check_explain::{History, Words, asked_lines};
+use check_explain::{History, Question, Words, asked_lines};
 use check_judge::Judgement;
 use check_lines::place_of;
 use check_search::Limits;
@@ -16,7 +16,7 @@ use fx_arguments::words;
 use fx_order::Order;
 use fx_script::{PlayFault, Script};
 use input::{ARGUMENTS, NoVerdict, note_script, read_path, script_of};
-use judging::{Question, judged};
+use judging::judged;
 use lists::{listing_of_answers, listing_of_texts, status_of_answers, status_of_texts};
 use std::io::{self, Write};
 use std::process::ExitCode;
@@ -103,26 +103,32 @@ fn list_texts(
 fn print_judgement(
     rt: &HostRuntime,
     question: &Question<'_>,
+    settings: Settings<'_>,
     judgement: &Judgement,
 ) -> Result<(), NoVerdict> {
-    let settings = question.settings;
     match judgement {
         Judgement::Legal(orders) if settings.history => print_history(rt, question, orders),
         Judgement::NotLegal(first) if settings.keep_going => {
-            write(rt, &breaks_text(question, limits_of(settings), first)?)
+            let report = breaks_text(question, &settings, limits_of(settings), first)?;
+            write(rt, &report)
         }
-        _ => write(rt, &verdict_text(question, judgement)?),
+        _ => write(rt, &verdict_text(question, &settings, judgement)?),
     }
 }
 
 // Judges a text that was read from a path, and prints the verdict. Returns the exit status.
-fn judge_text(rt: &HostRuntime, question: &Question<'_>, path: &str) -> Result<u8, NoVerdict> {
-    let limits = limits_of(question.settings);
+fn judge_text(
+    rt: &HostRuntime,
+    question: &Question<'_>,
+    settings: Settings<'_>,
+    path: &str,
+) -> Result<u8, NoVerdict> {
+    let limits = limits_of(settings);
     let judgement = judged(rt, question.script, question.text, limits)?;
     if matches!(&judgement, Judgement::NotLegal(_)) {
         note_script(rt, path, question.text)?;
     }
-    print_judgement(rt, question, &judgement)?;
+    print_judgement(rt, question, settings, &judgement)?;
     Ok(status_of(&judgement))
 }
 
@@ -141,9 +147,8 @@ fn print_verdict(
         script,
         asked: &asked,
         text: &text,
-        settings,
     };
-    judge_text(rt, &question, path)
+    judge_text(rt, &question, settings, path)
 }
 
 // Does what the arguments ask for. Returns the exit status.

@@ -4,6 +4,7 @@
 #![tactic(auto)]
 
 mod answers;
+mod broken;
 mod case;
 mod claims;
 mod complaint;
@@ -11,13 +12,16 @@ mod contradiction;
 mod facts;
 mod history;
 mod lines;
+mod question;
 mod words;
 mod wrong_answer;
 mod wrong_files;
 
+pub use broken::push_why_broken;
 pub use case::{Case, access_places};
 pub use complaint::Complaint;
 pub use facts::Facts;
 pub use history::History;
 pub use lines::{AskedLine, Lines, asked_lines, cut_word};
+pub use question::Question;
 pub use words::{Words, sign_before};

@@ -5,7 +5,7 @@ ghost use Rattle.fx_judge.specs.Verdicts.{IsNotPrinted};
 
 use crate::codes::{BAD_SCRIPT, LEGAL, NO_MEMORY, NOT_LEGAL, UNDECIDED};
 use crate::limits::limits_of;
-use crate::note::{note_expected, note_fault};
+use crate::note::{JudgedText, note_break, note_fault};
 use check_judge::{Judgement, judge};
 use fx_script::{Script, ScriptError};
 use std::alloc::Global;
@@ -41,7 +41,13 @@ fn no_details() -> YachtVerdict {
 }
 
 // Writes the details and the note of a judgement. Returns its number.
-fn conclude(alloc: Global, judgement: Judgement, note: &mut [u8], verdict: &mut YachtVerdict) -> u32
+fn conclude(
+    alloc: Global,
+    judged: JudgedText<'_>,
+    judgement: Judgement,
+    note: &mut [u8],
+    verdict: &mut YachtVerdict,
+) -> u32
     ensures { IsConclusion judgement result verdict.new }
 {
     match judgement {
@@ -49,7 +55,7 @@ fn conclude(alloc: Global, judgement: Judgement, note: &mut [u8], verdict: &mut 
         Judgement::NotLegal(broken) => {
             verdict.commands = broken.commands as u64;
             verdict.at = broken.at as u64;
-            verdict.note = note_expected(alloc, &broken.fault, note);
+            verdict.note = note_break(alloc, judged, &broken, note);
             NOT_LEGAL
         }
         Judgement::Undecided(submission, _) => {
@@ -95,5 +101,10 @@ pub fn judge_text(
     let Ok(judgement) = judge(alloc, &read, text, limits) else {
         return NO_MEMORY;
     };
-    conclude(alloc, judgement, note, verdict)
+    let judged = JudgedText {
+        source: script,
+        script: &read,
+        text,
+    };
+    conclude(alloc, judged, judgement, note, verdict)
 }
