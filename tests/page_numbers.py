@@ -1,6 +1,6 @@
 """The numbers of the pages, and where they come from: each number of two digits or more, negated number and exit status of README.md, the
-pages of docs/use and of the crates, CONTRIBUTING and DECISIONS of docs/inside, the newest part of CHANGELOG.md, the manual pages, and the
-comments of the headers is in a row of tests/numbers.txt.
+pages of docs/use and of the crates, CONTRIBUTING, DECISIONS, LIBRARY and MODEL of docs/inside, the newest part of CHANGELOG.md, the manual
+pages, and the comments of the headers is in a row of tests/numbers.txt.
 
 That file has the rows of each page after a line `== PAGE`. A row is a part of the page, word for word, in which {=EXPRESSION} is a number
 that is computed: of constants (`fx_lasting.MOST_SLOTS`, `yachtjudge.YACHT_STATES`), of the functions below, and of Python's operators.
@@ -35,7 +35,7 @@ IN, RUN_BY = "in ", "run by "
 
 
 def pages():
-    ways = "README.md", "docs/use/*.md", "docs/inside/[CD]*.md", "bindings/*/README.md", "CHANGELOG.md", "man/*.[0-9]", "include/*.h"
+    ways = "README.md", "docs/use/*.md", "docs/inside/[CDLM]*.md", "bindings/*/README.md", "CHANGELOG.md", "man/*.[0-9]", "include/*.h"
     return [it for way in ways for it in sorted(glob.glob(way, root_dir=ROOT))]
 
 
@@ -331,11 +331,19 @@ def program(name):
     return found("bench/program.txt", rf"^bench: {re.escape(name)}: ([\d.]+) times the plain")
 
 
+def below(root):
+    """Returns the crates that a crate depends on."""
+    return {it for it in crate_times.needed(root, crate_times.crates()) if it != root}
+
+
+def seconds(*roots):
+    """Returns the CPU seconds of scripts/seconds.txt that it takes to prove these crates and all that they depend on, or all crates."""
+    those = {it for root in roots for it in (root, *below(root))} or crate_times.crates()
+    return sum(sum(crate_times.measured().get(it, (crate_times.UNMEASURED, 0))) for it in those)
+
+
 def minutes(*roots):
-    """Returns the CPU minutes of scripts/seconds.txt that it takes to prove these crates and all that they depend on, or all crates."""
-    below = crate_times.crates()
-    those = {it for root in roots for it in crate_times.needed(root, below)} or below
-    return round(sum(sum(crate_times.measured().get(it, (crate_times.UNMEASURED, 0))) for it in those) / 60)
+    return round(seconds(*roots) / 60)
 
 
 def whole(path, pattern):
@@ -343,8 +351,8 @@ def whole(path, pattern):
     return round(float(found(path, pattern)))
 
 
-FUNCTIONS = (answer, bits, busy, calls, constant_of, counted, crate, date, entries, found, gate, judged, judged_one, lasting, liburing, line, lines, linux, loads, measured, middle, minutes, naming, narrow,
-             number, of_runs, on_four_threads, program, python, ratio, round, span, stale, status, version, whole, width, width_of_slots)
+FUNCTIONS = (answer, below, bits, busy, calls, constant_of, counted, crate, date, entries, found, gate, judged, judged_one, lasting, len, liburing, line, lines, linux, loads, measured, middle, minutes, naming, narrow,
+             number, of_runs, on_four_threads, program, python, ratio, round, seconds, span, stale, status, version, whole, width, width_of_slots)
 SOURCES = Sources({it.__name__: it for it in FUNCTIONS})
 
 
