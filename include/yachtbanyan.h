@@ -179,8 +179,7 @@ int yacht_remove_at(yacht_handle *handle, uint32_t slot);
  * YACHT_READER or YACHT_BAD_ARGUMENT: then the caller still owns the value, and *key stays. */
 int yacht_replace(yacht_handle *handle, yacht_key *key, void *value);
 
-/* Removes the value with a key. It tries again while other threads look the same slot up, and after
- * it was the last user of a value at a hot slot.
+/* Removes the value with a key. It tries again while other threads look the same slot up.
  * Returns YACHT_DROPPED or YACHT_IN_USE; or YACHT_STALE, YACHT_EMPTY, YACHT_NO_SLOT, YACHT_BUSY or
  * YACHT_READER. */
 int yacht_remove(yacht_handle *handle, yacht_key key);
