@@ -18,6 +18,10 @@ PIPE = f"pipe p\n{TABLE}"
 OPENED = f"{HEAD}call 2 open a at 0\ndone 2.1 0\n"
 LOOKED = f"{OPENED}call 3 look 0\ndone 3.1 0 2.1.0\n"
 FED = f"{PIPE}call 2 update 0 0\ndone 2.1 1\ncall 3 read 0 0 1\nfed p 41\n"
+# the log of the page, without what it says of each line
+with open(f"{ROOT}/docs/inside/FLIGHT.md", encoding="utf-8") as page:
+    BLOCK = re.search(r"\n## A log\n(?:(?!    ).*\n)*((?:    .*\n)+)", page.read())[1]
+OF_PAGE = "".join(re.split(" {2,}", it.strip())[0] + "\n" for it in BLOCK.splitlines())
 INSTALLS = " link ; ".join(["update 0 0,0,0,0,0,0,0,0,0,0,0,0,0"] * 5)
 # a text, the status, and a pattern of what is printed after the path
 ROWS = [
@@ -25,6 +29,7 @@ ROWS = [
     ("\n", NOT_A_LOG, "line 1: no line of a log begins with ''"),
     ("file a 61\n", NOT_A_LOG, "line 2: no call registers the table"),
     (TABLE, LEGAL, "legal$"),
+    (OF_PAGE, LEGAL, "legal$"),
     ("call 1 sparse 2\n", LEGAL, "legal$"),
     (b"\x00\xff\x80\n", NOT_A_LOG, r"line 1: no line of a log begins with '\\x00\\xff\\x80'"),
     (b"file \xe9 61\n", NOT_A_LOG, "line 1: a name has 1 to 32 letters"),

@@ -1,5 +1,5 @@
 """The numbers of the pages, and where they come from: each number of two digits or more, negated number and exit status of README.md, the
-pages of docs/use and of the crates, CONTRIBUTING, DECISIONS, LIBRARY and MODEL of docs/inside, the newest part of CHANGELOG.md, the manual
+pages of docs/use and of the crates, CONTRIBUTING, DECISIONS, FLIGHT, LIBRARY and MODEL of docs/inside, the newest part of CHANGELOG.md, the manual
 pages, and the comments of the headers is in a row of tests/numbers.txt.
 
 That file has the rows of each page after a line `== PAGE`. A row is a part of the page, word for word, in which {=EXPRESSION} is a number
@@ -35,7 +35,7 @@ IN, RUN_BY = "in ", "run by "
 
 
 def pages():
-    ways = "README.md", "docs/use/*.md", "docs/inside/[CDLM]*.md", "bindings/*/README.md", "CHANGELOG.md", "man/*.[0-9]", "include/*.h"
+    ways = "README.md", "docs/use/*.md", "docs/inside/[CDFLM]*.md", "bindings/*/README.md", "CHANGELOG.md", "man/*.[0-9]", "include/*.h"
     return [it for way in ways for it in sorted(glob.glob(way, root_dir=ROOT))]
 
 
