@@ -78,6 +78,12 @@ impl Scene {
             self.alive.get(),
             "a value is lost"
         );
+        let full = loop {
+            if let Err(refused) = handles[0].try_insert(self.value()) {
+                break refused.reason;
+            }
+        };
+        assert!(matches!(full, Reason::Full { .. }), "a slot is lost");
         handles[0].replace_at(0, self.value()).ok().unwrap();
         let owned = std::iter::from_fn(|| self.table.get_owned_at(0).ok());
         let owned: Vec<_> = owned.collect();
@@ -229,6 +235,15 @@ impl Family {
         }
     }
 
+    /// Returns a family of the steps of calls at two full slots, each a group of its own.
+    fn two_slots(cold_takes: u64, parts: &'static [Part]) -> Family {
+        let options = Options::new(2).handles(4).readers(0).guards(1);
+        Family {
+            options,
+            ..Family::steps(cold_takes, 2, parts)
+        }
+    }
+
     /// Returns the number of states. Panics if some order is wrong.
     fn states(self) -> usize {
         self.explore().unwrap_or_else(|fault| panic!("{fault}")).0
@@ -272,9 +287,12 @@ fn no_order_of_steps_is_wrong() {
     Family::steps(0, 1, &[REMOVE_KEY, REPLACE_KEY]).has(1435);
     Family::steps(16, 0, &[INSERT; 2]).has(269);
     Family::steps(16, 1, &[INSERT, REMOVE]).has(285);
+    Family::two_slots(16, &[REMOVE_KEY, INSERT]).has(623);
+    Family::two_slots(0, &[REMOVE_KEY, INSERT]).has(636);
+    Family::two_slots(0, &[REPLACE_KEY, INSERT]).has(448);
 }
 
-/// An optimized build takes ten seconds for it.
+/// An optimized build takes some 20 seconds for it.
 #[test]
 #[ignore = "slow unless it is optimized"]
 fn no_order_of_many_steps_is_wrong() {
@@ -282,6 +300,7 @@ fn no_order_of_many_steps_is_wrong() {
     Family::steps(0, 1, &[REMOVE_KEY, REPLACE_KEY_AND_MORE]).has(11_165);
     Family::steps(16, 1, &[REPLACE_KEY, REPLACE_KEY_AND_MORE]).has(9514);
     Family::steps(0, 1, &[REMOVE_KEY; 2]).has(1327);
+    Family::two_slots(0, &[REPLACE_KEY, REMOVE, INSERT]).has(63_894);
     Family::steps(0, 1, &[LOOK, LOOK, PUT]).has(229_099);
     Family::steps(0, 1, &[LOOK, PUT, REMOVE]).has(24_882);
     Family::steps(1, 1, &[LOOK, LOOK, REMOVE]).has(29_037);
