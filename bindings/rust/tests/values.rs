@@ -78,7 +78,7 @@ fn a_replaced_value_is_dropped_by_its_last_guard() {
     ));
     assert_eq!((first.number, second.number, notes.drops()), (7, 7, 0));
     drop(first);
-    assert_eq!(notes.drops(), 0);
+    assert_eq!((second.number, notes.drops()), (7, 0));
     drop(second);
     assert_eq!(notes.drops(), 1);
     assert_eq!(a.get_at(3).unwrap().number, 8);
