@@ -28,6 +28,8 @@ ROWS = "tests/numbers.txt"
 NUMBER = re.compile(r"(?<![\w.^])-?\d(?:[\d,.^]*\d)?(?!\w)")
 # an expression in a row
 EXPRESSION = re.compile(r"\{=([^{}]+)\}")
+# of 10 logs of a wrong table, the number that must not be legal to say that such logs show it
+SHOWING = 9
 # the words before and after a number that a row gets
 AROUND = 2
 # what the lines begin with that name the source of the rows after them
@@ -323,7 +325,31 @@ def loads(path):
 
 def stale(calls):
     """Returns the wrong logs of this many calls in bench/recording.txt, of tables whose looks are stale more and more seldom."""
-    return " | ".join(re.findall(rf"^stale .*: (\d+) of \d+ not legal; {calls} calls", read("bench/recording.txt"), re.MULTILINE))
+    return " | ".join(str(row[1]) for row in of_wrong("stale") if row[-1] == calls)
+
+
+def showing(wrong):
+    """Returns the calls of the smallest logs in bench/recording.txt of which SHOWING in 10 are not legal, of tables that are wrong in this way
+    more and more seldom; or `more`."""
+    least = {}
+    for rare, wrong_logs, logs, its_calls in of_wrong(wrong):
+        least.setdefault(rare, [])
+        if 10 * wrong_logs >= SHOWING * logs:
+            least[rare].append(its_calls)
+    return " | ".join(f"{min(least[it]):,}" if least[it] else "more" for it in sorted(least))
+
+
+def of_wrong(wrong):
+    """Returns of the rows of bench/recording.txt of a wrong table: one of how many calls is wrong, the logs that are not legal, all logs, and
+    the calls of each."""
+    rows = re.findall(rf"^{wrong}:(\d+): (\d+) of (\d+) not legal; (\d+) calls", read("bench/recording.txt"), re.MULTILINE)
+    return [tuple(map(int, it)) for it in rows]
+
+
+def sizes():
+    """Returns the calls of the logs of a wrong table."""
+    *first, last = (f"{it:,}" for it in sorted({row[-1] for row in of_wrong("stale")}))
+    return f"{', '.join(first)} or {last}"
 
 
 def program(name):
@@ -351,8 +377,9 @@ def whole(path, pattern):
     return round(float(found(path, pattern)))
 
 
-FUNCTIONS = (answer, below, bits, busy, calls, constant_of, counted, crate, date, entries, found, gate, judged, judged_one, lasting, len, liburing, line, lines, linux, loads, measured, middle, minutes, naming, narrow,
-             number, of_runs, on_four_threads, program, python, ratio, round, seconds, span, stale, status, version, whole, width, width_of_slots)
+FUNCTIONS = (answer, below, bits, busy, calls, constant_of, counted, crate, date, entries, found, gate, judged, judged_one, lasting, len, liburing,
+             line, lines, linux, loads, measured, middle, minutes, naming, narrow, number, of_runs, on_four_threads, program, python, ratio, round,
+             seconds, showing, sizes, span, stale, status, version, whole, width, width_of_slots)
 SOURCES = Sources({it.__name__: it for it in FUNCTIONS})
 
 

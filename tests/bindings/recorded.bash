@@ -70,7 +70,8 @@ recorded() {
     want 'a number of threads that is none is not refused' refuses_arguments "THREADS is a number from 1 to 64, not '0'" slots 1 0
     want 'a table by keys with too few slots is not refused' refuses_arguments "SLOTS is a number from 600 to 1048576, not '64'" c-keys 1 3 2 100 64
     want 'a table that there is none of is not refused' refuses_arguments \
-        "TABLE is yachtbanyan, c, keys, c-keys, slots, stale, rare:N, early or walk, not 'none'" none 1
+        "TABLE is yachtbanyan, c, keys, c-keys, slots, stale, early, walk, or, wrong at one of N calls, stale:N, early:N, lost:N, take:N or full:N, \
+not 'none'" none 1
     want 'a log of the Rust crate is not legal' legal yachtbanyan 3 20 300 3
     want 'a log of the Rust crate with one slot is not legal' legal yachtbanyan 4 20 200 1
     want 'a log of the C library is not legal' legal c 3 20 300 3
@@ -87,6 +88,9 @@ wrong_recorded() {
     want 'a look from an old copy is not noticed' found stale
     want 'a value that is dropped in use is not noticed' found early
     want 'a table that says full after one walk is not noticed' found walk none
+    want 'a value of a hundred that is never dropped is not noticed' found lost:100
+    want 'a removal of a hundred that says the opposite is not noticed' found take:100
+    want 'a put of a hundred that says full is not noticed' found full:100
 }
 
 # a key of sharded-slab that is removed twice while a guard lives

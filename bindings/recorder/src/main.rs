@@ -1,18 +1,21 @@
 //! recorder TABLE SEED [THREADS [ROUNDS [CALLS [SLOTS]]]]: records random calls of threads on a
 //! table, and prints the log (docs/use/RECORDING.md). TABLE is `yachtbanyan`, `c` (that of the C
 //! library), `keys` and `c-keys` (the same two by the keys of their values), `slots` (a table of
-//! std), or a wrong one: `stale`, `rare:N` (one of N looks is stale), `early` or `walk`. Standard
-//! error has the number of calls, and how rare a fault is that they show.
+//! std), or a wrong one: `stale`, `early` or `walk`, or `stale:N`, `early:N`, `lost:N`, `take:N` or
+//! `full:N`, of which one of N calls is wrong. Standard error has the number of calls, and how rare
+//! a fault is that they show.
 //!
 //! Each of THREADS (3) makes CALLS (50) calls in each of ROUNDS (20), after which all rest. The
 //! table has SLOTS: 3, or by keys as many as all calls, since each call may keep its value.
-use recorder::tables::{Fault, Slots};
+use recorder::tables::{Fault, Slots, Wrong};
 use recorder::{record, Log, Plan};
 use std::io::Write;
 use std::process::ExitCode;
 
 const USAGE: &str = "usage: recorder TABLE SEED [THREADS [ROUNDS [CALLS [SLOTS]]]]";
-const TABLES: &str = "yachtbanyan, c, keys, c-keys, slots, stale, rare:N, early or walk";
+const TABLES: &str =
+    "yachtbanyan, c, keys, c-keys, slots, stale, early, walk, or, wrong at one of \
+                      N calls, stale:N, early:N, lost:N, take:N or full:N";
 /// The largest numbers of threads and of slots.
 const MOST: (usize, usize) = (64, 1_048_576);
 
@@ -85,20 +88,36 @@ fn log_of_library(table: &str, _: Plan) -> Option<Result<Log, String>> {
     needed.then(|| Err(format!("{table} needs the feature yachtbanyan")))
 }
 
+/// Returns the fault of a table that is wrong at one of N calls, by its name, `WRONG:N`.
+fn rare_fault(table: &str) -> Option<Result<Fault, String>> {
+    let (name, number) = table.split_once(':')?;
+    let wrong = match name {
+        "stale" => Wrong::Stale,
+        "early" => Wrong::Early,
+        "lost" => Wrong::Lost,
+        "take" => Wrong::Take,
+        "full" => Wrong::Full,
+        _ => return None,
+    };
+    Some(match number.parse() {
+        Ok(calls) if calls > 0 => Ok(Fault::Rare(wrong, calls)),
+        _ => Err(format!("{name}:N takes a number from 1 up")),
+    })
+}
+
 fn log_of(table: &str, plan: Plan) -> Result<Log, String> {
     let fault = match table {
         "slots" => Fault::None,
         "stale" => Fault::Stale,
         "early" => Fault::Early,
         "walk" => Fault::OneWalk,
-        _ if table.starts_with("rare:") => match table["rare:".len()..].parse() {
-            Ok(looks) if looks > 0 => Fault::Rare(looks),
-            _ => return Err("rare:N takes a number from 1 up".to_string()),
+        _ => match rare_fault(table) {
+            Some(fault) => fault?,
+            None => {
+                let found = log_of_library(table, plan);
+                return found.unwrap_or_else(|| Err(format!("TABLE is {TABLES}, not '{table}'")));
+            }
         },
-        _ => {
-            let found = log_of_library(table, plan);
-            return found.unwrap_or_else(|| Err(format!("TABLE is {TABLES}, not '{table}'")));
-        }
     };
     Ok(record(Slots::new(plan.slots, fault), plan))
 }

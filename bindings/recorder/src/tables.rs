@@ -11,19 +11,35 @@ pub enum Fault {
     None,
     /// A look returns what the slot had some looks before.
     Stale,
-    /// One of this number of looks returns what the slot had at the thread's look before.
-    Rare(usize),
     /// A removed value is dropped at once, also while it is in use.
     Early,
     /// A search that found each slot full at some time says full, also if the table changed.
     OneWalk,
+    /// One of this number of calls is wrong, of those that may be wrong so.
+    Rare(Wrong, usize),
+}
+
+/// How a call of a table of [`Slots`] is wrong.
+#[derive(Clone, Copy, Debug, PartialEq, Eq)]
+pub enum Wrong {
+    /// A look returns what the slot had at the thread's look before.
+    Stale,
+    /// A removed value is dropped at once, also while it is in use.
+    Early,
+    /// A removed value is never dropped.
+    Lost,
+    /// A removal says that the slot was empty if it had a value, and the converse.
+    Take,
+    /// A search says full without a look at the table.
+    Full,
 }
 
 /// A table of std: a lock for each slot, and a count of all changes.
 pub struct Slots {
     slots: Vec<Mutex<Option<Arc<Value>>>>,
     changes: AtomicUsize,
-    looks: AtomicUsize,
+    /// The calls that may be wrong.
+    calls: AtomicUsize,
     fault: Fault,
 }
 
@@ -43,9 +59,17 @@ impl Slots {
         Slots {
             slots: (0..slots).map(|_| Mutex::new(None)).collect(),
             changes: AtomicUsize::new(0),
-            looks: AtomicUsize::new(0),
+            calls: AtomicUsize::new(0),
             fault,
         }
+    }
+
+    /// Counts a call that may be wrong in this way, and returns whether it is wrong.
+    fn is_wrong(&self, wrong: Wrong) -> bool {
+        let Fault::Rare(it, calls) = self.fault else {
+            return false;
+        };
+        it == wrong && (self.calls.fetch_add(1, SeqCst) + 1) % calls == 0
     }
 
     fn swap(&self, slot: usize, value: Option<Arc<Value>>) -> bool {
@@ -54,10 +78,16 @@ impl Slots {
             self.changes.fetch_add(1, SeqCst);
             std::mem::replace(&mut *at, value)
         };
-        if let (Some(old), Fault::Early) = (&old, self.fault) {
+        let Some(old) = old else {
+            return false;
+        };
+        if self.fault == Fault::Early || self.is_wrong(Wrong::Early) {
             old.close();
         }
-        old.is_some()
+        if self.is_wrong(Wrong::Lost) {
+            std::mem::forget(old);
+        }
+        true
     }
 
     /// Puts the value at the first slot that is empty when it is looked at.
@@ -99,11 +129,14 @@ impl Handle for SlotsHandle<'_> {
 
     fn get(&self, slot: usize) -> Option<Arc<Value>> {
         let current = || self.table.slots[slot].lock().unwrap().clone();
-        if let Fault::Rare(looks) = self.table.fault {
+        if let Fault::Rare(Wrong::Stale, _) = self.table.fault {
             let now = current();
             let old = std::mem::replace(&mut self.copies.borrow_mut()[slot].1, now.clone());
-            let looked = self.table.looks.fetch_add(1, SeqCst) + 1;
-            return if looked % looks == 0 { old } else { now };
+            return if self.table.is_wrong(Wrong::Stale) {
+                old
+            } else {
+                now
+            };
         }
         if self.table.fault != Fault::Stale {
             return current();
@@ -121,6 +154,9 @@ impl Handle for SlotsHandle<'_> {
     }
 
     fn put_any(&self, value: Value) -> Result<usize, Value> {
+        if self.table.is_wrong(Wrong::Full) {
+            return Err(value);
+        }
         let value = Arc::new(value);
         loop {
             let before = self.table.changes.load(SeqCst);
@@ -135,7 +171,7 @@ impl Handle for SlotsHandle<'_> {
     }
 
     fn take(&self, slot: usize) -> bool {
-        self.table.swap(slot, None)
+        self.table.swap(slot, None) != self.table.is_wrong(Wrong::Take)
     }
 
     fn rest(&self) {
