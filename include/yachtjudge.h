@@ -255,8 +255,20 @@ enum {
     YACHT_RULE_HOLDS = 20,        /* an access finds a file at a slot, and each other file isn't
                                    * there by earlier steps and by the log: first, second, access,
                                    * slot */
-    YACHT_RULE_DIFFERS = 21       /* accesses of different calls aren't at the same time (premise):
+    YACHT_RULE_DIFFERS = 21,      /* accesses of different calls aren't at the same time (premise):
                                    * the calls first and second */
+    YACHT_RULE_STAYS = 22,        /* a file that isn't gone at some event (premise) is at its slot
+                                   * until the event first: no call before that took it, by earlier
+                                   * steps and by the log */
+    YACHT_RULE_TAKES = 23,        /* a file that isn't gone at some event (premise), and is gone
+                                   * before another one (other), was at its slot until the only
+                                   * access that may have taken it */
+    YACHT_RULE_TAKEN_BY = 24,     /* that file was gone after that access: premise, other */
+    YACHT_RULE_LANDS = 25,        /* a file that was installed (premise) was then at the only slot at
+                                   * which a request may install it */
+    YACHT_RULE_MISSES = 26,       /* a file that was installed (premise) was never at a slot at which
+                                   * no request may install it */
+    YACHT_RULE_EXISTED = 27       /* a file was installed before it was closed: first */
 };
 
 /* A step of a reason: by its rule, the point `from` comes before the point `to` in each flight. The

@@ -36,6 +36,10 @@ call 10 close 0 link ; open b any link ; update 1 0,0
 done 10.1 1
 done 10.2 -125
 done 10.3 2
+call 12 open a at 1
+done 12.1 0 61
+call 13 open a any
+done 13.1 2
 """
 A, B = (2, 1, 0), (4, 1, 0)
 OPENED, LOOKED, UPDATED, FOUND, CLOSED, READ = (5, 6), (7, 8), (9, 10), (11, 12), (16, 17), (18, 19)
@@ -83,9 +87,15 @@ CLEAR_GONE_B = chain(step("ends", UPDATED, access(10, 1), event(10), 1), of_line
 PUT_A_GONE_B = chain(installs_a, of_lines(6, 11), begins_found, finds_b)
 LOOK_CLOSE = chain(step("ends", LOOKED, access(8), event(8)), of_lines(8, 16), step("begins", CLOSED, event(16), access(17)))
 PUT_B_FOUND = [step("follows", FOUND, PUT_B, access(12))]
+A_IS_THERE = chain(step("begins", LOOKED, event(7), access(8)), step("finds", LOOKED, access(8), GONE_A))
+B_IS_THERE = chain(begins_found, finds_b)
+closes_a, closes_b = step("closes", (14,), GONE_A, event(14)), step("closes", (20,), GONE_B, event(20))
+# both files, gone before lines 20 and 30; the last step is that B is gone before line 28
+B_IS_GONE = [*B_IS_THERE, closes_b, of_lines(20, 30), step("then", (), GONE_B, event(30), premises=(3, 4))]
+B_IS_GONE_SOONER = [*B_IS_GONE, of_lines(20, 28), step("then", (), GONE_B, event(28), premises=(3, 6))]
 # steps that come first, the last one, which follows, and others in its place, which don't
 ROWS = [
-    ([], of_lines(5, 6), [of_lines(6, 5), of_lines(6, 6), of_lines(4, 5), of_lines(1, 5), of_lines(31, 32), of_lines(0, 5),
+    ([], of_lines(5, 6), [of_lines(6, 5), of_lines(6, 6), of_lines(4, 5), of_lines(1, 5), of_lines(35, 36), of_lines(0, 5),
                           step("events", (5, 6), event(5), event(6), is_strict=False), step("events", (5, 6), event(5), event(7))]),
     ([], step("begins", OPENED, event(5), access(6)),
      [step("begins", (5, 8), event(5), access(8)), step("begins", OPENED, event(5), access(6, 1), 1), step("begins", (6, 6), event(6), access(6)),
@@ -146,6 +156,10 @@ ROWS = [
      [step("cant-answer", CLOSED, event(17), event(17)), step("cant-answer", READ, event(19), event(19)), step("cant-answer", (24, 25), event(25), event(25)),
       step("cant-answer", (16, 29), event(29), event(29)), step("cant-answer", (28, 29), event(28), event(29)),
       step("cant-answer", (28, 30), event(30), event(30))]),
+    # an open that answers bytes
+    ([], step("cant-answer", (32, 33), event(33), event(33)), [step("cant-answer", (32, 29), event(29), event(29))]),
+    # an open at a slot that isn't there
+    ([], step("cant-answer", (34, 35), event(35), event(35)), [step("cant-answer", (34, 33), event(33), event(33))]),
     # an update past the last slot
     ([], step("cant-answer", (28, 31), event(31), event(31)), [step("cant-answer", UPDATED, event(10), event(10))]),
     # slot 1 never had a file, and one of slot 0 was replaced; without its access, more may be there
@@ -161,6 +175,36 @@ ROWS = [
     (LOOK_CLOSE, step("differs", (7, 16), access(8), access(17), premises=(4,)),
      [step("differs", (7, 7), access(8), access(17), premises=(4,)), step("differs", (7, 16), access(8), access(17), premises=(0,)),
       step("differs", (9, 16), access(8), access(17), premises=(4,)), step("differs", (7, 16), access(8), access(17), premises=(4,), is_strict=False)]),
+    (PUT_A_PUT_B[:1], step("lands", (), PUT_A, GONE_A, premises=(0,)),
+     [step("lands", (), PUT_A, (GONE, A, 1), premises=(0,)), step("lands", (), PUT_A, GONE_A, premises=(0,), is_strict=False),
+      step("lands", (), PUT_B, GONE_B, premises=(0,)), step("lands", (), PUT_A, GONE_B, premises=(0,))]),
+    # an order that doesn't end at an event, and an open at any slot
+    ([step("follows", LOOKED, PUT_A, access(8)), step("calls", (28,), event(28), (PUT, (10, 2, 0)))], of_lines(5, 6),
+     [step("lands", (), PUT_A, GONE_A, premises=(0,)), step("lands", (), (PUT, (10, 2, 0)), (GONE, (10, 2, 0), 0), premises=(1,))]),
+    (PUT_A_PUT_B[:1], step("misses", (), (GONE, A, 1), PUT_A, premises=(0,), is_strict=False),
+     [step("misses", (), GONE_A, PUT_A, premises=(0,), is_strict=False), step("misses", (), (GONE, A, 1), PUT_A, premises=(0,)),
+      step("misses", (), (GONE, B, 1), PUT_B, premises=(0,), is_strict=False)]),
+    ([step("follows", LOOKED, PUT_A, access(8)), step("calls", (28,), event(28), (PUT, (10, 2, 0)))], of_lines(5, 6),
+     [step("misses", (), (GONE, A, 1), PUT_A, premises=(0,), is_strict=False), step("misses", (), (GONE, A, 1), PUT_A, premises=(1,), is_strict=False)]),
+    ([], step("existed", (14,), PUT_A, event(14)), [step("existed", (20,), PUT_A, event(20)), step("existed", (15,), PUT_A, event(15))]),
+    # before line 9 no call but A's own may change slot 0, and call 4 installs B there
+    (A_IS_THERE, step("stays", (9,), event(9), GONE_A, premises=(2,)),
+     [step("stays", (10,), event(10), GONE_A, premises=(2,)), step("stays", (9,), event(9), GONE_A, premises=(0,)),
+      step("stays", (9,), event(9), GONE_A, premises=(2,), is_strict=False), step("stays", (9,), event(9), GONE_B, premises=(2,)),
+      step("stays", (4,), event(4), GONE_A, premises=(2,)), step("stays", (9,), event(9), GONE_A, premises=(1,))]),
+    ([*A_IS_THERE, closes_a], step("takes", (), PUT_B, GONE_A, premises=(2, 3), is_strict=False),
+     [step("takes", (), PUT_A, GONE_A, premises=(2, 3), is_strict=False), step("takes", (), access(8), GONE_A, premises=(2, 3), is_strict=False),
+      step("takes", (), PUT_B, GONE_A, premises=(3, 2), is_strict=False), step("takes", (), PUT_B, GONE_A, premises=(2, 3)),
+      step("takes", (), GONE_A, PUT_B, premises=(2, 3), is_strict=False), step("takes", (), PUT_B, GONE_B, premises=(2, 3), is_strict=False),
+      step("takes", (), event(9), GONE_A, premises=(2, 3), is_strict=False), step("takes", (), PUT_B, GONE_A, premises=(1, 3), is_strict=False)]),
+    ([*A_IS_THERE, closes_a], step("taken-by", (), GONE_A, access(10), premises=(2, 3), is_strict=False),
+     [step("taken-by", (), PUT_B, GONE_A, premises=(2, 3), is_strict=False), step("taken-by", (), GONE_A, access(10, 1), premises=(2, 3), is_strict=False),
+      step("taken-by", (), GONE_A, PUT_B, premises=(2, 3)), step("taken-by", (), GONE_A, PUT_A, premises=(2, 3), is_strict=False)]),
+    # the close of call 10 may have taken B before line 30, unless B was gone before that call
+    (B_IS_GONE, step("takes", (), access(17), GONE_B, premises=(2, 3), is_strict=False),
+     [step("takes", (), access(17), GONE_B, premises=(2, 5), is_strict=False)]),
+    (B_IS_GONE_SOONER, step("takes", (), access(17), GONE_B, premises=(2, 5), is_strict=False),
+     [step("takes", (), access(29), GONE_B, premises=(2, 5), is_strict=False), step("takes", (), PUT_A, GONE_B, premises=(2, 5), is_strict=False)]),
     ([], of_lines(5, 6), [step("knows", (5, 6), event(5), event(6))]),
 ]
 

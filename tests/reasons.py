@@ -161,6 +161,24 @@ class Log:
                     if 0 <= entry < len(entries) and entries[entry] >= 0:
                         yield call, member, entry
 
+    def takers(self, slot, before):
+        """Yields the accesses that calls before a line may make to a slot and that take its file: the call, the member, the number of the access,
+        and the file that it installs, or None."""
+        for call, line in self.calls.items():
+            for member, request in enumerate(self.chain(call) if line < before else [], 1):
+                if self.is_refused(request):
+                    continue
+                if request[0] == "close" and int(request[1]) == slot:
+                    yield call, member, 0, None
+                if request[0] == "open" and request[2] == "at" and int(request[3]) == slot:
+                    yield call, member, 0, (call, member, 0)
+                if request[0] in ("update", "regupdate"):
+                    made = [at for at, it in enumerate(map(int, request[2].split(","))) if it >= -1]
+                    for number, at in enumerate(made):
+                        if int(request[1]) + at == slot:
+                            is_put = int(request[2].split(",")[at]) >= 0
+                            yield call, member, number, (call, member, at) if is_put else None
+
     def is_refused(self, request):
         """Returns whether an open or an update fails without an access."""
         if request[0] == "open":
@@ -196,9 +214,11 @@ class Log:
         call, member, result, _ = self.answer_at(line)
         return self.accesses((call, member), self.chain(call)[member - 1], result, line)
 
-    def may_answer(self, request, result):
-        """Returns whether a request of a chain may have a result, whatever it finds."""
+    def may_answer(self, request, result, more):
+        """Returns whether a request of a chain may have a result, and words after it, whatever it finds."""
         kind, slot = request[0], int(request[1]) if request[0] != "open" else 0
+        if more and kind != "read":
+            return False
         if kind in ("update", "regupdate"):
             entries = list(map(int, request[2].split(",")))
             is_bad = any(not -2 <= it < len(self.names) for it in entries)
@@ -210,7 +230,7 @@ class Log:
         if request[1] not in self.names:
             return result == -2
         if request[2] == "any":
-            return result == -23 or result >= 0
+            return result == -23 or 0 <= result < self.size
         return result == (0 if int(request[3]) < self.size else -22)
 
 
@@ -229,12 +249,12 @@ class Reason:
     def __init__(self, log):
         self.log, self.known = log, []
 
-    def order(self, rule, lines, access, premises):
-        """Returns the order that a step adds: both points, and whether they differ in time."""
+    def order(self, rule, lines, access, premises, named=()):
+        """Returns the order that a step adds: both points, and whether they differ in time. `named` has what its order alone names."""
         wanted = getattr(self, "_" + rule.replace("-", "_"), None)
         want(wanted, f"there is no rule {rule}")
         want(all(0 <= it < len(self.known) for it in premises), "an earlier step is none")
-        return wanted(lines, access, [self.known[it] for it in premises])
+        return wanted(lines, access, [self.known[it] for it in premises], *named)
 
     def _events(self, lines, access, premises):
         want(lines[0] < lines[1] and all(map(self.log.is_event, lines)), "the lines are in another order, or no events")
@@ -309,7 +329,7 @@ class Reason:
         want(left and left[0] == gone[2] and left[1] != gone[1], "the access doesn't leave the slot without the file")
         return (ACCESS, lines[1], access), (PUT, gone[1]), True
 
-    def _stays(self, premise):
+    def _placed(self, premise):
         """Returns the file and the slot of the premise that an installed file was then at its slot."""
         put, gone, is_strict = premise
         want(is_strict and gone[0] == GONE and put == (PUT, gone[1]), "the file isn't known to be at the slot")
@@ -317,13 +337,13 @@ class Reason:
 
     def _displaces(self, lines, access, premises):
         (put, later, _), placed = premises
-        file, (other, slot) = is_put(put), self._stays(placed)
+        file, (other, slot) = is_put(put), self._placed(placed)
         want(later == (PUT, other) and file != other, "the other file isn't known to be installed later")
         return (GONE, file, slot), (PUT, other), False
 
     def _outlives(self, lines, access, premises):
         (put, gone, is_strict), placed = premises
-        other, slot = self._stays(placed)
+        other, slot = self._placed(placed)
         want(is_strict and put == (PUT, other) and gone[0] == GONE and gone[2] == slot and gone[1] != other, "the file isn't known to be there later")
         return (PUT, other), (PUT, gone[1]), True
 
@@ -347,10 +367,10 @@ class Reason:
         return (EVENT, lines[1]), (EVENT, lines[1]), True
 
     def _cant_answer(self, lines, access, premises):
-        call, member, result, _ = self.log.answer_at(lines[1])
+        call, member, result, more = self.log.answer_at(lines[1])
         want(self.log.call_at(lines[0]) == call and self.log.chain(call)[0][0] != "look", "another call is answered, or a look")
         want(result != -12 and (result != CANCELED or member == 1), "a member may lack memory, or be canceled after another one")
-        want(not self.log.may_answer(self.log.chain(call)[member - 1], result), "the request may have this answer")
+        want(not self.log.may_answer(self.log.chain(call)[member - 1], result, more), "the request may have this answer")
         return (EVENT, lines[1]), (EVENT, lines[1]), True
 
     def _holds(self, lines, access, premises, points):
@@ -373,6 +393,61 @@ class Reason:
         if result < 0 or self.log.slot_of(file, result) != slot:
             return True
         return any(line < called and left != file for called, left in self.log.left_before(slot, call_line))
+
+    def _lands(self, lines, access, premises, slot):
+        put, may = self._landing(premises, slot)
+        want(may and self.log.file_of(put[1]) and self.log.chain(put[1][0])[put[1][1] - 1][2] != "any", "it isn't the only slot")
+        return put, (GONE, put[1], slot), True
+
+    def _misses(self, lines, access, premises, slot):
+        put, may = self._landing(premises, slot)
+        want(not may, "the file may be installed there")
+        return (GONE, put[1], slot), put, False
+
+    def _landing(self, premises, slot):
+        """Returns the file that is installed before an event, and whether a call before the event may install it at a slot."""
+        ((put, event, is_before),) = premises
+        file = is_put(put)
+        want(is_before and event[0] == EVENT, "the file isn't known to be installed")
+        return put, file in self.log.installs(slot, event[1])
+
+    def _existed(self, lines, access, premises):
+        return (PUT, self._closed(lines[0])), (EVENT, lines[0]), True
+
+    def _stays(self, lines, access, premises):
+        ((since, gone, is_there),) = premises
+        want(is_there and since[0] == EVENT and gone[0] == GONE and self.log.is_event(lines[0]), "the file isn't known to be there")
+        self._want_taker(None, since[1], gone, lines[0])
+        return (EVENT, lines[0]), gone, True
+
+    def _takes(self, lines, access, premises, points):
+        taker, gone = points
+        (since, there, is_there), (same, until, _) = premises
+        want(is_there and since[0] == EVENT and there == same == gone and gone[0] == GONE and until[0] == EVENT, "the file isn't known to be gone")
+        want(taker[0] in (ACCESS, PUT), "no access takes it")
+        self._want_taker(taker, since[1], gone, until[1])
+        return taker, gone, False
+
+    def _taken_by(self, lines, access, premises, points):
+        taker, gone, _ = self._takes(lines, access, premises, points[::-1])
+        return gone, taker, False
+
+    def _want_taker(self, taker, since, gone, until):
+        """Raises Wrong unless only `taker` may have taken a file, which was at its slot at the line `since`, before the line `until`."""
+        for it in self.log.takers(gone[2], until):
+            want(self._takes_none(taker, since, gone, *it), f"member {it[0]}.{it[1]} may have taken the file")
+
+    def _takes_none(self, taker, since, gone, call, member, number, file):
+        """Whether an access can't have taken a file, but for `taker`: by earlier steps, or by the answer of its member."""
+        line, result = self.log.answer_of((call, member, 0))
+        # an access comes before its answer
+        if file == gone[1] or result < 0 or 0 < line <= since:
+            return True
+        times = [(PUT, file)] if file else []
+        times += [(ACCESS, line, number)] if line else []
+        if any(it in ((time, gone, True), (gone, time, True)) for it in self.known for time in times):
+            return True
+        return taker in times or (gone, (EVENT, self.log.calls[call]), True) in self.known
 
     def _differs(self, lines, access, premises):
         ((before, after, _),) = premises
@@ -403,9 +478,11 @@ def complaint(text, facts, tags=False):
         for nth, (rule, lines, access, premises, before, after, is_strict) in enumerate(facts):
             order = point_of(before), point_of(after), bool(is_strict)
             # the file of a call and the slot of a close are named by the order alone
-            named = {"calls": order[1][1:2], "closes": order[0][2:3], "holds": (order[:2],)}.get(rule, ())
+            points = order[:2],
+            named = {"calls": order[1][1:2], "closes": order[0][2:3], "lands": order[1][2:3], "misses": order[0][2:3], "holds": points,
+                     "takes": points, "taken-by": points}.get(rule, ())
             try:
-                adds = reason.order(rule, lines, access, premises) if not named else getattr(reason, f"_{rule}")(lines, access, [], *named)
+                adds = reason.order(rule, lines, access, premises, named)
                 want(adds == order, f"it adds {adds}, not {order}")
             except (Wrong, ValueError, IndexError, KeyError, TypeError) as why:
                 return f"step {nth}, {rule} of lines {list(lines)}: {why}"

@@ -5,7 +5,7 @@ from __future__ import annotations
 from collections.abc import Iterable, Iterator, Sequence
 from typing import TYPE_CHECKING
 
-from yachtsteps import Step
+from yachtsteps import Point, Step
 
 if TYPE_CHECKING:
     from yachtlines import Event, Lines, Mark
@@ -140,6 +140,29 @@ class Words:
             return f"{found}, where no file can have been"
         file = (it.after if it.after.kind == "gone" else it.before).file
         return f"{found}, which can only have been {name_of(file)}"
+
+    def _lands(self, it: Step) -> str:
+        return f"{name_of(it.after.file)} was installed at slot {it.after.slot}"
+
+    def _misses(self, it: Step) -> str:
+        return f"no call before can have installed {name_of(it.before.file)} at slot {it.before.slot}"
+
+    def _existed(self, it: Step) -> str:
+        return f"{name_of(it.before.file)} was installed before it was closed by line {it.lines[0]}"
+
+    def _stays(self, it: Step) -> str:
+        return f"no call before line {it.lines[0]} can have taken {name_of(it.after.file)} from slot {it.after.slot}"
+
+    def _taker(self, point: Point) -> str:
+        """Returns the only access that can have taken a file, by its time."""
+        who = f"the installation of {name_of(point.file)}" if point.kind == "put" else self._who(point.line)
+        return f"{who}, which alone can have taken it"
+
+    def _takes(self, it: Step) -> str:
+        return f"{name_of(it.after.file)} was at slot {it.after.slot} until {self._taker(it.before)}"
+
+    def _taken_by(self, it: Step) -> str:
+        return f"{name_of(it.before.file)} was gone from slot {it.before.slot} after {self._taker(it.after)}"
 
     def _differs(self, it: Step) -> str:
         return "accesses of two calls are not at the same time"

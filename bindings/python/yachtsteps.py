@@ -14,7 +14,8 @@ if TYPE_CHECKING:
 
 # the rules and the kinds of points, in the order of their numbers from 1
 RULES = ["events", "begins", "ends", "calls", "installs", "places", "follows", "finds", "closes", "settles", "empties", "precedes", "displaces",
-         "outlives", "then", "finds-closed", "closes-twice", "closes-held", "cant-answer", "holds", "differs"]
+         "outlives", "then", "finds-closed", "closes-twice", "closes-held", "cant-answer", "holds", "differs", "stays", "takes",
+         "taken-by", "lands", "misses", "existed"]
 POINTS = ["event", "access", "put", "gone"]
 # for each rule the number of its events, whether it names an access, and the number of its premises
 SHAPES = {
@@ -23,6 +24,8 @@ SHAPES = {
     "empties": (2, True, 1), "precedes": (2, True, 1), "displaces": (0, False, 2), "outlives": (0, False, 2), "then": (0, False, 2),
     "finds-closed": (2, False, 0), "closes-twice": (2, False, 0), "closes-held": (2, False, 0),
     "cant-answer": (2, False, 0), "holds": (2, True, 0), "differs": (2, False, 1),
+    "stays": (1, False, 1), "takes": (0, False, 2), "taken-by": (0, False, 2), "lands": (0, False, 1),
+    "misses": (0, False, 1), "existed": (1, False, 0),
 }
 
 

@@ -74,9 +74,21 @@ pub enum Rule {
     Holds,
     /// Accesses of different calls aren't at the same time.
     Differs,
+    /// A file is at its slot until an event, since no call before the event took it.
+    Stays,
+    /// A file was at its slot until the only access that may have taken it.
+    Takes,
+    /// A file was gone after the only access that may have taken it.
+    TakenBy,
+    /// A file that was installed was then at the only slot at which a request may install it.
+    Lands,
+    /// A file that was installed was never at a slot at which no request may install it.
+    Misses,
+    /// A file was installed before it was closed.
+    Existed,
 }
 
-const RULES: [Rule; 21] = [
+const RULES: [Rule; 27] = [
     Rule::Events,
     Rule::Begins,
     Rule::Ends,
@@ -98,6 +110,12 @@ const RULES: [Rule; 21] = [
     Rule::CantAnswer,
     Rule::Holds,
     Rule::Differs,
+    Rule::Stays,
+    Rule::Takes,
+    Rule::TakenBy,
+    Rule::Lands,
+    Rule::Misses,
+    Rule::Existed,
 ];
 
 /// A step of a reason: a point comes before another one in each flight. `first`, `second`,

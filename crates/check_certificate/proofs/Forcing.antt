@@ -3,7 +3,7 @@ use Rattle.check_certificate.proofs.Words.{◌≡◌, ◌⊎◌, ℕ, ◌+◌, �
 use Rattle.check_certificate.proofs.Words.{Some, None, Option, ⊎_elim, Contains, contains_head}
 use Rattle.check_certificate.proofs.Words.{cases_lt, slice_get, Moment, Logged, Accesses, Access, IsLeftAt, true, false, Bool}
 use Rattle.check_certificate.proofs.Words.{AreTimes, Identity, Table, table_with, table_left_by, Happening, WasLogged}
-use Rattle.check_certificate.proofs.Words.{Permits, Answered, Called, LookAnswered, LookCalled, Freed, FileClosed, AllSettled, IsLegalLog, Looks}
+use Rattle.check_certificate.proofs.Words.{Permits, Answered, Called, LookAnswered, LookCalled, Freed, FileClosed, AllSettled, IsLegalLog, IsPut, Allocates, Clears, FindsFull, Looks, Puts, Takes}
 use Rattle.check_certificate.proofs.Words.{zero, suc, contains_tail, if◌then◌else◌, subst}
 use Rattle.check_certificate.proofs.Existing.{times_of_flight}
 use Rattle.check_certificate.proofs.Leaving.{same_chain, taken_gone, there_after, there_or_taken}
@@ -12,7 +12,7 @@ use Rattle.check_certificate.proofs.Marks.{mark_at}
 use Rattle.check_certificate.proofs.Orders.{IsHere, IsSaid, call_before, event_order, here, may_at, new_file, older, s, said, table}
 use Rattle.check_certificate.proofs.Parts.{part_is_flight, part_length, part_of_part, shorter}
 use Rattle.check_certificate.specs.Forced.{IsForced, IsOfCall, IsContradicted, IsInOrder, IsSound, gap_of, log_of_beginning, ring_of_beginning}
-use Rattle.check_certificate.specs.Evidence.{IsEventAt, IsAccessMade, IsEvident, left_at}
+use Rattle.check_certificate.specs.Evidence.{IsEventAt, IsAccessMade, IsEvident, left_at, slot_count}
 use Rattle.check_certificate.specs.declared.beginning.LogBeginning.{LogBeginning}
 use Rattle.check_certificate.specs.declared.certificate.Point.{Point}
 use Rattle.check_certificate.specs.declared.certificate.Point.TheVariants.{Event, Gone, Put}
@@ -21,7 +21,7 @@ use Rattle.check_certificate.specs.declared.certificate.PointOrder.{PointOrder}
 use Rattle.check_certificate.specs.declared.evidence.Evidence.{Evidence}
 use Rattle.check_certificate.specs.declared.evidence.Evidence.TheVariants.{Empties, Finds, Full, Installs, Never, Sees, Removes}
 use Rattle.fx_flight.proofs.Beginnings.{logged}
-use Rattle.fx_flight.proofs.InTime.{in_log}
+use Rattle.fx_flight.proofs.InTime.{in_log, size_stays}
 use Rattle.fx_flight.specs.Laws.{IsCallOf}
 use Rattle.fx_chain.specs.Operation.{Asked, all_asked, asked_of}
 use Rattle.fx_chain.specs.declared.request.Request.{Request}
@@ -53,7 +53,7 @@ apart clock from to low = omega arith
 pub weaker : (clock : Point → ℕ) (o : PointOrder) → IsInOrder clock o → clock o.from ≤ clock o.to
 weaker clock o is = let low = is in omega arith
 
-strictly : (clock : Point → ℕ) (o : PointOrder) → o.strict ≡ true → IsInOrder clock o → clock o.from < clock o.to
+pub strictly : (clock : Point → ℕ) (o : PointOrder) → o.strict ≡ true → IsInOrder clock o → clock o.from < clock o.to
 strictly clock o so is = let gap : clock o.from + gap_of true ≤ clock o.to = rw so at is in omega arith
 
 -- what an access leaves at its slot
@@ -80,6 +80,16 @@ left_so t a (Finds own file) slot left is so may =
 take_front : {X : Type 0} (xs ys : List X) → take (length xs) (xs ++ ys) ≡ xs
 take_front [] ys = refl
 take_front (y ∷ xs) ys = ap (λ l. y ∷ l) (take_front xs ys)
+
+-- an event calls one call
+pub call_id : (e : Happening) (one other : ℕ) → IsCallOf one e → IsCallOf other e → one ≡ other
+call_id (Called n requests) one other is so = sym is ∙ so
+call_id (LookCalled n slot) one other is so = sym is ∙ so
+call_id (Answered n c) one other is so = absurd is
+call_id (LookAnswered n found) one other is so = absurd is
+call_id (Freed n) one other is so = absurd is
+call_id (FileClosed file) one other is so = absurd is
+call_id AllSettled one other is so = absurd is
 
 module _ (b : LogBeginning) where
   front_is : (front : List Happening) (e : Happening) (rest : List Happening) (n : ℕ) → log_of_beginning b ≡ front ++ e ∷ rest → length front ≡ n
@@ -174,6 +184,17 @@ module _ (b : LogBeginning) where
       let low = is_gone (table b submissions registrations sound legal clock) slot file legal.flight (clock (Put file)) (times.put file) (clock (Gone file slot))
       (times.gone file slot) x.earlier inside left.0 left.1 in
       let count = x.count in strict_order clock (Gone file slot) (Event close) (omega arith)
+
+  pub existed_forced : (close id : ℕ) (file : Identity) → IsEventAt b close (FileClosed file) → IsOfCall id file
+      → IsForced b (strict_from (Put file) (Event close))
+  existed_forced close id file is of submissions registrations sound legal clock times =
+      let x = here b submissions registrations sound legal clock times close (FileClosed file) is in
+      let inside = older b submissions registrations sound legal clock (FileClosed file) x.earlier x.inside in
+      let may = may_at b submissions registrations sound legal clock times close (FileClosed file) x in
+      let new = new_file b submissions registrations sound legal clock file id of in
+      let left = taken_gone (s b submissions registrations sound legal clock) legal.flight legal.is file new (clock (Put file)) (times.put file) x.earlier inside
+      may.removed 0 in
+      let low = left.0 in let count = x.count in strict_order clock (Put file) (Event close) (omega arith)
 
   pub settles_forced : (settled id slot : ℕ) (file : Identity) → IsEventAt b settled AllSettled → IsOfCall id file
       → (Contains (take settled (log_of_beginning b)) (FileClosed file) → ⊥)
@@ -343,15 +364,26 @@ module _ (b : LogBeginning) where
       let begins_y : y.begins ≡ e = cc in
       absurd (differ (call_id d id x.id d_is (rw begins_x at x.own) ∙ (same ∙ sym (call_id e jd y.id e_is (rw begins_y at y.own))))))
       (cases_lt (clock (At answer k)) (clock (At later j)))
-    where
-      call_id : (e : Happening) (one other : ℕ) → IsCallOf one e → IsCallOf other e → one ≡ other
-      call_id (Called n requests) one other is so = sym is ∙ so
-      call_id (LookCalled n slot) one other is so = sym is ∙ so
-      call_id (Answered n c) one other is so = absurd is
-      call_id (LookAnswered n found) one other is so = absurd is
-      call_id (Freed n) one other is so = absurd is
-      call_id (FileClosed file) one other is so = absurd is
-      call_id AllSettled one other is so = absurd is
+
+  put_inside : (t : Table) (a : Access) (slot : ℕ) (file : Identity) → Permits t a → IsPut a slot file → slot < t.size
+  put_inside t (Puts own f removed) slot file may is = rw (← is.0) may.0
+  put_inside t (Allocates own f) slot file may is = rw (← is.0) may.0.0
+  put_inside t (Looks own found) slot file may is = absurd is
+  put_inside t (Clears own removed) slot file may is = absurd is
+  put_inside t (Takes own removed) slot file may is = absurd is
+  put_inside t FindsFull slot file may is = absurd is
+
+  -- no access installs a file past the last slot
+  pub outside : (call answer slot : ℕ) (file : Identity) → IsAccessMade b call answer 0 (Installs slot file) → (slot < slot_count b → ⊥)
+      → IsForced b (strict_from (Event answer) (Event answer))
+  outside call answer slot file made past submissions registrations sound legal clock times =
+      let x = said b submissions registrations sound legal clock times call answer 0 (Installs slot file) made in
+      let t = table b submissions registrations sound legal clock in
+      let may : Permits (table_left_by t x.time.0) x.access =
+      (part_is_flight (s b submissions registrations sound legal clock) legal.flight (Accesses (record { chain = x.id; access = x.access }) ∷ x.time.0)
+      x.time.1 legal.is).1.0 in
+      let low = put_inside (table_left_by t x.time.0) x.access slot file may x.is in
+      let size = size_stays t x.time.0 in absurd (past (rw (← size) low))
 
   pub cant_answer : (call answer : ℕ) → IsAccessMade b call answer 0 Never → IsForced b (strict_from (Event answer) (Event answer))
   cant_answer call answer made submissions registrations sound legal clock times =

@@ -52,7 +52,7 @@ may_install (Take own) a slot file is put = let none : IsPut (Takes own is.0) sl
 module _ (catalogue : List FileEntry) (size : ℕ) where
   -- an access is the one with a number of those that a member of the chain intends, which has an
   -- answer
-  pub record IsIntended (place : Place) (requests : List Asked) (a : Access) (cs : List Completed) : Type 0 where
+  pub record IsIntended (place : Place) (requests : List Asked) (a : Access) (cs : List Completed) (number : ℕ) : Type 0 where
     pub n : ℕ
     pub request : Asked
     pub asked : slice_get requests n ≡ Some request
@@ -66,15 +66,18 @@ module _ (catalogue : List FileEntry) (size : ℕ) where
     pub front : List Access
     pub rest : List Access
     pub done : IsRequestDone catalogue size at request.operation (front ++ a ∷ rest) c
+    -- those of the first member are the first ones
+    pub first : n ≡ 0 → number ≡ k
 
   of_request : (place : Place) (request : Asked) (requests : List Asked) (front : List Access) (a : Access) (rest own : List Access) (c : Completed) (cs : List Completed)
-      → own ≡ front ++ a ∷ rest → (given : IsRequestDone catalogue size place request.operation own c) → IsIntended place (request ∷ requests) a (c ∷ cs)
+      → own ≡ front ++ a ∷ rest → (given : IsRequestDone catalogue size place request.operation own c)
+      → IsIntended place (request ∷ requests) a (c ∷ cs) (length front)
   of_request place request requests front a rest own c cs is given =
-      either_option {R = IsIntended place (request ∷ requests) a (c ∷ cs)} (refusal_of catalogue size request.operation) at_table
+      either_option {R = IsIntended place (request ∷ requests) a (c ∷ cs) (length front)} (refusal_of catalogue size request.operation) at_table
       (λ errno x. absurd (none_of front a rest (sym x.0 ∙ is))) given
     where
       at_table : refusal_of catalogue size request.operation ≡ None → IsDoneAtTable catalogue place request.operation own c
-          → IsIntended place (request ∷ requests) a (c ∷ cs)
+          → IsIntended place (request ∷ requests) a (c ∷ cs) (length front)
       at_table accepted (inl lacks) = absurd (none_of front a rest (sym lacks.1.0 ∙ is))
       at_table accepted (inr made) =
           let one = zip_at (intents_of place made.0.0 request.operation) front a rest (rw is at made.0.2) in
@@ -93,11 +96,12 @@ module _ (catalogue : List FileEntry) (size : ℕ) where
             front = front;
             rest = rest;
             done = rw is at given;
+            first = λ _. refl;
           }
 
-  next : (place : Place) (request : Asked) (requests : List Asked) (a : Access) (d : Completed) (cs : List Completed)
-      → IsIntended (next_member place) requests a cs → IsIntended place (request ∷ requests) a (d ∷ cs)
-  next place request requests a d cs x =
+  next : (place : Place) (request : Asked) (requests : List Asked) (a : Access) (d : Completed) (cs : List Completed) (less number : ℕ)
+      → IsIntended (next_member place) requests a cs less → IsIntended place (request ∷ requests) a (d ∷ cs) number
+  next place request requests a d cs less number x =
       let e : place.member + 1 + x.n ≡ place.member + suc x.n = omega arith in record {
         n = suc x.n;
         request = x.request;
@@ -112,17 +116,18 @@ module _ (catalogue : List FileEntry) (size : ℕ) where
         front = x.front;
         rest = x.rest;
         done = x.done;
+        first = λ zero. absurd (omega (arith, zero));
       }
 
   pub intended : (place : Place) (requests : List Asked) (front : List Access) (a : Access) (rest : List Access) (cs : List Completed)
-      → IsChainDone catalogue size place requests (front ++ a ∷ rest) cs → IsIntended place requests a cs
+      → IsChainDone catalogue size place requests (front ++ a ∷ rest) cs → IsIntended place requests a cs (length front)
   intended place [] front a rest cs x = absurd (none_of front a rest (sym x.0))
   intended place (request ∷ requests) front a rest cs x =
-      subst (λ (l : List Completed). IsIntended place (request ∷ requests) a l) (sym x.5) (⊎_elim
+      subst (λ (l : List Completed). IsIntended place (request ∷ requests) a l (length front)) (sym x.5) (⊎_elim
       (λ here. of_request place request requests front a here.0 x.0 x.2 x.3 here.1 x.6)
-      (λ later. either_way {R = IsIntended place (request ∷ requests) a (x.2 ∷ x.3)} (severs request x.2)
+      (λ later. either_way {R = IsIntended place (request ∷ requests) a (x.2 ∷ x.3) (length front)} (severs request x.2)
       (λ _ y. absurd (none_of later.0 a rest (sym y.0 ∙ later.1)))
-      (λ _ y. next place request requests a x.2 x.3 (intended (next_member place) requests later.0 a rest x.3 (rw later.1 at y))) x.7)
+      (λ _ y. next place request requests a x.2 x.3 (length later.0) (length front) (intended (next_member place) requests later.0 a rest x.3 (rw later.1 at y))) x.7)
       (split x.0 x.1 front a rest (sym x.4)))
 
   -- the member of a file that a chain installs has a number as its answer

@@ -10,5 +10,7 @@ pub mod Forcing
 pub mod Showing
 pub mod Impossible
 pub mod Intended
-pub mod Held
+pub mod Called
+pub mod Holders
 pub mod Walks
+pub mod Takers

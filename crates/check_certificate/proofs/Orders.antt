@@ -3,7 +3,7 @@ use Rattle.check_certificate.proofs.Words.{◌≡◌, ◌⊎◌, ℕ, zero, ◌+
 use Rattle.check_certificate.proofs.Words.{Some, None, Option, ⊎_elim, length-append, Contains, contains_head, Contains-append_right, subst}
 use Rattle.check_certificate.proofs.Words.{cases_lt, slice_get, Moment, Logged, Accesses, IsOlderPart, Access, IsAccessAt}
 use Rattle.check_certificate.proofs.Words.{AreAccessTimes, IsEventTime, AreTimes, Identity, FlightSetting}
-use Rattle.check_certificate.proofs.Words.{Table, table_of, log_of, Happening, MayFollow, MayAccess, WasLogged}
+use Rattle.check_certificate.proofs.Words.{Table, table_of, log_of, made_by, Happening, MayFollow, MayAccess, WasLogged}
 use Rattle.check_certificate.proofs.Words.{Answered, Called, LookAnswered, LookCalled, IsLegalLog, Submitted}
 use Rattle.check_certificate.proofs.Parts.{access_of_part, before_end, part_is_flight, part_of_part, shorter}
 use Rattle.check_certificate.specs.Forced.{IsOfCall, is_of_no_call, is_registered, IsSound, log_of_beginning, ring_of_beginning}
@@ -121,6 +121,11 @@ module _ (b : LogBeginning) (submissions registrations : ℕ) (sound : IsSound b
         absurd (new_number id 0 [] x.front x.rest e own.0 (rw x.parts at sound.faultless) inside own.1 call))
         (cases_lt (length x.earlier) (length access.0))
 
+    -- the event answers the first member of a call
+    abbrev pub IsFirst : Happening → Type 0
+    IsFirst (Answered id c) = c.place.member ≡ 1
+    IsFirst event = ⊥
+
     -- an access of which an answer says something
     pub record IsSaid (call answer k : ℕ) (evidence : Evidence) : Type 0 where
       pub id : ℕ
@@ -131,6 +136,9 @@ module _ (b : LogBeginning) (submissions registrations : ℕ) (sound : IsSound b
       pub time : IsAccessAt legal.flight id access (clock (At answer k))
       pub before : clock (At answer k) < clock (Event answer)
       pub is : IsEvident access evidence
+      pub ends : Happening
+      pub answered : IsEventAt b answer ends
+      pub first : IsFirst ends → length (made_by id time.0) ≡ k
 
     contained : (i : ℕ) (e : Happening) → IsEventAt b i e → Contains log e
     contained i e is = let p = get_parts log i e is in rw p.2 (Contains-append_right p.0 (e ∷ p.1) e (contains_head e p.1))
@@ -142,9 +150,9 @@ module _ (b : LogBeginning) (submissions registrations : ℕ) (sound : IsSound b
         let all : WasLogged legal.flight d = rw inside.1 (Contains-append_right inside.0 part (Logged d) there) in
         one_call id 0 [] log d e sound.faultless (rw legal.same at (in_log legal.flight d all)) (contained i e is) call_d call
 
-    said_by : (call answer k : ℕ) (evidence : Evidence) (begins ends : Happening) → IsEventAt b call begins → (h : IsHere answer ends)
+    said_by : (call answer k : ℕ) (evidence : Evidence) (begins ends : Happening) → IsEventAt b call begins → IsEventAt b answer ends → (h : IsHere answer ends)
         → IsShownBy b begins ends k evidence → IsSaid call answer k evidence
-    said_by call answer k evidence (Called id requests) (Answered other c) is h shows =
+    said_by call answer k evidence (Called id requests) (Answered other c) is at h shows =
         let member = h.accesses in
         let same : Called other member.requests ≡ Called id requests =
         same_call call id (Called id requests) (Called other member.requests) h.earlier is refl (older (Answered other c) h.earlier h.inside)
@@ -160,11 +168,14 @@ module _ (b : LogBeginning) (submissions registrations : ℕ) (sound : IsSound b
           called = is;
           own = sym shows.0;
           access = one.0;
-          time = access_of_part other one.0 (clock (At answer k)) (older (Answered other c) h.earlier h.inside) time;
+          time = (time.0, part_of_part (older (Answered other c) h.earlier h.inside) time.1, time.2);
           before = omega arith;
           is = one.2;
+          ends = Answered other c;
+          answered = at;
+          first = λ first. member.first first k one.0 one.1;
         }
-    said_by call answer k evidence (LookCalled id slot) (LookAnswered other found) is h shows =
+    said_by call answer k evidence (LookCalled id slot) (LookAnswered other found) is at h shows =
         let look = h.accesses in
         let same : LookCalled other look.slot ≡ LookCalled id slot =
         same_call call id (LookCalled id slot) (LookCalled other look.slot) h.earlier is refl (older (LookAnswered other found) h.earlier h.inside)
@@ -183,8 +194,11 @@ module _ (b : LogBeginning) (submissions registrations : ℕ) (sound : IsSound b
           time = access_of_part other one.0 (clock (At answer k)) (older (LookAnswered other found) h.earlier h.inside) time;
           before = omega arith;
           is = one.2;
+          ends = LookAnswered other found;
+          answered = at;
+          first = λ none. absurd none;
         }
-    said_by call answer k evidence begins ends is h shows = absurd shows
+    said_by call answer k evidence begins ends is at h shows = absurd shows
 
     pub said : (call answer k : ℕ) (evidence : Evidence) → IsAccessMade b call answer k evidence → IsSaid call answer k evidence
-    said call answer k evidence made = said_by call answer k evidence made.begins made.ends made.called (here answer made.ends made.answered) (made.shows sound.catalogue)
+    said call answer k evidence made = said_by call answer k evidence made.begins made.ends made.called made.answered (here answer made.ends made.answered) (made.shows sound.catalogue)

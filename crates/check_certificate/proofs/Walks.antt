@@ -3,11 +3,11 @@ use Rattle.check_certificate.proofs.Words.{◌≡◌, ℕ, ◌+◌, ◌<◌, ◌
 use Rattle.check_certificate.proofs.Words.{slice_get, slice_index_or, Asked, Place, Called, Happening, FileEntry, either_option}
 use Rattle.check_certificate.proofs.Forcing.{event_is, request_is}
 use Rattle.check_certificate.proofs.Intended.{intent_once}
-use Rattle.check_certificate.specs.Absent.{AreAllRuledOut, AreRuledOut, AreRuledOutTo, IsCallRuledOut, IsRuledOut, IsWalked, member_of}
+use Rattle.check_certificate.specs.Walked.{AreAllRuledOut, AreRuledOut, AreRuledOutTo, IsCallRuledOut, IsRuledOut, end_of, member_of}
 use Rattle.check_certificate.specs.Evidence.{IsEventAt, slot_count}
 use Rattle.check_certificate.specs.Forced.{log_of_beginning}
 use Rattle.check_certificate.specs.declared.beginning.LogBeginning.{LogBeginning}
-use Rattle.check_certificate.specs.declared.certificate.Holding.{Holding}
+use Rattle.check_certificate.specs.declared.walk.WalkAim.{WalkAim}
 use Rattle.fx_base.specs.Catalogue.{IsCatalogue}
 use Rattle.fx_chain.specs.Intents.{IsIntent, intents_of, positions_of}
 use Rattle.fx_chain.specs.Operation.{Operation, all_asked, asked_of}
@@ -28,39 +28,39 @@ below catalogue size place operation k intent is = either_option {R = k < length
     let many = as_many_intents place p.0 operation in omega arith)
     (λ errno p. absurd (cc p)) is
 
-module _ (b : LogBeginning) (h : Holding) where
+module _ (b : LogBeginning) (aim : WalkAim) where
   pub next_intent : (place : Place) (operation : Operation) (access : ℕ) (found : Option Intent) → IsCatalogue b.catalogue.now
       → IsIntent b.catalogue.now (slot_count b) place operation access found
-      → ((own : Intent) → found ≡ Some own → IsRuledOut b h own)
-      → AreRuledOutTo b h place operation access → AreRuledOutTo b h place operation (access + 1)
+      → ((own : Intent) → found ≡ Some own → IsRuledOut b aim place operation access own)
+      → AreRuledOutTo b aim place operation access → AreRuledOutTo b aim place operation (access + 1)
   next_intent place operation access found is intended out before k intent low of =
       ⊎_elim (λ early. before k intent early of)
       (λ late. let same : k ≡ access = omega arith in
-      out intent (intent_once b.catalogue.now (slot_count b) place operation access found (Some intent) is intended
-      (subst (λ (i : ℕ). IsIntent b.catalogue.now (slot_count b) place operation i (Some intent)) same of)))
+      subst (λ (i : ℕ). IsRuledOut b aim place operation i intent) (sym same) (out intent (intent_once b.catalogue.now (slot_count b) place operation access found (Some intent) is intended
+      (subst (λ (i : ℕ). IsIntent b.catalogue.now (slot_count b) place operation i (Some intent)) same of))))
       (cases_lt k access)
 
   pub all_intents : (place : Place) (operation : Operation) (end : ℕ) → length (positions_of operation) ≤ end
-      → AreRuledOutTo b h place operation end → AreRuledOut b h place operation
+      → AreRuledOutTo b aim place operation end → AreRuledOut b aim place operation
   all_intents place operation end few before k intent of =
       let low = below b.catalogue.now (slot_count b) place operation k intent of in before k intent (omega arith) of
 
   pub next_member : (id n : ℕ) (chain : List Request) (r : Request) → n < length chain → r ≡ slice_index_or chain n r
-      → AreRuledOut b h (member_of id n) (asked_of r).operation
-      → ((k : ℕ) (request : Asked) → k < n → slice_get (all_asked chain) k ≡ Some request → AreRuledOut b h (member_of id k) request.operation)
-      → (k : ℕ) (request : Asked) → k < n + 1 → slice_get (all_asked chain) k ≡ Some request → AreRuledOut b h (member_of id k) request.operation
+      → AreRuledOut b aim (member_of id n) (asked_of r).operation
+      → ((k : ℕ) (request : Asked) → k < n → slice_get (all_asked chain) k ≡ Some request → AreRuledOut b aim (member_of id k) request.operation)
+      → (k : ℕ) (request : Asked) → k < n + 1 → slice_get (all_asked chain) k ≡ Some request → AreRuledOut b aim (member_of id k) request.operation
   next_member id n chain r inside is out before k request low asked =
       ⊎_elim (λ early. before k request early asked)
       (λ late. let same : n ≡ k = omega arith in
       let own : asked_of r ≡ request = request_is chain n k r request same inside is asked in
-      subst (λ (i : ℕ). AreRuledOut b h (member_of id i) request.operation) same
-      (subst (λ (a : Asked). AreRuledOut b h (member_of id n) a.operation) own out))
+      subst (λ (i : ℕ). AreRuledOut b aim (member_of id i) request.operation) same
+      (subst (λ (a : Asked). AreRuledOut b aim (member_of id n) a.operation) own out))
       (cases_lt k n)
 
   pub next_call : (at : ℕ) (event : LogEvent) → at < length b.events.now → event ≡ slice_index_or b.events.now at event
-      → (at < h.answer → IsCallRuledOut b h (happening_of event))
-      → ((p id : ℕ) (requests : List Asked) → p < at → p < h.answer → IsEventAt b p (Called id requests) → AreAllRuledOut b h id requests)
-      → (p id : ℕ) (requests : List Asked) → p < at + 1 → p < h.answer → IsEventAt b p (Called id requests) → AreAllRuledOut b h id requests
+      → (at < end_of aim → IsCallRuledOut b aim (happening_of event))
+      → ((p id : ℕ) (requests : List Asked) → p < at → p < end_of aim → IsEventAt b p (Called id requests) → AreAllRuledOut b aim id requests)
+      → (p id : ℕ) (requests : List Asked) → p < at + 1 → p < end_of aim → IsEventAt b p (Called id requests) → AreAllRuledOut b aim id requests
   next_call at event inside is out before p id requests low sooner there =
       ⊎_elim (λ early. before p id requests early sooner there)
       (λ late. let same : at ≡ p = omega arith in

@@ -13,7 +13,7 @@ use Rattle.fx_order.specs.declared.access.Access.{Access}
 use Rattle.fx_order.specs.declared.access.Access.TheVariants.{Puts, Allocates}
 use Rattle.fx_flight.specs.Events.{Happening, Called, Answered, LookCalled, LookAnswered}
 use Rattle.fx_flight.specs.Flight.{Moment, Logged, Accesses, WasLogged, log_of, table_left_by}
-use Rattle.fx_flight.specs.Flight.{FlightSetting, IsLookDone}
+use Rattle.fx_flight.specs.Flight.{FlightSetting, IsLookDone, made_by}
 use Rattle.check_certificate.specs.declared.certificate.Point.{Point}
 use Rattle.check_certificate.specs.declared.certificate.Point.TheVariants.{Event, Gone, Put}
 use Rattle.check_certificate.specs.declared.certificate.Point.TheVariants.{Access as At}
@@ -60,6 +60,9 @@ pub record AreMemberTimes (s : FlightSetting) (flight : List Moment) (id : ℕ) 
   pub accesses : List Access
   pub done : IsMemberDoneBy s.old.catalogue s.old.size c request accesses
   pub made : AreTimesOf flight id accesses times
+  -- the first member of a call makes the first accesses
+  pub first : c.place.member ≡ 1 → (k : ℕ) (a : Access) (got : slice_get accesses k ≡ Some a)
+      → length (made_by id (made k a got).0) ≡ k
 
 -- and a look
 pub record AreLookTimes (s : FlightSetting) (flight : List Moment) (id : ℕ)

@@ -50,8 +50,8 @@ fn is_of_member(file: File, place: Place) -> bool
     }
 }
 
-// Checks whether an answer is a failure.
-fn is_failure(c: &Completion) -> bool
+/// Checks whether an answer is a failure.
+pub(crate) fn is_failure(c: &Completion) -> bool
     ensures { result ≡ is_negative c.now.res }
 {
     c.res < 0
@@ -118,8 +118,8 @@ impl LogBeginning<'_> {
         joined(&second, &past)
     }
 
-    // Returns the position of the answer of a member, from that of its call on.
-    fn answer_of(&self, call: usize, place: Place) -> Option<usize> {
+    /// Returns the position of the answer of a member, from that of its call on.
+    pub(crate) fn answer_of(&self, call: usize, place: Place) -> Option<usize> {
         for at in call..self.events.len() {
             if let LogEvent::Done(c) = &self.events[at]
                 && c.place == place

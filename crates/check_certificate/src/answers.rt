@@ -37,6 +37,9 @@ pub fn is_impossible(catalogue: &Catalogue, size: u32, request: &Request, c: &Co
     if let Some(errno) = refusal_of(catalogue, size, request) {
         return !c.is_refusal(c.place, errno);
     }
+    if !request.is_read() && !c.got.is_empty() {
+        return true;
+    }
     if let Some(res) = request.fixed_result() {
         return c.res != res;
     }

@@ -42,10 +42,19 @@ pub struct Holding {
     /// An earlier access that leaves another file or none there, so that files of before are gone:
     /// the positions of its call and its answer, and its number.
     pub since: (usize, usize, usize),
-    /// The only file that may be there, or `None` if none may.
-    pub holder: Option<File>,
-    /// True for the order of that file's installation, false for that of its removal.
-    pub is_put: bool,
+    /// The file that it finds.
+    pub found: OnlyFile,
+}
+
+/// The only file that an access may find at a slot, and the order that follows.
+#[derive(Clone, Copy, Debug, PartialEq, Eq)]
+pub enum OnlyFile {
+    /// No file may be there: a contradiction.
+    Nothing,
+    /// It was installed before: `Put(file) < Access(answer, access)`.
+    PutBefore(File),
+    /// It leaves the slot later: `Access(answer, access) <= Gone(file, slot)`.
+    GoneAfter(File),
 }
 
 /// A step of a certificate: a rule, and what it is applied to. Each step adds one order to those
@@ -184,9 +193,57 @@ pub enum Step {
         second: usize,
     },
     /// An access finds a file at a slot, and each other file isn't there, by a known order or by
-    /// the answer of its member: `Put(file) < Access(answer, access)` or `Access(answer, access) <=
-    /// Gone(file, slot)`. If no file may be there, it is a contradiction.
+    /// the answer of its member.
     Holds(Holding),
+    /// A file that was installed before an event is then at the only slot at which a request may
+    /// install it: `Put(file) < Gone(file, slot)`.
+    Lands {
+        /// The slot.
+        slot: u32,
+        /// The order `Put(file) < Event(until)`.
+        installed: usize,
+    },
+    /// A file that was installed before an event was never at a slot at which no request may
+    /// install it: `Gone(file, slot) <= Put(file)`.
+    Misses {
+        /// The slot.
+        slot: u32,
+        /// The order `Put(file) < Event(until)`.
+        installed: usize,
+    },
+    /// A file was installed before it was closed: `Put(file) < Event(close)`.
+    Existed {
+        /// The position of the close.
+        close: usize,
+    },
+    /// A file is at its slot until an event, since no access of a call before the event takes it:
+    /// `Event(until) < Gone(file, slot)`. Each access is at another time, by a known order or by
+    /// the answer of its member.
+    Stays {
+        /// The position of the event.
+        until: usize,
+        /// The order `Event(since) < Gone(file, slot)`.
+        there: usize,
+    },
+    /// A file that is gone before an event was taken by the only access that may take it:
+    /// `taker <= Gone(file, slot)`.
+    Takes {
+        /// The time of that access: `Access(answer, access)` or `Put(other)`.
+        taker: Point,
+        /// The order `Event(since) < Gone(file, slot)`.
+        there: usize,
+        /// The order `Gone(file, slot) <= Event(until)`.
+        gone: usize,
+    },
+    /// The same, the other way round: `Gone(file, slot) <= taker`.
+    TakenBy {
+        /// The time of that access: `Access(answer, access)` or `Put(other)`.
+        taker: Point,
+        /// The order `Event(since) < Gone(file, slot)`.
+        there: usize,
+        /// The order `Gone(file, slot) <= Event(until)`.
+        gone: usize,
+    },
     /// Accesses of different calls aren't at the same time: a strict order.
     Differs {
         /// The position of the call of the first access.

@@ -10,11 +10,16 @@ mod answers;
 mod beginning;
 mod certificate;
 mod evidence;
+mod exclusion;
 mod holding;
+mod known;
+mod landing;
 mod premises;
 mod refuted;
 mod rules;
+mod taking;
+mod walk;
 
 pub use answers::is_impossible;
-pub use certificate::{Holding, Point, PointOrder, Step};
+pub use certificate::{Holding, OnlyFile, Point, PointOrder, Step};
 pub use refuted::is_refuted;

@@ -252,6 +252,10 @@ impl LogBeginning<'_> {
         let evidence = self.made(call, answer, 0)?;
         match evidence {
             Evidence::Never => Some(ordered(Point::Event(answer), Point::Event(answer))),
+            Evidence::Installs(slot, _file) if slot as usize >= self.slots.at.len() => Some(ordered(
+                Point::Event(answer),
+                Point::Event(answer),
+            )),
             _ => None,
         }
     }

@@ -105,6 +105,16 @@ impl LogBeginning<'_> {
             }
             Step::Then { first, second } => joined(known.get(first)?, known.get(second)?),
             Step::Holds(holding) => self.holds(&holding, known),
+            Step::Lands { slot, installed } => self.lands(slot, known.get(installed)?, known),
+            Step::Misses { slot, installed } => self.misses(slot, known.get(installed)?, known),
+            Step::Existed { close } => self.existed(close),
+            Step::Stays { until, there } => self.stays(until, known.get(there)?, known),
+            Step::Takes { taker, there, gone } => {
+                self.takes(taker, known.get(there)?, known.get(gone)?, known)
+            }
+            Step::TakenBy { taker, there, gone } => {
+                self.taken_by(taker, known.get(there)?, known.get(gone)?, known)
+            }
             Step::Differs { call, other, order } => self.differs(call, other, known.get(order)?),
             Step::FindsClosed { close, answer } => self.finds_closed(close, answer),
             Step::ClosesTwice { first, second } => self.closes_twice(first, second),

@@ -137,4 +137,13 @@ impl LogBeginning<'_> {
         let _own = call_of(file)?;
         Some(ordered(Point::Gone(file, slot), Point::Event(close)))
     }
+
+    /// Returns the order of the access that installed a file and the file's close.
+    pub(crate) fn existed(&self, close: usize) -> Option<PointOrder>
+        ensures { IfSome result (IsForced self.now) }
+    {
+        let file = self.close_at(close)?;
+        let _own = call_of(file)?;
+        Some(ordered(Point::Put(file), Point::Event(close)))
+    }
 }

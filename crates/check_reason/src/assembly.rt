@@ -71,6 +71,28 @@ fn with_premises(step: Step, first: usize, second: usize) -> Step {
             other,
             order: first,
         },
+        Step::Misses { slot, .. } => Step::Misses {
+            slot,
+            installed: first,
+        },
+        Step::Lands { slot, .. } => Step::Lands {
+            slot,
+            installed: first,
+        },
+        Step::Stays { until, .. } => Step::Stays {
+            until,
+            there: first,
+        },
+        Step::Takes { taker, .. } => Step::Takes {
+            taker,
+            there: first,
+            gone: second,
+        },
+        Step::TakenBy { taker, .. } => Step::TakenBy {
+            taker,
+            there: first,
+            gone: second,
+        },
         Step::Outlives { .. } => Step::Outlives {
             there: first,
             placed: second,

@@ -2,8 +2,9 @@
 
 use crate::assembly::ReasonStep;
 use crate::reading::Reading;
+use crate::shown::{Shown, ShownAccess};
 use check_certificate::{Point, PointOrder, Step, is_impossible};
-use fx_base::Closed as File;
+use fx_base::{Closed as File, NoMemory};
 use fx_chain::Completion;
 use fx_flight::LogEvent;
 
@@ -13,11 +14,21 @@ fn by_found(log: &Reading<'_>, answer: usize, file: File) -> Option<Step> {
     (close < answer).then_some(Step::FindsClosed { close, answer })
 }
 
+// Checks whether an access installs a file past the last slot.
+fn is_outside(log: &Reading<'_>, shown: Shown) -> bool {
+    matches!(shown, Shown::Installs(slot, _) if slot >= log.size)
+}
+
 // Returns the contradiction of the answer of a request at a position.
 fn by_answer(log: &Reading<'_>, answer: usize, c: &Completion) -> Option<Step> {
     let call = log.call(c.place.submission)?.at;
     let request = log.request(c.place)?;
-    is_impossible(log.catalogue, log.size, request, c).then_some(Step::CantAnswer { call, answer })
+    let shown = log.shown_at(answer, 0);
+    let is_outside = matches!(shown, Some(it) if is_outside(log, it.shown));
+    if !is_outside && !is_impossible(log.catalogue, log.size, request, c) {
+        return None;
+    }
+    Some(Step::CantAnswer { call, answer })
 }
 
 // Checks whether the hold of a look ends before a position.
@@ -49,6 +60,65 @@ fn by_closed(log: &Reading<'_>, close: usize, file: File) -> Option<Step> {
         }
     }
     None
+}
+
+// Returns the step that joins two others.
+fn then(first: usize, second: usize) -> Step {
+    Step::Then { first, second }
+}
+
+// Appends a step, and its order.
+fn push(
+    steps: &mut Vec<ReasonStep>,
+    step: Step,
+    from: Point,
+    to: Point,
+    strict: bool,
+) -> Result<(), NoMemory> {
+    let order = PointOrder { from, to, strict };
+    steps.push(ReasonStep { step, order })?;
+    Ok(())
+}
+
+/// Returns the steps of a contradiction: the last event answers a look by a file that no call
+/// before it installs at the slot of the look.
+pub(crate) fn missing(log: &Reading<'_>) -> Result<Vec<ReasonStep>, NoMemory> {
+    let mut steps = Vec::new(log.alloc);
+    let last = log.events.len().saturating_sub(1);
+    let Some(look) = log.shown_at(last, 0) else {
+        return Ok(steps);
+    };
+    if let Shown::Finds(slot, file) = look.shown
+        && log.slot_of(file) != Some(slot)
+    {
+        push_missing(&mut steps, &look, slot, file)?;
+    }
+    Ok(steps)
+}
+
+// Appends the steps of that contradiction.
+fn push_missing(
+    steps: &mut Vec<ReasonStep>,
+    look: &ShownAccess,
+    slot: u32,
+    file: File,
+) -> Result<(), NoMemory> {
+    let (call, answer, access) = (look.call, look.answer, look.access);
+    let (put, gone) = (Point::Put(file), Point::Gone(file, slot));
+    let (found, event) = (Point::Access(answer, 0), Point::Event(answer));
+    let ends = Step::Ends {
+        call,
+        answer,
+        access,
+    };
+    push(steps, Step::Follows { call, answer }, put, found, true)?;
+    push(steps, ends, found, event, true)?;
+    push(steps, then(0, 1), put, event, true)?;
+    let misses = Step::Misses { slot, installed: 2 };
+    push(steps, misses, gone, put, false)?;
+    push(steps, Step::Finds { call, answer }, found, gone, true)?;
+    push(steps, then(0, 4), put, gone, true)?;
+    push(steps, then(5, 3), put, put, true)
 }
 
 /// Returns the contradiction of the last event with those before it.

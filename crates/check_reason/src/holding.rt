@@ -5,7 +5,7 @@ use crate::problem::{AccessPoint, FilePoints, Problem};
 use crate::reading::Reading;
 use crate::shown::{Shown, ShownAccess, left_by};
 use crate::window::{MOST_SLOTS, Window};
-use check_certificate::{Holding, Step};
+use check_certificate::{Holding, OnlyFile, Step};
 use fx_base::{Closed as File, NoMemory};
 
 // The number of events before a call in which an access is looked for that leaves its slot.
@@ -100,17 +100,14 @@ impl Problem {
                 Some(it) => (it.call, it.answer, it.access),
                 None => (0, 0, 0),
             },
-            holder: match holder {
-                Some(own) => Some(own.file),
-                None => None,
-            },
-            is_put: false,
+            found: OnlyFile::Nothing,
         };
         let Some(own) = holder else {
             return self.add_holding(in_order(z.point, z.point, true), holding, list);
         };
+        holding.found = OnlyFile::GoneAfter(own.file);
         let one = self.add_holding(in_order(z.point, own.gone, false), holding, list)?;
-        holding.is_put = true;
+        holding.found = OnlyFile::PutBefore(own.file);
         let other = self.add_holding(in_order(own.put, z.point, true), holding, list)?;
         Ok(one || other)
     }

@@ -12,7 +12,9 @@ mod holding;
 mod problem;
 mod reading;
 mod reason;
+mod removals;
 mod shown;
+mod taking;
 mod window;
 
 pub use assembly::ReasonStep;

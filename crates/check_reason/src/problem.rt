@@ -172,6 +172,8 @@ impl Problem {
             let slot = own.slot;
             self.graph
                 .add_known(own.gone, event, Step::Closes { close, slot })?;
+            self.graph
+                .add_known(own.put, event, Step::Existed { close })?;
         }
         Ok(())
     }
@@ -336,7 +338,11 @@ impl Problem {
             if self.graph.loops.is_some() {
                 break;
             }
-            if !self.go_on(log, window)? && !self.differ_all()? && !self.hold_all(log, window)? {
+            if !self.go_on(log, window)?
+                && !self.differ_all()?
+                && !self.hold_all(log, window)?
+                && !self.take_all(log, window)?
+            {
                 break;
             }
         }

@@ -1,6 +1,7 @@
 //! The beginning of a log as the search for a reason reads it: its calls, the positions of their
 //! answers, and the files that answered calls installed at each slot.
 
+use crate::removals::Remover;
 use crate::shown::{Shown, ShownAccess};
 use fx_base::{Catalogue, Closed as File, Mark, NoMemory};
 use fx_flight::LogEvent;
@@ -30,6 +31,8 @@ pub(crate) struct Reading<'a> {
     pub(crate) calls: Vec<CallEvents>,
     /// The accesses that installed files at each slot, by the positions of their answers.
     pub(crate) installs: Vec<Vec<ShownAccess>>,
+    /// The accesses that may take a file from each slot, by the positions of their calls.
+    pub(crate) removers: Vec<Vec<Remover>>,
 }
 
 /// Returns the number of the call that installs a file, or 0 for a file of a registration.
@@ -71,9 +74,11 @@ impl<'a> Reading<'a> {
             events,
             calls: Vec::new(alloc),
             installs: Vec::new(alloc),
+            removers: Vec::new(alloc),
         };
         reading.read_calls()?;
         reading.read_installs()?;
+        reading.read_removers()?;
         Ok(reading)
     }
 

@@ -7,7 +7,7 @@ ghost use Rattle.fx_flight.specs.Events.{all_happenings};
 ghost use Rattle.fx_flight.specs.Flight.{IsLegalLog};
 
 use crate::assembly::{ReasonStep, certificate_of};
-use crate::direct::direct;
+use crate::direct::{direct, missing};
 use crate::problem::Problem;
 use crate::reading::Reading;
 use crate::window::Window;
@@ -63,9 +63,10 @@ fn steps_of(alloc: Global, steps: &[ReasonStep]) -> Result<Vec<Step>, NoMemory> 
 fn search(log: &Reading<'_>, attempt: usize) -> Result<Vec<ReasonStep>, NoMemory> {
     let Some(last) = attempt.checked_sub(1) else {
         let mut steps = Vec::new(log.alloc);
-        if let Some(step) = direct(log) {
-            steps.push(step)?;
-        }
+        let Some(step) = direct(log) else {
+            return missing(log);
+        };
+        steps.push(step)?;
         return Ok(steps);
     };
     let is_whole = WIDTHS

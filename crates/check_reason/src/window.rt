@@ -162,7 +162,10 @@ impl Window {
             return Ok(());
         };
         let install = log.install_of(file);
-        let mut slot = slot;
+        let mut slot = match slot {
+            Some(slot) => Some(slot),
+            None => log.slot_of(file),
+        };
         if let Some(shown) = install {
             slot = slot_of(shown.shown);
             self.positions.push(shown.answer)?;

@@ -187,3 +187,21 @@ pub const RULE_HOLDS: u32 = 20;
 
 /// Accesses of different calls aren't at the same time.
 pub const RULE_DIFFERS: u32 = 21;
+
+/// No access takes a file from its slot before an event.
+pub const RULE_STAYS: u32 = 22;
+
+/// The only access that may take a file from its slot comes when the file leaves it, or before.
+pub const RULE_TAKES: u32 = 23;
+
+/// A file leaves its slot when the only access that may take it comes, or before.
+pub const RULE_TAKEN_BY: u32 = 24;
+
+/// A file that was installed before an event was then at the only slot at which it may be.
+pub const RULE_LANDS: u32 = 25;
+
+/// A file that was installed before an event was never at another slot than those where it may be.
+pub const RULE_MISSES: u32 = 26;
+
+/// A file was installed before it was closed.
+pub const RULE_EXISTED: u32 = 27;

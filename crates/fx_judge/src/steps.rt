@@ -3,8 +3,9 @@
 use crate::codes::{
     POINT_ACCESS, POINT_EVENT, POINT_GONE, POINT_PUT, RULE_BEGINS, RULE_CALLS, RULE_CANT_ANSWER,
     RULE_CLOSES, RULE_CLOSES_HELD, RULE_CLOSES_TWICE, RULE_DIFFERS, RULE_DISPLACES, RULE_EMPTIES,
-    RULE_ENDS, RULE_EVENTS, RULE_FINDS, RULE_FINDS_CLOSED, RULE_FOLLOWS, RULE_HOLDS, RULE_INSTALLS,
-    RULE_OUTLIVES, RULE_PLACES, RULE_PRECEDES, RULE_SETTLES, RULE_THEN,
+    RULE_ENDS, RULE_EVENTS, RULE_EXISTED, RULE_FINDS, RULE_FINDS_CLOSED, RULE_FOLLOWS, RULE_HOLDS,
+    RULE_INSTALLS, RULE_LANDS, RULE_MISSES, RULE_OUTLIVES, RULE_PLACES, RULE_PRECEDES,
+    RULE_SETTLES, RULE_STAYS, RULE_TAKEN_BY, RULE_TAKES, RULE_THEN,
 };
 use check_certificate::{Holding, Point, Step};
 use check_reason::ReasonStep;
@@ -37,7 +38,7 @@ pub struct YachtPoint {
 #[repr(C)]
 #[derive(Drop)]
 pub struct YachtStep {
-    /// One of `RULE_EVENTS` to `RULE_DIFFERS`.
+    /// One of `RULE_EVENTS` to `RULE_EXISTED`.
     pub rule: u32,
     /// 1 if `from` comes before `to`; 0 if it comes before or at the same time.
     pub is_strict: u32,
@@ -220,6 +221,20 @@ fn applied_by(step: &Step) -> Applied {
             slot: 0,
         },
         Step::CantAnswer { call, answer } => of_events(RULE_CANT_ANSWER, call, answer),
+        Step::Lands { slot: _, installed } => of_steps(RULE_LANDS, 0, installed, 0),
+        Step::Misses { slot: _, installed } => of_steps(RULE_MISSES, 0, installed, 0),
+        Step::Existed { close } => of_events(RULE_EXISTED, close, 0),
+        Step::Stays { until, there } => of_steps(RULE_STAYS, until, there, 0),
+        Step::Takes {
+            taker: _,
+            there,
+            gone,
+        } => of_steps(RULE_TAKES, 0, there, gone),
+        Step::TakenBy {
+            taker: _,
+            there,
+            gone,
+        } => of_steps(RULE_TAKEN_BY, 0, there, gone),
     }
 }
 

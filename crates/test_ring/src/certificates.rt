@@ -2,14 +2,14 @@
 //! wrong one. A contract says what a certificate shows that the checker takes; none says that it
 //! takes one.
 use crate::setting::{Host, close, one_file, open};
-use check_certificate::{Holding, Step, is_refuted};
+use check_certificate::{Holding, OnlyFile, Step, is_refuted};
 use fx_base::{Closed as File, NoMemory};
 use fx_chain::{Completion, Place, Request};
 use fx_flight::LogEvent;
 use fx_order::Slots;
 
-// Returns the file that a call of one open installs.
-fn opened_by(id: u32) -> File {
+/// Returns the file that a call of one open installs.
+pub fn opened_by(id: u32) -> File {
     place_of(id).installed(0, 0)
 }
 
@@ -22,8 +22,8 @@ fn place_of(id: u32) -> Place {
     }
 }
 
-// Appends a call of one request, and its answer.
-fn answered<H: Host>(
+/// Appends a call of one request, and its answer.
+pub fn answered<H: Host>(
     rt: &H,
     log: &mut Vec<LogEvent>,
     id: u32,
@@ -37,8 +37,8 @@ fn answered<H: Host>(
     Ok(log.push(LogEvent::Done(Completion { place, res, got }))?)
 }
 
-// Appends a call of one request, and its answer 0.
-fn call<H: Host>(
+/// Appends a call of one request, and its answer 0.
+pub fn call<H: Host>(
     rt: &H,
     log: &mut Vec<LogEvent>,
     id: u32,
@@ -54,9 +54,9 @@ fn look(log: &mut Vec<LogEvent>, id: u32) -> Result<(), NoMemory> {
     Ok(log.push(LogEvent::Found { id, file })?)
 }
 
-// Creates a log: call 1 opens a file at slot 0, call 2 closes the slot or opens another file there,
-// and then look 3 finds the first file.
-fn stale_log<H: Host>(rt: &H, closes: bool) -> Result<Vec<LogEvent>, NoMemory> {
+/// Creates a log: call 1 opens a file at slot 0, call 2 closes the slot or opens another file
+/// there, and then look 3 finds the first file.
+pub fn stale_log<H: Host>(rt: &H, closes: bool) -> Result<Vec<LogEvent>, NoMemory> {
     let mut log = Vec::new(rt.alloc());
     call(rt, &mut log, 1, open(rt))?;
     let second = if closes { close(0) } else { open(rt) };
@@ -65,8 +65,8 @@ fn stale_log<H: Host>(rt: &H, closes: bool) -> Result<Vec<LogEvent>, NoMemory> {
     Ok(log)
 }
 
-// Checks whether the steps refute the first `count` events of a log.
-fn refutes<H: Host>(
+/// Checks whether the steps refute the first `count` events of a log of two slots.
+pub fn refutes<H: Host>(
     rt: &H,
     log: &[LogEvent],
     count: usize,
@@ -74,16 +74,18 @@ fn refutes<H: Host>(
 ) -> Result<bool, NoMemory> {
     let slots = Slots {
         range: (0, 1),
-        at: vec![in rt.alloc(); None; 1]?,
+        at: vec![in rt.alloc(); None; 2]?,
     };
     is_refuted(rt.alloc(), &one_file(rt), &slots, log, count, steps)
 }
 
-fn events(earlier: usize, later: usize) -> Step {
+/// Returns the step of two events.
+pub fn events(earlier: usize, later: usize) -> Step {
     Step::Events { earlier, later }
 }
 
-fn begins(call: usize, answer: usize, access: usize) -> Step {
+/// Returns the step of a call and its access.
+pub fn begins(call: usize, answer: usize, access: usize) -> Step {
     Step::Begins {
         call,
         answer,
@@ -91,7 +93,8 @@ fn begins(call: usize, answer: usize, access: usize) -> Step {
     }
 }
 
-fn ends(call: usize, answer: usize) -> Step {
+/// Returns the step of the first access and its answer.
+pub fn ends(call: usize, answer: usize) -> Step {
     Step::Ends {
         call,
         answer,
@@ -116,7 +119,8 @@ fn empties(call: usize, answer: usize, installed: usize) -> Step {
     }
 }
 
-fn then(first: usize, second: usize) -> Step {
+/// Returns the step that joins two orders.
+pub fn then(first: usize, second: usize) -> Step {
     Step::Then { first, second }
 }
 
@@ -218,7 +222,7 @@ fn finds_none<H: Host>(
     rt: &H,
     is_alone: bool,
     since: (usize, usize, usize),
-    holder: Option<File>,
+    found: OnlyFile,
 ) -> Result<bool, NoMemory> {
     let mut log = Vec::new(rt.alloc());
     if !is_alone {
@@ -233,21 +237,26 @@ fn finds_none<H: Host>(
         access: 0,
         slot: 0,
         since,
-        holder,
-        is_put: false,
+        found,
     };
     refutes(rt, &log, at + 2, &[Step::Holds(holding)])
 }
 
 #[test]
 fn close_without_a_file_refutes(rt: HostRuntime) {
-    assert!(rt; finds_none(&rt, true, (0, 0, 0), None) == Ok(true));
-    assert!(rt; finds_none(&rt, false, (2, 3, 0), None) == Ok(true));
+    let none = OnlyFile::Nothing;
+    assert!(rt; finds_none(&rt, true, (0, 0, 0), none) == Ok(true));
+    assert!(rt; finds_none(&rt, false, (2, 3, 0), none) == Ok(true));
     // without the close between them the file may be there, and it is when it was installed
     for since in [(0, 0, 0), (0, 1, 0), (4, 5, 0), (2, 1, 0)] {
-        assert!(rt; finds_none(&rt, false, since, None) == Ok(false));
+        assert!(rt; finds_none(&rt, false, since, none) == Ok(false));
     }
-    assert!(rt; finds_none(&rt, false, (2, 3, 0), Some(opened_by(1))) == Ok(false));
+    for found in [
+        OnlyFile::PutBefore(opened_by(1)),
+        OnlyFile::GoneAfter(opened_by(1)),
+    ] {
+        assert!(rt; finds_none(&rt, false, (2, 3, 0), found) == Ok(false));
+    }
 }
 
 #[test]

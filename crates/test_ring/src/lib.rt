@@ -13,6 +13,8 @@ mod gates;
 #[cfg(test)]
 mod keys;
 #[cfg(test)]
+mod removals;
+#[cfg(test)]
 mod setting;
 #[cfg(test)]
 mod tables;

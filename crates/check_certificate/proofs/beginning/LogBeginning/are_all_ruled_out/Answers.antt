@@ -6,7 +6,7 @@ use Rattle.std.proofs.lemmas.List.{length-map}
 use Rattle.check_certificate.proofs.beginning.LogBeginning.are_all_ruled_out.Goals as goal
 
 pub loop-n-preserved : goal.loop-n-preserved
-loop-n-preserved c = λ is. next_member c.args.self.now c.args.h.now c.args.id c.loop-n.n c.args.chain.now c.index-chain-n.result
+loop-n-preserved c = λ is. next_member c.args.self.now c.args.aim.now c.args.id c.loop-n.n c.args.chain.now c.index-chain-n.result
     (omega (arith, c.loop-n-test.true)) c.index-chain-n.is (c.is_member_ruled_out.ensures c.if-not-is_member_ruled_out.false is) (c.loop-n.invariant is)
 
 pub returns : goal.returns

@@ -1,9 +1,9 @@
 use Rattle.check_certificate.proofs.Words.{◌≡◌, ℕ, ◌<◌, Some, slice_get, Asked}
 use Rattle.check_certificate.proofs.beginning.LogBeginning.are_all_ruled_out.Given as goal
-use Rattle.check_certificate.specs.Absent.{AreRuledOut, member_of}
+use Rattle.check_certificate.specs.Walked.{AreRuledOut, member_of}
 use Rattle.fx_base.specs.Catalogue.{IsCatalogue}
 use Rattle.fx_chain.specs.Operation.{all_asked}
 
 abbrev pub invariant-loop-n : goal.invariant-loop-n
 invariant-loop-n l = IsCatalogue l.self.catalogue.now → (k : ℕ) (request : Asked) → k < l.n → slice_get (all_asked l.chain) k ≡ Some request
-    → AreRuledOut l.self l.h (member_of l.id k) request.operation
+    → AreRuledOut l.self l.aim (member_of l.id k) request.operation

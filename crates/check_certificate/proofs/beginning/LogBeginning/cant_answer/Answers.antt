@@ -1,8 +1,13 @@
-use Rattle.check_certificate.proofs.Words.{subst, sym}
-use Rattle.check_certificate.proofs.Forcing.{cant_answer}
+use Rattle.check_certificate.proofs.Words.{arith, subst, sym}
+use Rattle.check_certificate.proofs.Forcing.{cant_answer, outside}
 use Rattle.check_certificate.specs.Forced.{IsForced}
 use Rattle.check_certificate.proofs.beginning.LogBeginning.cant_answer.Goals as goal
 
 pub returns-in-Never : goal.returns-in-Never
 returns-in-Never c = subst (IsForced c.args.self.now) (sym c.ordered.ensures)
     (cant_answer c.args.self.now c.args.call c.args.answer (rw c.in-Never.is at c.in_ok-evidence.ensures))
+
+pub returns-in-Installs : goal.returns-in-Installs
+returns-in-Installs c = subst (IsForced c.args.self.now) (sym c.ordered-in-Installs.ensures)
+    (outside c.args.self.now c.args.call c.args.answer c.in-Installs.slot c.in-Installs._file (rw c.in-Installs.is at c.in_ok-evidence.ensures)
+    (λ low. omega (arith, low, c.if-slot-len.true)))

@@ -1,5 +1,5 @@
 use Rattle.check_certificate.proofs.Words.{arith}
-use Rattle.check_certificate.proofs.Held.{elsewhere_forced}
+use Rattle.check_certificate.proofs.Holders.{elsewhere_forced}
 use Rattle.check_certificate.proofs.beginning.LogBeginning.elsewhere.Goals as goal
 
 pub returns : goal.returns

@@ -1,6 +1,6 @@
 use Rattle.check_certificate.proofs.Words.{◌∙◌, ap, arith, subst, sym, Some, slice_index_or, AllSettled}
 use Rattle.check_certificate.proofs.Forcing.{event_is}
-use Rattle.check_certificate.proofs.Held.{fails_forced}
+use Rattle.check_certificate.proofs.Holders.{fails_forced}
 use Rattle.check_certificate.specs.Forced.{IsForced, log_of_beginning}
 use Rattle.fx_chain.specs.Completed.{completed_of}
 use Rattle.fx_flight.specs.Events.{happening_of}

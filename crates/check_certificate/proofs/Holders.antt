@@ -1,19 +1,23 @@
 -- An access that finds a file at its slot: some file was installed there before.
-use Rattle.check_certificate.proofs.Words.{◌≡◌, ◌⊎◌, ℕ, zero, suc, ◌+◌, ◌-◌, ◌<◌, ◌≤◌, List, [], ◌∷◌, ◌++◌, length, refl, sym, ap, ◌∙◌, arith, inl, inr, subst}
-use Rattle.check_certificate.proofs.Words.{⊎_elim, append_assoc, Option, Some, None, slice_get, slice_index_or, Moment, Logged, Accesses, IsOlderPart}
-use Rattle.check_certificate.proofs.Words.{Access, IsAccessAt, IsPut, IsLeftAt, Identity, Table, table_of, table_with, table_left_by, log_of, Happening, Completed}
-use Rattle.check_certificate.proofs.Words.{Contains-append_right, IsBegun, MayAccess, contains_tail, WasLogged, Called, Answered, IsLegalLog, made_by, AreTimes, Asked, Contains, Permits, Place}
-use Rattle.check_certificate.proofs.Words.{Looks, Takes, FindsFull, Puts, Allocates, Clears, Submitted, true, false, Bool, cases_Bool, Has, placed, take, length-append}
+use Rattle.check_certificate.proofs.Words.{◌≡◌, ◌⊎◌, ℕ, ◌+◌, ◌-◌, ◌<◌, ◌≤◌, List, [], ◌∷◌, ◌++◌, refl, sym, ◌∙◌, arith, inl, inr, subst}
+use Rattle.check_certificate.proofs.Words.{⊎_elim, append_assoc, Option, Some, None, slice_get, Moment, Logged, Accesses, IsOlderPart}
+use Rattle.check_certificate.proofs.Words.{Access, IsAccessAt, IsPut, Identity, Table, table_of, table_with, table_left_by, Happening, Completed}
+use Rattle.check_certificate.proofs.Words.{Answered, IsLegalLog, made_by, AreTimes, Permits}
+use Rattle.check_certificate.proofs.Words.{Looks, Takes, FindsFull, Puts, Allocates, Clears, Submitted, true, false, cases_Bool, Has, placed}
 use Rattle.check_certificate.proofs.Forcing.{apart, loose_order, not_after, strict_from, strict_order, weaker}
-use Rattle.check_certificate.proofs.Intended.{IsIntended, chain_number, intended, may_install, moved}
+use Rattle.check_certificate.proofs.Intended.{chain_number, may_install}
 use Rattle.check_certificate.proofs.Leaving.{same_access, same_slot}
-use Rattle.check_certificate.proofs.Life.{IsPutAt, put_here, was_put}
+use Rattle.check_certificate.proofs.Life.{put_here, was_put}
 use Rattle.check_certificate.proofs.Marks.{has_in, mark_at, no_look, of_chain}
-use Rattle.check_certificate.proofs.Orders.{IsHere, IsSaid, here, may_at, new_file, older, s, said, table}
+use Rattle.check_certificate.proofs.Orders.{here, new_file, older, s, said, table}
 use Rattle.check_certificate.proofs.Parts.{access_of_part, before_end, part_is_flight, part_length, part_of_part, shorter}
-use Rattle.check_certificate.specs.Evidence.{IsAccessMade, IsEventAt, IsEvident, slot_count}
+use Rattle.check_certificate.specs.Evidence.{IsAccessMade, IsEventAt, IsEvident}
 use Rattle.check_certificate.specs.Forced.{IsForced, IsOfCall, IsSound, log_of_beginning, ring_of_beginning}
-use Rattle.check_certificate.specs.Absent.{AreAllRuledOut, FindsFile, is_negative, IsAbsent, IsEmptyAtFirst, IsWalked, MayInstall, member_of}
+use Rattle.check_certificate.proofs.Called.{answer_is, of_log}
+use Rattle.check_certificate.specs.Absent.{FindsFile, IsOnlyFile, is_negative, IsAbsent, IsEmptyAtFirst}
+use Rattle.check_certificate.specs.Walked.{IsWalked}
+use Rattle.check_certificate.specs.declared.certificate.OnlyFile.TheVariants.{GoneAfter, Nothing, PutBefore}
+use Rattle.check_certificate.specs.declared.walk.WalkAim.TheVariants.{Finds as Aimed}
 use Rattle.check_certificate.specs.declared.beginning.LogBeginning.{LogBeginning}
 use Rattle.check_certificate.specs.declared.certificate.Holding.{Holding}
 use Rattle.check_certificate.specs.declared.certificate.Point.{Point}
@@ -22,12 +26,10 @@ use Rattle.check_certificate.specs.declared.certificate.Point.TheVariants.{Event
 use Rattle.check_certificate.specs.declared.certificate.Point.TheVariants.{Access as At}
 use Rattle.check_certificate.specs.declared.evidence.Evidence.{Evidence}
 use Rattle.check_certificate.specs.declared.evidence.Evidence.TheVariants.{Empties, Finds, Full, Installs, Never, Sees, Removes}
-use Rattle.fx_flight.proofs.Chains.{answer_place}
-use Rattle.fx_flight.proofs.InTime.{in_log, size_stays}
+use Rattle.fx_flight.proofs.InTime.{size_stays}
 use Rattle.fx_flight.specs.Events.{first_of_call}
 use Rattle.fx_order.proofs.Apart.{file_Decides, same_file}
 use Rattle.fx_order.proofs.Words.{false≢true, negsuc, pos, ℤ}
-use Rattle.std.proofs.lemmas.Option.{slice_get_read}
 use Rattle.std.specs.Prelude.{IsSome}
 
 -- a number below 0
@@ -51,15 +53,6 @@ range_stays : (t : Table) (flight : List Moment) → (table_left_by t flight).ra
 range_stays t [] = refl
 range_stays t (Logged e ∷ flight) = range_stays t flight
 range_stays t (Accesses x ∷ flight) = same_range (table_left_by t flight) x.access ∙ range_stays t flight
-
-get_front : {X : Type 0} (xs ys : List X) (k : ℕ) (x : X) → slice_get xs k ≡ Some x → slice_get (xs ++ ys) k ≡ Some x
-get_front [] ys k x is = absurd (cc)
-get_front (y ∷ xs) ys zero x is = is
-get_front (y ∷ xs) ys (suc k) x is = get_front xs ys k x is
-
-get_here : {X : Type 0} (front : List X) (x : X) (rest : List X) → slice_get (front ++ x ∷ rest) (length front) ≡ Some x
-get_here [] x rest = refl
-get_here (y ∷ front) x rest = get_here front x rest
 
 module _ (b : LogBeginning) where
   -- an access with this evidence finds a file
@@ -87,49 +80,14 @@ module _ (b : LogBeginning) where
   module _ (submissions registrations : ℕ) (sound : IsSound b)
       (legal : IsLegalLog (ring_of_beginning b submissions registrations) (log_of_beginning b)) (clock : Point → ℕ)
       (times : AreTimes (s b submissions registrations sound legal clock) legal.flight clock) where
-    -- the call of an access before an event, in the log
-    pub record IsOfLog (limit id : ℕ) (a : Access) : Type 0 where
-      pub p : ℕ
-      pub requests : List Asked
-      pub low : p < limit
-      pub called : IsEventAt b p (Called id requests)
-      pub by : IsIntended b.catalogue.now (slot_count b) (first_of_call id) requests a (legal.answers id)
-
-    pub of_log : (i : ℕ) (e : Happening) (x : IsHere b submissions registrations sound legal clock i e) (time id : ℕ) (a : Access)
-        → ((looked : ℕ) (found : Option Identity) → a ≡ Looks looked found → ⊥) → IsAccessAt x.earlier id a time → IsOfLog i id a
-    of_log i e x time id a looks at =
-        let m : Moment = Accesses (record { chain = id; access = a }) in
-        let inside : IsOlderPart (m ∷ at.0) legal.flight = part_of_part (older b submissions registrations sound legal clock e x.earlier x.inside) at.1 in
-        let may : MayAccess (s b submissions registrations sound legal clock) at.0 id a =
-        (part_is_flight (s b submissions registrations sound legal clock) legal.flight (m ∷ at.0) inside legal.is).1.1 in
-        ⊎_elim
-        (λ (y : (requests : List Asked) × WasLogged at.0 (Called id requests)
-        × IsBegun (s b submissions registrations sound legal clock) id requests (made_by id at.0 ++ a ∷ [])).
-        let there : WasLogged x.earlier (Called id y.0) = later at.1.0 m at.0 x.earlier at.1.1 (Called id y.0) y.1 in
-        let front : Contains x.front (Called id y.0) = rw x.same at (in_log x.earlier (Called id y.0) there) in
-        let got : slice_get x.front front.0 ≡ Some (Called id y.0) = slice_get_read x.front (length x.front) front.0 (Called id y.0) refl front.1 (sym front.2) in
-        let few = x.few in let low = front.1 in
-        let list : (made_by id at.0 ++ a ∷ []) ++ y.2.0 ≡ made_by id at.0 ++ a ∷ y.2.0 = append_assoc (made_by id at.0) (a ∷ []) y.2.0 in
-        record {
-          p = front.0;
-          requests = y.0;
-          low = omega arith;
-          called = rw x.parts (get_front x.front (e ∷ x.rest) front.0 (Called id y.0) got);
-          by = intended b.catalogue.now (slot_count b) (first_of_call id) y.0 (made_by id at.0) a y.2.0 (legal.answers id) (rw list at y.2.1);
-        })
-        (λ y. absurd (looks y.0 y.1 y.4)) may
-      where
-        later : (more : List Moment) (m : Moment) (part whole : List Moment) → whole ≡ more ++ m ∷ part → (e : Happening) → WasLogged part e → WasLogged whole e
-        later more m part whole is e there = rw is (Contains-append_right more (m ∷ part) (Logged e) (contains_tail m part (Logged e) there))
-
     module _ (h : Holding) (evidence : Evidence) (made : IsAccessMade b h.call h.answer h.access evidence) (finds : FindsFile b evidence h.slot)
-        (first : IsEmptyAtFirst b h.slot) (walked : IsWalked b h) where
+        (first : IsEmptyAtFirst b h.slot) (walked : IsWalked b (Aimed h)) where
       -- the file that the access finds
       record IsHolder : Type 0 where
         file : Identity
         early : clock (Put file) < clock (At h.answer h.access)
         late : clock (At h.answer h.access) ≤ clock (Gone file h.slot)
-        other : (h.holder ≡ Some file → ⊥) → ⊥
+        other : (IsOnlyFile h.found file → ⊥) → ⊥
 
       holder : IsHolder
       holder =
@@ -154,7 +112,7 @@ module _ (b : LogBeginning) where
           let part : IsOlderPart x.time.0 y.earlier =
           shorter y.earlier x.time.0 (older b submissions registrations sound legal clock made.ends y.earlier y.inside) inside (omega arith) in
           let looks : (looked : ℕ) (seen : Option Identity) → was.1.1 ≡ Looks looked seen → ⊥ = λ looked seen is. no_look was.1.1 looked seen h.slot found.0 is was.1.2 in
-          let i = of_log h.answer made.ends y was.0 was.1.0 was.1.1 looks (access_of_part was.1.0 was.1.1 was.0 part at) in record {
+          let i = of_log b submissions registrations sound legal clock times h.answer made.ends y was.0 was.1.0 was.1.1 looks (access_of_part was.1.0 was.1.1 was.0 part at) in record {
             file = found.0;
             early = omega arith;
             late = omega arith;
@@ -163,34 +121,33 @@ module _ (b : LogBeginning) where
                 (omega arith) (omega arith);
           }
 
-      pub holder_is : (file : Identity) → h.holder ≡ Some file
+      pub holder_is : (file : Identity) → ((other : Identity) → IsOnlyFile h.found other → file ≡ other)
           → (clock (Put file) < clock (At h.answer h.access)) × (clock (At h.answer h.access) ≤ clock (Gone file h.slot))
-      holder_is file is =
+      holder_is file only =
           let x = holder in
-          let same : x.file ≡ file = elim (cases_Bool (same_file x.file file)) [
-            | inl alike ↦ (file_Decides x.file file).0 alike
-            | inr differs ↦ absurd (x.other (λ so. let both : Some file ≡ Some x.file = sym is ∙ so in
-                let one : x.file ≡ file = cc in false≢true (sym differs ∙ (file_Decides x.file file).1 one)))
+          let same : file ≡ x.file = elim (cases_Bool (same_file file x.file)) [
+            | inl alike ↦ (file_Decides file x.file).0 alike
+            | inr differs ↦ absurd (x.other (λ held. false≢true (sym differs ∙ (file_Decides file x.file).1 (only x.file held))))
           ] in
-          subst (λ (f : Identity). (clock (Put f) < clock (At h.answer h.access)) × (clock (At h.answer h.access) ≤ clock (Gone f h.slot))) same
+          subst (λ (f : Identity). (clock (Put f) < clock (At h.answer h.access)) × (clock (At h.answer h.access) ≤ clock (Gone f h.slot))) (sym same)
           (x.early, x.late)
 
-      pub no_holder : h.holder ≡ None → ⊥
-      no_holder is = let x = holder in x.other (λ so. let both : None ≡ Some x.file = sym is ∙ so in cc)
+      pub no_holder : ((file : Identity) → IsOnlyFile h.found file → ⊥) → ⊥
+      no_holder none = let x = holder in x.other (none x.file)
 
   module _ (h : Holding) (evidence : Evidence) (made : IsAccessMade b h.call h.answer h.access evidence) (finds : FindsFile b evidence h.slot)
-      (first : IsEmptyAtFirst b h.slot) (walked : IsWalked b h) where
-    pub holder_forced : (file : Identity) → h.holder ≡ Some file → IsForced b (not_after (At h.answer h.access) (Gone file h.slot))
+      (first : IsEmptyAtFirst b h.slot) (walked : IsWalked b (Aimed h)) where
+    pub holder_forced : (file : Identity) → h.found ≡ GoneAfter file → IsForced b (not_after (At h.answer h.access) (Gone file h.slot))
     holder_forced file is submissions registrations sound legal clock times = loose_order clock (At h.answer h.access) (Gone file h.slot)
-        (holder_is submissions registrations sound legal clock times h evidence made finds first walked file is).1
+        (holder_is submissions registrations sound legal clock times h evidence made finds first walked file (rw is (λ other held. held))).1
 
-    pub holder_put : (file : Identity) → h.holder ≡ Some file → IsForced b (strict_from (Put file) (At h.answer h.access))
+    pub holder_put : (file : Identity) → h.found ≡ PutBefore file → IsForced b (strict_from (Put file) (At h.answer h.access))
     holder_put file is submissions registrations sound legal clock times = strict_order clock (Put file) (At h.answer h.access)
-        (holder_is submissions registrations sound legal clock times h evidence made finds first walked file is).0
+        (holder_is submissions registrations sound legal clock times h evidence made finds first walked file (rw is (λ other held. held))).0
 
-    pub none_forced : h.holder ≡ None → IsForced b (strict_from (At h.answer h.access) (At h.answer h.access))
+    pub none_forced : h.found ≡ Nothing → IsForced b (strict_from (At h.answer h.access) (At h.answer h.access))
     none_forced is submissions registrations sound legal clock times =
-        absurd (no_holder submissions registrations sound legal clock times h evidence made finds first walked is)
+        absurd (no_holder submissions registrations sound legal clock times h evidence made finds first walked (rw is (λ file held. held)))
 
   -- an order by which the file isn't there
   pub later_absent : (h : Holding) (file : Identity) (o : PointOrder) → o.from ≡ At h.answer h.access → o.to ≡ Put file → IsForced b o → IsAbsent b h file
@@ -236,20 +193,16 @@ module _ (b : LogBeginning) where
           (part_is_flight (s b submissions registrations sound legal clock) legal.flight (Accesses (record { chain = put.0; access = put.2 }) ∷ put.4.0) put.4.1 legal.is).1.1 in
           let has : Has (placed ((made_by put.0 put.4.0 ++ put.2 ∷ []) ++ one.more)) put.1 file =
           rw (append_assoc (made_by put.0 put.4.0) (put.2 ∷ []) one.more) (has_in (made_by put.0 put.4.0) put.2 one.more put.1 file put.3) in
-          let y = here b submissions registrations sound legal clock times own (Answered c.place.submission c) answered in
-          let may = may_at b submissions registrations sound legal clock times own (Answered c.place.submission c) y in
-          let member = may.2 in
-          let place = answer_place ring.catalogue ring.size (first_of_call c.place.submission) (take (length member.earlier + 1) may.0) member.own
-          (member.earlier ++ c ∷ []) member.earlier c [] member.done refl in
-          let got : slice_get (legal.answers c.place.submission) (length member.earlier) ≡ Some c =
-          rw member.answer (get_here member.earlier c member.later) in
-          let mine : slice_get (legal.answers put.0) (length member.earlier) ≡ Some c =
-          subst (λ (i : ℕ). slice_get (legal.answers i) (length member.earlier) ≡ Some c) (sym same) got in
-          let number : 1 + length member.earlier ≡ c.place.member = omega arith in
-          let mark_is : file.mark ≡ Submitted put.0 1 (1 + length member.earlier) entry =
+          let got = answer_is b submissions registrations sound legal clock times own c.place.submission c answered in
+          let mine : slice_get (legal.answers put.0) (c.place.member - 1) ≡ Some c =
+          subst (λ (i : ℕ). slice_get (legal.answers i) (c.place.member - 1) ≡ Some c) (sym same) got in
+          let of_member : own_mark.0 ≡ c.place.member = cc (sym own_mark.2 ∙ mark) in
+          let first = own_mark.3 in
+          let number : 1 + (c.place.member - 1) ≡ c.place.member = omega arith in
+          let mark_is : file.mark ≡ Submitted put.0 1 (1 + (c.place.member - 1)) entry =
           mark ∙ (λ i. Submitted (sym same i) 1 (sym number i) entry) in
           let res = chain_number ring.catalogue ring.size (first_of_call put.0) one.requests _ (legal.answers put.0) one.done put.1 file has
-          (length member.earlier) entry c mine mark_is in
+          (c.place.member - 1) entry c mine mark_is in
           let low = negative c.res failed in
           let both : negsuc low.0 ≡ pos res.0 = sym low.1 ∙ res.1 in
           cc

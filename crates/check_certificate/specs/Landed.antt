@@ -1,0 +1,17 @@
+-- Accesses that may install a file: at which slot.
+use Rattle.std.specs.Prelude.{◌≡◌}
+use Rattle.fx_chain.specs.declared.intent.Intent.{Intent}
+use Rattle.fx_chain.specs.declared.intent.Intent.TheVariants.{Put, Allocate}
+use Rattle.check_certificate.specs.declared.walk.Landing.{Landing}
+
+-- the access that is intended installs the file at the slot, or doesn't install it
+abbrev pub LandsThere : Landing → Intent → Type 0
+LandsThere l (Put own file) = file ≡ l.file → own ≡ l.slot
+LandsThere l (Allocate file) = file ≡ l.file → ⊥
+LandsThere l intent = Unit {0}
+
+-- or at another slot
+abbrev pub MissesThere : Landing → Intent → Type 0
+MissesThere l (Put own file) = file ≡ l.file → own ≡ l.slot → ⊥
+MissesThere l (Allocate file) = file ≡ l.file → ⊥
+MissesThere l intent = Unit {0}
