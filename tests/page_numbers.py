@@ -1,6 +1,6 @@
 """The numbers of the pages, and where they come from: each number of two digits or more, negated number and exit status of README.md, the
-pages of docs/use and of the crates, CONTRIBUTING, DECISIONS, FLIGHT, LIBRARY, MODEL and PROOFS of docs/inside, the newest part of
-CHANGELOG.md, the manual pages, and the comments of the headers is in a row of tests/numbers.txt.
+pages of docs and of the crates of bindings, the newest part of CHANGELOG.md, the manual pages, and the comments of the headers is in a row
+of tests/numbers.txt.
 
 That file has the rows of each page after a line `== PAGE`. A row is a part of the page, word for word, in which {=EXPRESSION} is a number
 that is computed: of constants (`fx_lasting.MOST_SLOTS`, `yachtjudge.YACHT_STATES`), of the functions below, and of Python's operators.
@@ -37,7 +37,7 @@ IN, RUN_BY = "in ", "run by "
 
 
 def pages():
-    ways = "README.md", "docs/use/*.md", "docs/inside/[CDFLMP]*.md", "bindings/*/README.md", "CHANGELOG.md", "man/*.[0-9]", "include/*.h"
+    ways = "README.md", "docs/use/*.md", "docs/inside/*.md", "bindings/*/README.md", "CHANGELOG.md", "man/*.[0-9]", "include/*.h"
     return [it for way in ways for it in sorted(glob.glob(way, root_dir=ROOT))]
 
 
@@ -104,7 +104,7 @@ class Page:
 def constant(crate, name):
     """Returns a constant of a crate or of a header, or a kept number of cases."""
     texts = [read(f"include/{crate}.h")] if crate.startswith("yacht") else [read(it) for it in files_of(crate, "src")]
-    found = {it.strip() for text in texts for it in re.findall(r"\b@(?:: \w+)? = (-?[\d_ <()-]+)[;,\s}]".replace("@", name), text)}
+    found = {it.strip() for text in texts for it in re.findall(r"\b@(?:: \w+)? = (-?[\d_ <()+-]+)[;,\s}]".replace("@", name), text)}
     if len(found) != 1:
         raise ValueError(f"{crate} has {len(found)} constants {name}")
     return eval(found.pop().replace("_", ""))
