@@ -121,8 +121,8 @@ pub use Rattle.fx_table.specs.declared.values.Doing.{Doing}
 pub use Rattle.fx_table.specs.declared.values.Doing.TheVariants.{Holding, Idle as DoesNothing}
 pub use Rattle.fx_table.specs.declared.values.Hold.{Hold}
 pub use Rattle.fx_lasting.specs.holds.HeldFiles.{IsOneOnItsNode}
-pub use Rattle.fx_lasting.specs.slots.ByNode.{IsOn, HasMissed, HasTakenIf, HasPutIf, FitsMiss, WasSo, WasIn, SaysIf, SawIf, FailedIf, HasTriedIf, TriesTake, TriesPut, TriedTake}
-pub use Rattle.fx_lasting.specs.slots.ByNode.{TriedReplace, TriedSwap, TriedOut, HasMet, WasOvertaken, WasOvertakenIn}
+pub use Rattle.fx_lasting.specs.slots.ByNode.{IsOn, HasMissed, HasTakenIf, HasPutIf, FitsMiss, WasSo, WasIn, SaysIf, SawIf, FailedIf, HasTriedIf, TriesTake, TriesPut}
+pub use Rattle.fx_lasting.specs.slots.ByNode.{TriedReplace, TriedOut, HasMet, WasOvertaken, WasOvertakenIn}
 pub use Rattle.fx_lasting.specs.slots.ByKey.{LookedByKey, HeldByKey, fault_for}
 pub use Rattle.fx_lasting.specs.slots.ByKey.{TriesKey}
 pub use Rattle.fx_lasting.specs.slots.ByKey.{KeysAreOfOneFile, KeysComeBack, HasShortNumber, key_of_bits}

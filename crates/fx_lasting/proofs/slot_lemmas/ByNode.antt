@@ -6,11 +6,15 @@ use Rattle.fx_lasting.proofs.Words.{entry_in, count_in, Names, Start, Sat, At, W
 use Rattle.fx_lasting.proofs.Words.{retired_at, slot_of, pass_in, state_after_all, node_of_number, account, uncounted, range_at_start, is_in}
 use Rattle.fx_lasting.proofs.Words.{group_of, TableId, LastingPass, IsPassOf, opening_of, view_of, pass_of, Result, Ok, Err, seen_further, Adds}
 use Rattle.fx_lasting.proofs.Words.{no_use, IsIdle, IsFileRemoval, Doing, DoesNothing, Retired, IsOneOnItsNode, IsOn, FitsMiss, WasSo, WasIn, SaysIf}
-use Rattle.fx_lasting.proofs.Words.{SawIf, FailedIf, HasTriedIf, TriedTake, TriedReplace, TriedSwap, TriedOut, Miss}
+use Rattle.fx_lasting.proofs.Words.{SawIf, FailedIf, HasTriedIf, TriedReplace, TriedOut, Miss}
 use Rattle.fx_lasting.proofs.Words.{meetings}
 use Rattle.fx_lasting.proofs.slot_lemmas.Overtaking.{overtaken_by}
-use Rattle.fx_lasting.proofs.Running.{swapped_then, at_swapped, number_is, stock_is}
+use Rattle.fx_lasting.proofs.Running.{swapped_then, at_swapped, number_is, own_stock, stock_is, still_at_work}
 use Rattle.fx_lasting.specs.Ends.{Does}
+use Rattle.fx_lasting.specs.range.Tries.{IsPlacing}
+use Rattle.fx_lasting.specs.slots.ByNode.{TriedExchange}
+use Rattle.fx_lasting.specs.slots.SwapSteps.{SwapsIf}
+use Rattle.fx_lasting.proofs.Words.{TakesIf, Replaces, empty_word_of}
 use Rattle.fx_lasting.specs.declared.answers.Miss.TheVariants.{Empty, Other, Again}
 use Rattle.fx_lasting.proofs.Passing.{adds_so}
 use Rattle.fx_lasting.proofs.Running.{runs_one, runs_then, runs_goes, runs_within, does_then}
@@ -136,17 +140,21 @@ Swapped m₁ m₂ at found e = (file : Option File) × Names (node_of_number m�
 pub its_own : (found node : ℕ) → full_name_in found ≡ node + 1 → name_in found - 1 ≡ node
 its_own found node is = let a = name_of_file found node is in omega arith
 
+-- what a pass did that removed the file of the slot, in some steps from the first seat
+abbrev Emptied : Start → (slot found : ℕ) → Glance → Sat → Sat → Type 0
+Emptied k slot found g s t = (f : File) × Names (node_of_number k) found (Some f)
+    × Runs s ([] ▷ Take slot (Some f)) (retiring_work k found (Some f)) g Outside 4 t × IsOneOnItsNode k (Some f) (pass_in t).front
+
 -- The last of some tries
 module _ {k : Start} {slot at : ℕ} (node found : ℕ) {m m₁ m₂ : Sat} {n : ℕ} (start : m₁.0.start ≡ k) (here : at ≡ slot)
     (still : Does m [] m.0.work n m₁) (few : n + 1 ≤ 4) where
   module _ (is : full_name_in found ≡ node + 1) where
-    pub won_take : (file : Option File) → Names (node_of_number m₁.0.start) found file
+    took_so : (file : Option File) → Names (node_of_number m₁.0.start) found file
         → Stepped m₁ ([] ▷ Take at file) (retiring_work m₁.0.start found file) m₁.0.glance (account (range_at_start m₁.0.start) at file) m₂
-        → IsOneOnItsNode m₁.0.start file (pass_in m₂).front → TriedTake k slot node m (Ok found) m₂
-    won_take None names s one = absurd (not_named _ _ is names)
-    won_take (Some f) names s one = (
+        → IsOneOnItsNode m₁.0.start file (pass_in m₂).front → Emptied k slot found m.0.glance m m₂
+    took_so None names s one = absurd (not_named _ _ is names)
+    took_so (Some f) names s one = (
       f,
-      is,
       subst (λ (z : Start). Names (node_of_number z) found (Some f)) start names,
       runs_within few (acts_then still (subst (λ (z : Start × ℕ). Runs m₁ ([] ▷ Take z.1 (Some f)) (retiring_work z.0 found (Some f))
           m₁.0.glance Outside 1 m₂) (λ i. (start i, here i)) (at_once (range_at_start m₁.0.start) at f s))),
@@ -180,9 +188,7 @@ module _ {k : Start} {slot at : ℕ} (node found : ℕ) {m m₁ m₂ : Sat} {n :
         there : (e : ℕ) → get_elem? (pass_in m).stock e ≡ some own → get_elem? (pass_in m₁).stock e ≡ some own
         there e its = ap (λ (l : List ℕ). get_elem? l e) still.stock ∙ its
 
-    swapped_so : (e : ℕ) → Swapped m₁ m₂ at found e → (f : File) × Names (node_of_number k) found (Some f)
-        × Runs (as_swapped e node m) ([] ▷ Take slot (Some f)) (retiring_work k found (Some f)) m.0.glance Outside 4 m₂
-        × IsOneOnItsNode k (Some f) (pass_in m₂).front
+    swapped_so : (e : ℕ) → Swapped m₁ m₂ at found e → Emptied k slot found m.0.glance (as_swapped e node m) m₂
     swapped_so e (None, names, a_node, s, home, one) = absurd (not_named _ _ is names)
     swapped_so e (Some f, names, a_node, s, home, one) = (
       f,
@@ -192,16 +198,73 @@ module _ {k : Start} {slot at : ℕ} (node found : ℕ) {m m₁ m₂ : Sat} {n :
       subst (λ (z : Start). IsOneOnItsNode z (Some f) (pass_in m₂).front) start one,
     )
 
-    pub won_swap : (own : ℕ) → IsInStock (pass_in m).stock own → ((e : ℕ) → get_elem? (pass_in m₁).stock e ≡ some own → Swapped m₁ m₂ at found e)
-        → TriedSwap k slot node own m (Ok found) m₂
-    won_swap own stocked wins = let z = wins stocked.0 (there stocked.0 stocked.1) in (
-      is,
-      subst (λ (y : ℕ). y < nodes_of k) (its_own found node is) (subst (λ (y : Start). name_in found - 1 < nodes_of y) start z.2.1),
-      λ e its. swapped_so e (wins e (there e its)),
-    )
-      where
-        there : (e : ℕ) → get_elem? (pass_in m).stock e ≡ some own → get_elem? (pass_in m₁).stock e ≡ some own
-        there e its = ap (λ (l : List ℕ). get_elem? l e) still.stock ∙ its
+-- The exchanges that a pass tried while a slot's word named the node
+pub begun_at : {k : Start} {p : ℕ} {m b : Sat} → IsAtWork k p m → Does m [] m.0.work 3 b → b.0.start ≡ k
+begun_at at still = (still_at_work at still).pass.0
+
+-- the node that a word names is one of the table
+pub names_inside : {k : Start} (word node : ℕ) (b : Sat) → b.0.start ≡ k → full_name_in word ≡ node + 1 → NamesANode b.0.start word → node < nodes_of k
+names_inside {k} word node b start is named =
+    subst (λ (y : ℕ). y < nodes_of k) (its_own word node is) (subst (λ (y : Start). name_in word - 1 < nodes_of y) start named.1)
+
+-- the stock of the pass, with the node at an entry
+pub stock_moved : {k : Start} {p : ℕ} {m : Sat} {l : List ℕ} (at : IsAtWork k p m) (entry node : ℕ) → node < nodes_of k → set (pass_in m).stock entry node ≡ l
+    → IsStockOf k (pass_in m).number l
+stock_moved {k} {p} {l = l} at entry node inside same = let after = at_swapped at entry node inside in
+    subst (λ (n : ℕ). IsStockOf k n l) (sym (number_is at)) (subst (IsStockOf k p) (sym (stock_is after) ∙ same) after.stock)
+
+-- a pass with the same stock
+pub runs_stocked : {m m' : Sat} {l : List ℕ} {xs : List Action} {w : Work} {g : Glance} {c : Change} {n : ℕ} → l ≡ (pass_in m).stock → Runs m xs w g c n m'
+    → Runs (as_stocked l m) xs w g c n m'
+runs_stocked {m} {m'} {l} {xs} {w} {g} {c} {n} its r = let same : Runs (as_stocked (pass_in m).stock m) xs w g c n m' = assumption r in
+    subst (λ (z : List ℕ). Runs (as_stocked z m) xs w g c n m') (sym its) same
+
+-- to put its file there
+module _ {k : Start} {p : ℕ} {m : Sat} (at : IsAtWork k p m) (slot node : ℕ) where
+  pub replaced_it : (own lost new : ℕ) (file : Closed) → IsPlacing own lost file m → (r : Result ℕ Miss) (m' : Sat)
+      → TriedExchange Replaces k slot node (Some new) m r m' → TriedReplace k slot node own file m r m'
+  replaced_it own lost new file placing (Ok word) m' w =
+      won_replace node word (begun_at at w.still) w.here w.still (omega arith) w.named own file placing.stocked
+      (λ e there. w.last.wins own lost e file (w.still.work ∙ placing.work) (w.places ∙ placing.place) there w.first) (ap rest (w.places ∙ placing.place))
+  replaced_it own lost new file placing (Err miss) m' it = it
+
+-- to empty the slot, with this stock
+module _ {k : Start} {p : ℕ} {m : Sat} (at : IsAtWork k p m) (stock : List ℕ) (its : stock ≡ (pass_in m).stock) (slot node : ℕ) where
+  -- it left the name
+  pub left_name : (r : Result ℕ Miss) (m' : Sat) → TriedExchange TakesIf k slot node None m r m' → TriedOut k slot node stock m r m' × (m'.1 ≡ m.1)
+  left_name (Ok word) m' w =
+      let t = w.last.wins w.first in
+      let z = took_so node word (begun_at at w.still) w.here w.still (omega arith) w.named t.0 t.1 t.2 t.4 in (
+        (
+          z.0,
+          w.named,
+          z.1,
+          subst (λ (y : ℕ × List ℕ). IsStockOf k y.0 y.1) (λ i. (sym (number_is at) i, sym its i)) (own_stock at),
+          runs_stocked its z.2,
+          z.3,
+        ),
+        t.3 ∙ w.places,
+      )
+  left_name (Err miss) m' it = ((it.0, it.1, its), it.2)
+
+  -- it exchanged names
+  pub moved_name : (own new entry word : ℕ) (m' : Sat) → get_elem? stock entry ≡ some own → new ≡ empty_word_of own
+      → TriedExchange SwapsIf k slot node (Some new) m (Ok word) m' → TriedOut k slot node (set stock entry node) m (Ok word) m' × (m'.1 ≡ m.1)
+  moved_name own new entry word m' there is w =
+      let start = begun_at at w.still in
+      let won = w.last.wins own entry (ap (λ (l : List ℕ). get_elem? l entry) (w.still.stock ∙ sym its) ∙ there) (w.second ∙ is) w.first in
+      let z = swapped_so node word start w.here w.still (omega arith) w.named entry won in
+      let same : set (pass_in m).stock entry node ≡ set stock entry node = λ i. set (sym its i) entry node in (
+        (
+          z.0,
+          w.named,
+          z.1,
+          stock_moved at entry node (names_inside word node w.before start w.named won.2) same,
+          subst (λ (l : List ℕ). Runs (as_stocked l m) ([] ▷ Take slot (Some z.0)) (retiring_work k word (Some z.0)) m.0.glance Outside 4 m') same z.2,
+          z.3,
+        ),
+        won.4 ∙ w.places,
+      )
 
 module _ {st : At} {m m₁ m₂ : Sat} {found n : ℕ} (still : Does m [] m.0.work n m₁) (few : n + 1 ≤ 4) (saw : Sees st m₁ found m₂) where
   pub lost_run : Does m [] m.0.work 4 m₂
@@ -240,20 +303,3 @@ pub adds_none : {id : TableId} {k : Start} {p : LastingPass} → IsPassOf id k p
     → Runs p.seat.me [] p.seat.me.0.work g c n m' → Adds (opening_of k) (view_of p) [] DoesNothing no_use (pass_of m'.0)
 adds_none {k = k} {p = p} fits idle {m'} r =
     subst (λ (d : Doing). Adds (opening_of k) (view_of p) [] d no_use (pass_of m'.0)) idle (adds_so fits.seated r no_use)
-
--- A pass with this stock that tried to empty a slot
-module _ {k : Start} {p : ℕ} {m : Sat} (m' : Sat) (at : IsAtWork k p m) (stock : List ℕ) (its : stock ≡ (pass_in m).stock) (slot node : ℕ) where
-  -- it exchanged names
-  pub moved_name : (word own entry : ℕ) → get_elem? stock entry ≡ some own → TriedSwap k slot node own m (Ok word) m'
-      → TriedOut k slot node (set stock entry node) m (Ok word) m'
-  moved_name word own entry there (is, inside, did) = let z = did entry (ap (λ (l : List ℕ). get_elem? l entry) (sym its) ∙ there) in
-      let after = at_swapped at entry node inside in
-      let same : set (pass_in m).stock entry node ≡ set stock entry node = λ i. set (sym its i) entry node in (
-        z.0,
-        is,
-        z.1,
-        subst (λ (n : ℕ). IsStockOf k n (set stock entry node)) (sym (number_is at))
-            (subst (IsStockOf k p) (sym (stock_is after) ∙ same) after.stock),
-        subst (λ (l : List ℕ). Runs (as_stocked l m) ([] ▷ Take slot (Some z.0)) (retiring_work k word (Some z.0)) m.0.glance Outside 4 m') same z.2,
-        z.3,
-      )

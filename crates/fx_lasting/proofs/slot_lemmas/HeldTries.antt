@@ -5,78 +5,70 @@ use Rattle.fx_lasting.proofs.Words.{Names, NamesANode, IsInStock, IsStockOf, as_
 use Rattle.fx_lasting.proofs.Words.{node_of_number, account, range_at_start, IsAtWork, Ok, Closed, Adds, adds_then, no_use, DoesNothing}
 use Rattle.fx_lasting.proofs.Words.{ReleasesFile, Released, LookedUp, Opening, PassView, Holding, Hold, TableId, LastingPass, IsPassOf, IsBetweenCalls, opening_of, view_of, pass_of}
 use Rattle.fx_lasting.proofs.Words.{Change, Doing, HasActed, HasTriedIf, Miss, KeyFault, TriesKey, fault_for, meetings, LookedByKey, HeldByKey, WasSo, FitsMiss, IsSeenBy, ⊎_elim, inl}
-use Rattle.fx_lasting.proofs.slot_lemmas.ByNode.{acts_then, at_once, its_own, was_further}
+use Rattle.fx_lasting.proofs.slot_lemmas.ByNode.{acts_then, at_once, begun_at, its_own, names_inside, runs_stocked, stock_moved, was_further}
 use Rattle.fx_lasting.proofs.Passing.{adds_so}
-use Rattle.fx_lasting.proofs.Running.{runs_within, swapped_then, at_swapped, number_is, stock_is}
+use Rattle.fx_lasting.proofs.Running.{runs_within, swapped_then, number_is, own_stock}
 use Rattle.fx_lasting.proofs.slot_lemmas.Watching.{acted_further}
-use Rattle.fx_lasting.specs.slots.Alone.{TriedTakeHeld, TriedSwapHeld, TriedOutHeld, LeftAlone}
+use Rattle.fx_lasting.specs.slots.Alone.{TriedOutHeld, LeftAlone}
 use Rattle.fx_lasting.specs.Ends.{Does}
+use Rattle.fx_lasting.specs.Laws.{Kind}
+use Rattle.fx_lasting.specs.slots.ByNode.{TriedExchange, WonExchange}
+use Rattle.fx_lasting.specs.slots.SwapSteps.{SwapsHeld, TakesHeld}
+use Rattle.fx_lasting.proofs.Words.{Err, Result, empty_word_of, slot_of}
 use Rattle.fx_lasting.proofs.Words.{Bool, Guarded, HasItsHold, HoldsAlone, is_guarding, leaving_work}
 use Rattle.fx_lasting.specs.declared.answers.Miss.TheVariants as reason
 use Rattle.fx_lasting.specs.declared.key.Key.{Key}
 
--- The last of some tries
-module _ {k : Start} {slot at : ℕ} (node found : ℕ) {m m₁ : Sat} (m₂ : Sat) {n : ℕ} (f : File) (works : HoldsAlone m.0.work f node) (start : m₁.0.start ≡ k)
-    (here : at ≡ slot) (still : Does m [] m.0.work n m₁) (few : n + 1 ≤ 4) (is : full_name_in found ≡ node + 1)
-    (own_hold : HasItsHold (is_guarding m₁.0.work) found) (names : Names (node_of_number m₁.0.start) found (Some f)) where
-  names_so : Names (node_of_number k) found (Some f)
-  names_so = subst (λ (z : Start). Names (node_of_number z) found (Some f)) start names
+-- The exchanges that a pass with this stock tried that holds the file of the node, to empty the slot
+module _ {k : Start} {p : ℕ} {m : Sat} (at : IsAtWork k p m) (stock : List ℕ) (its : stock ≡ (pass_in m).stock) (slot node : ℕ) (f : File)
+    (works : HoldsAlone m.0.work f node) where
+  holds_still : (b : Sat) → Does m [] m.0.work 3 b → HoldsAlone b.0.work f node
+  holds_still b still = subst (λ (w : Work). HoldsAlone w f node) (sym still.work) works
 
-  its_hold : HasItsHold (is_guarding m.0.work) found
-  its_hold = subst (λ (w : Work). HasItsHold (is_guarding w) found) still.work own_hold
+  module _ {tells : Kind} {new : Option ℕ} {word : ℕ} {m' : Sat} (w : WonExchange tells slot node new m word m')
+      (own_hold : HasItsHold (is_guarding w.before.0.work) word) (names : Names (node_of_number w.before.0.start) word (Some f)) where
+    abbrev Acts : Sat → ℕ → Start → ℕ → Glance → Bool → Type 0
+    Acts s n z i g b = Runs s ([] ▷ Release f ▷ Take i (Some f)) (leaving_work z b word f) g Outside n m'
 
-  abbrev Acts : Sat → ℕ → Start → ℕ → Glance → Bool → Type 0
-  Acts m s z i g b = Runs m ([] ▷ Release f ▷ Take i (Some f)) (leaving_work z b found f) g Outside s m₂
-
-  pub won_take_held : Stepped m₁ ([] ▷ Release f ▷ Take at (Some f)) (leaving_work m₁.0.start (is_guarding m₁.0.work) found f) m₁.0.glance
-      (account (range_at_start m₁.0.start) at (Some f)) m₂ → TriedTakeHeld k slot node m (Ok found) m₂
-  won_take_held s = (
-    f,
-    works,
-    is,
-    names_so,
-    its_hold,
-    runs_within few (acts_then still (subst (λ (z : Start × ℕ × Bool). Acts m₁ 1 z.0 z.1 m₁.0.glance z.2) (λ i. (start i, here i, is_guarding (still.work i)))
-        (at_once (range_at_start m₁.0.start) at f s))),
-  )
-
-  abbrev Moved : ℕ → Type 0
-  Moved e = NamesANode m₁.0.start found
-      × Stepped (as_swapped e (name_in found - 1) m₁) ([] ▷ Release f ▷ Take at (Some f)) (leaving_work m₁.0.start (is_guarding m₁.0.work) found f) m₁.0.glance
-      (account (range_at_start m₁.0.start) at (Some f)) m₂
-
-  pub won_swap_held : (own : ℕ) → IsInStock (pass_in m).stock own → ((e : ℕ) → get_elem? (pass_in m₁).stock e ≡ some own → Moved e)
-      → TriedSwapHeld k slot node own m (Ok found) m₂
-  won_swap_held own stocked wins = let z = wins stocked.0 (there stocked.0 stocked.1) in (
-    f,
-    works,
-    is,
-    names_so,
-    its_hold,
-    subst (λ (y : ℕ). y < nodes_of k) (its_own found node is) (subst (λ (y : Start). name_in found - 1 < nodes_of y) start z.0.1),
-    λ e its. runs_within few (swapped_then e node still (subst (λ (z : Start × ℕ × Glance × ℕ × Bool). Acts (as_swapped e z.3 m₁) 1 z.0 z.1 z.2 z.4)
-        (λ i. (start i, here i, still.glance i, its_own found node is i, is_guarding (still.work i))) (at_once (range_at_start m₁.0.start) at f (wins e (there e its)).1))),
-  )
-    where
-      there : (e : ℕ) → get_elem? (pass_in m).stock e ≡ some own → get_elem? (pass_in m₁).stock e ≡ some own
-      there e its = ap (λ (l : List ℕ). get_elem? l e) still.stock ∙ its
-
--- a pass with this stock that exchanged names
-pub moved_held : {k : Start} {p : ℕ} {m : Sat} (m' : Sat) (at : IsAtWork k p m) (stock : List ℕ) → stock ≡ (pass_in m).stock
-    → (slot node word own entry : ℕ) → get_elem? stock entry ≡ some own → TriedSwapHeld k slot node own m (Ok word) m'
-    → TriedOutHeld k slot node (set stock entry node) m (Ok word) m'
-moved_held {k} {p} {m} m' at stock its slot node word own entry there (f, works, is, names, hold, inside, did) =
-    let z = did entry (ap (λ (l : List ℕ). get_elem? l entry) (sym its) ∙ there) in
-    let after = at_swapped at entry node inside in
-    let same : set (pass_in m).stock entry node ≡ set stock entry node = λ i. set (sym its i) entry node in (
+    out_so : (l : List ℕ) → IsStockOf k (pass_in m).number l → Acts (as_stocked l m) 4 k slot m.0.glance (is_guarding m.0.work)
+        → TriedOutHeld k slot node l m (Ok word) m'
+    out_so l has run = (
       f,
       works,
-      is,
-      names,
-      hold,
-      subst (λ (n : ℕ). IsStockOf k n (set stock entry node)) (sym (number_is at)) (subst (IsStockOf k p) (sym (stock_is after) ∙ same) after.stock),
-      subst (λ (l : List ℕ). Runs (as_stocked l m) ([] ▷ Release f ▷ Take slot (Some f)) (leaving_work k (is_guarding m.0.work) word f) m.0.glance Outside 4 m') same z,
+      w.named,
+      subst (λ (z : Start). Names (node_of_number z) word (Some f)) (begun_at at w.still) names,
+      subst (λ (z : Work). HasItsHold (is_guarding z) word) w.still.work own_hold,
+      has,
+      run,
     )
+
+  -- it left the name
+  pub left_held : (r : Result ℕ Miss) (m' : Sat) → TriedExchange TakesHeld k slot node None m r m' → TriedOutHeld k slot node stock m r m' × (m'.1 ≡ m.1)
+  left_held (Ok word) m' w =
+      let start = begun_at at w.still in
+      let z = w.last.wins f node (holds_still w.before w.still) w.first in
+      let run = runs_within (omega arith) (acts_then w.still (subst (λ (y : Start × ℕ × Bool). Acts w z.0 z.1 w.before 1 y.0 y.1 w.before.0.glance y.2)
+      (λ i. (start i, w.here i, is_guarding (w.still.work i))) (at_once (range_at_start w.before.0.start) (slot_of w.st.word) f z.2))) in (
+        out_so w z.0 z.1 stock (subst (λ (y : ℕ × List ℕ). IsStockOf k y.0 y.1) (λ i. (sym (number_is at) i, sym its i)) (own_stock at)) (runs_stocked its run),
+        z.3 ∙ w.places,
+      )
+  left_held (Err miss) m' it = ((it.0, it.1, its), it.2)
+
+  -- it exchanged names
+  pub moved_held : (own new entry word : ℕ) (m' : Sat) → get_elem? stock entry ≡ some own → new ≡ empty_word_of own
+      → TriedExchange SwapsHeld k slot node (Some new) m (Ok word) m' → TriedOutHeld k slot node (set stock entry node) m (Ok word) m' × (m'.1 ≡ m.1)
+  moved_held own new entry word m' there is w =
+      let start = begun_at at w.still in
+      let z = w.last.wins f node own entry (holds_still w.before w.still) (ap (λ (l : List ℕ). get_elem? l entry) (w.still.stock ∙ sym its) ∙ there)
+      (w.second ∙ is) w.first in
+      let same : set (pass_in m).stock entry node ≡ set stock entry node = λ i. set (sym its i) entry node in
+      let run = runs_within (omega arith) (swapped_then entry node w.still (subst (λ (y : Start × ℕ × Glance × ℕ × Bool). Acts w z.0 z.1 (as_swapped entry y.3 w.before) 1
+      y.0 y.1 y.2 y.4) (λ i. (start i, w.here i, w.still.glance i, its_own word node w.named i, is_guarding (w.still.work i)))
+      (at_once (range_at_start w.before.0.start) (slot_of w.st.word) f z.3))) in (
+        out_so w z.0 z.1 (set stock entry node) (stock_moved at entry node (names_inside word node w.before start w.named z.2) same)
+            (subst (λ (l : List ℕ). Acts w z.0 z.1 (as_stocked l m) 4 k slot m.0.glance (is_guarding m.0.work)) same run),
+        z.4 ∙ w.places,
+      )
 
 -- a pass that holds a file, and has done nothing more
 pub adds_held : {id : TableId} {k : Start} {p : LastingPass} {f : File} {hold : Hold} → IsPassOf id k p → (view_of p).doing ≡ Holding f hold → {m' : Sat}

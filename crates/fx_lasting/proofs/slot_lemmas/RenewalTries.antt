@@ -3,10 +3,14 @@ use Rattle.fx_lasting.proofs.Words.{◌≡◌, ◌≢◌, ℕ, ◌+◌, ◌-◌,
 use Rattle.fx_lasting.proofs.Words.{File, Release, Put, numbered, ◌▷◌, Start, Sat, Glance, Outside, Runs, Stepped, Names, NamesANode, IsInStock, as_swapped}
 use Rattle.fx_lasting.proofs.Words.{full_name_in, name_in, nodes_of, pass_in, node_of_number, retiring_work, account, range_at_start, Closed, held_in}
 use Rattle.fx_lasting.proofs.Words.{WasIn, FailedIf, Miss}
-use Rattle.fx_lasting.proofs.slot_lemmas.ByNode.{at_once, its_own, swapped_acts, stands_then, missed_so, was_before}
+use Rattle.fx_lasting.proofs.slot_lemmas.ByNode.{at_once, begun_at, its_own, swapped_acts, stands_then, missed_so, was_before}
 use Rattle.fx_lasting.proofs.slot_lemmas.Overtaking.{overtaken_in}
 use Rattle.fx_lasting.proofs.Running.{does_then, runs_within, swapped_then}
-use Rattle.fx_lasting.specs.slots.PutAlone.{TriedReplaceHeld, TriedRenewal}
+use Rattle.fx_lasting.specs.slots.PutAlone.{IsBeside, TriedReplaceHeld, TriedRenewal}
+use Rattle.fx_lasting.specs.slots.ByNode.{TriedExchange}
+use Rattle.fx_lasting.specs.slots.PutSteps.{ReplacesHeld}
+use Rattle.fx_lasting.proofs.slot_lemmas.Renewals.{held_besides}
+use Rattle.fx_lasting.proofs.Words.{HoldsBesides, IsAtWork, Result, as_written, label_of}
 use Rattle.fx_lasting.proofs.Words.{Bool, Work, HasItsHold, entry_in, is_guarding, leaving_work}
 use Rattle.fx_lasting.specs.Ends.{Does}
 use Rattle.fx_lasting.specs.declared.answers.Miss.TheVariants.{Empty, Other, Again}
@@ -44,6 +48,16 @@ module _ {k : Start} {slot at : ℕ} (node found : ℕ) {m m₁ : Sat} (m₂ : S
     where
       there : (e : ℕ) → get_elem? (pass_in m).stock e ≡ some own → get_elem? (pass_in m₁).stock e ≡ some own
       there e its = ap (λ (l : List ℕ). get_elem? l e) still.stock ∙ its
+
+-- the exchanges that the pass tried
+pub renewed_it : {k : Start} {p : ℕ} {m : Sat} (at : IsAtWork k p m) (slot node own lost new : ℕ) (file : Closed) → IsBeside node own lost file m
+    → (r : Result ℕ Miss) (m' : Sat) → TriedExchange ReplacesHeld k slot node (Some new) m r m' → TriedReplaceHeld k slot node own file m r m'
+renewed_it at slot node own lost new file b (Ok word) m' w =
+    won_renewal node word m' b.held (held_besides b.work) (begun_at at w.still) w.here w.still (omega arith) w.named own file b.stocked
+    (λ e there. w.last.wins b.held node own lost e file
+    (subst (λ (z : Work). HoldsBesides z b.held node own (as_written lost (label_of file))) (sym w.still.work) b.work)
+    (w.places ∙ b.place) there w.first) (ap rest (w.places ∙ b.place))
+renewed_it at slot node own lost new file b (Err miss) m' it = it
 
 -- the tries after a load of the slot's word
 module _ (k : Start) (slot node own : ℕ) (file : Closed) (m m₁ m₂ : Sat) (saw : WasIn k slot node Again m m₁) (one : Does m [] m.0.work 1 m₁) (home : m₁.1 ≡ m.1) where

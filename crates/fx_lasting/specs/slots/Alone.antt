@@ -33,28 +33,8 @@ use Rattle.fx_lasting.specs.declared.pass.LastingPass.{LastingPass}
 use Rattle.fx_lasting.specs.declared.view.Change.TheVariants.{Outside}
 use Rattle.fx_lasting.specs.declared.view.Start.{Start}
 
--- a pass that holds a file and tried to empty the slot, whose word named the file's node
-abbrev pub TriedTakeHeld : Start → (slot node : ℕ) → Sat → Result ℕ Miss → Sat → Type 0
-TriedTakeHeld k slot node m (Ok word) m' = (f : File) × HoldsAlone m.0.work f node
-    × (full_name_in word ≡ node + 1) × Names (node_of_number k) word (Some f)
-    × HasItsHold (is_guarding m.0.work) word
-    × Runs m ([] ▷ Release f ▷ Take slot (Some f)) (leaving_work k (is_guarding m.0.work) word f)
-    m.0.glance Outside 4 m'
-TriedTakeHeld k slot node m (Err miss) m' =
-    FailedIf k slot node miss m m' × Does m [] m.0.work 4 m'
-
--- one that tried it by an exchange of names, with a node of its stock
-abbrev pub TriedSwapHeld : Start → (slot node own : ℕ) → Sat → Result ℕ Miss → Sat → Type 0
-TriedSwapHeld k slot node own m (Ok word) m' = (f : File) × HoldsAlone m.0.work f node
-    × (full_name_in word ≡ node + 1) × Names (node_of_number k) word (Some f)
-    × HasItsHold (is_guarding m.0.work) word × (node < nodes_of k)
-    × ((entry : ℕ) → get_elem? (pass_in m).stock entry ≡ some own
-    → Runs (as_swapped entry node m) ([] ▷ Release f ▷ Take slot (Some f))
-    (leaving_work k (is_guarding m.0.work) word f) m.0.glance Outside 4 m')
-TriedSwapHeld k slot node own m (Err miss) m' =
-    FailedIf k slot node miss m m' × Does m [] m.0.work 4 m'
-
--- one that tried it, and has this stock now
+-- a pass that holds a file, and tried to empty a slot whose word named the file's node. It has this
+-- stock now
 abbrev pub TriedOutHeld : Start → (slot node : ℕ) → List ℕ → Sat → Result ℕ Miss → Sat → Type 0
 TriedOutHeld k slot node stock m (Ok word) m' = (f : File) × HoldsAlone m.0.work f node
     × (full_name_in word ≡ node + 1) × Names (node_of_number k) word (Some f)

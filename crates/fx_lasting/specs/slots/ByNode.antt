@@ -1,7 +1,9 @@
 -- The calls that empty or replace a slot if its file is on a node that the caller names.
 use Rattle.std.specs.Prelude.{◌≡◌, ◌≢◌, ℕ, ◌+◌, ◌<◌, List, [], Option, Some, None, Result}
-use Rattle.std.specs.Prelude.{Ok, Err, ◌⊎◌}
-use mathlib.Core.Option.{some}
+use Rattle.std.specs.Prelude.{Ok, Err, ◌⊎◌, ◌==◌}
+use mathlib.Core.Option.{some, none}
+use prog.Atomic.{either}
+use Rattle.atomic_table.specs.Table.{step, Allows}
 use lib.ListN.{get_elem?}
 use Rattle.fx_base.specs.Identity.{Identity}
 use Rattle.fx_plain.specs.History.{◌▷◌, IsSeenBy}
@@ -16,12 +18,16 @@ use Rattle.fx_table.specs.declared.values.Doing.TheVariants.{Retiring as Retires
 use Rattle.fx_lasting.specs.slots.SlotAgrees.{Names}
 use Rattle.fx_lasting.specs.Ends.{Does}
 use Rattle.fx_lasting.specs.holds.HeldFiles.{IsOneOnItsNode}
-use Rattle.fx_lasting.specs.Fields.{full_name_in}
+use Rattle.fx_lasting.specs.Fields.{full_name_in, without_file}
+use Rattle.fx_lasting.specs.Agrees.{Agrees}
+use Rattle.fx_lasting.specs.Laws.{Kind}
+use Rattle.fx_lasting.specs.life.Layout.{slot_place}
 use Rattle.fx_lasting.specs.Passes.{Sat, nodes_of, node_of_number, state_after_all}
 use Rattle.fx_lasting.specs.Runs.{Runs}
 use Rattle.fx_lasting.specs.Tables.{opening_of, view_of, meetings}
 use Rattle.fx_lasting.specs.nodes.Stocks.{IsStockOf}
-use Rattle.fx_lasting.specs.Effects.{as_stocked, as_swapped, pass_in, retiring_work, MeetsOne}
+use Rattle.fx_lasting.specs.Effects.{At, Sees, as_stocked, as_swapped, pass_in, retiring_work}
+use Rattle.fx_lasting.specs.Effects.{MeetsOne, slot_of}
 use Rattle.fx_lasting.specs.slots.Watches.{HasActed}
 use Rattle.fx_lasting.specs.declared.pass.LastingPass.{LastingPass}
 use Rattle.fx_lasting.specs.declared.answers.Miss.{Miss}
@@ -127,27 +133,44 @@ FailedIf k slot node Again m m' = WasOvertakenIn slot m m'
 FailedIf k slot node Empty m m' = WasIn k slot node Empty m m'
 FailedIf k slot node Other m m' = WasIn k slot node Other m m'
 
--- a pass that tried to empty a slot, whose word named the node
-abbrev pub TriedTake : Start → ℕ → ℕ → Sat → Result ℕ Miss → Sat → Type 0
-TriedTake k slot node m (Ok word) m' = (f : File) × (full_name_in word ≡ node + 1)
-    × Names (node_of_number k) word (Some f)
-    × Runs m ([] ▷ Take slot (Some f)) (retiring_work k word (Some f)) m.0.glance Outside 4 m'
-    × IsOneOnItsNode k (Some f) (pass_in m').front
-TriedTake k slot node m (Err miss) m' =
-    FailedIf k slot node miss m m' × Does m [] m.0.work 4 m'
+-- the word that an exchange puts at a slot: a new one, or else the old one without its file
+abbrev pub word_put : Option ℕ → ℕ → ℕ
+word_put (Some new) old = new
+word_put None old = without_file old
 
--- a pass that tried to empty such a slot by an exchange of names, with a node of its stock
-abbrev pub TriedSwap : Start → (slot node own : ℕ) → Sat → Result ℕ Miss → Sat → Type 0
-TriedSwap k slot node own m (Ok word) m' = (full_name_in word ≡ node + 1) × (node < nodes_of k)
-    × ((entry : ℕ) → get_elem? (pass_in m).stock entry ≡ some own → (f : File)
-    × Names (node_of_number k) word (Some f)
-    × Runs (as_swapped entry node m) ([] ▷ Take slot (Some f)) (retiring_work k word (Some f))
-    m.0.glance Outside 4 m'
-    × IsOneOnItsNode k (Some f) (pass_in m').front)
-TriedSwap k slot node own m (Err miss) m' =
-    FailedIf k slot node miss m m' × Does m [] m.0.work 4 m'
+-- a pass that does nothing else may make such exchanges while the slot's word names the node
+abbrev pub MayExchange : Kind → Start → ℕ → ℕ → Option ℕ → Sat → Type 0
+MayExchange tells k slot node new m = (slots id old tries : ℕ) (m' : Sat)
+    → Does m [] m.0.work tries m' → m'.1 ≡ m.1 → full_name_in old ≡ node + 1
+    → Allows (Agrees k) slots id m' (slot_place slot)
+    (λ word. either (word == old) (word_put new old) word)
+    (tells (step slots (slot_place slot) old (word_put new old) none) m')
 
--- a pass that tried to empty such a slot, and has this stock now
+-- an exchange that finds another word changes nothing
+abbrev pub SeesIfLost : Kind → Type 0
+SeesIfLost tells = (st : At) (m : Sat) (found : ℕ) (m' : Sat) → tells st m found m'
+    → found ≢ st.first → Sees st m found m'
+
+-- the last of some exchanges found the word that it expected
+pub record WonExchange (tells : Kind) (slot node : ℕ) (new : Option ℕ) (m : Sat) (word : ℕ)
+    (m' : Sat) : Type 0 where
+  pub before : Sat
+  pub st : At
+  pub still : Does m [] m.0.work 3 before
+  pub places : before.1 ≡ m.1
+  pub here : slot_of st.word ≡ slot
+  pub named : full_name_in word ≡ node + 1
+  pub first : word ≡ st.first
+  pub second : st.second ≡ word_put new word
+  pub last : tells st before word m'
+
+-- a pass that made such exchanges, at most four
+abbrev pub TriedExchange : Kind → Start → ℕ → ℕ → Option ℕ → Sat → Result ℕ Miss → Sat → Type 0
+TriedExchange tells k slot node new m (Ok word) m' = WonExchange tells slot node new m word m'
+TriedExchange tells k slot node new m (Err miss) m' =
+    FailedIf k slot node miss m m' × Does m [] m.0.work 4 m' × (m'.1 ≡ m.1)
+
+-- a pass that tried to empty a slot, whose word named the node, and has this stock now
 abbrev pub TriedOut : Start → (slot node : ℕ) → List ℕ → Sat → Result ℕ Miss → Sat → Type 0
 TriedOut k slot node stock m (Ok word) m' = (f : File) × (full_name_in word ≡ node + 1)
     × Names (node_of_number k) word (Some f) × IsStockOf k (pass_in m).number stock

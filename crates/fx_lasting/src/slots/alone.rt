@@ -7,27 +7,26 @@ ghost use Rattle.std.specs.Prelude.{◌≡◌, ℕ, ◌+◌, ◌<◌, ◌≤◌,
 ghost use Rattle.fx_plain.specs.declared.event.File.{File};
 ghost use Rattle.fx_table.specs.Opening.{size_of};
 ghost use Rattle.fx_table.specs.Pass.{IsHoldOf, IsIdle};
-ghost use Rattle.fx_lasting.specs.slots.Alone.{HasTakenHeld, TakesAlone, TriedOutHeld, TriedSwapHeld, TriedTakeHeld};
+ghost use Rattle.fx_lasting.specs.slots.Alone.{HasTakenHeld, TakesAlone, TriedOutHeld};
 ghost use Rattle.fx_words.specs.Words.{entry_in};
 ghost use Rattle.fx_lasting.specs.AtWork.{IsAtWork};
 ghost use Rattle.fx_lasting.specs.Ends.{Does};
 ghost use Rattle.fx_lasting.specs.slots.ByNode.{TriesTake};
 ghost use Rattle.fx_lasting.specs.Laws.{IsOffCount};
 ghost use Rattle.fx_lasting.specs.Fields.{full_name_in};
-ghost use Rattle.fx_lasting.specs.nodes.Stocks.{IsInStock};
 ghost use Rattle.fx_lasting.specs.Effects.{HasItsHold, leaving_work, pass_in, retiring_work};
 ghost use Rattle.fx_lasting.specs.Passes.{HoldsAlone};
 ghost use Rattle.fx_lasting.specs.Tables.{view_of, steps_taken, opening_of_table, IsPassOfTable};
 
 use crate::answers::{Miss, TakenIf};
-use crate::fields::{empty_word, without_file};
+use crate::fields::empty_word;
 use crate::key::Key;
 use crate::key_answers::{KeyLook, KeyTaken};
 use crate::kinds::{EndingHold, SwappingHeld, TakingHeld};
-use crate::life::layout::{hold_place, slot_place};
+use crate::life::layout::hold_place;
 use crate::pass::LastingPass;
 use crate::slots::by_key::fault_of;
-use crate::slots::by_node::{named_by, removed_by};
+use crate::slots::by_node::removed_by;
 use crate::table::LastingTable;
 use crate::view::View;
 use atomic_table::Seat;
@@ -180,86 +179,11 @@ impl LastingTable {
     {
         let at = entry as usize;
         if stock.len() <= at {
-            return self.try_take_held(seat, slot, node, word);
+            return self.try_exchange::<TakingHeld>(seat, slot, node, word, None);
         }
-        let found = self.try_swap_held(seat, slot, node, stock[at], word)?;
+        let own = Some(empty_word(stock[at]));
+        let found = self.try_exchange::<SwappingHeld>(seat, slot, node, word, own)?;
         stock[at] = node;
         Ok(found)
-    }
-
-    // Exchanges names as `try_out_held` does, with a node of the stock.
-    #[inline(always)]
-    fn try_swap_held(
-        &self,
-        seat: &mut Seat<Option<OpenFile>, View>,
-        slot: u32,
-        node: u32,
-        own: u32,
-        word: u64,
-    ) -> Result<u64, Miss>
-        requires table { seat.old.table_id ≡ self.now.table.shared.table_id }
-        requires at { (number : ℕ) × IsAtWork self.now.table.shared.key number seat.old.me }
-        requires held { (f : File) × HoldsAlone seat.old.me.0.work f node }
-        requires stocked { IsInStock (pass_in seat.old.me).stock own }
-        requires slot { slot < self.now.size }
-        requires off { IsOffCount self.now.table.shared.key slot seat.old.me.0.change }
-        requires named { full_name_in word ≡ node + 1 }
-        ensures table { seat.new.table_id ≡ seat.old.table_id }
-        ensures places { seat.new.me.1 ≡ seat.old.me.1 }
-        ensures tried { TriedSwapHeld self.now.table.shared.key slot node own seat.old.me result
-            seat.new.me }
-    {
-        let shared = &self.table.shared;
-        let place = slot_place(slot);
-        let new = empty_word(own);
-        let mut expected = word;
-        for _ in 0..4u32 {
-            let was = shared.compare_exchange::<SwappingHeld>(seat, place, expected, new);
-            if was == expected {
-                return Ok(was);
-            }
-            match named_by(was, node) {
-                Ok(again) => expected = again,
-                Err(miss) => return Err(miss),
-            }
-        }
-        Err(Miss::Again)
-    }
-
-    // Empties the slot as `try_out_held` does, for a pass without a stock.
-    #[inline(always)]
-    fn try_take_held(
-        &self,
-        seat: &mut Seat<Option<OpenFile>, View>,
-        slot: u32,
-        node: u32,
-        word: u64,
-    ) -> Result<u64, Miss>
-        requires table { seat.old.table_id ≡ self.now.table.shared.table_id }
-        requires at { (number : ℕ) × IsAtWork self.now.table.shared.key number seat.old.me }
-        requires held { (f : File) × HoldsAlone seat.old.me.0.work f node }
-        requires slot { slot < self.now.size }
-        requires off { IsOffCount self.now.table.shared.key slot seat.old.me.0.change }
-        requires named { full_name_in word ≡ node + 1 }
-        ensures table { seat.new.table_id ≡ seat.old.table_id }
-        ensures places { seat.new.me.1 ≡ seat.old.me.1 }
-        ensures tried { TriedTakeHeld self.now.table.shared.key slot node seat.old.me result
-            seat.new.me }
-    {
-        let shared = &self.table.shared;
-        let place = slot_place(slot);
-        let mut expected = word;
-        for _ in 0..4u32 {
-            let left = without_file(expected);
-            let found = shared.compare_exchange::<TakingHeld>(seat, place, expected, left);
-            if found == expected {
-                return Ok(found);
-            }
-            match named_by(found, node) {
-                Ok(again) => expected = again,
-                Err(miss) => return Err(miss),
-            }
-        }
-        Err(Miss::Again)
     }
 }

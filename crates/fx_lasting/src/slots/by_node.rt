@@ -13,11 +13,11 @@ ghost use Rattle.fx_table.specs.Pass.{IsIdle};
 ghost use Rattle.fx_words.specs.Words.{entry_in};
 ghost use Rattle.fx_lasting.specs.AtWork.{IsAtWork};
 ghost use Rattle.fx_lasting.specs.slots.ByNode.{HasPutIf, HasTakenIf, SawIf, SaysIf, TriedOut};
-ghost use Rattle.fx_lasting.specs.slots.ByNode.{TriedReplace, TriedSwap, TriedTake, TriesPut, TriesTake};
+ghost use Rattle.fx_lasting.specs.slots.ByNode.{TriedReplace, TriesPut, TriesTake};
+ghost use Rattle.fx_lasting.specs.slots.ByNode.{MayExchange, SeesIfLost, TriedExchange, word_put};
 ghost use Rattle.fx_lasting.specs.Laws.{IsOffCount};
 ghost use Rattle.fx_lasting.specs.Fields.{count_in, full_name_in};
 ghost use Rattle.fx_lasting.specs.Passes.{HasNoFile};
-ghost use Rattle.fx_lasting.specs.nodes.Stocks.{IsInStock};
 ghost use Rattle.fx_lasting.specs.Effects.{pass_in};
 ghost use Rattle.fx_lasting.specs.Tables.{view_of, steps_taken, opening_of_table, IsPassOfTable};
 ghost use Rattle.fx_lasting.specs.range.Tries.{IsPlacing};
@@ -30,7 +30,7 @@ use crate::life::layout::slot_place;
 use crate::pass::LastingPass;
 use crate::table::LastingTable;
 use crate::view::View;
-use atomic_table::Seat;
+use atomic_table::{Play, Seat};
 use fx_base::{Closed, OpenFile};
 use fx_table::Retired;
 use fx_words::entry_of;
@@ -158,87 +158,12 @@ impl LastingTable {
     {
         let at = entry as usize;
         if stock.len() <= at {
-            return self.try_take(seat, slot, node, word);
+            return self.try_exchange::<TakingIf>(seat, slot, node, word, None);
         }
-        let found = self.try_swap(seat, slot, node, stock[at], word)?;
+        let own = Some(empty_word(stock[at]));
+        let found = self.try_exchange::<SwappingIf>(seat, slot, node, word, own)?;
         stock[at] = node;
         Ok(found)
-    }
-
-    // Exchanges names as `try_out` does, with a node of the stock.
-    #[inline(always)]
-    fn try_swap(
-        &self,
-        seat: &mut Seat<Option<OpenFile>, View>,
-        slot: u32,
-        node: u32,
-        own: u32,
-        word: u64,
-    ) -> Result<u64, Miss>
-        requires table { seat.old.table_id ≡ self.now.table.shared.table_id }
-        requires at { (number : ℕ) × IsAtWork self.now.table.shared.key number seat.old.me }
-        requires idle { HasNoFile seat.old.me.0.work }
-        requires stocked { IsInStock (pass_in seat.old.me).stock own }
-        requires slot { slot < self.now.size }
-        requires off { IsOffCount self.now.table.shared.key slot seat.old.me.0.change }
-        requires named { full_name_in word ≡ node + 1 }
-        ensures table { seat.new.table_id ≡ seat.old.table_id }
-        ensures places { seat.new.me.1 ≡ seat.old.me.1 }
-        ensures tried { TriedSwap self.now.table.shared.key slot node own seat.old.me result
-            seat.new.me }
-    {
-        let shared = &self.table.shared;
-        let place = slot_place(slot);
-        let new = empty_word(own);
-        let mut expected = word;
-        for _ in 0..4u32 {
-            let was = shared.compare_exchange::<SwappingIf>(seat, place, expected, new);
-            if was == expected {
-                return Ok(was);
-            }
-            match named_by(was, node) {
-                Ok(again) => expected = again,
-                Err(miss) => return Err(miss),
-            }
-        }
-        Err(Miss::Again)
-    }
-
-    // Empties the slot as `try_out` does, for a pass without a stock.
-    #[inline(always)]
-    fn try_take(
-        &self,
-        seat: &mut Seat<Option<OpenFile>, View>,
-        slot: u32,
-        node: u32,
-        word: u64,
-    ) -> Result<u64, Miss>
-        requires table { seat.old.table_id ≡ self.now.table.shared.table_id }
-        requires at { (number : ℕ) × IsAtWork self.now.table.shared.key number seat.old.me }
-        requires idle { HasNoFile seat.old.me.0.work }
-        requires slot { slot < self.now.size }
-        requires off { IsOffCount self.now.table.shared.key slot seat.old.me.0.change }
-        requires named { full_name_in word ≡ node + 1 }
-        ensures table { seat.new.table_id ≡ seat.old.table_id }
-        ensures places { seat.new.me.1 ≡ seat.old.me.1 }
-        ensures tried { TriedTake self.now.table.shared.key slot node seat.old.me result
-            seat.new.me }
-    {
-        let shared = &self.table.shared;
-        let place = slot_place(slot);
-        let mut expected = word;
-        for _ in 0..4u32 {
-            let left = without_file(expected);
-            let found = shared.compare_exchange::<TakingIf>(seat, place, expected, left);
-            if found == expected {
-                return Ok(found);
-            }
-            match named_by(found, node) {
-                Ok(again) => expected = again,
-                Err(miss) => return Err(miss),
-            }
-        }
-        Err(Miss::Again)
     }
 
     // Puts the file that the pass places on its own node at the slot while the slot's word names
@@ -264,21 +189,56 @@ impl LastingTable {
         ensures tried { TriedReplace self.now.table.shared.key slot node own file seat.old.me result
             seat.new.me }
     {
+        let new = Some(file_word(own, file.entry) + lost);
+        self.try_exchange::<Replacing>(seat, slot, node, word, new)
+    }
+
+    // Exchanges the slot's word for another one, or else for the same one without its file, while
+    // it names the node, in at most four steps. Returns the word that it found.
+    #[inline(always)]
+    pub(crate) fn try_exchange<M: Play<Option<OpenFile>, View>>(
+        &self,
+        seat: &mut Seat<Option<OpenFile>, View>,
+        slot: u32,
+        node: u32,
+        word: u64,
+        to: Option<u64>,
+    ) -> Result<u64, Miss>
+        requires table { seat.old.table_id ≡ self.now.table.shared.table_id }
+        requires at { (number : ℕ) × IsAtWork self.now.table.shared.key number seat.old.me }
+        requires slot { slot < self.now.size }
+        requires named { full_name_in word ≡ node + 1 }
+        requires may { MayExchange M.then self.now.table.shared.key slot node to seat.old.me }
+        requires loses { SeesIfLost M.then }
+        ensures table { seat.new.table_id ≡ seat.old.table_id }
+        ensures tried { TriedExchange M.then self.now.table.shared.key slot node to seat.old.me
+            result seat.new.me }
+    {
         let shared = &self.table.shared;
         let place = slot_place(slot);
-        let new = file_word(own, file.entry) + lost;
         let mut expected = word;
         for _ in 0..4u32 {
-            let seen = shared.compare_exchange::<Replacing>(seat, place, expected, new);
-            if seen == expected {
-                return Ok(seen);
+            let found = shared.compare_exchange::<M>(seat, place, expected, word_put(to, expected));
+            if found == expected {
+                return Ok(found);
             }
-            match named_by(seen, node) {
+            match named_by(found, node) {
                 Ok(again) => expected = again,
                 Err(miss) => return Err(miss),
             }
         }
         Err(Miss::Again)
+    }
+}
+
+// Returns the word that an exchange puts at a slot: the new one, or else the old one without its
+// file.
+fn word_put(new: Option<u64>, old: u64) -> u64
+    ensures { result ≡ word_put new old }
+{
+    match new {
+        Some(word) => word,
+        None => without_file(old),
     }
 }
 

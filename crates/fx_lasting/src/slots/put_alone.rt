@@ -29,7 +29,7 @@ use crate::kinds::{Aiming, Listing, ReadingNumber, ReplacingHeld, TakingBeside};
 use crate::life::layout::{list_place, slot_place};
 use crate::pass::LastingPass;
 use crate::slots::by_key::fault_of;
-use crate::slots::by_node::{named_by, removed_by};
+use crate::slots::by_node::removed_by;
 use crate::table::LastingTable;
 use crate::tried::{Aim, Renewal, Taken};
 use crate::view::View;
@@ -364,21 +364,8 @@ impl LastingTable {
         ensures tried { TriedReplaceHeld self.now.table.shared.key slot node own file seat.old.me
             result seat.new.me }
     {
-        let shared = &self.table.shared;
-        let place = slot_place(slot);
-        let new = file_word(own, file.entry) + lost;
-        let mut expected = word;
-        for _ in 0..4u32 {
-            let seen = shared.compare_exchange::<ReplacingHeld>(seat, place, expected, new);
-            if seen == expected {
-                return Ok(seen);
-            }
-            match named_by(seen, node) {
-                Ok(again) => expected = again,
-                Err(miss) => return Err(miss),
-            }
-        }
-        Err(Miss::Again)
+        let new = Some(file_word(own, file.entry) + lost);
+        self.try_exchange::<ReplacingHeld>(seat, slot, node, word, new)
     }
 
     // Takes the file that the pass places out of its own node's place, and releases the file of the

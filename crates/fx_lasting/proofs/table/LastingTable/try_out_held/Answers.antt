@@ -1,6 +1,9 @@
-use Rattle.fx_lasting.proofs.Words.{◌≡◌, ◌<◌, ◌∙◌, ℕ, List, ap, sym, arith, length, get_elem?, some, get_or_default}
-use Rattle.fx_lasting.proofs.slot_lemmas.HeldTries.{moved_held}
+use Rattle.fx_lasting.proofs.Words.{◌≡◌, ◌<◌, ◌∙◌, ℕ, List, ap, sym, subst, refl, arith, length, get_elem?, some, get_or_default, pass_in, HoldsAlone, Work}
+use Rattle.fx_lasting.proofs.Calling.{slot_low, few_nodes, stock_inside}
+use Rattle.fx_lasting.proofs.Running.{still_at_work, stock_is}
+use Rattle.fx_lasting.proofs.slot_lemmas.HeldTries.{left_held, moved_held}
 use Rattle.fx_lasting.proofs.node_lemmas.FreeNodes.{entry_is}
+use Rattle.fx_lasting.proofs.slot_lemmas.SwapsHeld.{swaps_held_keep, takes_held_keep}
 use Rattle.fx_lasting.proofs.table.LastingTable.try_out_held.Goals.{After-index}
 use Rattle.fx_lasting.proofs.table.LastingTable.try_out_held.Goals as goal
 
@@ -11,13 +14,48 @@ there c =
     entry_is c.args.stock.now.items c.args.entry inside
     ∙ ap some (sym (c.index.ensures ∙ get_or_default c.args.stock.now.items c.args.entry c.index.result.now 0 inside))
 
-pub try_swap_held-requires-clause-stocked : goal.try_swap_held-requires-clause-stocked
-try_swap_held-requires-clause-stocked c =
-    let a = (goal.at.try_swap_held-requires-clause-stocked c).After-index in
-    (c.args.entry, ap (λ (l : List ℕ). get_elem? l c.args.entry) (sym c.requires.stock) ∙ there a)
+-- which the pass has in stock
+has_it : (c : After-index) → get_elem? (pass_in c.args.seat.now.me).stock c.args.entry ≡ some c.index.result.now
+has_it c = ap (λ (l : List ℕ). get_elem? l c.args.entry) (sym c.requires.stock) ∙ there c
 
-pub returns-clause-tried : goal.returns-clause-tried
-returns-clause-tried c =
-    let a = (goal.at.returns-clause-tried c).After-index in
-    moved_held c.try_swap_held.new.seat.me c.requires.at.1 c.args.stock.now.items c.requires.stock c.args.slot c.args.node c.in_ok-found.found
-    c.index.result.now c.args.entry (there a) c.in_ok-found.ensures.tried
+pub empty_word-requires : goal.empty_word-requires
+empty_word-requires c =
+    let a = (goal.at.empty_word-requires c).After-index in
+    let t = c.args.self.now in
+    omega (arith, stock_inside t.table.shared.key c.requires.at.0 c.args.entry c.index.result.now c.args.seat.now.me c.requires.at.1 (has_it a), few_nodes t)
+
+pub try_exchange-requires-clause-may : goal.try_exchange-requires-clause-may
+try_exchange-requires-clause-may c slots id old tries m' still places named = let h = c.requires.held in
+    takes_held_keep _ slots id _ c.args.slot old _ c.args.node h.0 m' _ (still_at_work c.requires.at.1 still).pass
+    (subst (λ (w : Work). HoldsAlone w h.0 c.args.node) (sym still.work) h.1) named (slot_low c.args.self.now c.requires.slot)
+    (still.change ∙ c.requires.off) refl refl
+
+pub try_exchange-requires-2-clause-may : goal.try_exchange-requires-2-clause-may
+try_exchange-requires-2-clause-may c slots id old tries m' still places named =
+    let a = (goal.at.try_exchange-requires-2-clause-may c).After-index in
+    let h = c.requires.held in
+    let at = still_at_work c.requires.at.1 still in
+    swaps_held_keep _ slots id _ c.args.slot c.index.result.now old _ c.args.node h.0 m' _ at.pass
+    (subst (λ (w : Work). HoldsAlone w h.0 c.args.node) (sym still.work) h.1) named (slot_low c.args.self.now c.requires.slot) (still.change ∙ c.requires.off)
+    (c.args.entry, ap (λ (l : List ℕ). get_elem? l c.args.entry) (sym (stock_is at) ∙ still.stock) ∙ has_it a) refl c.empty_word.ensures
+
+pub returns-then-len-at : goal.returns-then-len-at
+returns-then-len-at c =
+    let h = c.requires.held in
+    let z = left_held c.requires.at.1 c.args.stock.now.items c.requires.stock c.args.slot c.args.node h.0 h.1 c.try_exchange.result c.try_exchange.new.seat.me
+    c.try_exchange.ensures.tried in record {
+      table = c.try_exchange.ensures.table;
+      places = z.1;
+      tried = z.0;
+    }
+
+pub returns : goal.returns
+returns c =
+    let a = (goal.at.returns c).After-index in
+    let h = c.requires.held in
+    let z = moved_held c.requires.at.1 c.args.stock.now.items c.requires.stock c.args.slot c.args.node h.0 h.1 c.index.result.now c.empty_word.result c.args.entry
+    c.in_ok-found.found c.try_exchange-2.new.seat.me (there a) c.empty_word.ensures c.in_ok-found.ensures.tried in record {
+      table = c.in_ok-found.ensures.table;
+      places = z.1;
+      tried = z.0;
+    }

@@ -1,11 +1,11 @@
 use Rattle.fx_lasting.proofs.Words.{◌≡◌, [], ◌+◌, full_name_in}
 use Rattle.fx_lasting.specs.Ends.{Does}
 use Rattle.fx_lasting.proofs.slot_lemmas.Overtaking.{Tried}
-use Rattle.fx_lasting.proofs.table.LastingTable.try_swap.Given as goal
+use Rattle.fx_lasting.proofs.table.LastingTable.try_exchange.Given as goal
 
 -- the pass has done nothing yet, and expects a word that names the node
 abbrev pub invariant-loop : goal.invariant-loop
-invariant-loop l = record {
+invariant-loop g l = record {
   table : l.seat.table_id ≡ l.initial.seat.table_id;
   places : l.seat.me.1 ≡ l.initial.seat.me.1;
   named : full_name_in l.expected ≡ l.node + 1;
