@@ -1,4 +1,20 @@
 //! The rule of a lasting table, and its kinds of step.
+ghost use Rattle.fx_lasting.specs.Agrees.{Agrees};
+ghost use Rattle.fx_lasting.specs.life.Cuts.{first_view, without_first, first_alone, together};
+ghost use Rattle.fx_lasting.specs.life.Cuts.{spent};
+ghost use Rattle.fx_lasting.specs.Effects.{Glances, Lists, Announces, Confirms, Withdraws, Takes};
+ghost use Rattle.fx_lasting.specs.Effects.{HeatsSlot, StepsDown, LettingGo, Seeks, Births, Rests};
+ghost use Rattle.fx_lasting.specs.Effects.{EndsItsHold, Skims, Visits, Marks, Retires, Installs};
+ghost use Rattle.fx_lasting.specs.Effects.{Exchanges, Peeks, Sees, TakesIf, Replaces, Lowers};
+ghost use Rattle.fx_lasting.specs.Effects.{Checks, Breaks, Raises, Begins, Asks, Counts, Decides};
+ghost use Rattle.fx_lasting.specs.nodes.LabelSteps.{RecallsTag, Tags, Numbers, ReadsTag};
+ghost use Rattle.fx_lasting.specs.nodes.LabelSteps.{ReadsNumber};
+ghost use Rattle.fx_lasting.specs.nodes.KeepSteps.{Parks, Resumes, SettlesNode};
+ghost use Rattle.fx_lasting.specs.holds.FinishSteps.{Finishes};
+ghost use Rattle.fx_lasting.specs.slots.SwapSteps.{SwapsIf, SwapsHeld, TakesHeld};
+ghost use Rattle.fx_lasting.specs.slots.PutSteps.{Aims, TakesBeside, ReplacesHeld};
+ghost use Rattle.fx_lasting.specs.life.Showing.{shown_view, HasLearned};
+
 use crate::view::{Start, View};
 use atomic_table::{Join, Play, Split, TableRule};
 use fx_base::OpenFile;
@@ -8,9 +24,6 @@ use fx_seen::Learning;
 pub struct OneHistory;
 
 impl TableRule<Option<OpenFile>, View, Start> for OneHistory {
-    ghost use Rattle.fx_lasting.specs.Agrees.{Agrees};
-    ghost use Rattle.fx_lasting.specs.life.Cuts.{first_view};
-
     ghost holds = { Agrees };
 
     ghost first = { first_view };
@@ -20,8 +33,6 @@ impl TableRule<Option<OpenFile>, View, Start> for OneHistory {
 pub struct Deal;
 
 impl Split<View> for Deal {
-    ghost use Rattle.fx_lasting.specs.life.Cuts.{without_first, first_alone};
-
     ghost left = { without_first };
 
     ghost right = { first_alone };
@@ -31,8 +42,6 @@ impl Split<View> for Deal {
 pub struct Gather;
 
 impl Join<View> for Gather {
-    ghost use Rattle.fx_lasting.specs.life.Cuts.{together, spent};
-
     ghost both = { together };
 
     ghost spent = { spent };
@@ -42,8 +51,6 @@ impl Join<View> for Gather {
 pub struct Glancing;
 
 impl Play<Option<OpenFile>, View> for Glancing {
-    ghost use Rattle.fx_lasting.specs.Effects.{Glances};
-
     ghost then = { Glances };
 }
 
@@ -51,8 +58,6 @@ impl Play<Option<OpenFile>, View> for Glancing {
 pub struct Listing;
 
 impl Play<Option<OpenFile>, View> for Listing {
-    ghost use Rattle.fx_lasting.specs.Effects.{Lists};
-
     ghost then = { Lists };
 }
 
@@ -60,8 +65,6 @@ impl Play<Option<OpenFile>, View> for Listing {
 pub struct Announcing;
 
 impl Play<Option<OpenFile>, View> for Announcing {
-    ghost use Rattle.fx_lasting.specs.Effects.{Announces};
-
     ghost then = { Announces };
 }
 
@@ -70,8 +73,6 @@ impl Play<Option<OpenFile>, View> for Announcing {
 pub struct Confirming;
 
 impl Play<Option<OpenFile>, View> for Confirming {
-    ghost use Rattle.fx_lasting.specs.Effects.{Confirms};
-
     ghost then = { Confirms };
 }
 
@@ -79,8 +80,6 @@ impl Play<Option<OpenFile>, View> for Confirming {
 pub struct Withdrawing;
 
 impl Play<Option<OpenFile>, View> for Withdrawing {
-    ghost use Rattle.fx_lasting.specs.Effects.{Withdraws};
-
     ghost then = { Withdraws };
 }
 
@@ -88,8 +87,6 @@ impl Play<Option<OpenFile>, View> for Withdrawing {
 pub struct Taking;
 
 impl Play<Option<OpenFile>, View> for Taking {
-    ghost use Rattle.fx_lasting.specs.Effects.{Takes};
-
     ghost then = { Takes };
 }
 
@@ -98,8 +95,6 @@ impl Play<Option<OpenFile>, View> for Taking {
 pub struct HeatingUp;
 
 impl Play<Option<OpenFile>, View> for HeatingUp {
-    ghost use Rattle.fx_lasting.specs.Effects.{HeatsSlot};
-
     ghost then = { HeatsSlot };
 }
 
@@ -107,8 +102,6 @@ impl Play<Option<OpenFile>, View> for HeatingUp {
 pub struct SteppingDown;
 
 impl Play<Option<OpenFile>, View> for SteppingDown {
-    ghost use Rattle.fx_lasting.specs.Effects.{StepsDown};
-
     ghost then = { StepsDown };
 }
 
@@ -117,8 +110,6 @@ impl Play<Option<OpenFile>, View> for SteppingDown {
 pub struct Letting;
 
 impl Play<Option<OpenFile>, View> for Letting {
-    ghost use Rattle.fx_lasting.specs.Effects.{LettingGo};
-
     ghost then = { LettingGo };
 }
 
@@ -126,8 +117,6 @@ impl Play<Option<OpenFile>, View> for Letting {
 pub struct Seeking;
 
 impl Play<Option<OpenFile>, View> for Seeking {
-    ghost use Rattle.fx_lasting.specs.Effects.{Seeks};
-
     ghost then = { Seeks };
 }
 
@@ -135,8 +124,6 @@ impl Play<Option<OpenFile>, View> for Seeking {
 pub struct Birth;
 
 impl Play<Option<OpenFile>, View> for Birth {
-    ghost use Rattle.fx_lasting.specs.Effects.{Births};
-
     ghost then = { Births };
 }
 
@@ -145,8 +132,6 @@ impl Play<Option<OpenFile>, View> for Birth {
 pub struct RecallingTag;
 
 impl Play<Option<OpenFile>, View> for RecallingTag {
-    ghost use Rattle.fx_lasting.specs.nodes.LabelSteps.{RecallsTag};
-
     ghost then = { RecallsTag };
 }
 
@@ -154,8 +139,6 @@ impl Play<Option<OpenFile>, View> for RecallingTag {
 pub struct Tagging;
 
 impl Play<Option<OpenFile>, View> for Tagging {
-    ghost use Rattle.fx_lasting.specs.nodes.LabelSteps.{Tags};
-
     ghost then = { Tags };
 }
 
@@ -163,8 +146,6 @@ impl Play<Option<OpenFile>, View> for Tagging {
 pub struct Numbering;
 
 impl Play<Option<OpenFile>, View> for Numbering {
-    ghost use Rattle.fx_lasting.specs.nodes.LabelSteps.{Numbers};
-
     ghost then = { Numbers };
 }
 
@@ -172,8 +153,6 @@ impl Play<Option<OpenFile>, View> for Numbering {
 pub struct ReadingTag;
 
 impl Play<Option<OpenFile>, View> for ReadingTag {
-    ghost use Rattle.fx_lasting.specs.nodes.LabelSteps.{ReadsTag};
-
     ghost then = { ReadsTag };
 }
 
@@ -181,8 +160,6 @@ impl Play<Option<OpenFile>, View> for ReadingTag {
 pub struct ReadingNumber;
 
 impl Play<Option<OpenFile>, View> for ReadingNumber {
-    ghost use Rattle.fx_lasting.specs.nodes.LabelSteps.{ReadsNumber};
-
     ghost then = { ReadsNumber };
 }
 
@@ -190,8 +167,6 @@ impl Play<Option<OpenFile>, View> for ReadingNumber {
 pub struct Resting;
 
 impl Play<Option<OpenFile>, View> for Resting {
-    ghost use Rattle.fx_lasting.specs.Effects.{Rests};
-
     ghost then = { Rests };
 }
 
@@ -200,8 +175,6 @@ impl Play<Option<OpenFile>, View> for Resting {
 pub struct Parking;
 
 impl Play<Option<OpenFile>, View> for Parking {
-    ghost use Rattle.fx_lasting.specs.nodes.KeepSteps.{Parks};
-
     ghost then = { Parks };
 }
 
@@ -210,8 +183,6 @@ impl Play<Option<OpenFile>, View> for Parking {
 pub struct Resuming;
 
 impl Play<Option<OpenFile>, View> for Resuming {
-    ghost use Rattle.fx_lasting.specs.nodes.KeepSteps.{Resumes};
-
     ghost then = { Resumes };
 }
 
@@ -219,8 +190,6 @@ impl Play<Option<OpenFile>, View> for Resuming {
 pub struct Settling;
 
 impl Play<Option<OpenFile>, View> for Settling {
-    ghost use Rattle.fx_lasting.specs.nodes.KeepSteps.{SettlesNode};
-
     ghost then = { SettlesNode };
 }
 
@@ -228,8 +197,6 @@ impl Play<Option<OpenFile>, View> for Settling {
 pub struct EndingHold;
 
 impl Play<Option<OpenFile>, View> for EndingHold {
-    ghost use Rattle.fx_lasting.specs.Effects.{EndsItsHold};
-
     ghost then = { EndsItsHold };
 }
 
@@ -238,8 +205,6 @@ impl Play<Option<OpenFile>, View> for EndingHold {
 pub struct Skimming;
 
 impl Play<Option<OpenFile>, View> for Skimming {
-    ghost use Rattle.fx_lasting.specs.Effects.{Skims};
-
     ghost then = { Skims };
 }
 
@@ -247,8 +212,6 @@ impl Play<Option<OpenFile>, View> for Skimming {
 pub struct Visiting;
 
 impl Play<Option<OpenFile>, View> for Visiting {
-    ghost use Rattle.fx_lasting.specs.Effects.{Visits};
-
     ghost then = { Visits };
 }
 
@@ -256,8 +219,6 @@ impl Play<Option<OpenFile>, View> for Visiting {
 pub struct Marking;
 
 impl Play<Option<OpenFile>, View> for Marking {
-    ghost use Rattle.fx_lasting.specs.Effects.{Marks};
-
     ghost then = { Marks };
 }
 
@@ -266,8 +227,6 @@ impl Play<Option<OpenFile>, View> for Marking {
 pub struct Finishing;
 
 impl Play<Option<OpenFile>, View> for Finishing {
-    ghost use Rattle.fx_lasting.specs.holds.FinishSteps.{Finishes};
-
     ghost then = { Finishes };
 }
 
@@ -276,8 +235,6 @@ impl Play<Option<OpenFile>, View> for Finishing {
 pub struct Retire;
 
 impl Play<Option<OpenFile>, View> for Retire {
-    ghost use Rattle.fx_lasting.specs.Effects.{Retires};
-
     ghost then = { Retires };
 }
 
@@ -286,8 +243,6 @@ impl Play<Option<OpenFile>, View> for Retire {
 pub struct Installing;
 
 impl Play<Option<OpenFile>, View> for Installing {
-    ghost use Rattle.fx_lasting.specs.Effects.{Installs};
-
     ghost then = { Installs };
 }
 
@@ -296,8 +251,6 @@ impl Play<Option<OpenFile>, View> for Installing {
 pub struct Exchanging;
 
 impl Play<Option<OpenFile>, View> for Exchanging {
-    ghost use Rattle.fx_lasting.specs.Effects.{Exchanges};
-
     ghost then = { Exchanges };
 }
 
@@ -305,8 +258,6 @@ impl Play<Option<OpenFile>, View> for Exchanging {
 pub struct Peeking;
 
 impl Play<Option<OpenFile>, View> for Peeking {
-    ghost use Rattle.fx_lasting.specs.Effects.{Peeks};
-
     ghost then = { Peeks };
 }
 
@@ -314,8 +265,6 @@ impl Play<Option<OpenFile>, View> for Peeking {
 pub struct Seeing;
 
 impl Play<Option<OpenFile>, View> for Seeing {
-    ghost use Rattle.fx_lasting.specs.Effects.{Sees};
-
     ghost then = { Sees };
 }
 
@@ -324,8 +273,6 @@ impl Play<Option<OpenFile>, View> for Seeing {
 pub struct TakingIf;
 
 impl Play<Option<OpenFile>, View> for TakingIf {
-    ghost use Rattle.fx_lasting.specs.Effects.{TakesIf};
-
     ghost then = { TakesIf };
 }
 
@@ -334,8 +281,6 @@ impl Play<Option<OpenFile>, View> for TakingIf {
 pub struct SwappingIf;
 
 impl Play<Option<OpenFile>, View> for SwappingIf {
-    ghost use Rattle.fx_lasting.specs.slots.SwapSteps.{SwapsIf};
-
     ghost then = { SwapsIf };
 }
 
@@ -344,8 +289,6 @@ impl Play<Option<OpenFile>, View> for SwappingIf {
 pub struct SwappingHeld;
 
 impl Play<Option<OpenFile>, View> for SwappingHeld {
-    ghost use Rattle.fx_lasting.specs.slots.SwapSteps.{SwapsHeld};
-
     ghost then = { SwapsHeld };
 }
 
@@ -353,8 +296,6 @@ impl Play<Option<OpenFile>, View> for SwappingHeld {
 pub struct Aiming;
 
 impl Play<Option<OpenFile>, View> for Aiming {
-    ghost use Rattle.fx_lasting.specs.slots.PutSteps.{Aims};
-
     ghost then = { Aims };
 }
 
@@ -362,8 +303,6 @@ impl Play<Option<OpenFile>, View> for Aiming {
 pub struct TakingBeside;
 
 impl Play<Option<OpenFile>, View> for TakingBeside {
-    ghost use Rattle.fx_lasting.specs.slots.PutSteps.{TakesBeside};
-
     ghost then = { TakesBeside };
 }
 
@@ -373,8 +312,6 @@ impl Play<Option<OpenFile>, View> for TakingBeside {
 pub struct ReplacingHeld;
 
 impl Play<Option<OpenFile>, View> for ReplacingHeld {
-    ghost use Rattle.fx_lasting.specs.slots.PutSteps.{ReplacesHeld};
-
     ghost then = { ReplacesHeld };
 }
 
@@ -384,8 +321,6 @@ impl Play<Option<OpenFile>, View> for ReplacingHeld {
 pub struct TakingHeld;
 
 impl Play<Option<OpenFile>, View> for TakingHeld {
-    ghost use Rattle.fx_lasting.specs.slots.SwapSteps.{TakesHeld};
-
     ghost then = { TakesHeld };
 }
 
@@ -394,8 +329,6 @@ impl Play<Option<OpenFile>, View> for TakingHeld {
 pub struct Replacing;
 
 impl Play<Option<OpenFile>, View> for Replacing {
-    ghost use Rattle.fx_lasting.specs.Effects.{Replaces};
-
     ghost then = { Replaces };
 }
 
@@ -445,8 +378,6 @@ impl Play<Option<OpenFile>, View> for SwappingTake {
 pub struct Lowering;
 
 impl Play<Option<OpenFile>, View> for Lowering {
-    ghost use Rattle.fx_lasting.specs.Effects.{Lowers};
-
     ghost then = { Lowers };
 }
 
@@ -454,8 +385,6 @@ impl Play<Option<OpenFile>, View> for Lowering {
 pub struct Checking;
 
 impl Play<Option<OpenFile>, View> for Checking {
-    ghost use Rattle.fx_lasting.specs.Effects.{Checks};
-
     ghost then = { Checks };
 }
 
@@ -463,8 +392,6 @@ impl Play<Option<OpenFile>, View> for Checking {
 pub struct Breaking;
 
 impl Play<Option<OpenFile>, View> for Breaking {
-    ghost use Rattle.fx_lasting.specs.Effects.{Breaks};
-
     ghost then = { Breaks };
 }
 
@@ -473,8 +400,6 @@ impl Play<Option<OpenFile>, View> for Breaking {
 pub struct Raising;
 
 impl Play<Option<OpenFile>, View> for Raising {
-    ghost use Rattle.fx_lasting.specs.Effects.{Raises};
-
     ghost then = { Raises };
 }
 
@@ -482,8 +407,6 @@ impl Play<Option<OpenFile>, View> for Raising {
 pub struct Beginning;
 
 impl Play<Option<OpenFile>, View> for Beginning {
-    ghost use Rattle.fx_lasting.specs.Effects.{Begins};
-
     ghost then = { Begins };
 }
 
@@ -491,8 +414,6 @@ impl Play<Option<OpenFile>, View> for Beginning {
 pub struct Asking;
 
 impl Play<Option<OpenFile>, View> for Asking {
-    ghost use Rattle.fx_lasting.specs.Effects.{Asks};
-
     ghost then = { Asks };
 }
 
@@ -500,8 +421,6 @@ impl Play<Option<OpenFile>, View> for Asking {
 pub struct Counting;
 
 impl Play<Option<OpenFile>, View> for Counting {
-    ghost use Rattle.fx_lasting.specs.Effects.{Counts};
-
     ghost then = { Counts };
 }
 
@@ -510,8 +429,6 @@ impl Play<Option<OpenFile>, View> for Counting {
 pub struct Deciding;
 
 impl Play<Option<OpenFile>, View> for Deciding {
-    ghost use Rattle.fx_lasting.specs.Effects.{Decides};
-
     ghost then = { Decides };
 }
 
@@ -519,8 +436,6 @@ impl Play<Option<OpenFile>, View> for Deciding {
 pub struct Show;
 
 impl Split<View> for Show {
-    ghost use Rattle.fx_lasting.specs.life.Showing.{shown_view};
-
     ghost left = { λ v. v };
 
     ghost right = { shown_view };
@@ -530,7 +445,5 @@ impl Split<View> for Show {
 pub struct Learn;
 
 impl Learning<View> for Learn {
-    ghost use Rattle.fx_lasting.specs.life.Showing.{HasLearned};
-
     ghost then = { HasLearned };
 }

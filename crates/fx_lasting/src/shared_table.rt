@@ -11,8 +11,6 @@ use fx_table::{Empty, Hold, LookUp, Retired, SharedTable};
 use std::sync::Wait;
 
 impl SharedTable for LastingTable {
-    ghost use Rattle.fx_lasting.specs.Tables.{view_of, opening_of_table, IsPassOfTable};
-
     type Pass = LastingPass;
 
     ghost opening = { opening_of_table };

@@ -1,18 +1,16 @@
 -- A step that sets a pass's bit in the list keeps the rule.
-use Rattle.fx_lasting.proofs.Words.{Renewing, Nearing, Relieving}
-use Rattle.fx_lasting.proofs.Words.{ℕ, ◌≤◌, ◌^◌, List, Option, Closed, refl, inl, inr, arith, none, keeps, Announced, Guarded}
-use Rattle.fx_lasting.proofs.Words.{Searching, Placing, Retiring, Keeping, true, bit_or, bit_of, list_place, step, length-set}
-use Rattle.fx_lasting.proofs.Words.{dite, ℕ_discrete, Work, IsAllowed, Lists, ListsKeep, [], Bool, ◌≡◌, ◌+◌, ◌%◌, ◌<◌, ◌∙◌, sym, false, Agrees}
+use Rattle.fx_lasting.proofs.Words.{Renewing, Nearing, Relieving, ℕ, ◌≤◌, ◌^◌, List, Option, Closed, refl, inl, inr, arith, none, keeps, Announced}
+use Rattle.fx_lasting.proofs.Words.{Guarded, Searching, Placing, Retiring, Keeping, true, bit_or, bit_of, list_place, step, length-set, dite}
+use Rattle.fx_lasting.proofs.Words.{ℕ_discrete, Work, IsAllowed, Lists, ListsKeep, [], Bool, ◌≡◌, ◌+◌, ◌%◌, ◌<◌, ◌∙◌, sym, false, Agrees, first_log}
 use Rattle.fx_lasting.proofs.Histories.{grows_none}
 use Rattle.fx_lasting.proofs.Frames.{guards_same, covers_same, sees_same}
-use Rattle.fx_lasting.proofs.Keeping.{Turn, turn_of, After, word_at, Made, by_turn, its_log, its_work, in_range, w, end, met_same}
+use Rattle.fx_lasting.proofs.Keeping.{Turn, turn_of, After, word_at, Made, by_turn, its_log, its_work, in_range, w, end, met_same, none_added}
+use Rattle.fx_lasting.proofs.Keeping.{range_left, tells_as}
 use Rattle.fx_lasting.proofs.slot_lemmas.Watching.{watch_same}
 use Rattle.fx_lasting.proofs.Calm.{calm_after, calm_kept}
 use Rattle.fx_lasting.proofs.hold_lemmas.Lists.{ListGoesOn, now_listed, bit_added}
 use Rattle.fx_lasting.proofs.range_lemmas.GroupSteps.{its_inside}
 use Rattle.fx_lasting.proofs.Places.{list_words, list_here, list_apart, list_node, list_hold, list_slot, list_alike, list_label}
-use Rattle.fx_lasting.proofs.Words.{first_log}
-use Rattle.fx_lasting.proofs.Keeping.{none_added, range_left, tells_as}
 
 -- a pass that is listed may do what it did
 allowed_more : (stock : List ℕ) (l : Bool) (d : Work) → IsAllowed stock l d → IsAllowed stock true d

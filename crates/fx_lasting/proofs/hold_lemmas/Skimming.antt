@@ -1,11 +1,10 @@
 -- A pass that removed a hot file loads a word of the list: the passes without their bits hold
 -- nothing of the node that isn't marked.
-use Rattle.fx_lasting.proofs.Words.{Renewing, Nearing, Relieving, StillNames, false}
-use Rattle.fx_lasting.proofs.Words.{◌≡◌, ◌≢◌, ℕ, ◌+◌, ◌*◌, ◌<◌, ◌≤◌, List, [], sym, refl, ap, ◌∙◌, subst, arith, Option, none, keeps, Closed, File}
-use Rattle.fx_lasting.proofs.Words.{HoldAgrees, GuardAgrees, MayBeUnmarked, hold_word_of, leaving, Work, Idle, Announced, Counted, Guarded, Owing}
-use Rattle.fx_lasting.proofs.Words.{Yielding, Searching, Placing, Retiring, Emptying, Keeping, step, dite, dec_le, ⊎_elim, set-get_or, Round}
-use Rattle.fx_lasting.proofs.Words.{round_from, IsToVisit, IsPassed, IsListedIn, list_place, Skims, SkimsKeep, Goes, changed_at, true, Bool}
-use Rattle.fx_lasting.proofs.Words.{IsAllowed}
+use Rattle.fx_lasting.proofs.Words.{Renewing, Nearing, Relieving, StillNames, false, ◌≡◌, ◌≢◌, ℕ, ◌+◌, ◌*◌, ◌<◌, ◌≤◌, List, [], sym, refl, ap, ◌∙◌}
+use Rattle.fx_lasting.proofs.Words.{subst, arith, Option, none, keeps, Closed, File, HoldAgrees, GuardAgrees, MayBeUnmarked, hold_word_of, leaving}
+use Rattle.fx_lasting.proofs.Words.{Work, Idle, Announced, Counted, Guarded, Owing, Yielding, Searching, Placing, Retiring, Emptying, Keeping, step}
+use Rattle.fx_lasting.proofs.Words.{dite, dec_le, ⊎_elim, set-get_or, Round, round_from, IsToVisit, IsPassed, IsListedIn, list_place, Skims}
+use Rattle.fx_lasting.proofs.Words.{SkimsKeep, Goes, changed_at, true, Bool, IsAllowed}
 use Rattle.fx_lasting.proofs.Histories.{each_changed}
 use Rattle.fx_lasting.proofs.Keeping.{Turn, turn_of, word_at, slot_word, Made, by_turn, w, find_pass}
 use Rattle.fx_lasting.proofs.hold_lemmas.Visiting.{its, node, retiring_same, seen_after, Visited, visited, goes}

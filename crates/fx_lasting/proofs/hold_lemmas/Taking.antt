@@ -1,25 +1,22 @@
 -- A take of what a slot names, and the heat of a slot that had its takes.
-use Rattle.fx_lasting.proofs.Words.{alone_in, HoldAgrees, GuardAgrees, IsAllowed, HoldsAt, TakesAs, TakesBeside, TakesBesideKeep, Placement, Phase, Start, as_written, Unlabelled}
-use Rattle.fx_lasting.proofs.Words.{carried_after, subst}
+use Rattle.fx_lasting.proofs.Words.{alone_in, HoldAgrees, GuardAgrees, IsAllowed, HoldsAt, TakesAs, TakesBeside, TakesBesideKeep, Placement, Phase}
+use Rattle.fx_lasting.proofs.Words.{Start, as_written, Unlabelled, carried_after, subst, Renewing, Nearing, Relieving, ◌⊎◌, ◌≡◌, ◌≢◌, ℕ, ◌+◌, ◌%◌}
+use Rattle.fx_lasting.proofs.Words.{◌^◌, ◌<◌, ◌≤◌, List, [], ◌∷◌, sym, refl, ap, ◌∙◌, arith, Option, Some, None, none, keeps, Closed, File, Event}
+use Rattle.fx_lasting.proofs.Words.{Look, ◌▷◌, WorkAgrees, GlanceAgrees, Heats, state_after_all, slots_of, nodes_of, held_in, if_file, taken_of}
+use Rattle.fx_lasting.proofs.Words.{taking, pass_event, seated, file_in, Work, Glance, Idle, Counted, Cold, Heating, Deed, untouched, over, heated}
+use Rattle.fx_lasting.proofs.Words.{has_acted, has_heated, Nothing, Takes, HeatsSlot, TakesOnceKeep, HeatsKeep, IsHot, heat_in, name_in, full_name_in}
+use Rattle.fx_lasting.proofs.Words.{same_full_name, entry_in, count_in, cold_takes, glance_after, heat_unit, slot_place, step, inl, inr, ⊎_elim, dite}
+use Rattle.fx_lasting.proofs.Words.{ℕ_discrete, dec_le, one_more_at, Bool, true, false, cond, lt-ltb, le-ltb, tally, sum_set, changed_at}
+use Rattle.fx_lasting.proofs.Words.{changed_here, changed_else, one_if, bit_here, bit_else, IsInside, Announced, Owing, Placing}
 use Rattle.fx_lasting.proofs.range_lemmas.GroupSteps.{its_inside}
-use Rattle.fx_lasting.proofs.Words.{alone_in, Renewing, Nearing, Relieving}
-use Rattle.fx_lasting.proofs.Words.{◌⊎◌, ◌≡◌, ◌≢◌, ℕ, ◌+◌, ◌%◌, ◌^◌, ◌<◌, ◌≤◌, List, [], ◌∷◌, sym, refl, ap, ◌∙◌, arith, Option, Some, None, none}
-use Rattle.fx_lasting.proofs.Words.{keeps, Closed, File, Event, Look, ◌▷◌, WorkAgrees, GlanceAgrees, Heats, state_after_all, slots_of, nodes_of}
-use Rattle.fx_lasting.proofs.Words.{held_in, if_file, taken_of, taking, pass_event, seated, file_in, Work, Glance, Idle, Counted, Cold, Heating, Deed}
-use Rattle.fx_lasting.proofs.Words.{untouched, over, heated, has_acted, has_heated, Nothing, Takes, HeatsSlot, TakesOnceKeep, HeatsKeep, IsHot}
-use Rattle.fx_lasting.proofs.Words.{heat_in, name_in, full_name_in, same_full_name, entry_in, count_in, cold_takes, glance_after, heat_unit}
-use Rattle.fx_lasting.proofs.Words.{slot_place, step, inl, inr, ⊎_elim, dite, ℕ_discrete, dec_le, one_more_at, Bool, true, false, cond, lt-ltb}
-use Rattle.fx_lasting.proofs.Words.{le-ltb, tally, sum_set, changed_at, changed_here, changed_else, one_if, bit_here, bit_else, IsInside, Announced}
-use Rattle.fx_lasting.proofs.Words.{Owing, Placing}
 use Rattle.fx_lasting.proofs.Counts.{tally_few, tally_one, tally_room, bit_few, few_cold}
 use Rattle.fx_lasting.proofs.Histories.{grows_none, grows_one, legal_more, part_mine, held_mine}
 use Rattle.fx_lasting.proofs.Frames.{busy, guards_same}
-use Rattle.fx_lasting.proofs.Keeping.{Turn, turn_of, After, slot_word, Made, by_turn, its_log, its_work, in_range, tells, w}
+use Rattle.fx_lasting.proofs.Keeping.{Turn, turn_of, After, slot_word, Made, by_turn, its_log, its_work, in_range, tells, w, none_added}
 use Rattle.fx_lasting.proofs.hold_lemmas.Looking.{word, there, size_so, named, unnamed, name_cases}
 use Rattle.fx_lasting.proofs.Places.{slot_words, slot_hold}
 use Rattle.fx_lasting.proofs.slot_lemmas.SlotSteps.{slot_after, SlotStep, slot_kept, covers_slot}
 use Rattle.fx_lasting.proofs.hold_lemmas.Unheld.{in_phase}
-use Rattle.fx_lasting.proofs.Keeping.{none_added}
 
 -- one take more, and nothing else
 pub one_take : (word : ℕ) → count_in word + 1 < 1048576 → (full_name_in (word + 1) ≡ full_name_in word) × (entry_in (word + 1) ≡ entry_in word)

@@ -4,15 +4,14 @@ use Rattle.fx_lasting.proofs.Words.{true, ℕ_discrete, keeps, step, Closed, Fil
 use Rattle.fx_lasting.proofs.Words.{HasQuestionOf, owing, question_place, group_place, groups_in, ⊎_elim, state_after_all, Change, Lowered, Inside}
 use Rattle.fx_lasting.proofs.Words.{Log, View, Turns, Goes, Checks, Breaks, Begins, Asks, Decides, as_asked, ChecksKeep, BreaksKeep, BeginsKeep}
 use Rattle.fx_lasting.proofs.Words.{AsksKeep, DecidesKeep, inl, inr, Survey, NotAsked, Covered, bit_or, bit_of, first_log, bit_at, ◌⊎◌, bit_at-zero}
+use Rattle.fx_lasting.proofs.Words.{Watch, WatchAgrees, IsSeenBy, Bool, false, slot_place}
 use Rattle.fx_lasting.proofs.Histories.{part_mine}
 use Rattle.fx_lasting.proofs.range_lemmas.Groups.{is_group, counts_after, full_same, group_same}
 use Rattle.fx_lasting.proofs.hold_lemmas.Lists.{bit_added, was_listed, now_listed}
 use Rattle.fx_lasting.proofs.slot_lemmas.Watching.{watch_asks}
-use Rattle.fx_lasting.proofs.Keeping.{Turn, turn_of, word_at, Made, by_turn, in_range, its_range, not_there, tells}
-use Rattle.fx_lasting.proofs.Keeping.{has_x, its_log, met_same}
-use Rattle.fx_lasting.proofs.Words.{Watch, WatchAgrees, IsSeenBy, Bool, false, slot_place}
-use Rattle.fx_lasting.proofs.range_lemmas.GroupSteps.{no_event, told_full, read_here, read_else, wrote, stepped_so, goes_asked, read_counts, read_same}
-use Rattle.fx_lasting.proofs.range_lemmas.GroupSteps.{own_question, h₁, w', turn_after, Kept, its_inside}
+use Rattle.fx_lasting.proofs.Keeping.{Turn, turn_of, word_at, Made, by_turn, in_range, its_range, not_there, tells, has_x, its_log, met_same}
+use Rattle.fx_lasting.proofs.range_lemmas.GroupSteps.{no_event, told_full, read_here, read_else, wrote, stepped_so, goes_asked, read_counts}
+use Rattle.fx_lasting.proofs.range_lemmas.GroupSteps.{read_same, own_question, h₁, w', turn_after, Kept, its_inside}
 
 -- A step that leaves the pass at its work
 module _ (turn : Turn) where

@@ -6,18 +6,16 @@ use Rattle.fx_lasting.proofs.Words.{entry_in, count_in, Names, Start, Sat, At, W
 use Rattle.fx_lasting.proofs.Words.{retired_at, slot_of, pass_in, state_after_all, node_of_number, account, uncounted, range_at_start, is_in}
 use Rattle.fx_lasting.proofs.Words.{group_of, TableId, LastingPass, IsPassOf, opening_of, view_of, pass_of, Result, Ok, Err, seen_further, Adds}
 use Rattle.fx_lasting.proofs.Words.{no_use, IsIdle, IsFileRemoval, Doing, DoesNothing, Retired, IsOneOnItsNode, IsOn, FitsMiss, WasSo, WasIn, SaysIf}
-use Rattle.fx_lasting.proofs.Words.{SawIf, FailedIf, HasTriedIf, TriedReplace, TriedOut, Miss}
-use Rattle.fx_lasting.proofs.Words.{meetings}
+use Rattle.fx_lasting.proofs.Words.{SawIf, FailedIf, HasTriedIf, TriedReplace, TriedOut, Miss, meetings, TakesIf, Replaces, empty_word_of}
 use Rattle.fx_lasting.proofs.slot_lemmas.Overtaking.{overtaken_by}
-use Rattle.fx_lasting.proofs.Running.{swapped_then, at_swapped, number_is, own_stock, stock_is, still_at_work}
+use Rattle.fx_lasting.proofs.Running.{swapped_then, at_swapped, number_is, own_stock, stock_is, still_at_work, runs_one, runs_then, runs_goes}
+use Rattle.fx_lasting.proofs.Running.{runs_within, does_then}
 use Rattle.fx_lasting.specs.Ends.{Does}
 use Rattle.fx_lasting.specs.range.Tries.{IsPlacing}
 use Rattle.fx_lasting.specs.slots.ByNode.{TriedExchange}
 use Rattle.fx_lasting.specs.slots.SwapSteps.{SwapsIf}
-use Rattle.fx_lasting.proofs.Words.{TakesIf, Replaces, empty_word_of}
 use Rattle.fx_lasting.specs.declared.answers.Miss.TheVariants.{Empty, Other, Again}
 use Rattle.fx_lasting.proofs.Passing.{adds_so}
-use Rattle.fx_lasting.proofs.Running.{runs_one, runs_then, runs_goes, runs_within, does_then}
 
 same_node : (a b : ℕ) → a + 1 ≡ b + 1 → a ≡ b
 same_node a b e = omega (arith, e)

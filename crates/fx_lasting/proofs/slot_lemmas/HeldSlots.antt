@@ -2,12 +2,10 @@
 -- the pass holds it by a take, the removal counts the takes without it; else the slot is hot, and
 -- the pass's hold word names the node still.
 use Rattle.fx_lasting.proofs.Words.{◌≡◌, ◌≢◌, ℕ, ◌+◌, ◌-◌, ◌<◌, List, ◌∷◌, sym, refl, ap, ◌∙◌, arith, subst, Option, Some, None, Bool, true, false}
-use Rattle.fx_lasting.proofs.Words.{File, Event, Release, State, pass_event}
-use Rattle.fx_lasting.proofs.Words.{HoldsAt, IsHistory, node_of_number, state_after_all, slots_of, count_in, heat_in, hold_word_of}
-use Rattle.fx_lasting.proofs.Words.{full_name_in, entry_in, Names, seated, file_in, taken_of, taking, held_of, if_file, held_in, sum_at, bit_here}
-use Rattle.fx_lasting.proofs.Words.{one_less_at, IsInside, Round, StillNames, NamesNode, MayBeUnmarked, HasItsHold, ⊎_elim}
-use Rattle.fx_lasting.proofs.Words.{guarded_round, first_visit, new_round, removal_work, leaving_work, is_guarding}
-use Rattle.fx_lasting.proofs.Words.{one_less}
+use Rattle.fx_lasting.proofs.Words.{File, Event, Release, State, pass_event, HoldsAt, IsHistory, node_of_number, state_after_all, slots_of, count_in}
+use Rattle.fx_lasting.proofs.Words.{heat_in, hold_word_of, full_name_in, entry_in, Names, seated, file_in, taken_of, taking, held_of, if_file}
+use Rattle.fx_lasting.proofs.Words.{held_in, sum_at, bit_here, one_less_at, IsInside, Round, StillNames, NamesNode, MayBeUnmarked, HasItsHold, ⊎_elim}
+use Rattle.fx_lasting.proofs.Words.{guarded_round, first_visit, new_round, removal_work, leaving_work, is_guarding, one_less}
 use Rattle.fx_lasting.proofs.Counts.{owed_at}
 use Rattle.fx_lasting.proofs.Histories.{legal_more}
 use Rattle.fx_lasting.proofs.Keeping.{Turn, its_log, in_range, word_at, slot_word}

@@ -1,27 +1,20 @@
 -- A slot gets the file that a pass places, whether the pass holds the slot's file or nothing.
-use Rattle.fx_lasting.proofs.Words.{Round, StillNames, IsIn, held_of, hold_word_of, part_of_pass, map, ◌++◌}
-use Rattle.fx_lasting.proofs.slot_lemmas.Swaps.{Begins, IsAlike}
+use Rattle.fx_lasting.proofs.Words.{Round, StillNames, IsIn, held_of, hold_word_of, part_of_pass, map, ◌++◌, ◌≡◌, ◌≢◌, ℕ, ◌+◌, ◌^◌, ◌<◌, List, set}
+use Rattle.fx_lasting.proofs.Words.{sym, refl, ap, ◌∙◌, subst, arith, Option, Some, None, some, get_elem?, false, inl, inr, ◌⊎◌, Closed, File}
+use Rattle.fx_lasting.proofs.Words.{numbered, Event, Action, State, with_removed, changed_at, changed_here, changed_else, pass_event, held_by, Agrees}
+use Rattle.fx_lasting.proofs.Words.{NodeAgrees, OwnerAgrees, IsHistory, state_after_all, slots_of, nodes_of, word_of, count_in, file_word_of}
+use Rattle.fx_lasting.proofs.Words.{taken_of, taking, owed, sum_by, sum_set, Phase, placed, seated, removed_in, Change, Stepped, account}
+use Rattle.fx_lasting.proofs.Words.{range_at_start, Outside, set_here, set_else, length-set, IsInside, removal_work, ◌-◌, ◌≤◌, Whereabouts, IsInStock}
+use Rattle.fx_lasting.proofs.Words.{as_stocked, as_swapped, first_log, Log, name_in, Labels, Placement, written_in, label_of, as_written}
+use Rattle.fx_lasting.proofs.Words.{most_carried, takes_are_few, name_carried, full_name_carried, entry_carried, takes_carried, heat_carried}
+use Rattle.fx_lasting.proofs.slot_lemmas.Swaps.{Begins, IsAlike, found, old_at, NotOf, not_old, old_named, d, swap_after, Swap, swap_kept}
 use Rattle.fx_lasting.proofs.slot_lemmas.Watching.{ActsThere}
-use Rattle.fx_lasting.proofs.Histories.{Grows}
-use Rattle.fx_lasting.proofs.Words.{◌≡◌, ◌≢◌, ℕ, ◌+◌, ◌^◌, ◌<◌, List, set, sym, refl, ap, ◌∙◌, subst, arith, Option, Some, None, some}
-use Rattle.fx_lasting.proofs.Words.{get_elem?, false, inl, inr, ◌⊎◌, Closed, File, numbered, Event, Action}
-use Rattle.fx_lasting.proofs.Words.{State, with_removed, changed_at, changed_here, changed_else, pass_event, held_by, Agrees}
-use Rattle.fx_lasting.proofs.Words.{NodeAgrees, OwnerAgrees, IsHistory, state_after_all, slots_of, nodes_of, word_of}
-use Rattle.fx_lasting.proofs.Words.{count_in, file_word_of, taken_of, taking, owed, sum_by, sum_set, Phase, placed, seated}
-use Rattle.fx_lasting.proofs.Words.{removed_in, Change, Stepped}
-use Rattle.fx_lasting.proofs.Words.{account, range_at_start, Outside}
-use Rattle.fx_lasting.proofs.Words.{set_here, set_else, length-set, IsInside, removal_work, ◌-◌, ◌≤◌, Whereabouts}
-use Rattle.fx_lasting.proofs.Words.{IsInStock, as_stocked, as_swapped, first_log, Log, name_in}
-use Rattle.fx_lasting.proofs.Words.{Labels, Placement, written_in}
-use Rattle.fx_lasting.proofs.Words.{label_of, as_written, most_carried, takes_are_few, name_carried, full_name_carried, entry_carried, takes_carried}
-use Rattle.fx_lasting.proofs.Words.{heat_carried}
+use Rattle.fx_lasting.proofs.Histories.{Grows, each_changed}
 use Rattle.fx_lasting.proofs.node_lemmas.StockMoves.{where_moved, stock_moved, moved_names, moved_slot, moved_stock, moved_stocks, one_entry}
-use Rattle.fx_lasting.proofs.Histories.{each_changed}
 use Rattle.fx_lasting.proofs.Frames.{busy, owner_stays, node_same}
 use Rattle.fx_lasting.proofs.Keeping.{Turn, After, word_at, slot_word, tells_stocked, w, end, Homes, asks_alike, few_slots}
 use Rattle.fx_lasting.proofs.range_lemmas.Groups.{counts_filled}
 use Rattle.fx_lasting.proofs.Places.{slot_words, slot_here, slot_else, slot_alike}
-use Rattle.fx_lasting.proofs.slot_lemmas.Swaps.{found, old_at, NotOf, not_old, old_named, d, swap_after, Swap, swap_kept}
 use Rattle.fx_lasting.proofs.hold_lemmas.Unheld.{in_phase}
 
 -- The slot gets the file that a pass places, under a number that none had before. What was there is

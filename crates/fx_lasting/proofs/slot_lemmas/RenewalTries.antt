@@ -1,8 +1,9 @@
 -- A replacement by a pass that holds the file: what its steps leave.
 use Rattle.fx_lasting.proofs.Words.{◌≡◌, ◌≢◌, ℕ, ◌+◌, ◌-◌, ◌<◌, ◌≤◌, List, [], sym, refl, ap, ◌∙◌, subst, arith, Some, Ok, Err, get_elem?, some, rest}
-use Rattle.fx_lasting.proofs.Words.{File, Release, Put, numbered, ◌▷◌, Start, Sat, Glance, Outside, Runs, Stepped, Names, NamesANode, IsInStock, as_swapped}
-use Rattle.fx_lasting.proofs.Words.{full_name_in, name_in, nodes_of, pass_in, node_of_number, retiring_work, account, range_at_start, Closed, held_in}
-use Rattle.fx_lasting.proofs.Words.{WasIn, FailedIf, Miss}
+use Rattle.fx_lasting.proofs.Words.{File, Release, Put, numbered, ◌▷◌, Start, Sat, Glance, Outside, Runs, Stepped, Names, NamesANode, IsInStock}
+use Rattle.fx_lasting.proofs.Words.{as_swapped, full_name_in, name_in, nodes_of, pass_in, node_of_number, retiring_work, account, range_at_start}
+use Rattle.fx_lasting.proofs.Words.{Closed, held_in, WasIn, FailedIf, Miss, HoldsBesides, IsAtWork, Result, as_written, label_of, Bool, Work}
+use Rattle.fx_lasting.proofs.Words.{HasItsHold, entry_in, is_guarding, leaving_work}
 use Rattle.fx_lasting.proofs.slot_lemmas.ByNode.{at_once, begun_at, its_own, swapped_acts, stands_then, missed_so, was_before}
 use Rattle.fx_lasting.proofs.slot_lemmas.Overtaking.{overtaken_in}
 use Rattle.fx_lasting.proofs.Running.{does_then, runs_within, swapped_then}
@@ -10,8 +11,6 @@ use Rattle.fx_lasting.specs.slots.PutAlone.{IsBeside, TriedReplaceHeld, TriedRen
 use Rattle.fx_lasting.specs.slots.ByNode.{TriedExchange}
 use Rattle.fx_lasting.specs.slots.PutSteps.{ReplacesHeld}
 use Rattle.fx_lasting.proofs.slot_lemmas.Renewals.{held_besides}
-use Rattle.fx_lasting.proofs.Words.{HoldsBesides, IsAtWork, Result, as_written, label_of}
-use Rattle.fx_lasting.proofs.Words.{Bool, Work, HasItsHold, entry_in, is_guarding, leaving_work}
 use Rattle.fx_lasting.specs.Ends.{Does}
 use Rattle.fx_lasting.specs.declared.answers.Miss.TheVariants.{Empty, Other, Again}
 

@@ -1,10 +1,12 @@
 -- A replacement by a pass that holds the slot's file keeps the rule: the hold ends with the step,
 -- and the removal counts the takes without the pass's own.
-use Rattle.fx_lasting.proofs.Words.{◌≡◌, ◌≢◌, ℕ, ◌+◌, ◌-◌, ◌^◌, ◌<◌, List, [], ◌∷◌, sym, refl, ap, ◌∙◌, subst, arith, Option, Some, none, some}
-use Rattle.fx_lasting.proofs.Words.{◌≤◌, keeps, gives, rest, eqb, either, Closed, File, numbered, Event, Release, Put, ◌▷◌, State}
-use Rattle.fx_lasting.proofs.Words.{pass_event, WorkAgrees, HoldsAt, IsIn, part_of_pass, map, ◌++◌, state_after_all}
-use Rattle.fx_lasting.proofs.Words.{slots_of, slot_place, count_in, full_name_in, file_word_of, label_of, as_written, placed, taking, held_in}
-use Rattle.fx_lasting.proofs.Words.{bit_here, bit_else, Outside, Renewing, ReplacesHeld, ReplacesHeldKeep, step, exchanged, IsInStock}
+use Rattle.fx_lasting.proofs.Words.{◌≡◌, ◌≢◌, ℕ, ◌+◌, ◌-◌, ◌^◌, ◌<◌, List, [], ◌∷◌, sym, refl, ap, ◌∙◌, subst, arith, Option, Some, none, some, ◌≤◌}
+use Rattle.fx_lasting.proofs.Words.{keeps, gives, rest, eqb, either, Closed, File, numbered, Event, Release, Put, ◌▷◌, State, pass_event, WorkAgrees}
+use Rattle.fx_lasting.proofs.Words.{HoldsAt, IsIn, part_of_pass, map, ◌++◌, state_after_all, slots_of, slot_place, count_in, full_name_in}
+use Rattle.fx_lasting.proofs.Words.{file_word_of, label_of, as_written, placed, taking, held_in, bit_here, bit_else, Outside, Renewing, ReplacesHeld}
+use Rattle.fx_lasting.proofs.Words.{ReplacesHeldKeep, step, exchanged, IsInStock, Bool, true, false, Round, StillNames, HoldsBesides, HasItsHold}
+use Rattle.fx_lasting.proofs.Words.{HoldAgrees, GuardAgrees, IsAllowed, Work, Placement, Relieving, ⊎_elim, hold_word_of, guarded_round, first_visit}
+use Rattle.fx_lasting.proofs.Words.{new_round, removal_work, leaving_work, is_guarding, Stepped, as_swapped, account, range_at_start, name_in}
 use Rattle.fx_lasting.proofs.node_lemmas.StockMoves.{names_a_node}
 use Rattle.fx_lasting.proofs.Histories.{grows_one, grows_more, legal_more, part_mine, held_mine, same_shape}
 use Rattle.fx_lasting.proofs.Frames.{busy}
@@ -15,9 +17,6 @@ use Rattle.fx_lasting.proofs.slot_lemmas.Swaps.{found}
 use Rattle.fx_lasting.proofs.slot_lemmas.Installing.{Puts, put_after, put_agrees, put_tells}
 use Rattle.fx_lasting.proofs.slot_lemmas.SlotLaws.{file_carried, fresh_number}
 use Rattle.fx_lasting.proofs.slot_lemmas.HeldSlots.{there, on_n, h₀, legal₀, let_go, by_number, IsHeld, by_take, by_guard}
-use Rattle.fx_lasting.proofs.Words.{Bool, true, false, Round, StillNames, HoldsBesides, HasItsHold, HoldAgrees, GuardAgrees, IsAllowed, Work, Placement, Relieving}
-use Rattle.fx_lasting.proofs.Words.{⊎_elim, hold_word_of, guarded_round, first_visit, new_round, removal_work, leaving_work, is_guarding, Stepped, as_swapped}
-use Rattle.fx_lasting.proofs.Words.{account, range_at_start, name_in}
 
 -- the file that a pass holds beside the one that it places
 pub held_besides : {d : Work} {f : File} {n own : ℕ} {l : Placement} → HoldsBesides d f n own l → held_in d ≡ Some f

@@ -1,31 +1,27 @@
 -- An installation, a clear, a take and an exchange keep the rule.
-use Rattle.fx_lasting.proofs.Words.{IsIn, Round, first_visit, new_round}
+use Rattle.fx_lasting.proofs.Words.{IsIn, Round, first_visit, new_round, ◌≡◌, ◌≢◌, ℕ, ◌+◌, ◌^◌, ◌<◌, List, [], ◌∷◌, set, sym, refl, ap, ◌∙◌, subst}
+use Rattle.fx_lasting.proofs.Words.{arith, Option, Some, None, none, some, keeps, gives, rest, get_elem?, false, inl, eqb, Closed, File, numbered}
+use Rattle.fx_lasting.proofs.Words.{Event, Action, Put, Clear, Take, Allocate, ◌▷◌, State, with_removed, changed_at, changed_else, pass_event}
+use Rattle.fx_lasting.proofs.Words.{held_by, Agrees, WorkAgrees, IsHistory, state_after_all, slots_of, nodes_of, slot_place, count_in, full_name_in}
+use Rattle.fx_lasting.proofs.Words.{file_word_of, taken_of, taking, held_in, if_file, sum_set, placed, Change, Idle, Placing, Removes, Installs}
+use Rattle.fx_lasting.proofs.Words.{Exchanges, Stepped, IsOffCount, IsInRange, ClearsKeep, TakesOutKeep, InstallsKeep, ExchangesKeep, account}
+use Rattle.fx_lasting.proofs.Words.{uncounted, group_of, range_at_start, Outside, Bool, true, step, exchanged, IsInside, retiring_work, ◌*◌, ◌-◌, ◌≤◌}
+use Rattle.fx_lasting.proofs.Words.{HasNoFile, IsInStock, as_swapped, first_log, without_file, name_in, name_mask, bit_and, name_left, no_file_left}
+use Rattle.fx_lasting.proofs.Words.{no_takes_left, mask_leaves_name, mod-mul-add, le-mul_of_pos_right, Placement, label_of, as_written, either}
+use Rattle.fx_lasting.proofs.Words.{put_back, ActsAt}
 use Rattle.fx_lasting.proofs.slot_lemmas.Installing.{Puts, put_after, put_agrees, put_tells}
-use Rattle.fx_lasting.proofs.Words.{◌≡◌, ◌≢◌, ℕ, ◌+◌, ◌^◌, ◌<◌, List, [], ◌∷◌, set, sym, refl, ap, ◌∙◌, subst, arith, Option, Some, None, none, some}
-use Rattle.fx_lasting.proofs.Words.{keeps, gives, rest, get_elem?, false, inl, eqb, Closed, File, numbered, Event, Action, Put, Clear, Take}
-use Rattle.fx_lasting.proofs.Words.{Allocate, ◌▷◌, State, with_removed, changed_at, changed_else, pass_event, held_by, Agrees}
-use Rattle.fx_lasting.proofs.Words.{WorkAgrees, IsHistory, state_after_all, slots_of, nodes_of, slot_place}
-use Rattle.fx_lasting.proofs.Words.{count_in, full_name_in, file_word_of, taken_of, taking, held_in, if_file, sum_set, placed}
-use Rattle.fx_lasting.proofs.Words.{Change, Idle, Placing, Removes, Installs, Exchanges, Stepped, IsOffCount, IsInRange, ClearsKeep}
-use Rattle.fx_lasting.proofs.Words.{TakesOutKeep, InstallsKeep, ExchangesKeep, account, uncounted, group_of, range_at_start, Outside, Bool, true}
-use Rattle.fx_lasting.proofs.Words.{step, exchanged, IsInside, retiring_work, ◌*◌, ◌-◌, ◌≤◌, HasNoFile}
-use Rattle.fx_lasting.proofs.Words.{IsInStock, as_swapped, first_log, without_file, name_in, name_mask, bit_and, name_left}
-use Rattle.fx_lasting.proofs.Words.{no_file_left, no_takes_left, mask_leaves_name, mod-mul-add, le-mul_of_pos_right, Placement}
-use Rattle.fx_lasting.proofs.Words.{label_of, as_written}
-use Rattle.fx_lasting.proofs.Words.{either, put_back}
 use Rattle.fx_lasting.proofs.node_lemmas.StockMoves.{names_a_node}
 use Rattle.fx_lasting.proofs.Histories.{grows_one, legal_more, part_mine, held_mine, same_shape}
 use Rattle.fx_lasting.proofs.Frames.{busy, owner_stays, node_same}
-use Rattle.fx_lasting.proofs.Keeping.{Turn, turn_of, After, word_at, slot_word, Made, by_turn, its_log, its_work, its_stock, in_range, tells, w, end, asks_alike, few_slots}
-use Rattle.fx_lasting.proofs.range_lemmas.Groups.{in_range_so}
-use Rattle.fx_lasting.proofs.range_lemmas.Groups.{counts_emptied}
+use Rattle.fx_lasting.proofs.Keeping.{Turn, turn_of, After, word_at, slot_word, Made, by_turn, its_log, its_work, its_stock, in_range, tells, w, end}
+use Rattle.fx_lasting.proofs.Keeping.{asks_alike, few_slots}
+use Rattle.fx_lasting.proofs.range_lemmas.Groups.{in_range_so, counts_emptied}
 use Rattle.fx_lasting.proofs.slot_lemmas.Sights.{sees_after, sees_kept, sees_slot}
 use Rattle.fx_lasting.proofs.Places.{slot_else, slot_back, slot_alike}
 use Rattle.fx_lasting.proofs.hold_lemmas.Looking.{unnamed}
 use Rattle.fx_lasting.proofs.slot_lemmas.Swaps.{begins_first, found, old_at, found_so, old_named, d, swap_after, Swap, swap_kept}
 use Rattle.fx_lasting.proofs.hold_lemmas.Unheld.{in_phase}
 use Rattle.fx_lasting.proofs.node_lemmas.Choosing.{no_file, no_take, not_busy, holds_none}
-use Rattle.fx_lasting.proofs.Words.{ActsAt}
 
 -- the action empties a slot, whatever it is for
 abbrev pub IsRemoval : (ℕ → Option File → Action) → Type 0

@@ -1,16 +1,15 @@
 -- A step on the word of a slot, whose file stays there.
-use Rattle.fx_lasting.proofs.Words.{alone_in, inl, true, Deed, untouched, has_acted, has_heated, heat_in, ◌≡◌, ◌≢◌, ℕ, ◌+◌, ◌<◌, ◌≤◌, List, [], set, sym, refl}
-use Rattle.fx_lasting.proofs.Words.{ap, ◌∙◌, subst, arith, Option, Some, None, Bool, held_by, File, Event, NodeAgrees, IsAllowed, SlotAgrees, Names}
-use Rattle.fx_lasting.proofs.Words.{Agrees, slots_of, nodes_of, state_after_all, held_in, held_of, taken_of, taking, Phase, free, placed}
-use Rattle.fx_lasting.proofs.Words.{seated, leaving, retired, emptied, kept, Work, Glance, ⊎_elim, ◌⊎◌, inr, dite, ℕ_discrete, slot_place, word_of}
-use Rattle.fx_lasting.proofs.Words.{count_in, name_in, full_name_in, entry_in, IsHot, cold_takes, tally, birth_word, owed, sum_set, sum_by, get_elem?}
-use Rattle.fx_lasting.proofs.Words.{length-set, MayBeUnmarked, dec_le, suc, written_in, MOST_SLOTS, without_slot}
+use Rattle.fx_lasting.proofs.Words.{alone_in, inl, true, Deed, untouched, has_acted, has_heated, heat_in, ◌≡◌, ◌≢◌, ℕ, ◌+◌, ◌<◌, ◌≤◌, List, [], set}
+use Rattle.fx_lasting.proofs.Words.{sym, refl, ap, ◌∙◌, subst, arith, Option, Some, None, Bool, held_by, File, Event, NodeAgrees, IsAllowed}
+use Rattle.fx_lasting.proofs.Words.{SlotAgrees, Names, Agrees, slots_of, nodes_of, state_after_all, held_in, held_of, taken_of, taking, Phase, free}
+use Rattle.fx_lasting.proofs.Words.{placed, seated, leaving, retired, emptied, kept, Work, Glance, ⊎_elim, ◌⊎◌, inr, dite, ℕ_discrete, slot_place}
+use Rattle.fx_lasting.proofs.Words.{word_of, count_in, name_in, full_name_in, entry_in, IsHot, cold_takes, tally, birth_word, owed, sum_set, sum_by}
+use Rattle.fx_lasting.proofs.Words.{get_elem?, length-set, MayBeUnmarked, dec_le, suc, written_in, MOST_SLOTS, without_slot}
 use Rattle.fx_lasting.proofs.Frames.{busy, owner_stays, owner_same, slot_same, node_same, Leaves, keeps_other, guards_same}
-use Rattle.fx_lasting.proofs.Keeping.{Turn, After, Keeps, word_at, slot_word, step_kept, w, end, its_stock, names_on}
-use Rattle.fx_lasting.proofs.Places.{slot_words, slot_here, slot_node, slot_else, slot_hold, slot_alike, slot_list, slot_label}
-use Rattle.fx_lasting.proofs.Keeping.{labels_same, met_same, its_log}
-use Rattle.fx_lasting.proofs.slot_lemmas.Watching.{MovesOn, ActsThere, watch_none}
+use Rattle.fx_lasting.proofs.Keeping.{Turn, After, Keeps, word_at, slot_word, step_kept, w, end, its_stock, names_on, labels_same, met_same, its_log}
 use Rattle.fx_lasting.proofs.Keeping.{range_left, LeavesFiles}
+use Rattle.fx_lasting.proofs.Places.{slot_words, slot_here, slot_node, slot_else, slot_hold, slot_alike, slot_list, slot_label}
+use Rattle.fx_lasting.proofs.slot_lemmas.Watching.{MovesOn, ActsThere, watch_none}
 
 module _ (turn : Turn) (s : ℕ) (inside : s < slots_of turn.v.start) (new : ℕ) (h' : List Event) (d : Work) (g : Glance) (deed' : ℕ → ℕ → Deed) where
   open turn use {st, v, r, id, x, here, one}

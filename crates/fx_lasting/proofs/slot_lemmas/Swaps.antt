@@ -1,22 +1,21 @@
 -- A swap of a slot's word: a file leaves the slot, if there was one, and the slot gets another or
 -- none.
-use Rattle.fx_lasting.proofs.Words.{Round, StillNames, removal_work, alone_in, IsToVisit, new_round, inl, true, Whereabouts, at_slot, in_stock, NamesItsNode, StockAgrees, name_in, ◌≡◌, ◌≢◌, ℕ}
-use Rattle.fx_lasting.proofs.Words.{suc, ◌+◌, ◌-◌, ◌^◌, ◌<◌, ◌≤◌, List, [], set, length, sym, refl, ap, ◌∙◌, subst, arith, Option, Some, None, get_elem?}
-use Rattle.fx_lasting.proofs.Words.{Bool, false, inr, ⊎_elim, ◌⊎◌, dite, ℕ_discrete, dec_le, eq-eqb, ne_eqb, File, Event, State, held_by}
-use Rattle.fx_lasting.proofs.Words.{with_removed, changed_at, changed_here, changed_else, Agrees, NodeAgrees, OwnerAgrees, WorkAgrees, SlotAgrees}
-use Rattle.fx_lasting.proofs.Words.{Names, IsSeated, HoldAgrees, GuardAgrees, MayBeUnmarked, IsAllowed, RangeCounts, Nodes, IsHistory}
-use Rattle.fx_lasting.proofs.Words.{state_after_all, slots_of, nodes_of, range_at_start, slot_place, word_of, hold_word_of, count_in, full_name_in}
-use Rattle.fx_lasting.proofs.Words.{heat_in, IsHot, cold_takes, Deed, untouched, has_heated, owed, taken_of, taking, held_in, held_of, if_file, sum_by}
-use Rattle.fx_lasting.proofs.Words.{sum_set, Phase, free, placed, seated, leaving, owner, file_in, removed_in, first_visit}
-use Rattle.fx_lasting.proofs.Words.{Found, Work, Change, Idle, Retiring, length-set, Labels, Placement, written_in, label_of}
+use Rattle.fx_lasting.proofs.Words.{Round, StillNames, removal_work, alone_in, IsToVisit, new_round, inl, true, Whereabouts, at_slot, in_stock}
+use Rattle.fx_lasting.proofs.Words.{NamesItsNode, StockAgrees, name_in, ◌≡◌, ◌≢◌, ℕ, suc, ◌+◌, ◌-◌, ◌^◌, ◌<◌, ◌≤◌, List, [], set, length, sym, refl}
+use Rattle.fx_lasting.proofs.Words.{ap, ◌∙◌, subst, arith, Option, Some, None, get_elem?, Bool, false, inr, ⊎_elim, ◌⊎◌, dite, ℕ_discrete, dec_le}
+use Rattle.fx_lasting.proofs.Words.{eq-eqb, ne_eqb, File, Event, State, held_by, with_removed, changed_at, changed_here, changed_else, Agrees}
+use Rattle.fx_lasting.proofs.Words.{NodeAgrees, OwnerAgrees, WorkAgrees, SlotAgrees, Names, IsSeated, HoldAgrees, GuardAgrees, MayBeUnmarked}
+use Rattle.fx_lasting.proofs.Words.{IsAllowed, RangeCounts, Nodes, IsHistory, state_after_all, slots_of, nodes_of, range_at_start, slot_place}
+use Rattle.fx_lasting.proofs.Words.{word_of, hold_word_of, count_in, full_name_in, heat_in, IsHot, cold_takes, Deed, untouched, has_heated, owed}
+use Rattle.fx_lasting.proofs.Words.{taken_of, taking, held_in, held_of, if_file, sum_by, sum_set, Phase, free, placed, seated, leaving, owner}
+use Rattle.fx_lasting.proofs.Words.{file_in, removed_in, first_visit, Found, Work, Change, Idle, Retiring, length-set, Labels, Placement, written_in}
+use Rattle.fx_lasting.proofs.Words.{label_of, MOST_SLOTS, without_slot}
 use Rattle.fx_lasting.proofs.Counts.{tally_same, tally_none}
 use Rattle.fx_lasting.proofs.Histories.{Grows, each_changed}
 use Rattle.fx_lasting.proofs.Frames.{does_now, slot_same, file_same, Leaves, keeps_other, guards_same, SlotGoesOn, sees_on, heats_on}
-use Rattle.fx_lasting.proofs.Keeping.{Turn, After, Homes, word_at, slot_word, step_kept, w, end, its_log, in_range}
+use Rattle.fx_lasting.proofs.Keeping.{Turn, After, Homes, word_at, slot_word, step_kept, w, end, its_log, in_range, labels_same, met_same}
 use Rattle.fx_lasting.proofs.Places.{slot_words, slot_here, slot_node, slot_else, slot_hold, slot_list, slot_label, slot_alike}
-use Rattle.fx_lasting.proofs.Keeping.{labels_same, met_same}
 use Rattle.fx_lasting.proofs.slot_lemmas.Watching.{ActsThere, watch_none}
-use Rattle.fx_lasting.proofs.Words.{MOST_SLOTS, without_slot}
 use Rattle.fx_lasting.proofs.hold_lemmas.Unheld.{in_phase}
 
 -- the node isn't that of the file

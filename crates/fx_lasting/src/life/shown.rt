@@ -19,8 +19,6 @@ pub struct LastingSeen {
 }
 
 impl RealTime for LastingTable {
-    ghost use Rattle.fx_lasting.specs.life.Showing.{shown_of, IsSeenOf};
-
     type Seen = LastingSeen;
 
     ghost shown = { shown_of };
