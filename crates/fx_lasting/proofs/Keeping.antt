@@ -348,16 +348,18 @@ module _ (turn : Turn) where
       → (s : ℕ) → s < slots_of v.start → NamesItsNode v.start r.nodes.where_is s (slot_word words' s)
   names_on words' same s l = let o = r.nodes.named s l in record { node = o.node; named = same s l ∙ o.named; inside = o.inside; here = o.here }
 
-  -- the effect of the step on its pass
-  pub tells : (a : After) → ◌≡◌ {A = Bool × Survey × List ℕ} (a.listed, a.asked, a.stock) (x.listed, x.asked, x.stock) → (carried homes : List (ℕ × Option Closed)) (actions : List Action) → Grows x.number r.history a.front
-      → IsHistory v.start a.front → part_of_pass x.number a.front ≡ map (pass_event x) actions ++ part_of_pass x.number r.history
-      → IsInside v.start a.work → Stepped (v, carried) actions a.work a.glance a.change (w a, homes)
-  tells a same carried homes actions grows legal own inside = let o = its_log in rw one record {
+  -- the effect of the step on its pass: from one that was listed, had asked and had in stock this
+  moved_on : (a : After) (l : Bool) (q : Survey) (s : List ℕ) → ◌≡◌ {A = Bool × Survey × List ℕ} (a.listed, a.asked, a.stock) (l, q, s)
+      → (carried homes : List (ℕ × Option Closed)) (actions : List Action) → IsSeenBy x.front a.front → IsHistory v.start a.front
+      → part_of_pass x.number a.front ≡ map (pass_event x) actions ++ part_of_pass x.number x.front → IsInside v.start a.work
+      → Stepped (record v { logs = record (first_log v.logs) { listed = l; asked = q; stock = s } ∷ [] }, carried) actions a.work a.glance a.change
+      (w a, homes)
+  moved_on a l q s same carried homes actions seen legal own inside = rw one record {
     one = (logged x a.listed a.asked a.stock a.watch a.front, refl);
     number = refl;
-    seen = grows.seen x.front o.seen;
+    seen = seen;
     legal = legal;
-    own = own ∙ ap (λ (l : List Event). map (pass_event x) actions ++ l) o.own;
+    own = own;
     steps = refl;
     listed = ap (λ (z : Bool × Survey × List ℕ). z.0) same;
     asked = ap (λ (z : Bool × Survey × List ℕ). z.1) same;
@@ -370,29 +372,31 @@ module _ (turn : Turn) where
     start = refl;
   }
 
-  -- the effect of a step after which the pass is listed, has asked and has in stock this
+  -- a pass that was as it is
+  moved_same : (a : After) → ◌≡◌ {A = Bool × Survey × List ℕ} (a.listed, a.asked, a.stock) (x.listed, x.asked, x.stock)
+      → (carried homes : List (ℕ × Option Closed)) (actions : List Action) → IsSeenBy x.front a.front → IsHistory v.start a.front
+      → part_of_pass x.number a.front ≡ map (pass_event x) actions ++ part_of_pass x.number x.front → IsInside v.start a.work
+      → Stepped (v, carried) actions a.work a.glance a.change (w a, homes)
+  moved_same a same carried homes actions seen legal own inside =
+      subst (λ (z : View). Stepped (z, carried) actions a.work a.glance a.change (w a, homes))
+      (λ i. record v { logs = (ap (λ (l : List Log). first_log l ∷ []) one ∙ sym one) i })
+      (moved_on a (first_log v.logs).listed (first_log v.logs).asked (first_log v.logs).stock (rw one same) carried homes actions seen legal own inside)
+
+  -- the pass saw the whole history, and took these actions
+  pub tells : (a : After) → ◌≡◌ {A = Bool × Survey × List ℕ} (a.listed, a.asked, a.stock) (x.listed, x.asked, x.stock) → (carried homes : List (ℕ × Option Closed)) (actions : List Action) → Grows x.number r.history a.front
+      → IsHistory v.start a.front → part_of_pass x.number a.front ≡ map (pass_event x) actions ++ part_of_pass x.number r.history
+      → IsInside v.start a.work → Stepped (v, carried) actions a.work a.glance a.change (w a, homes)
+  tells a same carried homes actions grows legal own = moved_same a same carried homes actions (grows.seen x.front its_log.seen) legal
+      (own ∙ ap (λ (l : List Event). map (pass_event x) actions ++ l) its_log.own)
+
+  -- and it was listed, had asked and had in stock this
   pub tells_as : (a : After) (l : Bool) (q : Survey) (s : List ℕ) → ◌≡◌ {A = Bool × Survey × List ℕ} (a.listed, a.asked, a.stock) (l, q, s)
       → (carried homes : List (ℕ × Option Closed)) (actions : List Action) → Grows x.number r.history a.front → IsHistory v.start a.front
       → part_of_pass x.number a.front ≡ map (pass_event x) actions ++ part_of_pass x.number r.history → IsInside v.start a.work
       → Stepped (record v { logs = record (first_log v.logs) { listed = l; asked = q; stock = s } ∷ [] }, carried) actions a.work a.glance a.change
       (w a, homes)
-  tells_as a l q s same carried homes actions grows legal own inside = let o = its_log in rw one record {
-    one = (logged x a.listed a.asked a.stock a.watch a.front, refl);
-    number = refl;
-    seen = grows.seen x.front o.seen;
-    legal = legal;
-    own = own ∙ ap (λ (l : List Event). map (pass_event x) actions ++ l) o.own;
-    steps = refl;
-    listed = ap (λ (z : Bool × Survey × List ℕ). z.0) same;
-    asked = ap (λ (z : Bool × Survey × List ℕ). z.1) same;
-    stock = ap (λ (z : Bool × Survey × List ℕ). z.2) same;
-    met = a.more_met;
-    work = refl;
-    inside = inside;
-    glance = refl;
-    change = refl;
-    start = refl;
-  }
+  tells_as a l q s same carried homes actions grows legal own = moved_on a l q s same carried homes actions (grows.seen x.front its_log.seen) legal
+      (own ∙ ap (λ (l : List Event). map (pass_event x) actions ++ l) its_log.own)
 
   -- it has asked otherwise
   pub tells_asked : (a : After) → ◌≡◌ {A = Bool × List ℕ} (a.listed, a.stock) (x.listed, x.stock) → (carried : List (ℕ × Option Closed)) → Grows x.number r.history a.front
@@ -424,20 +428,5 @@ module _ (turn : Turn) where
   -- the effect of a step after which the pass has seen what it had seen
   pub tells_less : (a : After) → ◌≡◌ {A = Bool × Survey × List ℕ} (a.listed, a.asked, a.stock) (x.listed, x.asked, x.stock) → (carried homes : List (ℕ × Option Closed)) → a.front ≡ x.front → IsInside v.start a.work
       → Stepped (v, carried) [] a.work a.glance a.change (w a, homes)
-  tells_less a same_pass carried homes same inside = let o = its_log in rw one record {
-    one = (logged x a.listed a.asked a.stock a.watch a.front, refl);
-    number = refl;
-    seen = ([], same);
-    legal = rw same (legal_before v.start x.front o.seen.0 (subst (IsHistory v.start) o.seen.1 r.life.legal));
-    own = ap (part_of_pass x.number) same;
-    steps = refl;
-    listed = ap (λ (z : Bool × Survey × List ℕ). z.0) same_pass;
-    asked = ap (λ (z : Bool × Survey × List ℕ). z.1) same_pass;
-    stock = ap (λ (z : Bool × Survey × List ℕ). z.2) same_pass;
-    met = a.more_met;
-    work = refl;
-    inside = inside;
-    glance = refl;
-    change = refl;
-    start = refl;
-  }
+  tells_less a same_pass carried homes same = moved_same a same_pass carried homes [] ([], same)
+      (rw same (legal_before v.start x.front its_log.seen.0 (subst (IsHistory v.start) its_log.seen.1 r.life.legal))) (ap (part_of_pass x.number) same)

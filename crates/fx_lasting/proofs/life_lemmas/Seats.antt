@@ -1,14 +1,16 @@
 -- A seat is split off, and one is joined back.
 use Rattle.fx_lasting.proofs.Words.{◌≡◌, ℕ, List, length, sym, refl, ap, ◌∙◌, subst, arith, ⊎_elim, length-append, sum_by, sum_by-append, eqb}
-use Rattle.fx_lasting.proofs.Words.{WorkAgrees, LogAgrees, Agrees, Shared, Outside, Inside, Log, Start, View, Work, Idle, Nothing, Glance, Change}
-use Rattle.fx_lasting.proofs.Words.{SplitsKeep, JoinsKeep, together, spent, one_if, held_in, if_file, taking, get_elem?, some, set, set_here}
-use Rattle.fx_lasting.proofs.Words.{set_else, at_set, stands_at, sum_set, Contains, HasNoFile, ViewAgrees, taken_of, held_of, logs_of, lengths, zero}
-use Rattle.fx_lasting.proofs.Words.{suc, [], ◌∷◌, ◌≢◌, set-set, OfEach, of_replaced, of_appended, seen_from_start, without_first, first_alone}
-use Rattle.fx_lasting.proofs.Words.{AreReseated, split, joined}
+use Rattle.fx_lasting.proofs.Words.{WorkAgrees, LogAgrees, Agrees, Shared, Outside, Inside, Log, Start}
+use Rattle.fx_lasting.proofs.Words.{View, Work, Idle, Nothing, Glance, Change, SplitsKeep, JoinsKeep, together, spent, one_if}
+use Rattle.fx_lasting.proofs.Words.{held_in, if_file, taking, get_elem?, some, set, set_here, set_else}
+use Rattle.fx_lasting.proofs.Words.{at_set, stands_at, sum_set, Contains, HasNoFile, ViewAgrees, taken_of, held_of, logs_of, lengths, zero, suc, []}
+use Rattle.fx_lasting.proofs.Words.{◌∷◌, ◌≢◌, set-set, OfEach, of_replaced, of_appended, seen_from_start, without_first, first_alone, AreReseated}
+use Rattle.fx_lasting.proofs.Words.{split, joined}
 use Rattle.fx_lasting.proofs.node_lemmas.Choosing.{no_file, no_take, not_busy, holds_none}
 use Rattle.fx_lasting.proofs.Frames.{busy_alone, busy, owner_map, owner_stays}
-use Rattle.fx_lasting.proofs.range_lemmas.Groups.{counts_same, counts_reseated}
+use Rattle.fx_lasting.proofs.range_lemmas.Groups.{counts_same}
 use Rattle.fx_lasting.proofs.Keeping.{IsKnown, few_in_range}
+use Rattle.fx_lasting.proofs.range_lemmas.Groups.{counts_reseated}
 use Rattle.fx_lasting.proofs.life_lemmas.Reseating.{reseat}
 
 -- a seat that does nothing, and on whose account no slot is uncounted

@@ -2,8 +2,9 @@
 -- an atomic step.
 use Rattle.fx_lasting.proofs.Words.{◌≡◌, ℕ, ◌+◌, ◌≤◌, List, [], ◌∷◌, ◌++◌, set, length, sym, refl, ap, ◌∙◌, subst, arith, inl, inr, eqb, some}
 use Rattle.fx_lasting.proofs.Words.{get_elem?, ⊎_elim, at_set, sum_set, sum_by-append, one_if, contains_only, Contains, IsSeenBy, part_of_pass, Event}
-use Rattle.fx_lasting.proofs.Words.{LogAgrees, ViewAgrees, Agrees, Outside, Inside, Shared, Log, Start, View, IsInside, Runs, IsHistory, taken_of}
-use Rattle.fx_lasting.proofs.Words.{held_of, logs_of, lengths, first_log, view_of, StockAgrees, TableId, LastingPass, IsPassOf, opening_of, doing_in}
+use Rattle.fx_lasting.proofs.Words.{LogAgrees, ViewAgrees, Agrees, Outside, Inside, Shared, Log, Start, View}
+use Rattle.fx_lasting.proofs.Words.{IsInside, Runs, IsHistory, taken_of, held_of, logs_of, lengths}
+use Rattle.fx_lasting.proofs.Words.{first_log, view_of, StockAgrees, TableId, LastingPass, IsPassOf, opening_of, doing_in}
 use Rattle.fx_lasting.proofs.Words.{contains_none, contains_alone, learned_so, of_appended, of_replaced, at_snoc, at_longer, set_again, Splits, Seat}
 use Rattle.fx_lasting.proofs.Words.{Closed, Option, view_with, Adds, no_use, Learns}
 use Rattle.fx_lasting.specs.life.Showing.{shown_view, HasLearned}

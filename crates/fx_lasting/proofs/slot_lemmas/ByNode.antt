@@ -212,9 +212,9 @@ stock_moved {k} {p} {l = l} at entry node inside same = let after = at_swapped a
     subst (λ (n : ℕ). IsStockOf k n l) (sym (number_is at)) (subst (IsStockOf k p) (sym (stock_is after) ∙ same) after.stock)
 
 -- a pass with the same stock
-pub runs_stocked : {m m' : Sat} {l : List ℕ} {xs : List Action} {w : Work} {g : Glance} {c : Change} {n : ℕ} → l ≡ (pass_in m).stock → Runs m xs w g c n m'
+pub with_stock : {m m' : Sat} {l : List ℕ} {xs : List Action} {w : Work} {g : Glance} {c : Change} {n : ℕ} → l ≡ (pass_in m).stock → Runs m xs w g c n m'
     → Runs (as_stocked l m) xs w g c n m'
-runs_stocked {m} {m'} {l} {xs} {w} {g} {c} {n} its r = let same : Runs (as_stocked (pass_in m).stock m) xs w g c n m' = assumption r in
+with_stock {m} {m'} {l} {xs} {w} {g} {c} {n} its r = let same : Runs (as_stocked (pass_in m).stock m) xs w g c n m' = assumption r in
     subst (λ (z : List ℕ). Runs (as_stocked z m) xs w g c n m') (sym its) same
 
 -- to put its file there
@@ -238,7 +238,7 @@ module _ {k : Start} {p : ℕ} {m : Sat} (at : IsAtWork k p m) (stock : List ℕ
           w.named,
           z.1,
           subst (λ (y : ℕ × List ℕ). IsStockOf k y.0 y.1) (λ i. (sym (number_is at) i, sym its i)) (own_stock at),
-          runs_stocked its z.2,
+          with_stock its z.2,
           z.3,
         ),
         t.3 ∙ w.places,

@@ -5,7 +5,7 @@ use Rattle.fx_lasting.proofs.Words.{Names, NamesANode, IsInStock, IsStockOf, as_
 use Rattle.fx_lasting.proofs.Words.{node_of_number, account, range_at_start, IsAtWork, Ok, Closed, Adds, adds_then, no_use, DoesNothing}
 use Rattle.fx_lasting.proofs.Words.{ReleasesFile, Released, LookedUp, Opening, PassView, Holding, Hold, TableId, LastingPass, IsPassOf, IsBetweenCalls, opening_of, view_of, pass_of}
 use Rattle.fx_lasting.proofs.Words.{Change, Doing, HasActed, HasTriedIf, Miss, KeyFault, TriesKey, fault_for, meetings, LookedByKey, HeldByKey, WasSo, FitsMiss, IsSeenBy, ⊎_elim, inl}
-use Rattle.fx_lasting.proofs.slot_lemmas.ByNode.{acts_then, at_once, begun_at, its_own, names_inside, runs_stocked, stock_moved, was_further}
+use Rattle.fx_lasting.proofs.slot_lemmas.ByNode.{acts_then, at_once, begun_at, its_own, names_inside, with_stock, stock_moved, was_further}
 use Rattle.fx_lasting.proofs.Passing.{adds_so}
 use Rattle.fx_lasting.proofs.Running.{runs_within, swapped_then, number_is, own_stock}
 use Rattle.fx_lasting.proofs.slot_lemmas.Watching.{acted_further}
@@ -49,7 +49,7 @@ module _ {k : Start} {p : ℕ} {m : Sat} (at : IsAtWork k p m) (stock : List ℕ
       let z = w.last.wins f node (holds_still w.before w.still) w.first in
       let run = runs_within (omega arith) (acts_then w.still (subst (λ (y : Start × ℕ × Bool). Acts w z.0 z.1 w.before 1 y.0 y.1 w.before.0.glance y.2)
       (λ i. (start i, w.here i, is_guarding (w.still.work i))) (at_once (range_at_start w.before.0.start) (slot_of w.st.word) f z.2))) in (
-        out_so w z.0 z.1 stock (subst (λ (y : ℕ × List ℕ). IsStockOf k y.0 y.1) (λ i. (sym (number_is at) i, sym its i)) (own_stock at)) (runs_stocked its run),
+        out_so w z.0 z.1 stock (subst (λ (y : ℕ × List ℕ). IsStockOf k y.0 y.1) (λ i. (sym (number_is at) i, sym its i)) (own_stock at)) (with_stock its run),
         z.3 ∙ w.places,
       )
   left_held (Err miss) m' it = ((it.0, it.1, its), it.2)
