@@ -16,6 +16,7 @@ use Rattle.fx_table.specs.declared.values.Empty.{Empty}
 use Rattle.fx_table.specs.declared.values.LookFault.{LookFault}
 use Rattle.fx_table.specs.declared.values.LookFault.TheVariants.{Spent, Empty as EmptySlot}
 use Rattle.fx_lasting.specs.slots.PutAlone.{FreesFirst}
+use Rattle.fx_lasting.specs.slots.SwapSteps.{HasRemoved}
 use Rattle.fx_lasting.proofs.Running.{does_then, still_at_work, number_is, at_listed, at_swapped}
 
 -- the changes that a seat's steps make to its view
@@ -271,6 +272,16 @@ module _ {id : TableId} {k : Start} {p : LastingPass} (fits : IsPassOf id k p) w
   its_retiring {f} {retired} =
       work_retiring k.passes p.next_visit p.next_entry p.idle p.guarded p.keeps p.stock.items f retired p.seat.me.0.work fits.knows
 
+-- a removal by an update, and one by a close
+pub cleared_so : (o : Opening) (v w : PassView) (slot : ℕ) (removed : Option Retired) → HasRemoved o Clear v slot removed w → Cleared o v slot removed w
+cleared_so o v w slot None it = it
+cleared_so o v w slot (Some x) it = it
+
+pub taken_so : (o : Opening) (v w : PassView) (slot : ℕ) (removed : Option Retired) (result : Result Retired Empty) (empty : Empty)
+    → result ≡ ok_or removed empty → HasRemoved o Take v slot removed w → Taken o v slot result w
+taken_so o v w slot None result empty answer it = rw answer it
+taken_so o v w slot (Some x) result empty answer it = rw answer it
+
 -- The results of calls that empty or replace a slot
 module _ (k : Start) (v : PassView) (slot found : ℕ) (w : PassView) where
   abbrev o : Opening
@@ -282,15 +293,10 @@ module _ (k : Start) (v : PassView) (slot found : ℕ) (w : PassView) where
   is_removal : (f : File) → IsFileRemoval o f (retired_at f (full_name_in found - 1) (count_in found))
   is_removal f = record { entry = refl; same = λ e. absurd (cc e) }
 
-  pub cleared_so : (file : Option File) (removed : Option Retired) → removed ≡ value_of file
-      → Adds o v ([] ▷ Clear slot file) (doing_in (retiring_work k found file)) no_use w → Cleared o v slot removed w
-  cleared_so None removed is adds = rw is adds
-  cleared_so (Some f) removed is adds = rw is (f, is_removal f, adds)
-
-  pub taken_so : (file : Option File) (removed : Option Retired) → removed ≡ value_of file → (result : Result Retired Empty) (empty : Empty)
-      → result ≡ ok_or removed empty → Adds o v ([] ▷ Take slot file) (doing_in (retiring_work k found file)) no_use w → Taken o v slot result w
-  taken_so None removed is result empty answer adds = rw (answer, is) adds
-  taken_so (Some f) removed is result empty answer adds = rw (answer, is) (f, is_removal f, adds)
+  pub removed_so : (act : ℕ → Option File → Action) (file : Option File) (removed : Option Retired) → removed ≡ value_of file
+      → Adds o v ([] ▷ act slot file) (doing_in (retiring_work k found file)) no_use w → HasRemoved o act v slot removed w
+  removed_so act None removed is adds = rw is adds
+  removed_so act (Some f) removed is adds = rw is (f, is_removal f, adds)
 
   pub placed_so : (file : Option File) (removed : Option Retired) → removed ≡ value_of file → (n : ℕ) (its : Closed)
       → Adds o v ([] ▷ Put slot (numbered n its) file) (doing_in (retiring_work k found file)) one_number w → Placed o v slot its removed w

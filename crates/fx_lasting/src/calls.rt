@@ -12,14 +12,18 @@ ghost use Rattle.fx_table.specs.declared.values.LookFault.TheVariants.{Spent};
 ghost use Rattle.fx_lasting.specs.Fields.{count_in, full_name_in};
 ghost use Rattle.fx_lasting.specs.Tables.{view_of, meetings, steps_taken, retired_at};
 ghost use Rattle.fx_lasting.specs.Tables.{opening_of_table, IsPassOfTable, IsSeatOfTable};
-ghost use Rattle.fx_lasting.specs.Effects.{Found, first_visit, IsOnList};
+ghost use Rattle.fx_lasting.specs.Effects.{Found, Removes, first_visit, IsOnList};
+ghost use Rattle.fx_lasting.specs.Laws.{SwapsOutKeep, TakesOutKeep};
+ghost use Rattle.fx_lasting.specs.slots.SwapSteps.{HasRemoved, SwapsOut};
 ghost use Rattle.fx_lasting.specs.declared.view.Glance.TheVariants.{Hot, Cold};
 ghost use Rattle.fx_lasting.specs.declared.view.Work.TheVariants.{Idle};
 
 use crate::fields::{
     count_of, file_node_of, file_word, is_hot, list_bit, node_named, retire_amount,
 };
-use crate::kinds::{Finishing, Glancing, Installing, Listing, Retire};
+use crate::kinds::{
+    ByClose, ByUpdate, Finishing, Glancing, Installing, Listing, RemovedBy, Retire,
+};
 use crate::life::layout::{list_place, slot_place};
 use crate::pass::LastingPass;
 use crate::table::LastingTable;
@@ -216,17 +220,7 @@ impl LastingTable {
             (view_of pass.new) }
         ensures steps { steps_taken pass.new ≤ steps_taken pass.old + 6 }
     {
-        self.settle(pass);
-        let inside = self.is_in_range(slot);
-        self.lower(&mut pass.seat, slot, inside);
-        let entry = pass.next_entry;
-        let found = self.clear_slot(&mut pass.seat, &mut pass.stock, entry, slot);
-        let removed = removed_in(found);
-        self.raise(&mut pass.seat, slot, inside, removed.is_none());
-        pass.next_visit = self.first_visit(found);
-        pass.idle = removed.is_none();
-        pass.emptied.keep(slot, inside, pass.idle);
-        removed
+        self.remove::<ByUpdate>(pass, slot)
     }
 
     /// Empties a slot below `size` for a close, for an idle pass (`is_idle`), in at most six
@@ -245,17 +239,34 @@ impl LastingTable {
             (view_of pass.new) }
         ensures steps { steps_taken pass.new ≤ steps_taken pass.old + 6 }
     {
+        self.remove::<ByClose>(pass, slot).ok_or(Empty)
+    }
+
+    // Empties the slot in a way, for an idle pass, in at most six steps. Returns the file that was
+    // there, to be retired.
+    #[inline(always)]
+    fn remove<A: RemovedBy>(&self, pass: &mut LastingPass, slot: u32) -> Option<Retired>
+        requires fits { IsPassOfTable self.now pass.old }
+        requires idle { IsIdle (view_of pass.old) }
+        requires slot { slot < size_of (opening_of_table self.now) }
+        requires clears { TakesOutKeep (Removes A.action) }
+        requires swaps { SwapsOutKeep (SwapsOut A.action) }
+        ensures fits { IsPassOfTable self.now pass.new }
+        ensures removed { HasRemoved (opening_of_table self.now) A.action (view_of pass.old) slot
+            result (view_of pass.new) }
+        ensures steps { steps_taken pass.new ≤ steps_taken pass.old + 6 }
+    {
         self.settle(pass);
         let inside = self.is_in_range(slot);
         self.lower(&mut pass.seat, slot, inside);
         let entry = pass.next_entry;
-        let found = self.take_slot(&mut pass.seat, &mut pass.stock, entry, slot);
+        let found = self.empty_slot::<A>(&mut pass.seat, &mut pass.stock, entry, slot);
         let removed = removed_in(found);
         self.raise(&mut pass.seat, slot, inside, removed.is_none());
         pass.next_visit = self.first_visit(found);
         pass.idle = removed.is_none();
         pass.emptied.keep(slot, inside, pass.idle);
-        removed.ok_or(Empty)
+        removed
     }
 
     /// Retires the file that the pass removed, by the `Retired` that it got, in at most twice as

@@ -5,13 +5,13 @@ ghost use Rattle.fx_lasting.specs.life.Cuts.{spent};
 ghost use Rattle.fx_lasting.specs.Effects.{Glances, Lists, Announces, Confirms, Withdraws, Takes};
 ghost use Rattle.fx_lasting.specs.Effects.{HeatsSlot, StepsDown, LettingGo, Seeks, Births, Rests};
 ghost use Rattle.fx_lasting.specs.Effects.{EndsItsHold, Skims, Visits, Marks, Retires, Installs};
-ghost use Rattle.fx_lasting.specs.Effects.{Exchanges, Peeks, Sees, TakesIf, Replaces, Lowers};
+ghost use Rattle.fx_lasting.specs.Effects.{Exchanges, Removes, Peeks, Sees, TakesIf, Replaces, Lowers};
 ghost use Rattle.fx_lasting.specs.Effects.{Checks, Breaks, Raises, Begins, Asks, Counts, Decides};
 ghost use Rattle.fx_lasting.specs.nodes.LabelSteps.{RecallsTag, Tags, Numbers, ReadsTag};
 ghost use Rattle.fx_lasting.specs.nodes.LabelSteps.{ReadsNumber};
 ghost use Rattle.fx_lasting.specs.nodes.KeepSteps.{Parks, Resumes, SettlesNode};
 ghost use Rattle.fx_lasting.specs.holds.FinishSteps.{Finishes};
-ghost use Rattle.fx_lasting.specs.slots.SwapSteps.{SwapsIf, SwapsHeld, TakesHeld};
+ghost use Rattle.fx_lasting.specs.slots.SwapSteps.{SwapsIf, SwapsHeld, SwapsOut, TakesHeld};
 ghost use Rattle.fx_lasting.specs.slots.PutSteps.{Aims, TakesBeside, ReplacesHeld};
 ghost use Rattle.fx_lasting.specs.life.Showing.{shown_view, HasLearned};
 
@@ -19,6 +19,7 @@ use crate::view::{Start, View};
 use atomic_table::{Join, Play, Split, TableRule};
 use fx_base::OpenFile;
 use fx_seen::Learning;
+use std::marker::PhantomData;
 
 /// The rule: words, places and passes agree with the state that one legal history leads to.
 pub struct OneHistory;
@@ -332,46 +333,51 @@ impl Play<Option<OpenFile>, View> for Replacing {
     ghost then = { Replaces };
 }
 
-/// And: a pass without a stock empties a slot for an update. Its word names the node still.
-pub struct Clearing;
+/// The way in which a file is removed from its slot, for contracts alone.
+pub trait RemovedBy {
+    ghost use Rattle.std.specs.Prelude.{ℕ, Option};
+    ghost use Rattle.fx_plain.specs.declared.event.File.{File};
+    ghost use Rattle.fx_plain.specs.declared.event.Action.{Action};
 
-impl Play<Option<OpenFile>, View> for Clearing {
+    // The action, by the slot and the file that is there.
+    ghost action: { ℕ → Option File → Action };
+}
+
+/// A removal by an update.
+pub struct ByUpdate;
+
+impl RemovedBy for ByUpdate {
     ghost use Rattle.fx_plain.specs.declared.event.Action.TheVariants.{Clear};
-    ghost use Rattle.fx_lasting.specs.Effects.{Removes};
 
-    ghost then = { Removes Clear };
+    ghost action = { Clear };
 }
 
-/// And: a pass without a stock empties a slot for a close. Its word names the node still.
-pub struct TakingOut;
+/// A removal by a close.
+pub struct ByClose;
 
-impl Play<Option<OpenFile>, View> for TakingOut {
+impl RemovedBy for ByClose {
     ghost use Rattle.fx_plain.specs.declared.event.Action.TheVariants.{Take};
-    ghost use Rattle.fx_lasting.specs.Effects.{Removes};
 
-    ghost then = { Removes Take };
+    ghost action = { Take };
 }
 
-/// Swap: a slot is emptied for an update. Its word names a node of the pass's stock, and the node
-/// that it named takes that node's place.
-pub struct SwappingClear;
-
-impl Play<Option<OpenFile>, View> for SwappingClear {
-    ghost use Rattle.fx_plain.specs.declared.event.Action.TheVariants.{Clear};
-    ghost use Rattle.fx_lasting.specs.slots.SwapSteps.{SwapsOut};
-
-    ghost then = { SwapsOut Clear };
+/// And: a pass without a stock empties a slot. Its word names the node still.
+pub struct Clearing<A> {
+    way: PhantomData<A>,
 }
 
-/// Swap: a slot is emptied for a close. Its word names a node of the pass's stock, and the node
-/// that it named takes that node's place.
-pub struct SwappingTake;
+impl<A: RemovedBy> Play<Option<OpenFile>, View> for Clearing<A> {
+    ghost then = { Removes A.action };
+}
 
-impl Play<Option<OpenFile>, View> for SwappingTake {
-    ghost use Rattle.fx_plain.specs.declared.event.Action.TheVariants.{Take};
-    ghost use Rattle.fx_lasting.specs.slots.SwapSteps.{SwapsOut};
+/// Swap: a slot is emptied. Its word names a node of the pass's stock, and the node that it named
+/// takes that node's place.
+pub struct Swapping<A> {
+    way: PhantomData<A>,
+}
 
-    ghost then = { SwapsOut Take };
+impl<A: RemovedBy> Play<Option<OpenFile>, View> for Swapping<A> {
+    ghost then = { SwapsOut A.action };
 }
 
 /// Lower: a group's word counts one full slot less, before the pass empties that slot.

@@ -23,13 +23,12 @@ ghost use Rattle.fx_lasting.specs.Laws.{SwapsHeldKeep, TakesHeldKeep, ReplacesKe
 ghost use Rattle.fx_lasting.specs.Laws.{TakesBesideKeep, ReplacesHeldKeep, EndsItsHoldKeep};
 
 use crate::kinds::{
-    Aiming, Announcing, Asking, Beginning, Birth, Breaking, Checking, Clearing, Confirming,
-    Counting, Deal, Deciding, EndingHold, Exchanging, Finishing, Gather, Glancing, HeatingUp,
-    Installing, Letting, Listing, Lowering, Marking, Numbering, OneHistory, Parking, Peeking,
-    Raising, ReadingNumber, ReadingTag, RecallingTag, Replacing, ReplacingHeld, Resting, Resuming,
-    Retire, Seeing, Seeking, Settling, Skimming, SteppingDown, SwappingClear, SwappingHeld,
-    SwappingIf, SwappingTake, Tagging, Taking, TakingBeside, TakingHeld, TakingIf, TakingOut,
-    Visiting, Withdrawing,
+    Aiming, Announcing, Asking, Beginning, Birth, Breaking, ByClose, ByUpdate, Checking, Clearing,
+    Confirming, Counting, Deal, Deciding, EndingHold, Exchanging, Finishing, Gather, Glancing,
+    HeatingUp, Installing, Letting, Listing, Lowering, Marking, Numbering, OneHistory, Parking,
+    Peeking, Raising, ReadingNumber, ReadingTag, RecallingTag, Replacing, ReplacingHeld, Resting,
+    Resuming, Retire, Seeing, Seeking, Settling, Skimming, SteppingDown, Swapping, SwappingHeld,
+    SwappingIf, Tagging, Taking, TakingBeside, TakingHeld, TakingIf, Visiting, Withdrawing,
 };
 use crate::view::{Start, View};
 use atomic_table::{Join, Play, Split, TableRule};
@@ -262,27 +261,27 @@ pub fn join_keeps_rule()
 /// An idle pass that leaves of a slot's word the name alone, for an update, keeps the rule, and has
 /// the file that was there to retire.
 pub fn clear_keeps_rule()
-    ensures { ClearsKeep ⟦<Clearing as Play<Option<OpenFile>, View>>⟧.then }
+    ensures { ClearsKeep ⟦<Clearing<ByUpdate> as Play<Option<OpenFile>, View>>⟧.then }
 {}
 
 /// An idle pass that leaves of a slot's word the name alone, for a close, keeps the rule, and has
 /// the file that was there to retire.
 pub fn take_out_keeps_rule()
-    ensures { TakesOutKeep ⟦<TakingOut as Play<Option<OpenFile>, View>>⟧.then }
+    ensures { TakesOutKeep ⟦<Clearing<ByClose> as Play<Option<OpenFile>, View>>⟧.then }
 {}
 
 /// An idle pass that swaps the word of an empty slot, which names a node of its stock, into a slot,
 /// for an update, keeps the rule. It has the file that was there to retire, and the node that the
 /// slot named in its stock.
 pub fn swap_clear_keeps_rule()
-    ensures { SwapsOutKeep ⟦<SwappingClear as Play<Option<OpenFile>, View>>⟧.then }
+    ensures { SwapsOutKeep ⟦<Swapping<ByUpdate> as Play<Option<OpenFile>, View>>⟧.then }
 {}
 
 /// An idle pass that swaps the word of an empty slot, which names a node of its stock, into a slot,
 /// for a close, keeps the rule. It has the file that was there to retire, and the node that the
 /// slot named in its stock.
 pub fn swap_take_keeps_rule()
-    ensures { SwapsOutKeep ⟦<SwappingTake as Play<Option<OpenFile>, View>>⟧.then }
+    ensures { SwapsOutKeep ⟦<Swapping<ByClose> as Play<Option<OpenFile>, View>>⟧.then }
 {}
 
 /// A pass that swaps the word of the file that it places into a slot keeps the rule, and has the

@@ -19,13 +19,13 @@ use Rattle.fx_lasting.proofs.Words.{Bool, Guarded, HasItsHold, HoldsAlone, is_gu
 use Rattle.fx_lasting.specs.declared.answers.Miss.TheVariants as reason
 use Rattle.fx_lasting.specs.declared.key.Key.{Key}
 
--- The exchanges that a pass with this stock tried that holds the file of the node, to empty the slot
+-- The exchanges that a pass tried, to empty the slot of the file that it holds
 module _ {k : Start} {p : ℕ} {m : Sat} (at : IsAtWork k p m) (stock : List ℕ) (its : stock ≡ (pass_in m).stock) (slot node : ℕ) (f : File)
     (works : HoldsAlone m.0.work f node) where
   holds_still : (b : Sat) → Does m [] m.0.work 3 b → HoldsAlone b.0.work f node
   holds_still b still = subst (λ (w : Work). HoldsAlone w f node) (sym still.work) works
 
-  module _ {tells : Kind} {new : Option ℕ} {word : ℕ} {m' : Sat} (w : WonExchange tells slot node new m word m')
+  module _ {kind : Kind} {new : Option ℕ} {word : ℕ} {m' : Sat} (w : WonExchange kind slot node new m word m')
       (own_hold : HasItsHold (is_guarding w.before.0.work) word) (names : Names (node_of_number w.before.0.start) word (Some f)) where
     abbrev Acts : Sat → ℕ → Start → ℕ → Glance → Bool → Type 0
     Acts s n z i g b = Runs s ([] ▷ Release f ▷ Take i (Some f)) (leaving_work z b word f) g Outside n m'

@@ -3,9 +3,9 @@ use Rattle.fx_lasting.proofs.Words.{◌≡◌, ◌≤◌, ◌<◌, ℕ, ◌+◌,
 use Rattle.fx_lasting.proofs.Words.{◌▷▷◌, Sat, Start, Work, Glance, Change, Runs, IsAtWork, IsStockOf, TableId, File, At, as_stocked}
 use Rattle.fx_lasting.proofs.Words.{pass_in, name_in, nodes_of, empty_word_of, retiring_work, account, range_at_start, slot_of, slot_place, Nothing}
 use Rattle.fx_lasting.proofs.Words.{Outside, LastingPass, IsSeatOf, IsPassOf, Knows, opening_of, view_of, pass_of, doing_in, Use, no_use}
-use Rattle.fx_lasting.proofs.Words.{Adds, SwapsOut, HasEmptied}
+use Rattle.fx_lasting.proofs.Words.{Adds, Removes, SwapsOut, HasEmptied}
 use Rattle.fx_lasting.proofs.Places.{slot_back}
-use Rattle.fx_lasting.proofs.Running.{runs_one, runs_then, runs_stocked, turns_then, number_is, stock_is, still_at_work, at_swapped, at_work_as}
+use Rattle.fx_lasting.proofs.Running.{runs_one, runs_then, runs_stocked, turns_then, number_is, own_stock, stock_is, still_at_work, at_swapped, at_work_as}
 use Rattle.fx_lasting.proofs.Passing.{adds_run}
 
 -- the seat of a pass with this stock
@@ -36,6 +36,19 @@ module _ {k : Start} {p : ℕ} {m : Sat} (at : IsAtWork k p m) (stock : List ℕ
               (subst (IsStockOf k p) (sym (stock_is after) ∙ same) after.stock);
           runs = subst (λ (z : Start × ℕ × List ℕ). Runs (as_stocked z.2 m) ([] ▷ act z.1 did.file) (retiring_work z.0 found did.file) m.0.glance
               (account (range_at_start z.0) z.1 did.file) 1 m') (λ i. (at.pass.0 i, slot_is i, same i)) (runs_one stepped);
+        }
+
+    -- the name stays at the slot
+    pub by_removal : {st : At} {m' : Sat} → Removes act st m found m' → st.word ≡ slot_place slot → HasEmptied k act slot found stock m m'
+    by_removal {st} {m'} did here =
+        let slot_is : slot_of st.word ≡ slot = ap slot_of here ∙ slot_back slot in
+        let run : Runs (as_stocked (pass_in m).stock m) ([] ▷ act (slot_of st.word) did.file) (retiring_work m.0.start found did.file) m.0.glance
+        (account (range_at_start m.0.start) (slot_of st.word) did.file) 1 m' = assumption (runs_one did.stepped) in record {
+          file = did.file;
+          names = did.names;
+          its = subst (λ (z : ℕ × List ℕ). IsStockOf k z.0 z.1) (λ i. (sym (number_is at) i, sym its i)) (own_stock at);
+          runs = subst (λ (z : Start × ℕ × List ℕ). Runs (as_stocked z.2 m) ([] ▷ act z.1 did.file) (retiring_work z.0 found did.file) m.0.glance
+              (account (range_at_start z.0) z.1 did.file) 1 m') (λ i. (at.pass.0 i, slot_is i, sym its i)) run;
         }
 
 -- the pass goes on

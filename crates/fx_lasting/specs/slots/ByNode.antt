@@ -140,19 +140,19 @@ word_put None old = without_file old
 
 -- a pass that does nothing else may make such exchanges while the slot's word names the node
 abbrev pub MayExchange : Kind → Start → ℕ → ℕ → Option ℕ → Sat → Type 0
-MayExchange tells k slot node new m = (slots id old tries : ℕ) (m' : Sat)
+MayExchange kind k slot node new m = (slots id old tries : ℕ) (m' : Sat)
     → Does m [] m.0.work tries m' → m'.1 ≡ m.1 → full_name_in old ≡ node + 1
     → Allows (Agrees k) slots id m' (slot_place slot)
     (λ word. either (word == old) (word_put new old) word)
-    (tells (step slots (slot_place slot) old (word_put new old) none) m')
+    (kind (step slots (slot_place slot) old (word_put new old) none) m')
 
 -- an exchange that finds another word changes nothing
 abbrev pub SeesIfLost : Kind → Type 0
-SeesIfLost tells = (st : At) (m : Sat) (found : ℕ) (m' : Sat) → tells st m found m'
+SeesIfLost kind = (st : At) (m : Sat) (found : ℕ) (m' : Sat) → kind st m found m'
     → found ≢ st.first → Sees st m found m'
 
 -- the last of some exchanges found the word that it expected
-pub record WonExchange (tells : Kind) (slot node : ℕ) (new : Option ℕ) (m : Sat) (word : ℕ)
+pub record WonExchange (kind : Kind) (slot node : ℕ) (new : Option ℕ) (m : Sat) (word : ℕ)
     (m' : Sat) : Type 0 where
   pub before : Sat
   pub st : At
@@ -162,12 +162,12 @@ pub record WonExchange (tells : Kind) (slot node : ℕ) (new : Option ℕ) (m : 
   pub named : full_name_in word ≡ node + 1
   pub first : word ≡ st.first
   pub second : st.second ≡ word_put new word
-  pub last : tells st before word m'
+  pub last : kind st before word m'
 
 -- a pass that made such exchanges, at most four
 abbrev pub TriedExchange : Kind → Start → ℕ → ℕ → Option ℕ → Sat → Result ℕ Miss → Sat → Type 0
-TriedExchange tells k slot node new m (Ok word) m' = WonExchange tells slot node new m word m'
-TriedExchange tells k slot node new m (Err miss) m' =
+TriedExchange kind k slot node new m (Ok word) m' = WonExchange kind slot node new m word m'
+TriedExchange kind k slot node new m (Err miss) m' =
     FailedIf k slot node miss m m' × Does m [] m.0.work 4 m' × (m'.1 ≡ m.1)
 
 -- a pass that tried to empty a slot, whose word named the node, and has this stock now

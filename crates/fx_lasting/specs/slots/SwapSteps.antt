@@ -1,12 +1,18 @@
 -- The kinds of step that empty a slot by an exchange of names: the slot's word names a node of the
 -- pass's stock then, and the node that it named takes that node's place in the stock.
-use Rattle.std.specs.Prelude.{◌≡◌, ◌≢◌, ℕ, ◌-◌, List, [], Option, Some}
+use Rattle.std.specs.Prelude.{◌≡◌, ◌≢◌, ℕ, ◌-◌, List, [], Option, Some, None}
 use mathlib.Core.Option.{some}
 use lib.ListN.{get_elem?}
 use Rattle.fx_plain.specs.History.{◌▷◌}
 use Rattle.fx_plain.specs.declared.event.File.{File}
 use Rattle.fx_plain.specs.declared.event.Action.{Action}
 use Rattle.fx_plain.specs.declared.event.Action.TheVariants.{Release, Take}
+use Rattle.fx_table.specs.Calls.{Adds, no_use}
+use Rattle.fx_table.specs.Opening.{Opening}
+use Rattle.fx_table.specs.Pass.{IsFileRemoval, PassView}
+use Rattle.fx_table.specs.declared.values.Doing.TheVariants.{Idle as DoesNothing}
+use Rattle.fx_table.specs.declared.values.Doing.TheVariants.{Retiring as Retires}
+use Rattle.fx_table.specs.declared.values.Retired.{Retired}
 use Rattle.fx_words.specs.Words.{name_in}
 use Rattle.fx_lasting.specs.slots.SlotAgrees.{Names}
 use Rattle.fx_lasting.specs.range.Groups.{account}
@@ -77,3 +83,10 @@ pub record HasEmptied (k : Start) (action : ℕ → Option File → Action) (slo
   pub its : IsStockOf k (pass_in m).number stock
   pub runs : Runs (as_stocked stock m) ([] ▷ action slot file) (retiring_work k found file)
       m.0.glance (account (range_at_start k) slot file) 1 m'
+
+-- a call emptied a slot, and has the file that was there to retire
+abbrev pub HasRemoved : Opening → (ℕ → Option File → Action) → PassView → ℕ → Option Retired
+    → PassView → Type 0
+HasRemoved o action v slot None w = Adds o v ([] ▷ action slot None) DoesNothing no_use w
+HasRemoved o action v slot (Some x) w = (f : File) × IsFileRemoval o f x
+    × Adds o v ([] ▷ action slot (Some f)) (Retires f x) no_use w

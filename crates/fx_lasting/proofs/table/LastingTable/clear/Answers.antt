@@ -1,68 +1,15 @@
-use Rattle.fx_lasting.proofs.Words.{◌∙◌, ap, arith, Start, Bool, true, uncounted, group_of, range_at_start, IsAtWork, opening_of, view_of, pass_of}
-use Rattle.fx_lasting.proofs.Words.{Runs, Glance, Outside, as_stocked, retiring_work, ◌▷◌, [], Clear, subst, sym, refl, Cleared, no_use, PassView}
-use Rattle.fx_lasting.proofs.slot_lemmas.Removals.{adds_stocked, emptied_around, emptied_at_work, emptied_stock, stocked_pass}
-use Rattle.fx_lasting.proofs.Running.{still_at_work}
-use Rattle.fx_lasting.proofs.Passing.{its_idle, account_so, knows_removed, cleared_so, first_by}
-use Rattle.fx_lasting.proofs.table.LastingTable.clear.Goals.{After-lower}
-use Rattle.fx_lasting.proofs.node_lemmas.Settled.{still_idle}
+use Rattle.fx_lasting.proofs.Words.{opening_of, view_of}
+use Rattle.fx_lasting.proofs.Passing.{cleared_so}
+use Rattle.fx_lasting.proofs.slot_lemmas.SlotLaws.{clears_keep}
+use Rattle.fx_lasting.proofs.slot_lemmas.SwapsOut.{swap_clears_keep}
 use Rattle.fx_lasting.proofs.table.LastingTable.clear.Goals as goal
 
--- the pass, before the slot is emptied
-at : (c : After-lower) → IsAtWork c.args.self.now.table.shared.key c.settle.new.pass.number c.lower.new.seat.me
-at c = still_at_work c.settle.ensures.fits.seated.at c.lower.ensures.runs
+pub remove-requires-clause-clears : goal.remove-requires-clause-clears
+remove-requires-clause-clears c = clears_keep
 
-pub clear_slot-found-requires : goal.clear_slot-found-requires
-clear_slot-found-requires c =
-    let a = (goal.at.clear_slot-found-requires c).After-lower in
-    let t = c.args.self.now in
-    let f = c.settle.ensures.fits in
-    let began = c.lower.ensures in
-    record {
-      table = began.table ∙ f.seated.table;
-      at = (c.settle.new.pass.number, at a);
-      idle = rw began.runs.work (its_idle f (still_idle c.settle.ensures.same c.requires.idle) c.settle.ensures.unkept);
-      stock = f.seated.stock ∙ sym began.runs.stock;
-      slot = omega (arith, c.requires.slot, t.same_size);
-      off = began.runs.change ∙ ap (λ (b : Bool). uncounted b true (group_of (range_at_start t.table.shared.key) c.args.slot)) c.is_in_range-inside.ensures;
-    }
+pub remove-requires-clause-swaps : goal.remove-requires-clause-swaps
+remove-requires-clause-swaps c = swap_clears_keep
 
-pub raise-requires-clause-at : goal.raise-requires-clause-at
-raise-requires-clause-at c =
-    let a = (goal.at.raise-requires-clause-at c).After-lower in
-    (c.settle.new.pass.number, emptied_at_work (at a) c.clear_slot-found.ensures.emptied)
-
-pub raise-requires-clause-change : goal.raise-requires-clause-change
-raise-requires-clause-change c =
-    let k : Start = c.args.self.now.table.shared.key in
-    let went = c.clear_slot-found.ensures.emptied in
-    went.runs.change ∙ account_so (range_at_start k) c.args.slot c.clear_slot-found.result went.file c.removed_in-removed.result c.is_in_range-inside.result
-    c.is_none.result (c.removed_in-removed.ensures went.file went.names) c.is_none.ensures c.is_in_range-inside.ensures
-
-pub returns : goal.returns
-returns c =
-    let a = (goal.at.returns c).After-lower in
-    let k : Start = c.args.self.now.table.shared.key in
-    let fits = c.settle.ensures.fits in
-    let s = fits.seated in
-    let began = c.lower.ensures in
-    let emptied = c.clear_slot-found.ensures in
-    let went = emptied.emptied in
-    let found = c.clear_slot-found.result in
-    let stock = c.clear_slot-found.new.stock.items in
-    let file = went.file in
-    let removed = c.removed_in-removed.result in
-    let is = c.removed_in-removed.ensures file went.names in
-    let run = subst (λ (g : Glance). Runs (as_stocked stock c.settle.new.pass.seat.me) ([] ▷ Clear c.args.slot file) (retiring_work k found file) g Outside 5
-    c.raise.new.seat.me) fits.calm (emptied_around (at a) went began.runs c.raise.ensures.runs) in
-    let v = view_of c.settle.new.pass in
-    let w = pass_of c.raise.new.seat.me.0 in
-    let adds = adds_stocked s stock run no_use in
-    record {
-      fits = stocked_pass s stock (emptied_stock (at a) went) _ run (refl, refl) (c.raise.ensures.table ∙ (emptied.table ∙ began.table))
-          (c.raise.ensures.places ∙ (emptied.places ∙ (began.places ∙ s.places))) (refl, s.next)
-          (knows_removed k found file removed _ _ _ _ c.settle.new.pass.next_entry stock
-          c.settle.ensures.unkept is c.is_none-pass.ensures (c.first_visit-pass.ensures ∙ first_by c.args.self.now found));
-      cleared = subst (λ (z : PassView). Cleared (opening_of k) z c.args.slot removed w) c.settle.ensures.same
-          (cleared_so k v c.args.slot found w file removed is adds);
-      steps = let few = run.steps in let one = c.settle.ensures.steps in omega arith;
-    }
+pub returns-clause-cleared : goal.returns-clause-cleared
+returns-clause-cleared c = cleared_so (opening_of c.args.self.now.table.shared.key) (view_of c.args.pass.now) (view_of c.remove.new.pass) c.args.slot
+    c.remove.result c.remove.ensures.removed
