@@ -1,5 +1,5 @@
 //! The reason why a log of calls in flight is not legal.
-ghost use Rattle.std.specs.Prelude.{◌≡◌, ◌≤◌, ◌<◌, IfOk, IfSome, take};
+ghost use Rattle.std.specs.Prelude.{◌≡◌, ◌≤◌, ◌<◌, ◌≢◌, IfOk, IfSome, take};
 ghost use Rattle.fx_base.specs.Catalogue.{IsCatalogue};
 ghost use Rattle.fx_flight.specs.Flight.{IsLegalLog};
 ghost use Rattle.fx_ring.specs.Registration.{registered_sparse};
@@ -7,6 +7,7 @@ ghost use Rattle.fx_ring.specs.Ring.{new_ring};
 ghost use Rattle.fx_judge.specs.Arrays.{arrays_in, log_passed};
 ghost use Rattle.fx_judge.specs.Logs.{HasFlaw, HasNotHappened, passed};
 ghost use Rattle.fx_judge.specs.Verdicts.{HasFaultOnLine};
+ghost use Rattle.fx_judge.specs.declared.codes.TheConstants.{FAULTY, LEGAL};
 
 use crate::arrays::LogArrays;
 use crate::codes::{
@@ -73,6 +74,8 @@ pub fn explain_log(
     reason: &mut YachtReason,
 ) -> u32
     ensures known { result ≤ TOO_MANY_SLOTS }
+    ensures no_verdict { result ≢ LEGAL }
+    ensures no_fault { result ≢ FAULTY }
     ensures not_legal { result ≡ NOT_LEGAL
         → HasNotHappened (passed script.now slots requests.now entries.now bytes.now events.now)
         at }

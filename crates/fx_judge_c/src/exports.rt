@@ -1,5 +1,5 @@
 //! The functions that C calls. Each has the contract of the call of `fx_judge` that it makes.
-ghost use Rattle.std.specs.Prelude.{◌≡◌, ◌≤◌, ◌<◌, true, false};
+ghost use Rattle.std.specs.Prelude.{◌≡◌, ◌≤◌, ◌<◌, ◌≢◌, true, false};
 ghost use Rattle.fx_judge.specs.Logs.{AreLogEvents, HasFlaw, HasLogFault, HasNotHappened};
 ghost use Rattle.fx_judge.specs.Logs.{HasNotHappenedBy, MayHaveHappened, MayHaveHappenedBy, passed};
 ghost use Rattle.fx_judge.specs.Outcomes.{AreOutcomes};
@@ -143,6 +143,8 @@ pub extern "C" fn yacht_explain_events(
     reason: &mut YachtReason,
 ) -> u32
     ensures known { result ≤ TOO_MANY_SLOTS }
+    ensures no_verdict { result ≢ LEGAL }
+    ensures no_fault { result ≢ FAULTY }
     ensures not_legal { result ≡ NOT_LEGAL
         → HasNotHappened (passed script.now slots requests.now entries.now bytes.now events.now)
         at }
