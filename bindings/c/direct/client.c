@@ -109,11 +109,12 @@ static int wait_for(struct client *those, unsigned count, struct pollfd *polled)
 /* Opens connections, each of which gets one answer, and then asks the server to end. */
 static void end_server(struct clients *all, struct client *those, struct pollfd *polled) {
     unsigned count = 0, waiting;
-    while (count < LASTING && dial(all, &those[count]) && send_lines(&those[count])) count++;
+    /* the server may have reasons to end a connection now, as its lines are sent or read */
+    for (; count < LASTING && dial(all, &those[count]); count++)
+        those[count].answered += !send_lines(&those[count]);
     do {
         waiting = 0;
         for (unsigned i = 0; i < count; i++) {
-            /* the server may have reasons to end it now */
             if (!those[i].answered && !read_answers(all, &those[i])) those[i].answered++;
             waiting += !those[i].answered;
         }
@@ -134,8 +135,8 @@ void run_clients(struct clients *all) {
     unsigned count = 0;
     for (;;) {
         while (count < all->at_a_time && all->made < all->connections) {
-            all->wrong += !dial(all, &those[count]) || !send_lines(&those[count]);
-            count++;
+            all->wrong += !dial(all, &those[count]);
+            send_lines(&those[count++]); /* if the server has ended it, the next read sees that */
         }
         if (!count || !wait_for(those, count, polled)) break;
         for (unsigned i = count; i-- > 0;) {
