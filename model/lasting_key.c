@@ -1,4 +1,4 @@
-/* The steps of a removal and a replacement by key in one pass.
+/* The steps of a look-up, a removal and a replacement by key in one pass.
  *
  * The pass holds the file at the slot as a look-up does, and compares the number of the file that
  * it holds. So the node that it exchanges then has the key's file and no other. A hold by a take is
@@ -7,7 +7,7 @@
  * visits. A replacement puts its new file into a node before it takes or announces the old one. */
 #include "lasting_table.h"
 
-bool is_by_key(const struct pass *it) { return it->call == TAKE_KEY || it->call == PUT_KEY; }
+bool is_by_key(const struct pass *it) { return it->call == TAKE_KEY || it->call == PUT_KEY || it->call == LOOK_KEY; }
 
 static bool compares_first(void) {
     return wrong == key_without_a_hold || wrong == key_is_compared_before_the_hold;
@@ -25,7 +25,7 @@ static void end_by_key(struct pass *it) {
     it->key = it->named = 0;
     it->guards = it->holds ? it->guards : BY_TAKE;
     it->step = it->call & INSTALLS ? REST : LET_GO;
-    if (it->step == LET_GO && !it->holds) {
+    if (it->step == LET_GO && (!it->holds || (it->call == LOOK_KEY && wrong == stale_look_up_keeps_its_hold))) {
         begin_call(it, 0, IDLE);
     }
 }
@@ -56,8 +56,13 @@ void begin_by_key(struct state *s, struct pass *it, int who) {
     }
 }
 
-/* Goes on with the change of the slot whose file is that of the key. */
+/* Goes on with the change of the slot whose file is that of the key, or ends a look-up. */
 static void change(struct pass *it) {
+    if (it->call == LOOK_KEY) {
+        want(it->holds == it->key && !it->is_stale, "a look-up by key returns another file than the key's");
+        hold_until_release(it, it->guards == BY_HOLD_WORD ? GUARDED : COUNTED);
+        return;
+    }
     bool is_early = it->guards == BY_HOLD_WORD && wrong == stepped_down_before_the_exchange;
     it->step = is_early ? STEP_DOWN : it->call == PUT_KEY ? SWAP : first_of_removal();
 }
@@ -175,7 +180,8 @@ int ways_to_compare(const struct pass *it) { return has_key(it) ? 1 : 2; }
 /* Compares the number of a file with the key's. */
 static void compare(struct pass *it, int nth) {
     bool is_high = has_key(it) || nth == 0;
-    if (!is_high || (!has_key(it) && wrong != low_bits_are_ignored)) {
+    bool ignores_low = wrong == low_bits_are_ignored || (wrong == sought_key_is_not_compared && it->call == LOOK_KEY);
+    if (!is_high || (!has_key(it) && !ignores_low)) {
         end_by_key(it);
     } else if (wrong == key_is_compared_before_the_hold) {
         it->step = TAKE;

@@ -9,7 +9,7 @@
 
 #include "lasting_table.h"
 
-enum { CHANGES = PUT | REMOVE | PUT_ANY, REQUESTS = LOOK | PUT | REMOVE };
+enum { CHANGES = PUT | REMOVE | PUT_ANY, REQUESTS = LOOK | PUT | REMOVE, BY_KEY = LOOK_KEY | TAKE_KEY | PUT_KEY };
 
 static const struct family families[] = {
     {"two passes, files without nodes, two groups of a slot", 2, 2, 1, 1, {CHANGES, CHANGES}, true},
@@ -43,13 +43,18 @@ static const struct family families[] = {
     {"two passes, two slots in the range, a removal by key, another pass allocates", 2, 2, 1, 1, {PUT_ANY, TAKE_KEY}, false},
     {"three passes, one slot in the range, a removal by key", 3, 1, 1, 1, {TAKE_KEY, PUT_ANY, LOOK}, false},
     {"three passes, one slot in the range, two removals by key", 3, 1, 1, 1, {TAKE_KEY, TAKE_KEY, PUT_ANY}, false},
+    {"two passes, two slots in the range, calls by key, another pass allocates", 2, 2, 1, 1, {PUT_ANY, BY_KEY}, false},
+    {"two passes, two slots in the range, hot after 2 takes, calls by key, another pass allocates", 2, 2, 2, 1, {PUT_ANY, BY_KEY}, false},
+    {"two passes, two slots in the range, a look-up by key, another pass allocates and removes", 2, 2, 1, 1, {PUT_ANY | REMOVE, LOOK_KEY}, false},
+    {"two passes, two slots in the range, a replacement by key, another pass allocates and removes", 2, 2, 1, 1, {PUT_ANY | REMOVE, PUT_KEY}, false},
+    {"three passes, two slots in the range, that allocate, look up by key and remove", 3, 2, 1, 1, {PUT_ANY, LOOK_KEY, REMOVE}, false},
 };
 
 /* The families with which the search for a wrong table begins. */
-enum { FIRST_OF_HOLDS = sizeof families / sizeof families[0] - 7, FIRST_OF_KEYS = FIRST_OF_HOLDS - 6 };
+enum { FIRST_OF_LOOKS = sizeof families / sizeof families[0] - 5, FIRST_OF_HOLDS = FIRST_OF_LOOKS - 7, FIRST_OF_KEYS = FIRST_OF_HOLDS - 6 };
 
 static int first_family(int table) {
-    return table < WRONG_KEYS ? 0 : table < WRONG_HOLDS ? FIRST_OF_KEYS : FIRST_OF_HOLDS;
+    return table < WRONG_KEYS ? 0 : table < WRONG_HOLDS ? FIRST_OF_KEYS : table < WRONG_LOOKS ? FIRST_OF_HOLDS : FIRST_OF_LOOKS;
 }
 
 static const char *const wrong_names[] = { TABLES(AS_NAME) };
@@ -176,10 +181,10 @@ static void check_node(const struct state *s, int node) {
 
 static void check_pass(const struct state *s, int who) {
     const struct pass *it = &s->pass[who];
-    bool is_look = it->call == LOOK || it->call == TAKE_IF || it->call == TAKE_KEY, is_put = it->call == PUT && it->step != SEEK;
+    bool is_look = it->call == LOOK || it->call == TAKE_IF || it->call == TAKE_KEY || it->call == LOOK_KEY, is_put = it->call == PUT && it->step != SEEK;
     bool is_keyed = it->call == TAKE_IF || it->call == PUT_IF;
     int words = (family->passes + PER_WORD - 1) / PER_WORD;
-    int most = it->call == TAKE_KEY ? 16 + TRIES : it->call == PUT_KEY ? 8 + TRIES : is_look ? 8 : it->call == RELEASE ? 3 : it->call == REMOVE ? 5 : is_put ? 3 : is_keyed ? 5 + TRIES
+    int most = it->call == LOOK_KEY ? 11 : it->call == TAKE_KEY ? 16 + TRIES : it->call == PUT_KEY ? 8 + TRIES : is_look ? 8 : it->call == RELEASE ? 3 : it->call == REMOVE ? 5 : is_put ? 3 : is_keyed ? 5 + TRIES
         : 2 * family->passes + words + 1;
     want(it->call == PUT_ANY || it->step == SEEK || it->steps + (is_look ? 1 : 0) < most || it->step == IDLE, "a call has too many steps");
     int hold = s->hold[who] & ~MARK;

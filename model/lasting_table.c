@@ -151,7 +151,7 @@ void begin_call(struct pass *it, int call, enum step step) {
     *it = next;
 }
 
-static void hold_until_release(struct pass *it, enum step step) {
+void hold_until_release(struct pass *it, enum step step) {
     begin_call(it, RELEASE, step);
     it->slot = it->node = 0;
 }
@@ -244,7 +244,7 @@ void list(struct state *s, struct pass *it, int who) {
     if (it->holds) {
         hold_until_release(it, GUARDED);
     } else {
-        it->step = it->call == PUT_KEY ? AIM : it->call == TAKE_KEY ? first_by_key(it) : TAKE;
+        it->step = it->call == PUT_KEY ? AIM : is_by_key(it) ? first_by_key(it) : TAKE;
     }
 }
 
@@ -613,7 +613,7 @@ static void count_changes(const struct state *before, struct state *s, int who) 
         struct pass *it = &s->pass[other];
         bool changed = exchanged == node_at(it->slot) || before->is_full[it->slot] != s->is_full[it->slot]
             || before->takes[it->slot] != s->takes[it->slot] || before->heat[it->slot] != s->heat[it->slot];
-        it->changes += other != who && it->key && changed && it->changes < TRIES;
+        it->changes += other != who && it->key && it->call != LOOK_KEY && changed && it->changes < TRIES;
     }
 }
 
@@ -657,9 +657,9 @@ static bool begin_nth(struct state *s, struct pass *it, int who, int nth) {
         settle(s, it);
         return true;
     }
-    for (int call = LOOK; call <= PUT_KEY; call *= 2) {
-        bool uses_stock = has_stock(who) && call != LOOK, is_named = call == TAKE_IF || call == PUT_IF;
-        bool is_keyed = call == TAKE_KEY || call == PUT_KEY, removes = call == TAKE_IF || call == TAKE_KEY;
+    for (int call = LOOK; call <= LAST_CALL; call *= 2) {
+        bool uses_stock = has_stock(who) && call != LOOK && call != LOOK_KEY, is_named = call == TAKE_IF || call == PUT_IF;
+        bool is_keyed = call >= TAKE_KEY, removes = call == TAKE_IF || call == TAKE_KEY;
         bool may = (family->calls[who] & call) && (!is_named || key_of(s, who)) && (!it->kept || may_keep(call));
         int ways = may ? family->slots * (uses_stock ? stock : 1) * (is_keyed ? 2 : 1) : 0;
         if (nth < ways) {

@@ -14,7 +14,7 @@ enum { NOTHING, OPEN_FILE, WITH_PASS };
 enum { NO_FILE, PLACED, AT_SLOT, REMOVED };
 
 /* The calls of a pass. A family names by a sum the calls that an idle pass may make. */
-enum { LOOK = 1, REMOVE = 2, PUT = 4, PUT_ANY = 8, TAKE_IF = 16, PUT_IF = 32, TAKE_KEY = 64, PUT_KEY = 128 };
+enum { LOOK = 1, REMOVE = 2, PUT = 4, PUT_ANY = 8, TAKE_IF = 16, PUT_IF = 32, TAKE_KEY = 64, PUT_KEY = 128, LOOK_KEY = 256, LAST_CALL = LOOK_KEY };
 
 /* The calls that follow others. Neither has the bit of an installation. */
 enum { RELEASE = LOOK | REMOVE, RETIREMENT = REMOVE | TAKE_KEY };
@@ -59,8 +59,9 @@ enum step {
     X(hold_is_lost) X(missed_key_is_not_raised) X(low_bits_are_ignored) \
     X(announced_key_is_not_confirmed) X(announced_after_the_comparison) X(hold_word_counts_as_a_take) \
     X(hold_word_outlives_the_hold) X(stepped_down_before_the_exchange) X(stepped_down_after_the_visits) \
-    X(vain_announcement_stays)
-enum wrong { TABLES(AS_MEMBER) WRONG_TABLES, WRONG_RANGES = question_is_loaded_once, WRONG_KEYS = node_is_not_compared, WRONG_HOLDS = key_without_a_hold };
+    X(vain_announcement_stays) X(sought_key_is_not_compared) X(stale_look_up_keeps_its_hold)
+enum wrong { TABLES(AS_MEMBER) WRONG_TABLES, WRONG_RANGES = question_is_loaded_once, WRONG_KEYS = node_is_not_compared, WRONG_HOLDS = key_without_a_hold,
+    WRONG_LOOKS = sought_key_is_not_compared };
 
 struct family {
     const char *name;
@@ -75,7 +76,8 @@ struct family {
 };
 
 struct pass {
-    uint8_t step, call, slot, node, takes, next, marks;
+    uint16_t call;
+    uint8_t step, slot, node, takes, next, marks;
     /* The words of the list that a round has loaded, and the last word of them or the question. */
     uint8_t words, last;
     /* The pass is listed. */
@@ -162,6 +164,7 @@ void expect(const struct state *s, struct pass *it);
 void swap(struct state *s, struct pass *it, int who);
 void miss(struct pass *it);
 void hold_file(struct state *s, struct pass *it, int node);
+void hold_until_release(struct pass *it, enum step step);
 /* Lists the pass. Drops a take or a mark from a node's word. Empties the hold word of the pass, and
  * returns whether it was marked. Goes on with a round of visits. */
 void list(struct state *s, struct pass *it, int who);
